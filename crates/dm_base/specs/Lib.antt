@@ -1,0 +1,5 @@
+pub mod Names
+pub mod Items
+pub mod Path
+pub mod Tree
+pub mod Visibility

@@ -1,0 +1,10 @@
+-- Visibilities over a tree of modules.
+use Rattle.dm_base.specs.declared.visibility.Visibility.{Visibility}
+use Rattle.dm_base.specs.declared.visibility.Visibility.TheVariants.{Module, PubCrate, Public}
+use Rattle.dm_base.specs.Tree.{Tree, IsKnown}
+
+-- the module that a visibility names, if it names one, is the tree's
+abbrev pub NamesKnown : Tree → Visibility → Type 0
+NamesKnown t (Module m e) = IsKnown t m
+NamesKnown t (PubCrate k) = Unit {0}
+NamesKnown t Public = Unit {0}

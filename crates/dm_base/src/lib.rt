@@ -1,0 +1,15 @@
+//! What the def-map layer speaks of: numbers of things, names, paths, builtin types, imports, items per
+//! namespace, visibility, and trees of modules.
+#![tactic(auto)]
+
+pub mod builtin_type;
+pub mod ids;
+pub mod imports;
+pub mod item_ids;
+pub mod macros;
+pub mod mod_path;
+pub mod module_tree;
+pub mod name;
+pub mod per_ns;
+pub mod source;
+pub mod visibility;

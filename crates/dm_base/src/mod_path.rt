@@ -1,0 +1,52 @@
+//! A path: its kind and its segments.
+ghost use Rattle.std.specs.Prelude.{◌≡◌};
+
+use crate::ids::Crate;
+use crate::name::Name;
+use std::marker::Model;
+
+/// Where a path begins.
+#[derive(Clone, Copy, PartialEq, Eq, Hash, Debug)]
+pub enum PathKind {
+    Plain,
+    Abs,
+    Crate,
+    DollarCrate(Crate),
+    Super(u8),
+}
+
+/// A path, which contracts see as its kind and the list of its segments.
+#[derive(Drop)]
+pub struct ModPath {
+    kind: PathKind,
+    segments: Vec<Name>,
+}
+
+impl Model for ModPath {
+    ghost use Rattle.dm_base.specs.Path.{Path};
+
+    ghost Value = { Path };
+
+    ghost view = { λ p. record { kind = p.kind; segments = p.segments.items } };
+}
+
+impl ModPath {
+    /// The path of these segments, without memory.
+    pub fn from_segments(kind: PathKind, segments: Vec<Name>) -> ModPath
+        ensures { result ≡ record { kind = kind; segments = segments.items } }
+    {
+        ModPath { kind, segments }
+    }
+
+    pub fn kind(&self) -> PathKind
+        ensures { result ≡ self.now.kind }
+    {
+        self.kind
+    }
+
+    pub fn segments(&self) -> &[Name]
+        ensures { result.now ≡ self.now.segments }
+    {
+        self.segments.as_slice()
+    }
+}

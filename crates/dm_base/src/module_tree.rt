@@ -1,0 +1,57 @@
+//! Trees of modules, whoever keeps them.
+ghost use Rattle.std.specs.Prelude.{◌≡◌, ◌↔◌, IsTrue, Bool, true};
+ghost use Rattle.dm_base.specs.declared.ids.ModuleId.{ModuleId};
+ghost use Rattle.dm_base.specs.Tree.{Tree, IsKnown, IsTree, crate_of, block_of, containing, outside, chain, is_among};
+
+use crate::ids::{BlockId, Crate, ModuleId};
+
+/// A tree of modules: each has a map and a containing module of smaller number, or none.
+///
+/// The containing module is the parent, or for a block's root the module that contains the block.
+pub trait ModuleTree {
+    /// What the tree is, for contracts.
+    ghost tree: { Self → Tree };
+
+    /// Whether the module is one of the tree's.
+    fn has(&self, m: ModuleId) -> bool
+        ensures { IsTrue result ↔ IsKnown (tree self.now) m };
+
+    /// The crate of a module.
+    fn krate(&self, m: ModuleId) -> Crate
+        requires { IsKnown (tree self.now) m }
+        ensures { result ≡ crate_of (tree self.now) m };
+
+    /// The block in whose map a module lies, if it lies in one.
+    fn block(&self, m: ModuleId) -> Option<BlockId>
+        requires { IsKnown (tree self.now) m }
+        ensures { result ≡ block_of (tree self.now) m };
+
+    /// The module that contains a module.
+    fn containing(&self, m: ModuleId) -> Option<ModuleId>
+        requires { IsKnown (tree self.now) m }
+        ensures { result ≡ containing (tree self.now) m };
+
+    /// The module that contains the block in whose map a module lies.
+    fn outside(&self, m: ModuleId) -> Option<ModuleId>
+        requires { IsKnown (tree self.now) m }
+        ensures { result ≡ outside (tree self.now) m };
+
+    /// Whether `a` is `m` or contains it, however far out.
+    fn contains(&self, a: ModuleId, m: ModuleId) -> bool
+        requires { IsKnown (tree self.now) m }
+        ensures { result ≡ is_among a (chain (tree self.now) m) }
+    {
+        let mut at = m;
+        loop {
+            if a == at {
+                return true;
+            }
+            match self.containing(at) {
+                None => return false,
+                Some(outer) => at = outer,
+            }
+        }
+    }
+
+    ghost lawful: { (s : Self) → IsTree (tree s) };
+}
