@@ -3,7 +3,9 @@
 #![tactic(auto)]
 
 pub mod builtin_type;
+pub mod definition;
 pub mod ids;
+pub mod import_source;
 pub mod imports;
 pub mod item_ids;
 pub mod macros;

@@ -1,0 +1,47 @@
+-- Imports of the namespaces, and how one is seen as another.
+use Rattle.std.specs.Prelude.{◌≡◌, Bool, true, false, Option, None, Some, refl}
+use Rattle.dm_base.specs.declared.imports.ImportOrExternCrate.{ImportOrExternCrate}
+use Rattle.dm_base.specs.declared.imports.ImportOrExternCrate.TheVariants as wide
+use Rattle.dm_base.specs.declared.imports.ImportOrGlob.{ImportOrGlob}
+use Rattle.dm_base.specs.declared.imports.ImportOrGlob.TheVariants as narrow
+
+abbrev pub is_glob : ImportOrExternCrate → Bool
+is_glob (wide.Glob i) = true
+is_glob (wide.Import i) = false
+is_glob (wide.ExternCrate k) = false
+
+abbrev pub is_glob_or_import : ImportOrGlob → Bool
+is_glob_or_import (narrow.Glob i) = true
+is_glob_or_import (narrow.Import i) = false
+
+-- an import narrowed to values: globs and named imports stay, an extern crate brings no value
+abbrev pub narrowed : ImportOrExternCrate → Option ImportOrGlob
+narrowed (wide.Glob i) = Some (narrow.Glob i)
+narrowed (wide.Import i) = Some (narrow.Import i)
+narrowed (wide.ExternCrate k) = None
+
+abbrev pub widened : ImportOrGlob → ImportOrExternCrate
+widened (narrow.Glob i) = wide.Glob i
+widened (narrow.Import i) = wide.Import i
+
+pub narrow_widen : (x : ImportOrGlob) → narrowed (widened x) ≡ Some x
+narrow_widen (narrow.Glob i) = refl
+narrow_widen (narrow.Import i) = refl
+
+pub widen_narrow : (i : ImportOrExternCrate) (x : ImportOrGlob) → narrowed i ≡ Some x → widened x ≡ i
+widen_narrow (wide.Glob i) (narrow.Glob j) e = cc
+widen_narrow (wide.Glob i) (narrow.Import j) e = cc
+widen_narrow (wide.Import i) (narrow.Glob j) e = cc
+widen_narrow (wide.Import i) (narrow.Import j) e = cc
+widen_narrow (wide.ExternCrate k) x e = cc
+
+-- a glob always narrows
+pub globs_narrow : (i : ImportOrExternCrate) → is_glob i ≡ true → (x : ImportOrGlob) × (narrowed i ≡ Some x)
+globs_narrow (wide.Glob i) e = (narrow.Glob i, refl)
+globs_narrow (wide.Import i) e = cc
+globs_narrow (wide.ExternCrate k) e = cc
+
+-- and stays a glob
+pub globs_stay : (x : ImportOrGlob) → is_glob_or_import x ≡ is_glob (widened x)
+globs_stay (narrow.Glob i) = refl
+globs_stay (narrow.Import i) = refl

@@ -1,0 +1,5 @@
+//! Scopes: what a module binds under each name, and how pushes fill it.
+#![tactic(auto)]
+
+pub mod bindings;
+pub mod item_scope;
