@@ -7,7 +7,8 @@ use crate::ids::{BlockId, Crate, ModuleId};
 
 /// A tree of modules: each has a map and a containing module of smaller number, or none.
 ///
-/// The containing module is the parent, or for a block's root the module that contains the block.
+/// The containing module is the parent, or for a block's root the module that contains the block. That the tree is
+/// lawful holds of the values of the type alone, so it is a clause of the calls that climb, and no law over every value.
 pub trait ModuleTree {
     /// What the tree is, for contracts.
     ghost tree: { Self → Tree };
@@ -29,12 +30,14 @@ pub trait ModuleTree {
     /// The module that contains a module.
     fn containing(&self, m: ModuleId) -> Option<ModuleId>
         requires { IsKnown (tree self.now) m }
-        ensures { result ≡ containing (tree self.now) m };
+        ensures value { result ≡ containing (tree self.now) m }
+        ensures lawful { IsTree (tree self.now) };
 
     /// The module that contains the block in whose map a module lies.
     fn outside(&self, m: ModuleId) -> Option<ModuleId>
         requires { IsKnown (tree self.now) m }
-        ensures { result ≡ outside (tree self.now) m };
+        ensures value { result ≡ outside (tree self.now) m }
+        ensures lawful { IsTree (tree self.now) };
 
     /// Whether `a` is `m` or contains it, however far out.
     fn contains(&self, a: ModuleId, m: ModuleId) -> bool
@@ -52,6 +55,4 @@ pub trait ModuleTree {
             }
         }
     }
-
-    ghost lawful: { (s : Self) → IsTree (tree s) };
 }
