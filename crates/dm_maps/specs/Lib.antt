@@ -1,0 +1,5 @@
+pub mod Maps
+pub mod World
+pub mod Known
+pub mod Readings
+pub mod Trees

@@ -1,0 +1,63 @@
+//! Look-ups in the tables of a world, also while it is built. None of them takes memory.
+ghost use Rattle.std.specs.Prelude.{◌≡◌, ◌↔◌, IsTrue, IfSome, slice_get, nat_lt, length};
+ghost use Rattle.std.specs.Option.{option_copied, option_map};
+ghost use Rattle.dm_base.specs.Names.{find_name};
+ghost use Rattle.dm_base.specs.Tree.{IsTree, IsKnown};
+ghost use Rattle.dm_scope.specs.Scope.{bound_in};
+ghost use Rattle.dm_maps.specs.World.{place_of, numbered_map, map_of, module_in, module_of, scope_of};
+ghost use Rattle.dm_maps.specs.Trees.{tree_of, IsWorld};
+
+use crate::builder::WorldBuilder;
+use crate::def_map::DefMap;
+use crate::module_data::ModuleData;
+use crate::place::Place;
+use dm_base::ids::{MapId, ModuleId};
+
+impl WorldBuilder {
+    /// Where a module stands.
+    pub(crate) fn place_of(&self, m: ModuleId) -> Option<Place>
+        ensures value { result ≡ place_of self.now m }
+        ensures world { IsWorld self.now }
+    {
+        self.places.get(m.0 as usize).copied()
+    }
+
+    /// The map of that id.
+    pub(crate) fn numbered_map(&self, id: MapId) -> Option<&DefMap>
+        ensures { option_copied result ≡ numbered_map self.now id }
+    {
+        match id.block {
+            None => self.crate_maps.get(id.krate.0 as usize),
+            Some(b) => self.block_maps.get(b.0 as usize),
+        }
+    }
+
+    /// The map that a module lies in.
+    pub(crate) fn map_of(&self, m: ModuleId) -> Option<&DefMap>
+        ensures { option_copied result ≡ map_of self.now m }
+    {
+        match self.place_of(m) {
+            None => None,
+            Some(place) => self.numbered_map(place.map),
+        }
+    }
+
+    /// A module, by its number.
+    pub(crate) fn module_of(&self, m: ModuleId) -> Option<&ModuleData>
+        ensures { option_copied result ≡ module_of self.now m }
+    {
+        match self.place_of(m) {
+            None => None,
+            Some(place) => self.module_in(place),
+        }
+    }
+
+    fn module_in(&self, place: Place) -> Option<&ModuleData>
+        ensures { option_copied result ≡ module_in self.now place }
+    {
+        match self.numbered_map(place.map) {
+            None => None,
+            Some(map) => map.nth(place.index as usize),
+        }
+    }
+}
