@@ -5,3 +5,7 @@ pub mod Tree
 pub mod Visibility
 pub mod Definitions
 pub mod Imports
+pub mod Builtins
+pub mod Kinds
+pub mod Styles
+pub mod PerNs

@@ -4,6 +4,7 @@
 
 pub mod builtin_type;
 pub mod definition;
+pub mod fields_shape;
 pub mod ids;
 pub mod import_source;
 pub mod imports;

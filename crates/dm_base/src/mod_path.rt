@@ -15,6 +15,11 @@ pub enum PathKind {
     Super(u8),
 }
 
+impl PathKind {
+    /// `self`: no step outwards.
+    pub const SELF: PathKind = PathKind::Super(0);
+}
+
 /// A path, which contracts see as its kind and the list of its segments.
 #[derive(Drop)]
 pub struct ModPath {
@@ -38,12 +43,14 @@ impl ModPath {
         ModPath { kind, segments }
     }
 
+    /// Where the path begins.
     pub fn kind(&self) -> PathKind
         ensures { result ≡ self.now.kind }
     {
         self.kind
     }
 
+    /// The names of the path, from the first on.
     pub fn segments(&self) -> &[Name]
         ensures { result.now ≡ self.now.segments }
     {
