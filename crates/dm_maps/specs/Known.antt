@@ -1,7 +1,7 @@
 -- Which ids are a world's, with their kinds.
 use Rattle.std.specs.Prelude.{ℕ, nat_eq, nat_lt, Bool, true, false, IsTrue, List, [], ◌∷◌, ◌++◌, Option, Some, None, length, map, slice_get}
 use Rattle.std.specs.Option.{option_map_or}
-use Rattle.std.specs.List.{All}
+use Rattle.std.specs.List.{AllByRecursion}
 use Rattle.dm_base.specs.declared.item_ids.ItemKind.{ItemKind}
 use Rattle.dm_base.specs.declared.item_ids.ItemKind.TheVariants as item
 use Rattle.dm_base.specs.declared.item_ids.ModuleDefId.{ModuleDefId}
@@ -59,7 +59,7 @@ knows w (held.Variant v) = nat_lt v.0 (length w.variants)
 knows w (held.Macro m) = option_map_or (λ e. is_of_kind m e.1) (slice_get w.macros (macro_number m)) false
 
 abbrev pub KnowsAll : World → List HeldId → Type 0
-KnowsAll w hs = All (λ h. IsTrue (knows w h)) hs
+KnowsAll w hs = AllByRecursion (λ h. IsTrue (knows w h)) hs
 
 -- ---- What holds which ids. Extern crates are opaque, and builtin types are no ids.
 

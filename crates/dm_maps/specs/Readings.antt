@@ -23,7 +23,7 @@ use Rattle.dm_base.specs.declared.source.Edition.TheVariants.{Edition2015, Editi
 use Rattle.dm_base.specs.Names.{Name, find_name}
 use Rattle.dm_base.specs.Tree.{Tree}
 use Rattle.dm_base.specs.Builtins.{builtin_words}
-use Rattle.dm_base.specs.Styles.{styles_of, no_style}
+use Rattle.dm_base.specs.Styles.{styles_of}
 use Rattle.dm_scope.specs.Scope.{bound_in, legacy_in}
 use Rattle.dm_maps.specs.Maps.{Map, LocalMap}
 use Rattle.dm_maps.specs.World.{World, crate_map, numbered_map, scope_of}
@@ -56,6 +56,9 @@ pub record Reading : Type 0 where
   -- the module that the local map has, and the builtin type of that name
   pub extern : Option (ModuleId × Option ExternCrateId)
   pub builtin : Option BuiltinType
+
+abbrev pub no_style : MacroCallStyles
+no_style = record { 0 = 0 }
 
 abbrev pub is_edition_2015 : Edition → Bool
 is_edition_2015 Edition2015 = true

@@ -2,6 +2,7 @@
 use Rattle.std.specs.Prelude.{◌≡◌, ◌<◌, ◌≤◌, ℕ, Bool, List, [], ◌∷◌, Option, Some, None, length, map, slice_get, nat_lt}
 use Rattle.std.specs.Option.{option_map_or, option_and_then}
 use Rattle.dm_base.specs.declared.ids.ModuleId.{ModuleId}
+use Rattle.dm_base.specs.declared.ids.BlockId.{BlockId}
 use Rattle.dm_base.specs.declared.ids.MapId.{MapId}
 use Rattle.dm_base.specs.Tree.{Tree, IsTree}
 use Rattle.dm_maps.specs.declared.place.Place.{Place}
@@ -12,13 +13,25 @@ use Rattle.dm_maps.specs.World.{World}
 abbrev pub no_map : MapId
 no_map = record { krate = record { 0 = 0 }; block = None }
 
+-- the module that contains a block, where the list has it at the block's number
+abbrev pub container_in : List (Option ModuleId) → Option BlockId → Option ModuleId
+container_in cs None = None
+container_in cs (Some b) = option_and_then (λ c. c) (slice_get cs b.0)
+
+-- the map that a module lies in, and its parent there
+abbrev pub map_id_in : List Place → ModuleId → MapId
+map_id_in ps m = option_map_or (λ p. p.map) (slice_get ps m.0) no_map
+
+abbrev pub parent_in : List Place → ModuleId → Option ModuleId
+parent_in ps m = option_and_then (λ p. p.parent) (slice_get ps m.0)
+
 -- the tree of modules at these places, where block b lies in the module at b of the second list
 abbrev pub tree_by : List Place → List (Option ModuleId) → Tree
 tree_by ps cs = record {
   has = λ m. nat_lt m.0 (length ps);
-  map_of = λ m. option_map_or (λ p. p.map) (slice_get ps m.0) no_map;
-  parent = λ m. option_and_then (λ p. p.parent) (slice_get ps m.0);
-  inside = λ b. option_and_then (λ c. c) (slice_get cs b.0);
+  map_of = map_id_in ps;
+  parent = parent_in ps;
+  inside = λ b. container_in cs (Some b);
 }
 
 -- the module that contains the block of each map

@@ -1,12 +1,16 @@
 //! The map of a crate or of a block.
 ghost use Rattle.std.specs.Prelude.{◌≡◌, ◌↔◌, IsTrue, IsSome, Some};
 ghost use Rattle.std.specs.Option.{option_copied};
+ghost use Rattle.dm_base.specs.Names.{find_name};
 ghost use Rattle.dm_maps.specs.Maps.{module_at, nth_module};
 
 use crate::module_data::ModuleData;
 use crate::modules_map::ModulesMap;
-use dm_base::ids::{BlockId, Crate, MapId, ModuleId};
+use dm_base::ids::{BlockId, Crate, ExternCrateId, MapId, ModuleId, UseId};
+use dm_base::item_ids::MacroId;
+use dm_base::name::Name;
 use dm_base::source::Edition;
+use indexmap::IndexMap;
 use std::marker::Model;
 
 /// The modules of a crate, or of a block in it.
@@ -17,15 +21,16 @@ pub struct DefMap {
     root: ModuleId,
     parent: Option<ModuleId>,
     modules: ModulesMap,
+    prelude: Option<(ModuleId, Option<UseId>)>,
+    macro_use_prelude: IndexMap<Name, (MacroId, Option<ExternCrateId>)>,
 }
 
 impl Model for DefMap {
-    ghost use Rattle.std.specs.Prelude.{None, []};
     ghost use Rattle.dm_maps.specs.Maps.{Map};
 
     ghost Value = { Map };
 
-    ghost view = { λ m. record { id = m.id; edition = m.edition; root = m.root; parent = m.parent; modules = m.modules; prelude = None; macro_use = [] } };
+    ghost view = { λ m. record { id = m.id; edition = m.edition; root = m.root; parent = m.parent; modules = m.modules; prelude = m.prelude; macro_use = m.macro_use_prelude.entries } };
 }
 
 impl DefMap {
@@ -98,5 +103,19 @@ impl DefMap {
         ensures { option_copied result ≡ nth_module self.now.modules i }
     {
         self.modules.nth(i)
+    }
+
+    /// The prelude module, with the use that named it.
+    pub fn prelude(&self) -> Option<(ModuleId, Option<UseId>)>
+        ensures { result ≡ self.now.prelude }
+    {
+        self.prelude
+    }
+
+    /// The macro that `#[macro_use]` brings under a name, with the item that brought it. Takes no memory.
+    pub fn macro_use_prelude(&self, name: &Name) -> Option<(MacroId, Option<ExternCrateId>)>
+        ensures { result ≡ find_name name.now self.now.macro_use }
+    {
+        self.macro_use_prelude.get(name).copied()
     }
 }

@@ -12,3 +12,4 @@ pub mod modules_map;
 pub mod place;
 mod tables;
 pub mod variants;
+pub mod world;

@@ -1,5 +1,6 @@
 //! The extern prelude of a crate.
 ghost use Rattle.std.specs.Prelude.{◌≡◌, []};
+ghost use Rattle.dm_base.specs.Names.{find_name};
 
 use dm_base::ids::{ExternCrateId, ModuleId};
 use dm_base::name::Name;
@@ -29,5 +30,12 @@ impl LocalDefMap {
         LocalDefMap {
             extern_prelude: IndexMap::new(alloc),
         }
+    }
+
+    /// The module of that name, with the item that named it. Takes no memory.
+    pub fn get(&self, name: &Name) -> Option<(ModuleId, Option<ExternCrateId>)>
+        ensures { result ≡ find_name name.now self.now }
+    {
+        self.extern_prelude.get(name).copied()
     }
 }

@@ -5,19 +5,20 @@ ghost use Rattle.dm_base.specs.Names.{find_name};
 ghost use Rattle.dm_base.specs.Tree.{IsTree, IsKnown};
 ghost use Rattle.dm_scope.specs.Scope.{bound_in};
 ghost use Rattle.dm_maps.specs.World.{place_of, numbered_map, map_of, module_in, module_of, scope_of};
-ghost use Rattle.dm_maps.specs.Trees.{tree_of, IsWorld};
+ghost use Rattle.dm_maps.specs.Trees.{IsWorld, map_id_in, parent_in, container_in, containers_of};
 
 use crate::builder::WorldBuilder;
 use crate::def_map::DefMap;
 use crate::module_data::ModuleData;
 use crate::place::Place;
-use dm_base::ids::{MapId, ModuleId};
+use dm_base::ids::{BlockId, Crate, MapId, ModuleId};
+use dm_base::name::Name;
+use dm_base::per_ns::PerNs;
 
 impl WorldBuilder {
     /// Where a module stands.
     pub(crate) fn place_of(&self, m: ModuleId) -> Option<Place>
-        ensures value { result ≡ place_of self.now m }
-        ensures world { IsWorld self.now }
+        ensures { result ≡ place_of self.now m }
     {
         self.places.get(m.0 as usize).copied()
     }
@@ -58,6 +59,59 @@ impl WorldBuilder {
         match self.numbered_map(place.map) {
             None => None,
             Some(map) => map.nth(place.index as usize),
+        }
+    }
+
+    /// Whether the module is one of the world's.
+    pub(crate) fn has(&self, m: ModuleId) -> bool
+        ensures { result ≡ nat_lt m.0 (length self.now.places) }
+    {
+        (m.0 as usize) < self.places.len()
+    }
+
+    /// The id of the map that a module lies in.
+    pub(crate) fn map_id_of(&self, m: ModuleId) -> MapId
+        ensures { result ≡ map_id_in self.now.places m }
+    {
+        match self.places.get(m.0 as usize) {
+            None => MapId {
+                krate: Crate(0),
+                block: None,
+            },
+            Some(place) => place.map,
+        }
+    }
+
+    /// The parent of a module in its map.
+    pub(crate) fn parent_of(&self, m: ModuleId) -> Option<ModuleId>
+        ensures value { result ≡ parent_in self.now.places m }
+        ensures world { IsWorld self.now }
+    {
+        self.places.get(m.0 as usize)?.parent
+    }
+
+    /// The module that contains a block.
+    pub(crate) fn container_of(&self, block: Option<BlockId>) -> Option<ModuleId>
+        ensures value { result ≡ container_in (containers_of self.now.block_maps) block }
+        ensures world { IsWorld self.now }
+    {
+        let _block_maps = &self.block_maps;
+        match block {
+            None => None,
+            Some(b) => match self.block_maps.get(b.0 as usize) {
+                None => None,
+                Some(map) => map.parent(),
+            },
+        }
+    }
+
+    /// What a module's scope binds under a name; nothing where there is no such module.
+    pub(crate) fn bound_in(&self, m: ModuleId, name: &Name) -> PerNs
+        ensures { result ≡ bound_in (scope_of self.now m) name.now }
+    {
+        match self.module_of(m) {
+            None => PerNs::none(),
+            Some(data) => data.scope().get(name),
         }
     }
 }

@@ -20,7 +20,7 @@ use Rattle.dm_base.specs.declared.per_ns.Item.{Item}
 use Rattle.dm_base.specs.declared.per_ns.PerNs.{PerNs}
 use Rattle.dm_base.specs.Names.{Name}
 use Rattle.dm_base.specs.Items.{nothing, over, overlay, keep, seen_by, public_type, public_macro}
-use Rattle.dm_base.specs.Styles.{has_style, fn_like, attr, derive}
+use Rattle.dm_base.specs.Styles.{has_styles, fn_like, attr, derive}
 use Rattle.dm_base.specs.Tree.{Tree, same_module, same_crate, same_map, crate_of, in_block_map, is_block_root, chain, sees, outer, home, block_of}
 use Rattle.dm_maps.specs.declared.modes.BuiltinShadowMode.{BuiltinShadowMode}
 use Rattle.dm_maps.specs.declared.modes.BuiltinShadowMode.TheVariants as shadow
@@ -132,8 +132,8 @@ seen_from (Preludes id f) = f
 -- whether a macro may be called as is expected
 abbrev pub fits : Setting → Option MacroSubNs → MacroId → Bool
 fits w None m = true
-fits w (Some Bang) m = has_style (w.styles m) fn_like
-fits w (Some Attr) m = has_style (w.styles m) attr || has_style (w.styles m) derive
+fits w (Some Bang) m = has_styles (w.styles m) fn_like
+fits w (Some Attr) m = has_styles (w.styles m) attr || has_styles (w.styles m) derive
 
 -- without a macro that does not fit
 abbrev pub fitting : Setting → Option MacroSubNs → PerNs → PerNs
