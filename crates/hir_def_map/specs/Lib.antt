@@ -1,2 +1,7 @@
 pub mod Answers
 pub mod Paths
+pub mod Written
+pub mod WorldA
+pub mod WorldT
+pub mod RowsA
+pub mod RowsT
