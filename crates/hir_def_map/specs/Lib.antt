@@ -1,5 +1,6 @@
 pub mod Answers
 pub mod Paths
+pub mod Walk
 pub mod Written
 pub mod WorldA
 pub mod WorldT
