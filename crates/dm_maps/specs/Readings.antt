@@ -87,6 +87,7 @@ abbrev pub macro_uses_of : World → MapId → List (Name × (MacroId × Option 
 macro_uses_of w id = option_map_or (λ m. m.macro_use) (numbered_map w id) []
 
 unfoldable pub setting_of : World → Setting
+unfolding tree_of
 setting_of w = record {
   tree = tree_of w;
   root_of = λ k. option_map (λ m. m.root) (crate_map w k);

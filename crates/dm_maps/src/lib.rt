@@ -9,6 +9,7 @@ pub mod modes;
 pub mod module_data;
 pub mod module_origin;
 pub mod modules_map;
+mod path_look_ups;
 pub mod place;
 mod tables;
 pub mod variants;

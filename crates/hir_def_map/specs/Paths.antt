@@ -6,6 +6,8 @@ use Rattle.dm_base.specs.declared.ids.Crate.{Crate}
 use Rattle.dm_base.specs.declared.ids.MapId.{MapId}
 use Rattle.dm_base.specs.declared.ids.ExternCrateId.{ExternCrateId}
 use Rattle.dm_base.specs.declared.ids.EnumId.{EnumId}
+use Rattle.dm_base.specs.declared.ids.EnumVariantId.{EnumVariantId}
+use Rattle.dm_base.specs.declared.fields_shape.FieldsShape.{FieldsShape}
 use Rattle.dm_base.specs.declared.item_ids.ModuleDefId.{ModuleDefId}
 use Rattle.dm_base.specs.declared.item_ids.ModuleDefId.TheVariants as def
 use Rattle.dm_base.specs.declared.item_ids.AdtId.{AdtId}
@@ -78,8 +80,13 @@ abbrev pub is_stop : Tree → ModuleId → Station → Bool
 is_stop t f j = elim j.rest [ [] ↦ true | ◌∷◌ s rest ↦ is_none (next_module t f j.here) ]
 
 -- At an enum: a known last variant is reached, a known one with segments left is nothing, and at an unknown one the enum is left.
+abbrev pub at_variant : Item ModuleDefId ImportOrExternCrate → ℕ → Option (EnumVariantId × FieldsShape) → List Reading → ResolvePathResult
+at_variant i j None rest = stopped i j
+at_variant i j (Some v) [] = variant_answer i v
+at_variant i j (Some v) (s ∷ rest) = nothing_no
+
 abbrev pub at_enum : Item ModuleDefId ImportOrExternCrate → EnumId → ℕ → Reading → List Reading → ResolvePathResult
-at_enum i e j s rest = elim (s.variant e) [ None ↦ stopped i j | Some v ↦ elim rest [ [] ↦ variant_answer i v | ◌∷◌ r rs ↦ nothing_no ] ]
+at_enum i e j s rest = at_variant i j (s.variant e) rest
 
 -- by what a definition is, where segments are left: a module of another crate, an enum, or anything else
 abbrev pub at_definition : Entering → Item ModuleDefId ImportOrExternCrate → ℕ → Reading → List Reading → ModuleDefId → ResolvePathResult

@@ -1,0 +1,4 @@
+//! What paths mean: name resolution over a checked world.
+#![tactic(auto)]
+
+pub mod result;
