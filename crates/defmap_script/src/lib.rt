@@ -1,5 +1,7 @@
 //! The script language of the tool: its words and lines, what they do, and the texts of answers.
 #![tactic(auto)]
 
+mod lines;
 pub mod print;
+pub mod read;
 mod words;
