@@ -1,4 +1,12 @@
-//! One word of a script, as the value that it stands for. A word of another form gives none.
+//! One word of a script, as the value that it stands for. A word of another form stands for none.
+ghost use Rattle.std.specs.Prelude.{◌≡◌, drop};
+ghost use Rattle.std.specs.Char.{is_ascii_digit};
+ghost use Rattle.std.specs.List.{list_all};
+ghost use Rattle.std.specs.Option.{option_map};
+ghost use Rattle.dm_base.specs.Builtins.{builtin_words};
+ghost use Rattle.dm_base.specs.Names.{find_name};
+ghost use Rattle.defmap_script.specs.Words.{number, at_colon, at_slash, definition, editions, expectations, explicitness_words, import_word, item_kinds, macros_word, modes, path_kind, shadow_modes, types_word, use_leaf, value_import, values_word, visibility};
+
 use dm_base::builtin_type::{BuiltinFloat, BuiltinInt, BuiltinType, BuiltinUint};
 use dm_base::ids::{
     ConstId, Crate, EnumId, EnumVariantId, ExternCrateId, FunctionId, Macro2Id, MacroRulesId,
@@ -14,14 +22,38 @@ use dm_maps::modes::{BuiltinShadowMode, MacroSubNs};
 use hir_def_map::result::ResolveMode;
 
 /// Decimal digits of a value up to 4,294,967,295. Zeros may lead, a sign may not.
-pub(crate) fn number(word: &str) -> Option<u32> {
-    if !word.bytes().all(|byte| byte.is_ascii_digit()) {
+pub(crate) fn number(word: &str) -> Option<u32>
+    ensures { result ≡ number word.now }
+{
+    if !is_digits(word) {
         return None;
     }
     word.parse().ok()
 }
 
-pub(crate) fn edition(word: &str) -> Option<Edition> {
+fn is_digits(word: &str) -> bool
+    ensures { result ≡ list_all is_ascii_digit word.now }
+{
+    word.as_bytes().iter().all(|byte| byte.is_ascii_digit())
+}
+
+/// The parts before and behind the first `:`.
+fn cut_at_colon(word: &str) -> Option<(&str, &str)>
+    ensures { option_map (λ p. (p.0.now, p.1.now)) result ≡ at_colon word.now }
+{
+    word.split_once(':')
+}
+
+/// The parts before and behind the first `/`.
+fn cut_at_slash(word: &str) -> Option<(&str, &str)>
+    ensures { option_map (λ p. (p.0.now, p.1.now)) result ≡ at_slash word.now }
+{
+    word.split_once('/')
+}
+
+pub(crate) fn edition(word: &str) -> Option<Edition>
+    ensures { result ≡ find_name word.now editions }
+{
     match word {
         "2015" => Some(Edition::Edition2015),
         "2018" => Some(Edition::Edition2018),
@@ -31,7 +63,9 @@ pub(crate) fn edition(word: &str) -> Option<Edition> {
     }
 }
 
-pub(crate) fn item_kind(word: &str) -> Option<ItemKind> {
+pub(crate) fn item_kind(word: &str) -> Option<ItemKind>
+    ensures { result ≡ find_name word.now item_kinds }
+{
     match word {
         "fn" => Some(ItemKind::Function),
         "struct" => Some(ItemKind::Struct),
@@ -45,65 +79,73 @@ pub(crate) fn item_kind(word: &str) -> Option<ItemKind> {
     }
 }
 
-/// `macro2:N`, `rules:N` or `proc:N`.
-fn macro_id(word: &str) -> Option<MacroId> {
-    let (kind, digits) = word.split_once(':')?;
+/// `mod:N`, an item kind and its number, `variant:N`, `builtin:` and a builtin type, or a macro: `macro2:N`, `rules:N`
+/// or `proc:N`.
+fn definition(word: &str) -> Option<ModuleDefId>
+    ensures { result ≡ definition word.now }
+{
+    let (kind, rest) = cut_at_colon(word)?;
+    if kind == "builtin" {
+        return builtin_type(rest).map(ModuleDefId::BuiltinType);
+    }
+    let number = number(rest)?;
     match kind {
-        "macro2" => Some(MacroId::Macro2Id(Macro2Id(number(digits)?))),
-        "rules" => Some(MacroId::MacroRulesId(MacroRulesId(number(digits)?))),
-        "proc" => Some(MacroId::ProcMacroId(ProcMacroId(number(digits)?))),
+        "mod" => Some(ModuleDefId::ModuleId(ModuleId(number))),
+        "fn" => Some(ModuleDefId::FunctionId(FunctionId(number))),
+        "struct" => Some(ModuleDefId::AdtId(AdtId::StructId(StructId(number)))),
+        "union" => Some(ModuleDefId::AdtId(AdtId::UnionId(UnionId(number)))),
+        "enum" => Some(ModuleDefId::AdtId(AdtId::EnumId(EnumId(number)))),
+        "const" => Some(ModuleDefId::ConstId(ConstId(number))),
+        "static" => Some(ModuleDefId::StaticId(StaticId(number))),
+        "trait" => Some(ModuleDefId::TraitId(TraitId(number))),
+        "type" => Some(ModuleDefId::TypeAliasId(TypeAliasId(number))),
+        "variant" => Some(ModuleDefId::EnumVariantId(EnumVariantId(number))),
+        "macro2" => Some(ModuleDefId::MacroId(MacroId::Macro2Id(Macro2Id(number)))),
+        "rules" => Some(ModuleDefId::MacroId(MacroId::MacroRulesId(MacroRulesId(number)))),
+        "proc" => Some(ModuleDefId::MacroId(MacroId::ProcMacroId(ProcMacroId(number)))),
         _ => None,
     }
 }
 
-fn builtin_type(word: &str) -> Option<BuiltinType> {
+fn builtin_type(word: &str) -> Option<BuiltinType>
+    ensures { result ≡ find_name word.now builtin_words }
+{
     match word {
         "char" => Some(BuiltinType::Char),
         "bool" => Some(BuiltinType::Bool),
         "str" => Some(BuiltinType::Str),
-        _ => BuiltinInt::from_suffix(word)
-            .map(BuiltinType::Int)
-            .or(BuiltinUint::from_suffix(word).map(BuiltinType::Uint))
-            .or(BuiltinFloat::from_suffix(word).map(BuiltinType::Float)),
+        _ => number_type(word),
     }
 }
 
-/// An item by its kind and number.
-pub(crate) fn item_of(kind: ItemKind, number: u32) -> ModuleDefId {
-    match kind {
-        ItemKind::Function => ModuleDefId::FunctionId(FunctionId(number)),
-        ItemKind::Struct => ModuleDefId::AdtId(AdtId::StructId(StructId(number))),
-        ItemKind::Union => ModuleDefId::AdtId(AdtId::UnionId(UnionId(number))),
-        ItemKind::Enum => ModuleDefId::AdtId(AdtId::EnumId(EnumId(number))),
-        ItemKind::Const => ModuleDefId::ConstId(ConstId(number)),
-        ItemKind::Static => ModuleDefId::StaticId(StaticId(number)),
-        ItemKind::Trait => ModuleDefId::TraitId(TraitId(number)),
-        ItemKind::TypeAlias => ModuleDefId::TypeAliasId(TypeAliasId(number)),
+/// A builtin type of numbers.
+fn number_type(word: &str) -> Option<BuiltinType>
+    ensures { result ≡ find_name word.now (drop 3 builtin_words) }
+{
+    if let Some(int) = BuiltinInt::from_suffix(word) {
+        return Some(BuiltinType::Int(int));
     }
-}
-
-/// `mod:N`, an item kind and its number, `variant:N`, `builtin:` and a builtin type, or a macro.
-fn definition(word: &str) -> Option<ModuleDefId> {
-    let (kind, name) = word.split_once(':')?;
-    match kind {
-        "mod" => Some(ModuleDefId::ModuleId(ModuleId(number(name)?))),
-        "variant" => Some(ModuleDefId::EnumVariantId(EnumVariantId(number(name)?))),
-        "builtin" => Some(ModuleDefId::BuiltinType(builtin_type(name)?)),
-        "macro2" | "rules" | "proc" => Some(ModuleDefId::MacroId(macro_id(word)?)),
-        _ => Some(item_of(item_kind(kind)?, number(name)?)),
+    if let Some(uint) = BuiltinUint::from_suffix(word) {
+        return Some(BuiltinType::Uint(uint));
+    }
+    match BuiltinFloat::from_suffix(word) {
+        Some(float) => Some(BuiltinType::Float(float)),
+        None => None,
     }
 }
 
 /// `pub`, `crate:N`, `in:N:explicit` or `in:N:implicit`.
-pub(crate) fn visibility(word: &str) -> Option<Visibility> {
+pub(crate) fn visibility(word: &str) -> Option<Visibility>
+    ensures { result ≡ visibility word.now }
+{
     if word == "pub" {
         return Some(Visibility::Public);
     }
-    let (kind, rest) = word.split_once(':')?;
+    let (kind, rest) = cut_at_colon(word)?;
     match kind {
         "crate" => Some(Visibility::PubCrate(Crate(number(rest)?))),
         "in" => {
-            let (module, how) = rest.split_once(':')?;
+            let (module, how) = cut_at_colon(rest)?;
             Some(Visibility::Module(
                 ModuleId(number(module)?),
                 explicitness(how)?,
@@ -113,7 +155,9 @@ pub(crate) fn visibility(word: &str) -> Option<Visibility> {
     }
 }
 
-fn explicitness(word: &str) -> Option<VisibilityExplicitness> {
+fn explicitness(word: &str) -> Option<VisibilityExplicitness>
+    ensures { result ≡ find_name word.now explicitness_words }
+{
     match word {
         "explicit" => Some(VisibilityExplicitness::Explicit),
         "implicit" => Some(VisibilityExplicitness::Implicit),
@@ -122,11 +166,13 @@ fn explicitness(word: &str) -> Option<VisibilityExplicitness> {
 }
 
 /// `none`, `import:U:I`, `glob:U:I` or `extern:N`.
-pub(crate) fn import(word: &str) -> Option<Option<ImportOrExternCrate>> {
+pub(crate) fn import(word: &str) -> Option<Option<ImportOrExternCrate>>
+    ensures { result ≡ import_word word.now }
+{
     if word == "none" {
         return Some(None);
     }
-    let (kind, rest) = word.split_once(':')?;
+    let (kind, rest) = cut_at_colon(word)?;
     match kind {
         "extern" => Some(Some(ImportOrExternCrate::ExternCrate(ExternCrateId(
             number(rest)?,
@@ -144,18 +190,22 @@ pub(crate) fn import(word: &str) -> Option<Option<ImportOrExternCrate>> {
 }
 
 /// `U:I`, a use and a place in its tree.
-fn use_leaf(word: &str) -> Option<(UseId, UseTreeIdx)> {
-    let (use_, idx) = word.split_once(':')?;
+fn use_leaf(word: &str) -> Option<(UseId, UseTreeIdx)>
+    ensures { result ≡ use_leaf word.now }
+{
+    let (use_, idx) = cut_at_colon(word)?;
     Some((UseId(number(use_)?), UseTreeIdx(number(idx)?)))
 }
 
 /// `-`, or a definition, a visibility and an import.
-pub(crate) fn types_item(word: &str) -> Option<Option<TypesItem>> {
+pub(crate) fn types_item(word: &str) -> Option<Option<TypesItem>>
+    ensures { result ≡ types_word word.now }
+{
     if word == "-" {
         return Some(None);
     }
-    let (def, rest) = word.split_once('/')?;
-    let (vis, how) = rest.split_once('/')?;
+    let (def, rest) = cut_at_slash(word)?;
+    let (vis, how) = cut_at_slash(rest)?;
     Some(Some(Item {
         def: definition(def)?,
         vis: visibility(vis)?,
@@ -164,7 +214,9 @@ pub(crate) fn types_item(word: &str) -> Option<Option<TypesItem>> {
 }
 
 /// As a types item, but no extern crate brings a value.
-pub(crate) fn values_item(word: &str) -> Option<Option<ValuesItem>> {
+pub(crate) fn values_item(word: &str) -> Option<Option<ValuesItem>>
+    ensures { result ≡ values_word word.now }
+{
     match types_item(word)? {
         None => Some(None),
         Some(Item { def, vis, import }) => Some(Some(Item {
@@ -175,7 +227,9 @@ pub(crate) fn values_item(word: &str) -> Option<Option<ValuesItem>> {
     }
 }
 
-fn value_import(import: Option<ImportOrExternCrate>) -> Option<Option<ImportOrGlob>> {
+fn value_import(import: Option<ImportOrExternCrate>) -> Option<Option<ImportOrGlob>>
+    ensures { result ≡ value_import import }
+{
     match import {
         None => Some(None),
         Some(import) => Some(Some(import.import_or_glob()?)),
@@ -183,7 +237,9 @@ fn value_import(import: Option<ImportOrExternCrate>) -> Option<Option<ImportOrGl
 }
 
 /// As a types item, but the definition has to be a macro.
-pub(crate) fn macros_item(word: &str) -> Option<Option<MacrosItem>> {
+pub(crate) fn macros_item(word: &str) -> Option<Option<MacrosItem>>
+    ensures { result ≡ macros_word word.now }
+{
     match types_item(word)? {
         None => Some(None),
         Some(Item {
@@ -196,13 +252,15 @@ pub(crate) fn macros_item(word: &str) -> Option<Option<MacrosItem>> {
 }
 
 /// `plain`, `abs`, `crate`, `dollar:N`, or `super:K` with K at most 255.
-pub(crate) fn path_kind(word: &str) -> Option<PathKind> {
+pub(crate) fn path_kind(word: &str) -> Option<PathKind>
+    ensures { result ≡ path_kind word.now }
+{
     match word {
         "plain" => Some(PathKind::Plain),
         "abs" => Some(PathKind::Abs),
         "crate" => Some(PathKind::Crate),
         _ => {
-            let (kind, digits) = word.split_once(':')?;
+            let (kind, digits) = cut_at_colon(word)?;
             match kind {
                 "dollar" => Some(PathKind::DollarCrate(Crate(number(digits)?))),
                 "super" => Some(PathKind::Super(u8::try_from(number(digits)?).ok()?)),
@@ -212,7 +270,9 @@ pub(crate) fn path_kind(word: &str) -> Option<PathKind> {
     }
 }
 
-pub(crate) fn resolve_mode(word: &str) -> Option<ResolveMode> {
+pub(crate) fn resolve_mode(word: &str) -> Option<ResolveMode>
+    ensures { result ≡ find_name word.now modes }
+{
     match word {
         "import" => Some(ResolveMode::Import),
         "other" => Some(ResolveMode::Other),
@@ -220,7 +280,9 @@ pub(crate) fn resolve_mode(word: &str) -> Option<ResolveMode> {
     }
 }
 
-pub(crate) fn shadow_mode(word: &str) -> Option<BuiltinShadowMode> {
+pub(crate) fn shadow_mode(word: &str) -> Option<BuiltinShadowMode>
+    ensures { result ≡ find_name word.now shadow_modes }
+{
     match word {
         "module" => Some(BuiltinShadowMode::Module),
         "other" => Some(BuiltinShadowMode::Other),
@@ -229,7 +291,9 @@ pub(crate) fn shadow_mode(word: &str) -> Option<BuiltinShadowMode> {
 }
 
 /// `any` where no kind of macro is expected, `bang` or `attr`.
-pub(crate) fn expected_macro(word: &str) -> Option<Option<MacroSubNs>> {
+pub(crate) fn expected_macro(word: &str) -> Option<Option<MacroSubNs>>
+    ensures { result ≡ find_name word.now expectations }
+{
     match word {
         "any" => Some(None),
         "bang" => Some(Some(MacroSubNs::Bang)),

@@ -1,0 +1,59 @@
+-- What the words of a script stand for.
+use Rattle.std.proofs.Common.{◌≡◌, ◌≢◌, ℕ, ◌+◌, ◌<◌, ◌^◌, Bool, true, false, not, List, [], ◌∷◌, ◌++◌, Option, Some, None, Result, Ok, Err, length, get_or, arith, rules, refl, sym, ◌∙◌, suc, ap, nat_lt, eqb, ◌&&◌}
+use Rattle.std.specs.Option.{option_map, MatchOption}
+use Rattle.std.specs.Result.{OkIff, result_ok}
+use Rattle.std.specs.Char.{is_ascii_digit}
+use Rattle.std.specs.List.{list_all}
+use Rattle.std.specs.Str.{all_ascii_digits}
+use Rattle.std.specs.Str.Parse.{ParsesUnsigned, digits_value}
+use Rattle.std.proofs.lemmas.Bool.{eq-eqb, ne_eqb}
+use Rattle.std.proofs.lemmas.Bool.Decides.{nat_tests}
+use Rattle.std.proofs.lemmas.Str.Parse.{IsNumeralModel, numerals_by_value, tells_all_ascii_digits, parse_digits}
+use Rattle.std.proofs.lemmas.Str.Pattern.{IsSplitOnceResult, split_parts}
+use denote.Ref.{Bor}
+use Rattle.defmap_script.specs.Words.{number, cut}
+
+own : IsNumeralModel (λ ds. all_ascii_digits ds ≡ true) (digits_value 10)
+own = numerals_by_value _ tells_all_ascii_digits
+
+all_ascii_digits-all : (w : List ℕ) → all_ascii_digits w ≡ list_all is_ascii_digit w
+all_ascii_digits-all [] = refl
+all_ascii_digits-all (c ∷ cs) = ap (λ b. is_ascii_digit c && b) (all_ascii_digits-all cs)
+
+number-from : {E : Type 0} → (w : List ℕ) (r : Result ℕ E) → list_all is_ascii_digit w ≡ true → OkIff r ((0 < length w) × (digits_value 10 w < 2 ^ 32)) (digits_value 10 w) → result_ok r ≡ number w
+number-from w (Ok v) d h = rw d (grind (arith, nat_tests))
+number-from w (Err e) d h = rw d (grind (arith, nat_tests))
+
+-- digits alone, read by `parse`
+pub number-parsed : {E : Type 0} → (w : List ℕ) (r : Result ℕ E) → ParsesUnsigned 32 10 w r → list_all is_ascii_digit w ≡ true → result_ok r ≡ number w
+number-parsed w r h d = number-from w r d (parse_digits own 32 w r h (all_ascii_digits-all w ∙ d))
+
+later : (c x : ℕ) (xs : List ℕ) → ((i : ℕ) → i < length (x ∷ xs) → get_or (x ∷ xs) i 0 ≢ c) → (i : ℕ) → i < length xs → get_or xs i 0 ≢ c
+later c x xs h i l = h (suc i) (omega arith)
+
+-- where the byte is not, there is no cut
+cut-none : (c : ℕ) (xs : List ℕ) → ((i : ℕ) → i < length xs → get_or xs i 0 ≢ c) → cut c xs ≡ None
+cut-none c [] h = refl
+cut-none c (x ∷ xs) h =
+    let here : eqb x c ≡ false = ne_eqb x c (h 0 (omega arith))
+    in rw (here, cut-none c xs (later c x xs h))
+
+-- the cut is at the first of the byte
+cut-first : (c : ℕ) (xs ys : List ℕ) → ((i : ℕ) → i < length xs → get_or xs i 0 ≢ c) → cut c (xs ++ c ∷ ys) ≡ Some (xs, ys)
+cut-first c [] ys h =
+    let here : eqb c c ≡ true = eq-eqb c c refl
+    in rw here
+cut-first c (x ∷ xs) ys h =
+    let here : eqb x c ≡ false = ne_eqb x c (h 0 (omega arith))
+    in rw (here, cut-first c xs ys (later c x xs h))
+
+abbrev pub parts : Option (Bor (List ℕ) × Bor (List ℕ)) → Option (List ℕ × List ℕ)
+parts r = option_map (λ p. (p.0.now, p.1.now)) r
+
+cut-by_cases : (c : ℕ) (bs : List ℕ) (r : Option (Bor (List ℕ) × Bor (List ℕ))) → MatchOption r ((i : ℕ) → i < length bs → get_or bs i 0 ≢ c) (λ x. (bs ≡ x.0.now ++ (c ∷ x.1.now)) × ((i : ℕ) → i < length x.0.now → get_or x.0.now i 0 ≢ c)) → parts r ≡ cut c bs
+cut-by_cases c bs None h = sym (cut-none c bs h)
+cut-by_cases c bs (Some x) h = sym (ap (cut c) h.0 ∙ cut-first c x.0.now x.1.now h.1)
+
+-- what `split_once` gives at an ASCII character
+pub cut-split_once : (c : ℕ) (bs : List ℕ) (r : Option (Bor (List ℕ) × Bor (List ℕ))) → IsSplitOnceResult c bs r → c < 128 → parts r ≡ cut c bs
+cut-split_once c bs r h small = cut-by_cases c bs r (split_parts c bs r h small)
