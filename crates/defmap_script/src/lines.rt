@@ -1,6 +1,9 @@
 //! One line of a script, as what it asks for.
-ghost use Rattle.std.specs.Prelude.{length};
-ghost use Rattle.std.specs.Iterator.{at_most};
+ghost use Rattle.std.specs.Prelude.{◌≡◌};
+ghost use Rattle.std.specs.Iterator.{YieldsFirstRef, item_count};
+ghost use Rattle.std.specs.Option.{option_map};
+ghost use Rattle.defmap_script.specs.Lines.{words};
+ghost use Rattle.defmap_script.specs.Words.{cut};
 
 use crate::words::{
     edition, expected_macro, import, item_kind, macros_item, number, path_kind, resolve_mode,
@@ -58,7 +61,9 @@ pub(crate) struct Words<'a> {
 }
 
 impl<'a> Words<'a> {
-    pub(crate) fn of(text: &'a str) -> Words<'a> {
+    pub(crate) fn of(text: &'a str) -> Words<'a>
+        ensures { result.text.now ≡ text.now }
+    {
         Words { text }
     }
 }
@@ -66,18 +71,28 @@ impl<'a> Words<'a> {
 impl<'a> Iterator for Words<'a> {
     type Item = &'a str;
 
-    ghost remaining = { λ words. at_most (length words.text.now) };
+    ghost next_gives = { YieldsFirstRef (λ w. words w.text.now) };
+
+    ghost remaining = { item_count (λ w. words w.text.now) };
 
     fn next(&mut self) -> Option<&'a str> {
-        let text = self.text.trim_start_matches(' ');
-        if text.is_empty() {
-            self.text = text;
-            return None;
+        while let Some((word, rest)) = cut_at_space(self.text) {
+            self.text = rest;
+            if !word.is_empty() {
+                return Some(word);
+            }
         }
-        let (word, rest) = text.split_once(' ').unwrap_or((text, ""));
-        self.text = rest;
-        Some(word)
+        let last = self.text;
+        self.text = "";
+        if last.is_empty() { None } else { Some(last) }
     }
+}
+
+/// The parts before and behind the first space.
+fn cut_at_space(text: &str) -> Option<(&str, &str)>
+    ensures { option_map (λ p. (p.0.now, p.1.now)) result ≡ cut 32 text.now }
+{
+    text.split_once(' ')
 }
 
 /// The command of a line that has a word; none for an unknown first word, for too few or too many words, and for a
