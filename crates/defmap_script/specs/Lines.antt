@@ -1,8 +1,147 @@
--- The lines of a script, and the words of a line.
-use Rattle.std.specs.Prelude.{ℕ, ◌==◌, not, List, length, filter}
-use Rattle.std.specs.List.{slice_split}
-use Rattle.dm_base.specs.Names.{Name}
+-- The lines of a script: their words, and what they ask for.
+use Rattle.std.specs.Prelude.{ℕ, ◌==◌, not, List, [], ◌∷◌, Option, Some, None, Result, Ok, Err, length, filter, codes, nat_eq, if◌then◌else◌}
+use Rattle.std.specs.List.{slice_split, starts_with}
+use Rattle.std.specs.Str.{is_utf8}
+use Rattle.std.specs.Option.{option_map, option_map_or, option_and_then}
+use Rattle.dm_base.specs.Names.{Name, find_name}
+use Rattle.dm_base.specs.Path.{Path}
+use Rattle.dm_base.specs.declared.ids.FileId.{FileId}
+use Rattle.dm_base.specs.declared.ids.ModuleId.{ModuleId}
+use Rattle.dm_base.specs.declared.item_ids.ItemKind.{ItemKind}
+use Rattle.dm_base.specs.declared.item_ids.MacroId.{MacroId}
+use Rattle.dm_base.specs.declared.item_ids.ModuleDefId.{ModuleDefId}
+use Rattle.dm_base.specs.declared.imports.ImportOrExternCrate.{ImportOrExternCrate}
+use Rattle.dm_base.specs.declared.imports.ImportOrGlob.{ImportOrGlob}
+use Rattle.dm_base.specs.declared.per_ns.Item.{Item}
+use Rattle.dm_base.specs.declared.mod_path.PathKind.{PathKind}
+use Rattle.dm_base.specs.declared.per_ns.PerNs.{PerNs}
+use Rattle.dm_base.specs.declared.source.Edition.{Edition}
+use Rattle.dm_base.specs.declared.visibility.Visibility.{Visibility}
+use Rattle.dm_maps.specs.declared.modes.BuiltinShadowMode.{BuiltinShadowMode}
+use Rattle.dm_maps.specs.declared.modes.MacroSubNs.{MacroSubNs}
+use Rattle.hir_def_map.specs.declared.result.ResolveMode.{ResolveMode}
+use Rattle.defmap_script.specs.declared.lines.BadLine.{BadLine}
+use Rattle.defmap_script.specs.declared.lines.Command.{Command}
+use Rattle.defmap_script.specs.declared.lines.Command.TheVariants as commands
+use Rattle.defmap_script.specs.declared.lines.Question.{Question}
+use Rattle.defmap_script.specs.declared.lines.Words.{Words}
+use Rattle.defmap_script.specs.Words.{number, editions, expectations, import_word, item_kinds, macros_word, modes, path_kind, shadow_modes, types_word, values_word, visibility}
 
 -- the parts of a line between spaces that are not empty
 abbrev pub words : List ℕ → List Name
 words line = filter (λ w. not (length w == 0)) (slice_split (λ b. b == 32) line)
+
+abbrev pub words_left : Words → List Name
+words_left w = words w.text.now
+
+-- a path, and how it is asked for
+pub record Asking : Type 0 where
+  pub from : ModuleId
+  pub mode : ResolveMode
+  pub shadow : BuiltinShadowMode
+  pub expected : Option MacroSubNs
+  pub path : Path
+
+-- what a line asks for
+pub data Asked : Type 0 where
+  NewCrate : Edition → FileId → Asked
+  NewModule : ModuleId → Name → Visibility → Asked
+  NewItem : ItemKind → ModuleId → Asked
+  Pushes : ModuleId → Name → PerNs → Asked
+  Checks : Asked
+  Asks : Asking → Asked
+
+abbrev pub asking : Question → Asking
+asking q = record {
+  from = q.from;
+  mode = q.mode;
+  shadow = q.shadow;
+  expected = q.expected;
+  path = record { kind = q.kind; segments = words_left q.segments };
+}
+
+-- what a command asks for
+abbrev pub asked : Command → Asked
+asked (commands.Crate e f) = NewCrate e f
+asked (commands.Module m n v) = NewModule m n.now v
+asked (commands.Item k m) = NewItem k m
+asked (commands.Push m n r) = Pushes m n.now r
+asked commands.Check = Checks
+asked (commands.Path q) = Asks (asking q)
+
+-- the words behind the first of each kind of line
+abbrev pub crate_line : List Name → Option Asked
+crate_line (e ∷ f ∷ []) = option_and_then (λ edition. option_map (λ n. NewCrate edition (record { 0 = n })) (number f)) (find_name e editions)
+crate_line _ = None
+
+abbrev pub module_line : List Name → Option Asked
+module_line (m ∷ name ∷ v ∷ []) = option_and_then (λ n. option_map (λ vis. NewModule (record { 0 = n }) name vis) (visibility v)) (number m)
+module_line _ = None
+
+abbrev pub item_line : List Name → Option Asked
+item_line (k ∷ m ∷ []) = option_and_then (λ kind. option_map (λ n. NewItem kind (record { 0 = n })) (number m)) (find_name k item_kinds)
+item_line _ = None
+
+-- three items and an import
+abbrev pub pushed_parts : Option (Option (Item ModuleDefId ImportOrExternCrate)) → Option (Option (Item ModuleDefId ImportOrGlob)) → Option (Option (Item MacroId ImportOrExternCrate)) → Option (Option ImportOrExternCrate) → Option (PerNs × Option ImportOrExternCrate)
+pushed_parts (Some t) (Some v) (Some m) (Some i) = Some (record { types = t; values = v; macros = m }, i)
+pushed_parts _ _ _ _ = None
+
+abbrev pub pushed : List Name → Option (PerNs × Option ImportOrExternCrate)
+pushed (t ∷ v ∷ m ∷ i ∷ []) = pushed_parts (types_word t) (values_word v) (macros_word m) (import_word i)
+pushed _ = None
+
+-- for now no push has an import
+abbrev pub push_of : Name → ℕ → PerNs × Option ImportOrExternCrate → Option Asked
+push_of name m p = option_map_or (λ i. None) p.1 (Some (Pushes (record { 0 = m }) name p.0))
+
+abbrev pub push_line : List Name → Option Asked
+push_line (m ∷ name ∷ ws) = option_and_then (λ n. option_and_then (push_of name n) (pushed ws)) (number m)
+push_line _ = None
+
+abbrev pub check_line : List Name → Option Asked
+check_line [] = Some Checks
+check_line _ = None
+
+-- any words may be segments
+abbrev pub path_parts : Option ℕ → Option ResolveMode → Option BuiltinShadowMode → Option (Option MacroSubNs) → Option PathKind → List Name → Option Asked
+path_parts (Some m) (Some o) (Some s) (Some e) (Some k) names =
+    Some (Asks (record { from = record { 0 = m }; mode = o; shadow = s; expected = e; path = record { kind = k; segments = names } }))
+path_parts _ _ _ _ _ names = None
+
+abbrev pub path_line : List Name → Option Asked
+path_line (m ∷ mode ∷ shadow ∷ expected ∷ kind ∷ segments) = path_parts (number m) (find_name mode modes) (find_name shadow shadow_modes) (find_name expected expectations) (path_kind kind) segments
+path_line _ = None
+
+-- what reads the words behind each first word
+abbrev pub line_forms : List (Name × (List Name → Option Asked))
+line_forms =
+    (codes "crate", crate_line) ∷ (codes "module", module_line) ∷ (codes "item", item_line) ∷ (codes "push", push_line)
+    ∷ (codes "check", check_line) ∷ (codes "path", path_line) ∷ []
+
+abbrev pub command : List Name → Option Asked
+command [] = None
+command (w ∷ ws) = option_and_then (λ form. form ws) (find_name w line_forms)
+
+-- what a line says: nothing, something that is asked for, or nonsense
+pub data Said : Type 0 where
+  Silence : Said
+  Sense : Asked → Said
+  Nonsense : Said
+
+abbrev pub said_by : Option Asked → Said
+said_by None = Nonsense
+said_by (Some a) = Sense a
+
+abbrev pub said_in : List Name → Said
+said_in [] = Silence
+said_in (w ∷ ws) = said_by (command (w ∷ ws))
+
+-- a line that begins with `#` or has no word says nothing
+abbrev pub said : List ℕ → Said
+said line = if starts_with nat_eq line (codes "#") then Silence else (if is_utf8 line then said_in (words line) else Nonsense)
+
+abbrev pub said_of : Result (Option Command) BadLine → Said
+said_of (Err e) = Nonsense
+said_of (Ok None) = Silence
+said_of (Ok (Some c)) = Sense (asked c)

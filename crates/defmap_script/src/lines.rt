@@ -1,8 +1,9 @@
 //! One line of a script, as what it asks for.
-ghost use Rattle.std.specs.Prelude.{◌≡◌};
+ghost use Rattle.std.specs.Prelude.{◌≡◌, ◌≢◌, [], ◌∷◌, Some, None, MatchOption, if◌then◌else◌};
 ghost use Rattle.std.specs.Iterator.{YieldsFirstRef, item_count};
 ghost use Rattle.std.specs.Option.{option_map};
-ghost use Rattle.defmap_script.specs.Lines.{words};
+ghost use Rattle.std.specs.Str.{is_utf8};
+ghost use Rattle.defmap_script.specs.Lines.{words, words_left, asked, said, said_in, said_of, command, crate_line, module_line, item_line, push_line, pushed, check_line, path_line};
 ghost use Rattle.defmap_script.specs.Words.{cut};
 
 use crate::words::{
@@ -10,6 +11,7 @@ use crate::words::{
     shadow_mode, types_item, values_item, visibility,
 };
 use dm_base::ids::{FileId, ModuleId};
+use dm_base::imports::ImportOrExternCrate;
 use dm_base::item_ids::ItemKind;
 use dm_base::mod_path::PathKind;
 use dm_base::per_ns::PerNs;
@@ -46,7 +48,7 @@ pub(crate) enum Command<'a> {
 /// A path, and how it is asked for.
 #[derive(Clone, Copy)]
 pub(crate) struct Question<'a> {
-    pub(crate) module: ModuleId,
+    pub(crate) from: ModuleId,
     pub(crate) mode: ResolveMode,
     pub(crate) shadow: BuiltinShadowMode,
     pub(crate) expected: Option<MacroSubNs>,
@@ -65,6 +67,16 @@ impl<'a> Words<'a> {
         ensures { result.text.now ≡ text.now }
     {
         Words { text }
+    }
+
+    /// Something where no word is left.
+    fn end(mut self) -> Option<()>
+        ensures { MatchOption result (words_left self.entry ≢ []) (λ _. words_left self.entry ≡ []) }
+    {
+        match self.next() {
+            None => Some(()),
+            Some(_) => None,
+        }
     }
 }
 
@@ -95,63 +107,142 @@ fn cut_at_space(text: &str) -> Option<(&str, &str)>
     text.split_once(' ')
 }
 
-/// The command of a line that has a word; none for an unknown first word, for too few or too many words, and for a
-/// word of a wrong form.
-pub(crate) fn read_line(line: &str) -> Option<Command<'_>> {
-    let mut words = Words::of(line);
-    let first = words.next()?;
-    if first == "path" {
-        return path_line(words);
+/// A line that asks for nothing that there is.
+#[derive(Clone, Copy)]
+pub(crate) struct BadLine;
+
+/// What a line asks for; nothing where it begins with `#` or has no word.
+///
+/// A bad line has an unknown first word, too few or too many words, a word of a wrong form, or is not UTF-8.
+pub(crate) fn read_line(line: &[u8]) -> Result<Option<Command<'_>>, BadLine>
+    ensures { said_of result ≡ said line.now }
+{
+    if line.starts_with(b"#") {
+        return Ok(None);
     }
-    let command = match first {
-        "crate" => Command::Crate {
-            edition: edition(words.next()?)?,
-            file: FileId(number(words.next()?)?),
-        },
-        "module" => Command::Module {
-            parent: ModuleId(number(words.next()?)?),
-            name: words.next()?,
-            visibility: visibility(words.next()?)?,
-        },
-        "item" => Command::Item {
-            kind: item_kind(words.next()?)?,
-            module: ModuleId(number(words.next()?)?),
-        },
-        "push" => push_line(&mut words)?,
-        "check" => Command::Check,
-        _ => return None,
-    };
-    match words.next() {
-        None => Some(command),
-        Some(_) => None,
+    match utf8_text(line) {
+        Some(text) => read_text(text),
+        None => Err(BadLine),
     }
 }
 
-/// The words of a push behind the first. For now no push has an import.
-fn push_line<'a>(words: &mut Words<'a>) -> Option<Command<'a>> {
+fn utf8_text(line: &[u8]) -> Option<&str>
+    ensures { option_map (λ text. text.now) result ≡ (if is_utf8 line.now then Some line.now else None) }
+{
+    match std::str::from_utf8(line) {
+        Ok(text) => Some(text),
+        Err(_) => None,
+    }
+}
+
+fn read_text(text: &str) -> Result<Option<Command<'_>>, BadLine>
+    ensures { said_of result ≡ said_in (words text.now) }
+{
+    let mut words = Words::of(text);
+    let Some(first) = words.next() else {
+        return Ok(None);
+    };
+    match command_of(first, words) {
+        Some(command) => Ok(Some(command)),
+        None => Err(BadLine),
+    }
+}
+
+/// The command of a first word and the words behind it.
+fn command_of<'a>(first: &str, words: Words<'a>) -> Option<Command<'a>>
+    ensures { option_map asked result ≡ command (first.now ∷ words_left words.entry) }
+{
+    match first {
+        "crate" => crate_line(words),
+        "module" => module_line(words),
+        "item" => item_line(words),
+        "push" => push_line(words),
+        "check" => check_line(words),
+        "path" => path_line(words),
+        _ => None,
+    }
+}
+
+/// `crate EDITION FILE`, behind its first word.
+fn crate_line(mut words: Words<'_>) -> Option<Command<'_>>
+    ensures { option_map asked result ≡ crate_line (words_left words.entry) }
+{
+    let edition = edition(words.next()?)?;
+    let file = FileId(number(words.next()?)?);
+    words.end()?;
+    Some(Command::Crate { edition, file })
+}
+
+/// `module MODULE NAME VIS`, behind its first word.
+fn module_line(mut words: Words<'_>) -> Option<Command<'_>>
+    ensures { option_map asked result ≡ module_line (words_left words.entry) }
+{
+    let parent = ModuleId(number(words.next()?)?);
+    let name = words.next()?;
+    let visibility = visibility(words.next()?)?;
+    words.end()?;
+    Some(Command::Module {
+        parent,
+        name,
+        visibility,
+    })
+}
+
+/// `item KIND MODULE`, behind its first word.
+fn item_line(mut words: Words<'_>) -> Option<Command<'_>>
+    ensures { option_map asked result ≡ item_line (words_left words.entry) }
+{
+    let kind = item_kind(words.next()?)?;
+    let module = ModuleId(number(words.next()?)?);
+    words.end()?;
+    Some(Command::Item { kind, module })
+}
+
+/// `push MODULE NAME ITEM ITEM ITEM IMPORT`, behind its first word. For now no push has an import.
+fn push_line(mut words: Words<'_>) -> Option<Command<'_>>
+    ensures { option_map asked result ≡ push_line (words_left words.entry) }
+{
     let module = ModuleId(number(words.next()?)?);
     let name = words.next()?;
+    match pushed(words)? {
+        (res, None) => Some(Command::Push { module, name, res }),
+        (_, Some(_)) => None,
+    }
+}
+
+/// Three items and an import.
+fn pushed(mut words: Words<'_>) -> Option<(PerNs, Option<ImportOrExternCrate>)>
+    ensures { result ≡ pushed (words_left words.entry) }
+{
     let types = types_item(words.next()?)?;
     let values = values_item(words.next()?)?;
     let macros = macros_item(words.next()?)?;
-    match import(words.next()?)? {
-        None => Some(Command::Push {
-            module,
-            name,
-            res: PerNs {
-                types,
-                values,
-                macros,
-            },
-        }),
-        Some(_) => None,
-    }
+    let import = import(words.next()?)?;
+    words.end()?;
+    Some((
+        PerNs {
+            types,
+            values,
+            macros,
+        },
+        import,
+    ))
 }
 
-/// The words of a path question behind the first. Any word may be a segment.
-fn path_line(mut words: Words<'_>) -> Option<Command<'_>> {
+/// `check`, behind which there is no word.
+fn check_line(words: Words<'_>) -> Option<Command<'_>>
+    ensures { option_map asked result ≡ check_line (words_left words.entry) }
+{
+    words.end()?;
+    Some(Command::Check)
+}
+
+/// `path MODULE MODE SHADOW EXPECT PATH`, behind its first word. Any words may be segments.
+fn path_line(mut words: Words<'_>) -> Option<Command<'_>>
+    ensures { option_map asked result ≡ path_line (words_left words.entry) }
+{
     Some(Command::Path(Question {
-        module: ModuleId(number(words.next()?)?),
+        from: ModuleId(number(words.next()?)?),
         mode: resolve_mode(words.next()?)?,
         shadow: shadow_mode(words.next()?)?,
         expected: expected_macro(words.next()?)?,

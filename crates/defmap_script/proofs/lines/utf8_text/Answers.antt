@@ -1,0 +1,15 @@
+use Rattle.std.proofs.Common.{◌≡◌, true, false, ap, Some}
+use Rattle.std.specs.Str.{is_utf8}
+use Rattle.std.proofs.lemmas.Bool.{false_from_ne_true}
+use Rattle.std.proofs.lemmas.Str.{IsUtf8-from_is_utf8, is_utf8-from_IsUtf8}
+use Rattle.defmap_script.proofs.lines.utf8_text.Goals as goal
+
+pub returns-in-Ok : goal.returns-in-Ok
+returns-in-Ok c =
+    let valid : is_utf8 c.args.line.now ≡ true = is_utf8-from_IsUtf8 c.args.line.now c.in-Ok.ensures.cases.1
+    in rw valid (ap Some c.in-Ok.ensures.cases.0)
+
+pub returns-in-Err : goal.returns-in-Err
+returns-in-Err c =
+    let bad : is_utf8 c.args.line.now ≡ false = false_from_ne_true (is_utf8 c.args.line.now) (λ e. c.in-Err.ensures.cases.0 (IsUtf8-from_is_utf8 c.args.line.now e))
+    in rw bad
