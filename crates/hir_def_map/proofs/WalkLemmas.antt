@@ -14,19 +14,20 @@ use Rattle.dm_base.specs.declared.per_ns.PerNs.{PerNs}
 use Rattle.dm_base.specs.Tree.{Tree, same_crate, crate_of, home}
 use Rattle.dm_maps.specs.Readings.{Reading}
 use Rattle.hir_def_map.specs.declared.result.ResolvePathResult.{ResolvePathResult}
+use Rattle.hir_def_map.specs.declared.segments.Stand.{Stand}
 use Rattle.hir_def_map.specs.Answers.{from_other_crate}
-use Rattle.hir_def_map.specs.Paths.{Entering, at_variant, stop, seen_in, root_item, enter, enter_within}
-use Rattle.hir_def_map.specs.Walk.{marked, Stand, through, walk}
+use Rattle.hir_def_map.specs.Paths.{Entering, is_empty, at_variant, stop, seen_in, root_item, enter, enter_within}
+use Rattle.hir_def_map.specs.Walk.{marked, through, walk}
 use Rattle.hir_def_map.proofs.StopLemmas.{stop-through, stop-here, own_crate, stop-enters}
 
 add_twice : (k p : ℕ) (o : Option ℕ) → option_map (λ i. i + p) (option_map (λ i. i + k) o) ≡ option_map (λ i. i + (k + p)) o
 add_twice k p None = refl
 add_twice k p (Some i) = let e : (i + k) + p ≡ i + (k + p) = omega arith in ap Some e
 
-enum-shifted : (i : Item ModuleDefId ImportOrExternCrate) (k p : ℕ) (o : Option (EnumVariantId × FieldsShape)) (S : List Reading) → from_other_crate p (at_variant i k o S) ≡ marked true (at_variant i (k + p) o S)
-enum-shifted i k p None S = refl
-enum-shifted i k p (Some v) [] = refl
-enum-shifted i k p (Some v) (s ∷ S) = refl
+enum-shifted : (i : Item ModuleDefId ImportOrExternCrate) (k p : ℕ) (o : Option (EnumVariantId × FieldsShape)) (b : Bool) → from_other_crate p (at_variant i k o b) ≡ marked true (at_variant i (k + p) o b)
+enum-shifted i k p None b = refl
+enum-shifted i k p (Some v) true = refl
+enum-shifted i k p (Some v) false = refl
 
 -- an answer from position k on, shifted by p, is that from position k + p on
 stop-shifted : (e : Entering) (t : Tree) (f : ModuleId) (x : PerNs) (k p : ℕ) (S : List Reading) → from_other_crate p (stop e t f x k S) ≡ marked true (stop e t f x (k + p) S)
@@ -55,7 +56,7 @@ stop-shifted e t f x k p (s ∷ S) = by x.types (λ y. stop-shifted e t f y (k +
         → ((y : PerNs) → from_other_crate p (stop e t f y (k + 1) S) ≡ marked true (stop e t f y ((k + 1) + p) S))
         → let z : PerNs = record x { types = Some (record i { def = c }) } in from_other_crate p (stop e t f z k (s ∷ S)) ≡ marked true (stop e t f z (k + p) (s ∷ S))
     by_def i (def.ModuleId m) rest = by_module i m (same_crate (crate_of t m) (crate_of t f)) refl rest
-    by_def i (def.AdtId (adt.EnumId n)) rest = enum-shifted (record i { def = def.AdtId (adt.EnumId n) }) k p (s.variant n) S
+    by_def i (def.AdtId (adt.EnumId n)) rest = enum-shifted (record i { def = def.AdtId (adt.EnumId n) }) k p (s.variant n) (is_empty S)
     by_def i (def.AdtId _) rest = refl
     by_def i _ rest = refl
 

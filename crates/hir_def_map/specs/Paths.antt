@@ -79,19 +79,24 @@ stations t f x b (s ∷ rest) = record { position = b; here = x; rest = s ∷ re
 abbrev pub is_stop : Tree → ModuleId → Station → Bool
 is_stop t f j = elim j.rest [ [] ↦ true | ◌∷◌ s rest ↦ is_none (next_module t f j.here) ]
 
--- At an enum: a known last variant is reached, a known one with segments left is nothing, and at an unknown one the enum is left.
-abbrev pub at_variant : Item ModuleDefId ImportOrExternCrate → ℕ → Option (EnumVariantId × FieldsShape) → List Reading → ResolvePathResult
-at_variant i j None rest = stopped i j
-at_variant i j (Some v) [] = variant_answer i v
-at_variant i j (Some v) (s ∷ rest) = nothing_no
+-- At an enum: a known variant is reached where it is the last segment, and is nothing where segments are left; at an unknown one the
+-- enum is left.
+abbrev pub at_variant : Item ModuleDefId ImportOrExternCrate → ℕ → Option (EnumVariantId × FieldsShape) → Bool → ResolvePathResult
+at_variant i j None is_last = stopped i j
+at_variant i j (Some v) true = variant_answer i v
+at_variant i j (Some v) false = nothing_no
 
-abbrev pub at_enum : Item ModuleDefId ImportOrExternCrate → EnumId → ℕ → Reading → List Reading → ResolvePathResult
-at_enum i e j s rest = at_variant i j (s.variant e) rest
+abbrev pub is_empty : {A : Type 0} → List A → Bool
+is_empty [] = true
+is_empty (x ∷ xs) = false
+
+abbrev pub at_enum : Item ModuleDefId ImportOrExternCrate → EnumId → ℕ → Reading → Bool → ResolvePathResult
+at_enum i e j s is_last = at_variant i j (s.variant e) is_last
 
 -- by what a definition is, where segments are left: a module of another crate, an enum, or anything else
 abbrev pub at_definition : Entering → Item ModuleDefId ImportOrExternCrate → ℕ → Reading → List Reading → ModuleDefId → ResolvePathResult
 at_definition enter i j s rest (def.ModuleId m) = from_other_crate j (enter m (s ∷ rest))
-at_definition enter i j s rest (def.AdtId (adt.EnumId e)) = at_enum i e j s rest
+at_definition enter i j s rest (def.AdtId (adt.EnumId e)) = at_enum i e j s (is_empty rest)
 at_definition enter i j s rest _ = stopped i j
 
 -- the answer at the stop: what stands there at the end, else by what stands there in types
@@ -216,10 +221,6 @@ layers w q (Preludes id f) s is_last =
 
 abbrev pub is_nothing : PerNs → Bool
 is_nothing x = is_none x.types && is_none x.values && is_none x.macros
-
-abbrev pub is_empty : {A : Type 0} → List A → Bool
-is_empty [] = true
-is_empty (x ∷ xs) = false
 
 -- after `::`, where the 2015 rule does not hold, a name that no layer has is not there yet
 abbrev pub is_missed : Setting → Ask → Place → PerNs → Bool
