@@ -3,13 +3,16 @@ use Rattle.std.proofs.Common.{◌≡◌, Bool, true, false, cond, List, [], ◌�
 use Rattle.std.specs.Option.{option_map_or}
 use Rattle.dm_base.specs.declared.imports.ImportOrExternCrate.{ImportOrExternCrate}
 use Rattle.dm_base.specs.declared.imports.ImportOrGlob.{ImportOrGlob}
+use Rattle.dm_base.specs.declared.ids.ModuleId.{ModuleId}
 use Rattle.dm_base.specs.declared.item_ids.ModuleDefId.{ModuleDefId}
+use Rattle.dm_base.specs.declared.item_ids.ModuleDefId.TheVariants as def
 use Rattle.dm_base.specs.declared.item_ids.MacroId.{MacroId}
 use Rattle.dm_base.specs.declared.per_ns.Item.{Item}
 use Rattle.dm_base.specs.declared.per_ns.PerNs.{PerNs}
 use Rattle.dm_base.specs.declared.visibility.Visibility.{Visibility}
 use Rattle.dm_base.specs.declared.visibility.Visibility.TheVariants.{Module, PubCrate, Public}
 use Rattle.dm_base.specs.Items.{keep, seen_by}
+use Rattle.dm_base.specs.Tree.{IsKnown}
 use Rattle.dm_base.specs.Visibility.{NamesKnown}
 use Rattle.dm_maps.specs.declared.held.HeldId.{HeldId}
 use Rattle.dm_maps.specs.declared.held.HeldId.TheVariants as held
@@ -41,9 +44,6 @@ knows-middle : (w : World) (hs ks ls : List HeldId) → KnowsAll w (hs ++ ks ++ 
 knows-middle w hs ks ls k = knows-right w hs ks (knows-left w (hs ++ ks) ls k)
 
 module _ (w : World) (x : PerNs) (k : KnowsAll w (res_holds x)) where
-  types_hold : List HeldId
-  types_hold = option_map_or type_holds x.types []
-
   pub types-known : KnowsAll w (option_map_or type_holds x.types [])
   types-known = knows-left w (option_map_or type_holds x.types []) (option_map_or value_holds x.values []) (knows-left w (option_map_or type_holds x.types [] ++ option_map_or value_holds x.values []) (option_map_or macro_holds x.macros []) k)
 
@@ -57,6 +57,16 @@ module _ (w : World) (x : PerNs) (k : KnowsAll w (res_holds x)) where
   type_vis-known i e =
       let P : Option (Item ModuleDefId ImportOrExternCrate) → Type 0 = λ o. KnowsAll w (option_map_or type_holds o []) in
       vis_known w i.vis (knows-middle w (def_holds i.def) (vis_holds i.vis) (option_map_or import_holds i.import []) (subst P e types-known))
+
+  pub type_def-known : (i : Item ModuleDefId ImportOrExternCrate) → x.types ≡ Some i → KnowsAll w (def_holds i.def)
+  type_def-known i e =
+      let P : Option (Item ModuleDefId ImportOrExternCrate) → Type 0 = λ o. KnowsAll w (option_map_or type_holds o []) in
+      knows-left w (def_holds i.def) (vis_holds i.vis) (knows-left w (def_holds i.def ++ vis_holds i.vis) (option_map_or import_holds i.import []) (subst P e types-known))
+
+  -- a module that is a known type is the tree's
+  pub type_module-known : (i : Item ModuleDefId ImportOrExternCrate) (m : ModuleId) → x.types ≡ Some i → i.def ≡ def.ModuleId m → IsKnown (tree_of w) m
+  unfolding tree_of
+  type_module-known i m e is = let P : ModuleDefId → Type 0 = λ d. KnowsAll w (def_holds d) in (subst P is (type_def-known i e)).0
 
   pub value_vis-known : (i : Item ModuleDefId ImportOrGlob) → x.values ≡ Some i → NamesKnown (tree_of w) i.vis
   value_vis-known i e =

@@ -1,3 +1,4 @@
 pub mod StopLemmas
 pub mod WalkLemmas
 pub mod KnownLemmas
+pub mod OuterLemmas

@@ -93,10 +93,15 @@ is_empty (x ∷ xs) = false
 abbrev pub at_enum : Item ModuleDefId ImportOrExternCrate → EnumId → ℕ → Reading → Bool → ResolvePathResult
 at_enum i e j s is_last = at_variant i j (s.variant e) is_last
 
+-- at a struct or a union the path stops
+abbrev pub at_adt : Item ModuleDefId ImportOrExternCrate → ℕ → Reading → Bool → AdtId → ResolvePathResult
+at_adt i j s is_last (adt.EnumId e) = at_enum i e j s is_last
+at_adt i j s is_last _ = stopped i j
+
 -- by what a definition is, where segments are left: a module of another crate, an enum, or anything else
 abbrev pub at_definition : Entering → Item ModuleDefId ImportOrExternCrate → ℕ → Reading → List Reading → ModuleDefId → ResolvePathResult
 at_definition enter i j s rest (def.ModuleId m) = from_other_crate j (enter m (s ∷ rest))
-at_definition enter i j s rest (def.AdtId (adt.EnumId e)) = at_enum i e j s (is_empty rest)
+at_definition enter i j s rest (def.AdtId a) = at_adt i j s (is_empty rest) a
 at_definition enter i j s rest _ = stopped i j
 
 -- the answer at the stop: what stands there at the end, else by what stands there in types

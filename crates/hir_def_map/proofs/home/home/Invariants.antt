@@ -1,15 +1,15 @@
-use Rattle.std.proofs.Common.{◌≡◌, slice_get, unwrap_or}
-use Rattle.dm_base.specs.Tree.{IsKnown, outer, home}
+use Rattle.std.proofs.Common.{◌≡◌}
+use Rattle.dm_base.specs.Tree.{IsKnown, outer}
 use Rattle.dm_maps.specs.Trees.{tree_of}
 use Rattle.hir_def_map.proofs.home.home.Given as goal
 
-abbrev pub invariant-loop-at : goal.invariant-loop-at
-invariant-loop-at l =
+abbrev pub invariant-climb : goal.invariant-climb
+invariant-climb l =
     let t = tree_of l.world in
     record {
       known : IsKnown t l.at;
-      same : unwrap_or (slice_get (outer t l.at) 0) l.fn.m ≡ home t l.fn.m;
+      same : outer t l.fn.m ≡ outer t l.at;
     }
 
-abbrev pub decreases-loop-at : goal.decreases-loop-at
-decreases-loop-at l = l.at.0
+abbrev pub decreases-climb : goal.decreases-climb
+decreases-climb l = l.at.0
