@@ -11,14 +11,18 @@ use Rattle.dm_base.specs.declared.per_ns.Item.{Item}
 use Rattle.dm_base.specs.declared.per_ns.PerNs.{PerNs}
 use Rattle.dm_base.specs.declared.visibility.Visibility.{Visibility}
 use Rattle.dm_base.specs.declared.visibility.Visibility.TheVariants.{Module, PubCrate, Public}
-use Rattle.dm_base.specs.Items.{keep, seen_by}
+use Rattle.dm_base.specs.declared.ids.ExternCrateId.{ExternCrateId}
+use Rattle.dm_base.specs.Items.{keep, seen_by, public_type}
+use Rattle.dm_base.specs.Names.{Name, find_name, same_name}
 use Rattle.dm_base.specs.Tree.{IsKnown}
 use Rattle.dm_base.specs.Visibility.{NamesKnown}
 use Rattle.dm_maps.specs.declared.held.HeldId.{HeldId}
 use Rattle.dm_maps.specs.declared.held.HeldId.TheVariants as held
-use Rattle.dm_maps.specs.Known.{KnowsAll, knows, def_holds, vis_holds, import_holds, value_import_holds, type_holds, value_holds, macro_holds, res_holds}
+use Rattle.dm_maps.specs.Known.{KnowsAll, knows, def_holds, vis_holds, import_holds, value_import_holds, type_holds, value_holds, macro_holds, res_holds, local_holds}
+use Rattle.dm_maps.specs.Maps.{LocalMap}
 use Rattle.dm_maps.specs.Trees.{tree_of}
 use Rattle.dm_maps.specs.World.{World}
+use Rattle.hir_def_map.specs.Paths.{by_crate}
 
 pub knows-left : (w : World) (hs ks : List HeldId) → KnowsAll w (hs ++ ks) → KnowsAll w hs
 knows-left w [] ks k = tt
@@ -92,3 +96,24 @@ seen_by-known w p x k =
     knows-append w _ _
     (knows-append w _ _ (kept-known w type_holds (λ i. p i.vis) x.types (types-known w x k)) (kept-known w value_holds (λ i. p i.vis) x.values (values-known w x k)))
     (kept-known w macro_holds (λ i. p i.vis) x.macros (macros-known w x k))
+
+-- items but for a macro that does not pass are known
+pub macros_kept-known : (w : World) (p : Item MacroId ImportOrExternCrate → Bool) (x : PerNs) → KnowsAll w (res_holds x) → KnowsAll w (res_holds (record x { macros = keep p x.macros }))
+macros_kept-known w p x k =
+    knows-append w _ _
+    (knows-left w (option_map_or type_holds x.types [] ++ option_map_or value_holds x.values []) (option_map_or macro_holds x.macros []) k)
+    (kept-known w macro_holds p x.macros (macros-known w x k))
+
+-- a module of a known local map is known
+pub local-known : (w : World) (L : LocalMap) (n : Name) (e : ModuleId × Option ExternCrateId) → KnowsAll w (local_holds L) → find_name n L ≡ Some e → KnowsAll w (held.Module e.0 ∷ [])
+local-known w [] n e k is = cc
+local-known w (l ∷ L) n e k is = by (same_name n l.0) is (local-known w L n e k.1)
+  where
+    by : (b : Bool) → cond b (Some l.1) (find_name n L) ≡ Some e → (find_name n L ≡ Some e → KnowsAll w (held.Module e.0 ∷ [])) → KnowsAll w (held.Module e.0 ∷ [])
+    by true same rest = let P : Option (ModuleId × Option ExternCrateId) → Type 0 = λ o. KnowsAll w (option_map_or (λ d. held.Module d.0 ∷ []) o []) in subst P same (k.0, tt)
+    by false there rest = rest there
+
+-- a module of the extern prelude, public
+pub public_module-known : (w : World) (m : ModuleId) (e : Option ExternCrateId) → KnowsAll w (held.Module m ∷ []) → KnowsAll w (res_holds (public_type (def.ModuleId m) (by_crate e)))
+public_module-known w m None k = k
+public_module-known w m (Some x) k = k

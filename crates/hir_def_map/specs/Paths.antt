@@ -31,22 +31,13 @@ use Rattle.dm_maps.specs.declared.modes.MacroSubNs.TheVariants.{Bang, Attr}
 use Rattle.dm_maps.specs.Maps.{LocalMap}
 use Rattle.dm_maps.specs.World.{World}
 use Rattle.dm_maps.specs.Readings.{Setting, Reading, setting_of, read}
-use Rattle.hir_def_map.specs.declared.result.ResolveMode.{ResolveMode}
+use Rattle.hir_def_map.specs.declared.question.Ask.{Ask}
 use Rattle.hir_def_map.specs.declared.result.ResolveMode.TheVariants as mode
 use Rattle.hir_def_map.specs.declared.result.ReachedFixedPoint.TheVariants.{Yes, No}
 use Rattle.hir_def_map.specs.declared.result.ResolvePathResult.{ResolvePathResult}
 use Rattle.hir_def_map.specs.Answers.{reached, nothing_yes, nothing_no, stopped, variant_answer, from_other_crate, either_yes, merged}
 
--- A question but for its segments: from where it is asked, for an import or not, whether builtin types may go before
--- modules, what macros are expected, and where its path begins.
-pub record Ask : Type 0 where
-  pub origin : ModuleId
-  pub mode : ResolveMode
-  pub shadow : BuiltinShadowMode
-  pub expected : Option MacroSubNs
-  pub kind : PathKind
-
--- Two ways into another crate's module, or the same at other segments, are told apart by this argument of the definitions below.
+-- What segments answer from a module of another crate.
 abbrev pub Entering : Type 0
 Entering = ModuleId → List Reading → ResolvePathResult
 
@@ -195,34 +186,39 @@ builtins_of w m s = if in_block_map w.tree m then nothing else builtin s
 abbrev pub are_builtins_first : Ask → PerNs → Bool → Bool
 are_builtins_first q own is_last = elim q.shadow [ shadow.Other ↦ true | shadow.Module ↦ false ] && is_last && is_module own.types
 
-abbrev pub scope_and_builtins : Setting → Ask → ModuleId → Reading → Bool → List PerNs
-scope_and_builtins w q m s is_last =
-    if are_builtins_first q (s.bound m) is_last
-    then builtins_of w m s ∷ fitting w q.expected (s.bound m) ∷ []
-    else fitting w q.expected (s.bound m) ∷ builtins_of w m s ∷ []
+-- the scope and the builtin types, the one that goes first and the other
+abbrev pub scope_or_builtins : Setting → Ask → ModuleId → Reading → Bool → PerNs
+scope_or_builtins w q m s builtins_go = if builtins_go then builtins_of w m s else fitting w q.expected (s.bound m)
 
--- a block's root skips the extern prelude and the prelude module
-abbrev pub unless_block_root : Setting → ModuleId → PerNs → List PerNs
-unless_block_root w m x = if is_block_root w.tree m then [] else x ∷ []
+-- a block's root skips the extern prelude and the prelude module: a layer that is skipped is nothing
+abbrev pub unless_block_root : Setting → ModuleId → PerNs → PerNs
+unless_block_root w m x = if is_block_root w.tree m then nothing else x
 
 abbrev pub root_scope : Setting → ModuleId → Reading → PerNs
 root_scope w m s = option_map_or s.bound (w.root_of (crate_of w.tree m)) nothing
 
 -- What a first segment selects, layer by layer. By the 2015 rule: the scope of the crate's root, the extern prelude. After `::`: the
 -- extern prelude. Else: legacy macros, the scope and the builtin types, the extern prelude, the macro_use prelude, the prelude module.
+abbrev pub layers_by_2015_rule : Setting → Place → Reading → List PerNs
+layers_by_2015_rule w (In m) s = root_scope w m s ∷ unless_block_root w m (extern_prelude s) ∷ []
+layers_by_2015_rule w (Preludes id f) s = extern_prelude s ∷ []
+
+abbrev pub plain_layers : Setting → Ask → Place → Reading → Bool → List PerNs
+plain_layers w q (In m) s is_last =
+    let builtins_first = are_builtins_first q (s.bound m) is_last in
+    legacy w q.expected m s
+    ∷ scope_or_builtins w q m s builtins_first
+    ∷ scope_or_builtins w q m s (not builtins_first)
+    ∷ unless_block_root w m (extern_prelude s)
+    ∷ macro_use_prelude (w.tree.map_of m) s
+    ∷ unless_block_root w m (prelude w (w.tree.map_of m) s)
+    ∷ []
+plain_layers w q (Preludes id f) s is_last = extern_prelude s ∷ macro_use_prelude id s ∷ prelude w id s ∷ []
+
 abbrev pub layers : Setting → Ask → Place → Reading → Bool → List PerNs
-layers w q (In m) s is_last =
-    if by_2015_rule w q (In m) then root_scope w m s ∷ unless_block_root w m (extern_prelude s)
-    else elim q.kind [
-      | kind.Abs ↦ extern_prelude s ∷ []
-      | _ ↦ legacy w q.expected m s ∷ scope_and_builtins w q m s is_last ++ unless_block_root w m (extern_prelude s) ++ macro_use_prelude (w.tree.map_of m) s ∷ unless_block_root w m (prelude w (w.tree.map_of m) s)
-    ]
-layers w q (Preludes id f) s is_last =
-    if by_2015_rule w q (Preludes id f) then extern_prelude s ∷ []
-    else elim q.kind [
-      | kind.Abs ↦ extern_prelude s ∷ []
-      | _ ↦ extern_prelude s ∷ macro_use_prelude id s ∷ prelude w id s ∷ []
-    ]
+layers w q p s is_last =
+    if by_2015_rule w q p then layers_by_2015_rule w p s
+    else elim q.kind [ kind.Abs ↦ extern_prelude s ∷ [] | _ ↦ plain_layers w q p s is_last ]
 
 abbrev pub is_nothing : PerNs → Bool
 is_nothing x = is_none x.types && is_none x.values && is_none x.macros

@@ -3,5 +3,7 @@
 
 mod answers;
 mod home;
+mod layers;
+pub mod question;
 pub mod result;
 mod segments;
