@@ -7,6 +7,8 @@ ghost use Rattle.dm_maps.specs.declared.held.HeldId.TheVariants as held;
 ghost use Rattle.dm_maps.specs.Known.{knows};
 ghost use Rattle.dm_maps.specs.Readings.{variants_of, root_of, block_root_of, is_2015_in, prelude_in, macro_uses_of, styles_in};
 ghost use Rattle.dm_maps.specs.Trees.{tree_of};
+ghost use Rattle.dm_maps.specs.World.{scope_of};
+ghost use Rattle.dm_scope.specs.Scope.{legacy_in};
 
 use crate::def_map::DefMap;
 use crate::world::World;
@@ -71,6 +73,14 @@ impl World {
         ensures known { ForSome result (λ e. IsTrue (knows self.now (held.Macro e.0))) }
     {
         self.tables.macro_use_of(id, name)
+    }
+
+    /// The last legacy macro of a module under a name.
+    pub fn legacy_of(&self, m: ModuleId, name: &Name) -> Option<MacroId>
+        ensures value { result ≡ legacy_in (scope_of self.now m) name.now }
+        ensures known { ForSome result (λ l. IsTrue (knows self.now (held.Macro l))) }
+    {
+        self.tables.legacy_of(m, name)
     }
 
     /// The styles of a macro: none for one that is not the world's.

@@ -4,7 +4,8 @@ ghost use Rattle.std.specs.Option.{option_copied};
 ghost use Rattle.dm_base.specs.Names.{find_name};
 ghost use Rattle.dm_maps.specs.Known.{macro_number};
 ghost use Rattle.dm_maps.specs.Readings.{root_of, block_root_of, macro_uses_of, styles_by, styles_in, no_style};
-ghost use Rattle.dm_maps.specs.World.{crate_map};
+ghost use Rattle.dm_maps.specs.World.{crate_map, scope_of};
+ghost use Rattle.dm_scope.specs.Scope.{legacy_in};
 
 use bitflags::Flags;
 use crate::builder::WorldBuilder;
@@ -53,6 +54,16 @@ impl WorldBuilder {
         match self.numbered_map(id) {
             None => None,
             Some(map) => map.macro_use_prelude(name),
+        }
+    }
+
+    /// The last legacy macro of a module under a name.
+    pub(crate) fn legacy_of(&self, m: ModuleId, name: &Name) -> Option<MacroId>
+        ensures { result ≡ legacy_in (scope_of self.now m) name.now }
+    {
+        match self.module_of(m) {
+            None => None,
+            Some(data) => data.scope().last_legacy_macro(name),
         }
     }
 

@@ -12,7 +12,7 @@ use Rattle.dm_base.specs.declared.per_ns.PerNs.{PerNs}
 use Rattle.dm_base.specs.declared.visibility.Visibility.{Visibility}
 use Rattle.dm_base.specs.declared.visibility.Visibility.TheVariants.{Module, PubCrate, Public}
 use Rattle.dm_base.specs.declared.ids.ExternCrateId.{ExternCrateId}
-use Rattle.dm_base.specs.Items.{keep, seen_by, public_type}
+use Rattle.dm_base.specs.Items.{keep, seen_by, public_type, first, over}
 use Rattle.dm_base.specs.Names.{Name, find_name, same_name}
 use Rattle.dm_base.specs.Tree.{IsKnown}
 use Rattle.dm_base.specs.Visibility.{NamesKnown}
@@ -117,3 +117,14 @@ local-known w (l ∷ L) n e k is = by (same_name n l.0) is (local-known w L n e 
 pub public_module-known : (w : World) (m : ModuleId) (e : Option ExternCrateId) → KnowsAll w (held.Module m ∷ []) → KnowsAll w (res_holds (public_type (def.ModuleId m) (by_crate e)))
 public_module-known w m None k = k
 public_module-known w m (Some x) k = k
+
+first-known : (w : World) {A : Type 0} (holds : A → List HeldId) (a b : Option A) → KnowsAll w (option_map_or holds a []) → KnowsAll w (option_map_or holds b []) → KnowsAll w (option_map_or holds (first a b) [])
+first-known w holds None b k l = l
+first-known w holds (Some x) b k l = k
+
+-- known items over known items are known
+pub over-known : (w : World) (a b : PerNs) → KnowsAll w (res_holds a) → KnowsAll w (res_holds b) → KnowsAll w (res_holds (over a b))
+over-known w a b k l =
+    knows-append w _ _
+    (knows-append w _ _ (first-known w type_holds a.types b.types (types-known w a k) (types-known w b l)) (first-known w value_holds a.values b.values (values-known w a k) (values-known w b l)))
+    (first-known w macro_holds a.macros b.macros (macros-known w a k) (macros-known w b l))

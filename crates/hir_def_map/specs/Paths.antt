@@ -167,9 +167,12 @@ prelude w id s = option_map_or s.bound (w.prelude id) nothing
 abbrev pub builtin : Reading → PerNs
 builtin s = option_map_or (λ b. public_type (def.BuiltinType b) None) s.builtin nothing
 
--- in edition 2015 a path of an import, or one that begins with `::`, begins at the crate's root
+-- the questions that edition 2015 answers from the crate's root: of imports, and of paths that begin with `::`
+abbrev pub asks_root : Ask → Bool
+asks_root q = elim q.kind [ kind.Abs ↦ true | kind.Plain ↦ elim q.mode [ mode.Import ↦ true | mode.Other ↦ false ] | _ ↦ false ]
+
 abbrev pub by_2015_rule : Setting → Ask → Place → Bool
-by_2015_rule w q p = w.is_2015 (map_at w.tree p).krate && elim q.kind [ kind.Abs ↦ true | kind.Plain ↦ elim q.mode [ mode.Import ↦ true | mode.Other ↦ false ] | _ ↦ false ]
+by_2015_rule w q p = w.is_2015 (map_at w.tree p).krate && asks_root q
 
 abbrev pub is_module_def : ModuleDefId → Bool
 is_module_def (def.ModuleId m) = true
@@ -186,9 +189,9 @@ builtins_of w m s = if in_block_map w.tree m then nothing else builtin s
 abbrev pub are_builtins_first : Ask → PerNs → Bool → Bool
 are_builtins_first q own is_last = elim q.shadow [ shadow.Other ↦ true | shadow.Module ↦ false ] && is_last && is_module own.types
 
--- the scope and the builtin types, the one that goes first and the other
-abbrev pub scope_or_builtins : Setting → Ask → ModuleId → Reading → Bool → PerNs
-scope_or_builtins w q m s builtins_go = if builtins_go then builtins_of w m s else fitting w q.expected (s.bound m)
+-- the builtin types or the scope
+abbrev pub builtins_or_scope : Setting → Ask → ModuleId → Reading → Bool → PerNs
+builtins_or_scope w q m s builtins_go = if builtins_go then builtins_of w m s else fitting w q.expected (s.bound m)
 
 -- a block's root skips the extern prelude and the prelude module: a layer that is skipped is nothing
 abbrev pub unless_block_root : Setting → ModuleId → PerNs → PerNs
@@ -207,8 +210,8 @@ abbrev pub plain_layers : Setting → Ask → Place → Reading → Bool → Lis
 plain_layers w q (In m) s is_last =
     let builtins_first = are_builtins_first q (s.bound m) is_last in
     legacy w q.expected m s
-    ∷ scope_or_builtins w q m s builtins_first
-    ∷ scope_or_builtins w q m s (not builtins_first)
+    ∷ builtins_or_scope w q m s builtins_first
+    ∷ builtins_or_scope w q m s (not builtins_first)
     ∷ unless_block_root w m (extern_prelude s)
     ∷ macro_use_prelude (w.tree.map_of m) s
     ∷ unless_block_root w m (prelude w (w.tree.map_of m) s)

@@ -9,7 +9,7 @@ ghost use Rattle.dm_maps.specs.Known.{knows, KnowsAll, res_holds, local_holds};
 ghost use Rattle.dm_maps.specs.Maps.{LocalMap};
 ghost use Rattle.dm_maps.specs.World.{World};
 ghost use Rattle.dm_maps.specs.Readings.{setting_of, read};
-ghost use Rattle.hir_def_map.specs.Paths.{fits, fitting, by_crate, extern_prelude, macro_use_prelude, prelude, builtin, root_scope};
+ghost use Rattle.hir_def_map.specs.Paths.{fits, fitting, by_crate, legacy, extern_prelude, macro_use_prelude, prelude, builtin, root_scope};
 
 use bitflags::Flags;
 use dm_base::builtin_type::BuiltinType;
@@ -129,5 +129,26 @@ pub(crate) fn root_scope(world: &World, m: ModuleId, segment: &Name) -> PerNs
     match world.root_of(world.krate(m)) {
         None => PerNs::none(),
         Some(root) => world.bound_in(root, segment),
+    }
+}
+
+/// The last legacy macro of a module, if it fits.
+#[tactic(auto, unfolding(dm_maps::specs::Readings::read))]
+pub(crate) fn legacy(
+    world: &World,
+    expected: Option<MacroSubNs>,
+    m: ModuleId,
+    segment: &Name,
+) -> PerNs
+    ensures value { (L : LocalMap) → result ≡ legacy (setting_of world.now) expected m (read world.now L segment.now) }
+    ensures known { KnowsAll world.now (res_holds result) }
+{
+    match world.legacy_of(m, segment) {
+        None => PerNs::none(),
+        Some(l) => if fits(world, expected, l) {
+            PerNs::macros(l, Visibility::Public, None)
+        } else {
+            PerNs::none()
+        },
     }
 }

@@ -2,6 +2,7 @@
 #![tactic(auto)]
 
 mod answers;
+mod first_segment;
 mod home;
 mod layers;
 pub mod question;
