@@ -1,2 +1,4 @@
 pub mod Bindings
+pub mod Entries
+pub mod Flags
 pub mod Scope

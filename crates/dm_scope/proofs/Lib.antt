@@ -1,0 +1,4 @@
+pub mod EntryLemmas
+pub mod BindingLemmas
+pub mod FlagLemmas
+pub mod Outcomes
