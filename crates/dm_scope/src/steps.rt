@@ -1,4 +1,5 @@
 //! What the first step of a push put into a scope and its glob table.
+ghost use Rattle.std.specs.Prelude.{◌≡◌, false};
 
 /// What it put among the flags of a namespace.
 #[derive(Clone, Copy)]
@@ -18,4 +19,18 @@ pub(crate) struct NewKeys {
     pub(crate) item: bool,
     pub(crate) record_key: bool,
     pub(crate) flag: NewFlag,
+}
+
+impl NewKeys {
+    /// Nothing new, and nothing to write.
+    pub(crate) fn none() -> NewKeys
+        ensures { result ≡ record { writes = false; item = false; record_key = false; flag = NewFlag.Stood } }
+    {
+        NewKeys {
+            writes: false,
+            item: false,
+            record_key: false,
+            flag: NewFlag::Stood,
+        }
+    }
 }
