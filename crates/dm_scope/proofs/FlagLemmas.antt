@@ -32,6 +32,7 @@ remove_key-all {K} t (k ∷ ks) h = by (t k) refl h (remove_key-all t ks)
             → (x ∷ xs) ≡ cond (not b) (x ∷ filter (λ k. not (t k)) xs) (filter (λ k. not (t k)) xs)
         one true h rest = absurd (true≢false h)
         one false h rest = ap (λ l. x ∷ l) (rest h)
+
     by : (b : Bool) → t k ≡ b → list_any t (cond b ks (k ∷ remove_key t ks)) ≡ false → (list_any t (remove_key t ks) ≡ false → remove_key t ks ≡ filter (λ k. not (t k)) ks)
         → cond b ks (k ∷ remove_key t ks) ≡ cond (not b) (k ∷ filter (λ k. not (t k)) ks) (filter (λ k. not (t k)) ks)
     by true e h rest = none ks h

@@ -2,3 +2,4 @@ pub mod EntryLemmas
 pub mod BindingLemmas
 pub mod FlagLemmas
 pub mod Outcomes
+pub mod SamenessLemmas

@@ -1,4 +1,6 @@
 pub mod Bindings
 pub mod Entries
 pub mod Flags
+pub mod Push
+pub mod Sameness
 pub mod Scope
