@@ -55,3 +55,8 @@ set_value-absent {K} {V} test v (e ∷ es) h = by (test e.0) h (set_value-absent
     by : (b : Bool) → cond b (Some e.1) (lookup test es) ≡ None → (lookup test es ≡ None → set_value test es v ≡ es) → cond b ((e.0, v) ∷ es) (e ∷ set_value test es v) ≡ e ∷ es
     by true h rest = cc
     by false h rest = ap (λ l. e ∷ l) (rest h)
+
+-- what is not some is none
+pub absent : {X : Type 0} (o : Option X) → is_some o ≡ false → o ≡ None
+absent None e = refl
+absent (Some x) e = cc

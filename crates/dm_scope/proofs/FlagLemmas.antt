@@ -48,6 +48,16 @@ change_names-twice m g f (e ∷ es) = by (same_module m e.0) refl (change_names-
     by true h rest = ap (λ b. cond b ((e.0, g (f e.1)) ∷ es) ((e.0, f e.1) ∷ change_names g es m)) h
     by false h rest = ap (λ b. cond b ((e.0, g e.1) ∷ change_names f es m) (e ∷ change_names g (change_names f es m) m)) h ∙ ap (λ l. e ∷ l) rest
 
+-- a flag that stands
+pub add_flag-stood : (fs : Flags) (m : ModuleId) (name : Name) → has_flag fs m name ≡ true → add_flag fs m name ≡ fs
+add_flag-stood [] m name h = absurd (true≢false (sym h))
+add_flag-stood (e ∷ es) m name h = by (same_module m e.0) h (add_flag-stood es m name)
+  where
+    by : (b : Bool) → cond b (list_any (same_name name) e.1) (has_flag es m name) ≡ true → (has_flag es m name ≡ true → add_flag es m name ≡ es)
+        → cond b ((e.0, insert_key same_name e.1 name) ∷ es) (e ∷ add_flag es m name) ≡ e ∷ es
+    by true h rest = ap (λ b. (e.0, cond b e.1 (e.1 ++ name ∷ [])) ∷ es) h
+    by false h rest = ap (λ l. e ∷ l) (rest h)
+
 module _ {S : Type 0} where
   flags_of-take : (n : ℕ) (es : List (ModuleId × HashSet Name S)) → flags_of (take n es) ≡ take n (flags_of es)
   flags_of-take zero es = refl

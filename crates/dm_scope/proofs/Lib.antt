@@ -3,3 +3,4 @@ pub mod BindingLemmas
 pub mod FlagLemmas
 pub mod Outcomes
 pub mod SamenessLemmas
+pub mod RunLemmas

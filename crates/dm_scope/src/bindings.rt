@@ -1,14 +1,18 @@
 //! The bindings of one namespace.
-ghost use Rattle.std.specs.Prelude.{◌≡◌, [], true, Some, OnErr, OnOk, IfOk};
+ghost use Rattle.std.specs.Prelude.{◌≡◌, [], length, true, Some, OnErr, OnOk, IfOk};
 ghost use Rattle.std.specs.Option.{option_copied, option_and_then};
+ghost use Rattle.std.specs.Iterator.{at_most};
 ghost use Rattle.std.specs.Map.{lookup};
+ghost use Rattle.std.specs.Map.Iter.{TakesFirst, ShowsInOrder};
+ghost use Rattle.dm_base.specs.declared.per_ns.Item.{Item};
+ghost use Rattle.dm_scope.specs.Iterators.{deref_name};
 ghost use Rattle.dm_base.specs.Names.{same_name, find_name};
 ghost use Rattle.dm_scope.specs.Entries.{is_new};
 ghost use Rattle.dm_scope.specs.Flags.{has_flag, without_flag};
 ghost use Rattle.dm_scope.specs.Bindings.{reading, is_glob_by, writes, stored, recorded, target_of, bound_after, flags_after, is_effective_at, with_keys, without_keys, is_new_record, written, is_new_import, add_import, set_import, finished, flags_done};
 
 use crate::glob_imports::GlobFlags;
-use crate::keys::{add_key, take_off, write_at};
+use crate::keys::{add_key, add_name, take_off, write_at};
 use crate::steps::{NewFlag, NewKeys};
 use dm_base::definition::Definition;
 use dm_base::ids::ModuleId;
@@ -16,7 +20,7 @@ use dm_base::import_source::ImportSource;
 use dm_base::imports::{ImportOrDef, ImportOrExternCrate};
 use dm_base::name::Name;
 use dm_base::per_ns::Item;
-use indexmap::IndexMap;
+use indexmap::{IndexMap, map};
 use std::alloc::{AllocError, Global};
 use std::marker::Model;
 
@@ -36,6 +40,39 @@ impl<D: Definition, I: ImportSource> Model for Bindings<D, I> {
     ghost view = { λ b. record { items = b.items.entries; records = b.records.entries } };
 }
 
+/// The bindings of a namespace, each as a name and its item, in order of first binding.
+#[derive(Drop)]
+pub struct Iter<'a, D, I> {
+    entries: map::Iter<'a, Name, Item<D, I>>,
+}
+
+impl<'a, D, I> Model for Iter<'a, D, I> {
+    ghost use Rattle.std.specs.Prelude.{List};
+    ghost use Rattle.dm_base.specs.Names.{Name};
+    ghost use Rattle.dm_base.specs.declared.per_ns.Item.{Item};
+
+    ghost Value = { List (Name × Item D I) };
+
+    ghost view = { λ a. a.entries };
+}
+
+impl<'a, D: Copy, I: Copy> Iterator for Iter<'a, D, I> {
+    type Item = (&'a Name, Item<D, I>);
+
+    ghost next_gives = { TakesFirst deref_name };
+
+    ghost remaining = { λ s. at_most (length s) };
+
+    fn next(&mut self) -> Option<(&'a Name, Item<D, I>)> {
+        let (name, item) = self.entries.next()?;
+        Some((name, *item))
+    }
+
+    fn size_hint(&self) -> (usize, Option<usize>) {
+        self.entries.size_hint()
+    }
+}
+
 impl<D: Definition, I: ImportSource> Bindings<D, I> {
     /// No bindings. Takes no memory.
     pub fn new(alloc: Global) -> Self
@@ -53,6 +90,16 @@ impl<D: Definition, I: ImportSource> Bindings<D, I> {
         ensures { option_copied result ≡ find_name name.now self.now.items }
     {
         self.items.get(name)
+    }
+
+    /// The bindings, in order of first binding. Takes no memory.
+    pub fn iter(&self) -> Iter<'_, D, I>
+        ensures rest { result ≡ self.now.items }
+        ensures runs { ShowsInOrder (deref_name {X = Item D I}) }
+    {
+        Iter {
+            entries: self.items.iter(),
+        }
     }
 
     /// What an import that brought a binding stands for. Takes no memory: one look-up.
@@ -176,8 +223,7 @@ impl<D: Definition, I: ImportSource> Bindings<D, I> {
         ensures ok { OnOk result (self.new ≡ with_keys (reading I.eq D.eq I.globs I.narrowed I.widened D.widened_def) self.old name.now item.now import) }
         ensures err { OnErr result (self.new ≡ self.old) }
     {
-        let key = name.copy(self.alloc)?;
-        let item_is_new = add_key(&mut self.items, key, stored(item, import))?;
+        let item_is_new = add_name(&mut self.items, name, stored(item, import), self.alloc)?;
         match add_record(&mut self.records, import, recorded(item)) {
             Ok(record_is_new) => Ok(NewKeys {
                 writes: true,

@@ -64,6 +64,9 @@ impl GlobFlags {
         if !glob {
             return Ok(NewFlag::Stood);
         }
+        if self.contains(m, name) {
+            return Ok(NewFlag::Stood);
+        }
         let key = name.copy(self.alloc)?;
         let new = self.add(m, key)?;
         Ok(new)

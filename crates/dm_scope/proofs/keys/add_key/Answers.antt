@@ -1,11 +1,7 @@
 use Rattle.std.proofs.Common.{◌≡◌, ◌∙◌, Option, None, Some, is_some, true, false, refl, sym, ap, not}
 use Rattle.indexmap.proofs.CallerLemmas.{insert_entry-new}
-use Rattle.dm_scope.proofs.EntryLemmas.{add_entry-new, add_entry-present}
+use Rattle.dm_scope.proofs.EntryLemmas.{add_entry-new, add_entry-present, absent}
 use Rattle.dm_scope.proofs.keys.add_key.Goals as goal
-
-absent : {X : Type 0} (o : Option X) → is_some o ≡ false → o ≡ None
-absent None e = refl
-absent (Some x) e = cc
 
 pub returns-then-contains_key-clause-entries : goal.returns-then-contains_key-clause-entries
 returns-then-contains_key-clause-entries g c =
