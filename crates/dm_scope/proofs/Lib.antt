@@ -1,6 +1,11 @@
 pub mod EntryLemmas
 pub mod BindingLemmas
+pub mod ClosedLemmas
 pub mod FlagLemmas
+pub mod HasFlagLemmas
 pub mod Outcomes
-pub mod SamenessLemmas
+pub mod PushLemmas
+pub mod ReadingLemmas
 pub mod RunLemmas
+pub mod SamenessLemmas
+pub mod ShowLemmas

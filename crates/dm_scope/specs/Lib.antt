@@ -3,5 +3,7 @@ pub mod Entries
 pub mod Flags
 pub mod Iterators
 pub mod Push
+pub mod Pushes
 pub mod Sameness
 pub mod Scope
+pub mod Shows

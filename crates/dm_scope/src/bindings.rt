@@ -1,15 +1,18 @@
 //! The bindings of one namespace.
-ghost use Rattle.std.specs.Prelude.{◌≡◌, [], length, true, Some, OnErr, OnOk, IfOk};
+ghost use Rattle.std.specs.Prelude.{◌≡◌, List, [], ◌∷◌, ◌++◌, length, true, false, Some, OnErr, OnOk, IfOk};
 ghost use Rattle.std.specs.Option.{option_copied, option_and_then};
 ghost use Rattle.std.specs.Iterator.{at_most};
 ghost use Rattle.std.specs.Map.{lookup};
 ghost use Rattle.std.specs.Map.Iter.{TakesFirst, ShowsInOrder};
 ghost use Rattle.dm_base.specs.declared.per_ns.Item.{Item};
 ghost use Rattle.dm_scope.specs.Iterators.{deref_name};
-ghost use Rattle.dm_base.specs.Names.{same_name, find_name};
+ghost use Rattle.dm_base.specs.declared.ids.ModuleId.{ModuleId};
+ghost use Rattle.dm_base.specs.Names.{Name, same_name, find_name};
+ghost use Rattle.dm_base.specs.Tree.{same_module};
+ghost use Rattle.dm_scope.specs.Pushes.{Push, ShowsIn, is_effective};
 ghost use Rattle.dm_scope.specs.Entries.{is_new};
 ghost use Rattle.dm_scope.specs.Flags.{has_flag, without_flag};
-ghost use Rattle.dm_scope.specs.Bindings.{reading, is_glob_by, writes, stored, recorded, target_of, bound_after, flags_after, is_effective_at, with_keys, without_keys, is_new_record, written, is_new_import, add_import, set_import, finished, flags_done};
+ghost use Rattle.dm_scope.specs.Bindings.{reading, import_of, is_glob_by, writes, stored, recorded, target_of, bound_after, flags_after, is_effective_at, with_keys, without_keys, is_new_record, written, is_new_import, add_import, set_import, finished, flags_done};
 
 use crate::glob_imports::GlobFlags;
 use crate::keys::{add_key, add_name, take_off, write_at};
@@ -76,7 +79,10 @@ impl<'a, D: Copy, I: Copy> Iterator for Iter<'a, D, I> {
 impl<D: Definition, I: ImportSource> Bindings<D, I> {
     /// No bindings. Takes no memory.
     pub fn new(alloc: Global) -> Self
-        ensures { result ≡ record { items = []; records = [] } }
+        ensures empty { result ≡ record { items = []; records = [] } }
+
+        // With a new table they show the empty list of pushes.
+        ensures shown { (m : ModuleId) → ShowsIn (reading I.eq D.eq I.globs I.narrowed I.widened D.widened_def) result (has_flag [] m) [] }
     {
         Bindings {
             items: IndexMap::new(alloc),
@@ -124,6 +130,11 @@ impl<D: Definition, I: ImportSource> Bindings<D, I> {
         ensures flags { OnOk result (flags.new ≡ flags_after (reading I.eq D.eq I.globs I.narrowed I.widened D.widened_def) self.old flags.old lookup.0 lookup.1 (Some item) import) }
         ensures err { OnErr result (self.new ≡ self.old) }
         ensures err_flags { OnErr result (flags.new ≡ flags.old) }
+
+        // Where they show a list of pushes, they show it with this push after it, and the answer is as that list says.
+        ensures shown { (ps : List (Push D I)) → ShowsIn (reading I.eq D.eq I.globs I.narrowed I.widened D.widened_def) self.old (has_flag flags.old lookup.0) ps → OnOk result (ShowsIn (reading I.eq D.eq I.globs I.narrowed I.widened D.widened_def) self.new (has_flag flags.new lookup.0) (ps ++ record { name = lookup.1; item = item; by = import_of (reading I.eq D.eq I.globs I.narrowed I.widened D.widened_def) import } ∷ [])) }
+        ensures shown_answer { (ps : List (Push D I)) → ShowsIn (reading I.eq D.eq I.globs I.narrowed I.widened D.widened_def) self.old (has_flag flags.old lookup.0) ps → IfOk result (λ effective. effective ≡ is_effective (reading I.eq D.eq I.globs I.narrowed I.widened D.widened_def) ps (record { name = lookup.1; item = item; by = import_of (reading I.eq D.eq I.globs I.narrowed I.widened D.widened_def) import })) }
+        ensures elsewhere { (k : ModuleId) (n : Name) → same_module lookup.0 k ≡ false → has_flag flags.new k n ≡ has_flag flags.old k n }
     {
         let (m, name) = lookup;
         let new = self.grow(flags, m, &name, Some(item), import)?;

@@ -3,8 +3,11 @@ ghost use Rattle.std.specs.Prelude.{◌≡◌, [], None, OnOk, OnErr, IfOk};
 ghost use Rattle.std.specs.Map.{lookup};
 ghost use Rattle.std.specs.List.{list_any};
 ghost use Rattle.indexmap.specs.IndexSet.{insert_key};
+ghost use Rattle.dm_base.specs.declared.ids.ModuleId.{ModuleId};
 ghost use Rattle.dm_base.specs.Names.{same_name};
 ghost use Rattle.dm_base.specs.Tree.{same_module};
+ghost use Rattle.dm_scope.specs.Scope.{no_scope};
+ghost use Rattle.dm_scope.specs.Shows.{Shows};
 ghost use Rattle.dm_scope.specs.Flags.{flags_of, has_flag, add_flag, clear_flag, without_flag, without_name, all_but_last, change_names, no_globs, added, flags_grown, flags_finished};
 
 use crate::steps::NewFlag;
@@ -195,7 +198,10 @@ impl Model for PerNsGlobImports {
 impl PerNsGlobImports {
     /// A table without names. Takes no memory.
     pub fn new(alloc: Global) -> PerNsGlobImports
-        ensures { result ≡ no_globs }
+        ensures empty { result ≡ no_globs }
+
+        // A fresh scope and this table show the empty list of pushes, under each module.
+        ensures shown { (m : ModuleId) → Shows no_scope result m [] }
     {
         PerNsGlobImports {
             types: GlobFlags::new(alloc),

@@ -1,8 +1,12 @@
 //! The scope of a module.
-ghost use Rattle.std.specs.Prelude.{◌≡◌, IfOk, OnOk, OnErr};
+ghost use Rattle.std.specs.Prelude.{◌≡◌, false, List, [], ◌∷◌, ◌++◌, IfOk, OnOk, OnErr};
+ghost use Rattle.dm_base.specs.declared.ids.ModuleId.{ModuleId};
+ghost use Rattle.dm_base.specs.Tree.{same_module};
 ghost use Rattle.dm_scope.specs.Bindings.{bound_after, flags_after};
+ghost use Rattle.dm_scope.specs.Flags.{no_globs};
+ghost use Rattle.dm_scope.specs.Shows.{ScopePush, Shows, is_answered};
 ghost use Rattle.dm_scope.specs.Push.{macros_reading, is_empty, unresolved_after, is_new_unresolved, scope_after, globs_after, push_answer, push_answer_from_values, push_answer_from_macros};
-ghost use Rattle.dm_scope.specs.Scope.{no_scope, bound_in};
+ghost use Rattle.dm_scope.specs.Scope.{Scope, no_scope, bound_in};
 
 use crate::bindings::Bindings;
 use crate::glob_imports::PerNsGlobImports;
@@ -37,7 +41,10 @@ impl Model for ItemScope {
 impl ItemScope {
     /// A fresh scope.
     pub fn new(alloc: Global) -> ItemScope
-        ensures { result ≡ no_scope }
+        ensures empty { result ≡ no_scope }
+
+        // This scope and a new table show the empty list of pushes, under each module.
+        ensures shown { (m : ModuleId) → Shows result no_globs m [] }
     {
         ItemScope {
             types: Bindings::new(alloc),
@@ -75,6 +82,13 @@ impl ItemScope {
         ensures globs { OnOk result (glob_imports.new ≡ globs_after self.old glob_imports.old lookup.0 lookup.1 def import) }
         ensures err { OnErr result (self.new ≡ self.old) }
         ensures err_globs { OnErr result (glob_imports.new ≡ glob_imports.old) }
+
+        // Where scope and table show a list of pushes under the module, they show it with this push after it, and the
+        // answer is as that list says. After want of memory, and under another module, what was shown is shown.
+        ensures shown { (ps : List ScopePush) → Shows self.old glob_imports.old lookup.0 ps → OnOk result (Shows self.new glob_imports.new lookup.0 (ps ++ record { name = lookup.1; res = def; by = import } ∷ [])) }
+        ensures shown_answer { (ps : List ScopePush) → Shows self.old glob_imports.old lookup.0 ps → IfOk result (λ answer. answer ≡ is_answered ps (record { name = lookup.1; res = def; by = import })) }
+        ensures refused { (k : ModuleId) (ps : List ScopePush) → Shows self.old glob_imports.old k ps → OnErr result (Shows self.new glob_imports.new k ps) }
+        ensures elsewhere { (other : Scope) (k : ModuleId) (ps : List ScopePush) → same_module lookup.0 k ≡ false → Shows other glob_imports.old k ps → Shows other glob_imports.new k ps }
     {
         let (m, name) = lookup;
         let answer = self.push_from_types(glob_imports, m, &name, &def, import)?;
