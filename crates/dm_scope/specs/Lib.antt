@@ -4,6 +4,7 @@ pub mod Flags
 pub mod Iterators
 pub mod Push
 pub mod Pushes
+pub mod Rows
 pub mod Sameness
 pub mod Scope
 pub mod Shows
