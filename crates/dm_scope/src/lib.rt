@@ -2,4 +2,7 @@
 #![tactic(auto)]
 
 pub mod bindings;
+pub mod glob_imports;
 pub mod item_scope;
+mod keys;
+mod steps;
