@@ -25,7 +25,7 @@ pub struct ItemScope {
     types: Bindings<ModuleDefId, ImportOrExternCrate>,
     values: Bindings<ModuleDefId, ImportOrGlob>,
     macros: Bindings<MacroId, ImportOrExternCrate>,
-    unresolved: IndexSet<Name>,
+    pub(crate) unresolved: IndexSet<Name>,
     alloc: Global,
 }
 

@@ -4,5 +4,6 @@
 pub mod bindings;
 pub mod glob_imports;
 pub mod item_scope;
+mod last_legacy;
 mod keys;
 mod steps;
