@@ -1,13 +1,14 @@
 //! What a first segment selects.
-ghost use Rattle.std.specs.Prelude.{◌≡◌, Bool, if◌then◌else◌, not};
-ghost use Rattle.dm_base.specs.Items.{over, overlay, nothing};
-ghost use Rattle.dm_base.specs.Tree.{IsKnown, is_block_root};
+ghost use Rattle.std.specs.Prelude.{◌≡◌, Bool, not, ◌∷◌, []};
+ghost use Rattle.dm_base.specs.Items.{over, overlay};
+ghost use Rattle.dm_base.specs.Tree.{IsKnown};
 ghost use Rattle.dm_maps.specs.Known.{KnowsAll, res_holds, local_holds};
 ghost use Rattle.dm_maps.specs.Maps.{LocalMap};
 ghost use Rattle.dm_maps.specs.Readings.{setting_of, read};
 ghost use Rattle.dm_maps.specs.Trees.{tree_of};
-ghost use Rattle.dm_maps.specs.World.{World};
-ghost use Rattle.hir_def_map.specs.Paths.{asks_root, are_builtins_first, builtins_of, layers_by_2015_rule, plain_layers, layers, Place, In};
+ghost use Rattle.dm_maps.specs.World.{World, scope_of};
+ghost use Rattle.dm_scope.specs.Scope.{bound_in};
+ghost use Rattle.hir_def_map.specs.Paths.{asks_root, are_builtins_first, builtins_of, builtins_or_scope, unless_block_root, extern_prelude, prelude, plain_layers, In};
 
 use crate::layers::{builtin, extern_prelude, fitting, legacy, macro_use_prelude, prelude, root_scope};
 use crate::question::Ask;
@@ -44,13 +45,6 @@ fn are_builtins_first(ask: &Ask, own: &PerNs, is_last: bool) -> bool
     matches!(ask.shadow, BuiltinShadowMode::Other) && is_last && is_module
 }
 
-/// One of two.
-fn chosen(first: bool, a: PerNs, b: PerNs) -> PerNs
-    ensures { result ≡ (if first then a else b) }
-{
-    if first { a } else { b }
-}
-
 /// The items of `a`, then those of `b`.
 fn over(a: PerNs, b: PerNs) -> PerNs
     ensures value { result ≡ over a b }
@@ -72,16 +66,68 @@ fn builtins_of(world: &World, m: ModuleId, segment: &Name) -> PerNs
     }
 }
 
-/// A layer that a block's root skips.
-fn unless_block_root(world: &World, m: ModuleId, layer: PerNs) -> PerNs
-    ensures value { result ≡ (if is_block_root (tree_of world.now) m then nothing else layer) }
-    ensures known { KnowsAll world.now (res_holds layer) → KnowsAll world.now (res_holds result) }
+/// The builtin types, or what the module's scope binds, which is `bound`.
+#[tactic(auto, unfolding(dm_maps::specs::Readings::read))]
+fn builtins_or_scope(
+    world: &World,
+    ask: &Ask,
+    m: ModuleId,
+    segment: &Name,
+    bound: PerNs,
+    builtins_go: bool,
+) -> PerNs
+    requires module_known { IsKnown (tree_of world.now) m }
+    requires bound { bound ≡ bound_in (scope_of world.now m) segment.now }
+    requires known { KnowsAll world.now (res_holds bound) }
+    ensures value { (L : LocalMap) → result ≡ builtins_or_scope (setting_of world.now) ask.now m (read world.now L segment.now) builtins_go }
+    ensures known { KnowsAll world.now (res_holds result) }
 {
-    if world.is_block_root(m) { PerNs::none() } else { layer }
+    if builtins_go {
+        builtins_of(world, m, segment)
+    } else {
+        fitting(world, ask.expected, bound)
+    }
+}
+
+/// The extern prelude, which a block's root skips.
+#[tactic(auto, unfolding(dm_maps::specs::Readings::setting_of))]
+fn extern_layer(world: &World, local: &LocalDefMap, m: ModuleId, segment: &Name) -> PerNs
+    requires { KnowsAll world.now (local_holds local.now) }
+    ensures value { result ≡ unless_block_root (setting_of world.now) m (extern_prelude (read world.now local.now segment.now)) }
+    ensures known { KnowsAll world.now (res_holds result) }
+{
+    if world.is_block_root(m) {
+        return PerNs::none();
+    }
+    extern_prelude(world, local, segment)
+}
+
+/// The map that a module lies in.
+#[tactic(auto, unfolding(dm_maps::specs::Readings::setting_of))]
+fn map_id_of(world: &World, m: ModuleId) -> MapId
+    requires { IsKnown (tree_of world.now) m }
+    ensures { result ≡ (setting_of world.now).tree.map_of m }
+{
+    MapId {
+        krate: world.krate(m),
+        block: world.block(m),
+    }
+}
+
+/// What the prelude module of a module's map binds, which a block's root skips.
+#[tactic(auto, unfolding(dm_maps::specs::Readings::setting_of))]
+fn prelude_layer(world: &World, m: ModuleId, id: MapId, segment: &Name) -> PerNs
+    ensures value { (L : LocalMap) → result ≡ unless_block_root (setting_of world.now) m (prelude (setting_of world.now) id (read world.now L segment.now)) }
+    ensures known { KnowsAll world.now (res_holds result) }
+{
+    if world.is_block_root(m) {
+        return PerNs::none();
+    }
+    prelude(world, id, segment)
 }
 
 /// What the layers of a path without `::` select at a module.
-#[tactic(auto, unfolding(dm_maps::specs::Readings::read, dm_maps::specs::Readings::setting_of))]
+#[tactic(auto, unfolding(dm_maps::specs::Readings::read))]
 fn plain_layers(
     world: &World,
     local: &LocalDefMap,
@@ -96,17 +142,21 @@ fn plain_layers(
     ensures known { KnowsAll world.now (res_holds result) }
 {
     let bound = world.bound_in(m, segment);
-    let own = fitting(world, ask.expected, bound);
-    let builtins = builtins_of(world, m, segment);
     let builtins_first = are_builtins_first(ask, &bound, is_last);
-    let id = MapId {
-        krate: world.krate(m),
-        block: world.block(m),
-    };
-    let externs = unless_block_root(world, m, extern_prelude(world, local, segment));
-    let prelude = unless_block_root(world, m, prelude(world, id, segment));
-    let outer = over(externs, over(macro_use_prelude(world, id, segment), prelude));
-    let inner = over(chosen(!builtins_first, builtins, own), outer);
-    let scopes = over(chosen(builtins_first, builtins, own), inner);
-    over(legacy(world, ask.expected, m, segment), scopes)
+    let id = map_id_of(world, m);
+    let legacies = legacy(world, ask.expected, m, segment);
+    let first = builtins_or_scope(world, ask, m, segment, bound, builtins_first);
+    let second = builtins_or_scope(world, ask, m, segment, bound, !builtins_first);
+    let externs = extern_layer(world, local, m, segment);
+    let macro_uses = macro_use_prelude(world, id, segment);
+    let preludes = prelude_layer(world, m, id, segment);
+    six_layers(legacies, first, second, externs, macro_uses, preludes)
+}
+
+/// Six layers, one over the other.
+fn six_layers(a: PerNs, b: PerNs, c: PerNs, d: PerNs, e: PerNs, f: PerNs) -> PerNs
+    ensures value { result ≡ overlay (a ∷ b ∷ c ∷ d ∷ e ∷ f ∷ []) }
+    ensures known { (w : World) → KnowsAll w (res_holds a) → KnowsAll w (res_holds b) → KnowsAll w (res_holds c) → KnowsAll w (res_holds d) → KnowsAll w (res_holds e) → KnowsAll w (res_holds f) → KnowsAll w (res_holds result) }
+{
+    over(a, over(b, over(c, over(d, over(e, f)))))
 }
