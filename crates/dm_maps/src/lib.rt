@@ -10,6 +10,7 @@ pub mod module_data;
 pub mod module_origin;
 pub mod modules_map;
 mod path_look_ups;
+mod path_tables;
 pub mod place;
 mod tables;
 pub mod variants;

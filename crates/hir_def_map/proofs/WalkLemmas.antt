@@ -1,7 +1,8 @@
 -- The walk gives the answer at the stop.
-use Rattle.std.proofs.Common.{◌≡◌, ℕ, zero, suc, ◌+◌, ◌≤◌, ◌<◌, Bool, true, false, cond, List, [], ◌∷◌, length, Option, None, Some, refl, sym, ◌∙◌, ap, arith, nat_eq}
+use Rattle.std.proofs.Common.{◌≡◌, ℕ, zero, suc, ◌+◌, ◌≤◌, ◌<◌, Bool, true, false, cond, List, [], ◌∷◌, length, Option, None, Some, refl, sym, ◌∙◌, ap, arith, nat_eq, map, inl, inr}
 use Rattle.std.specs.Option.{option_map_or, option_map}
 use Rattle.std.proofs.lemmas.Bool.{cond-true, cond-false}
+use Rattle.std.proofs.lemmas.Bool.Decides.{eqb_tells}
 use Rattle.dm_base.specs.declared.fields_shape.FieldsShape.{FieldsShape}
 use Rattle.dm_base.specs.declared.ids.EnumVariantId.{EnumVariantId}
 use Rattle.dm_base.specs.declared.ids.ModuleId.{ModuleId}
@@ -12,21 +13,28 @@ use Rattle.dm_base.specs.declared.item_ids.AdtId.TheVariants as adt
 use Rattle.dm_base.specs.declared.per_ns.Item.{Item}
 use Rattle.dm_base.specs.declared.per_ns.PerNs.{PerNs}
 use Rattle.dm_base.specs.Tree.{Tree, same_crate, crate_of, home}
-use Rattle.dm_maps.specs.Readings.{Reading}
+use Rattle.dm_base.specs.Names.{Name}
+use Rattle.dm_maps.specs.Maps.{LocalMap}
+use Rattle.dm_maps.specs.Readings.{Reading, read}
+use Rattle.dm_maps.specs.Trees.{tree_of}
+use Rattle.dm_maps.specs.World.{World}
+use Rattle.hir_def_map.specs.declared.segments.Move.{Move}
+use Rattle.hir_def_map.specs.declared.segments.Move.TheVariants.{Go, End}
 use Rattle.hir_def_map.specs.declared.result.ResolvePathResult.{ResolvePathResult}
+use Rattle.hir_def_map.specs.declared.segments.Stand.{Stand}
 use Rattle.hir_def_map.specs.Answers.{from_other_crate}
-use Rattle.hir_def_map.specs.Paths.{Entering, at_variant, stop, seen_in, root_item, enter, enter_within}
-use Rattle.hir_def_map.specs.Walk.{marked, Stand, through, walk}
+use Rattle.hir_def_map.specs.Paths.{Entering, is_empty, at_variant, stop, seen_in, root_item, enter, enter_within}
+use Rattle.hir_def_map.specs.Walk.{marked, through, move, move_at, walk}
 use Rattle.hir_def_map.proofs.StopLemmas.{stop-through, stop-here, own_crate, stop-enters}
 
 add_twice : (k p : ℕ) (o : Option ℕ) → option_map (λ i. i + p) (option_map (λ i. i + k) o) ≡ option_map (λ i. i + (k + p)) o
 add_twice k p None = refl
 add_twice k p (Some i) = let e : (i + k) + p ≡ i + (k + p) = omega arith in ap Some e
 
-enum-shifted : (i : Item ModuleDefId ImportOrExternCrate) (k p : ℕ) (o : Option (EnumVariantId × FieldsShape)) (S : List Reading) → from_other_crate p (at_variant i k o S) ≡ marked true (at_variant i (k + p) o S)
-enum-shifted i k p None S = refl
-enum-shifted i k p (Some v) [] = refl
-enum-shifted i k p (Some v) (s ∷ S) = refl
+enum-shifted : (i : Item ModuleDefId ImportOrExternCrate) (k p : ℕ) (o : Option (EnumVariantId × FieldsShape)) (b : Bool) → from_other_crate p (at_variant i k o b) ≡ marked true (at_variant i (k + p) o b)
+enum-shifted i k p None b = refl
+enum-shifted i k p (Some v) true = refl
+enum-shifted i k p (Some v) false = refl
 
 -- an answer from position k on, shifted by p, is that from position k + p on
 stop-shifted : (e : Entering) (t : Tree) (f : ModuleId) (x : PerNs) (k p : ℕ) (S : List Reading) → from_other_crate p (stop e t f x k S) ≡ marked true (stop e t f x (k + p) S)
@@ -55,7 +63,7 @@ stop-shifted e t f x k p (s ∷ S) = by x.types (λ y. stop-shifted e t f y (k +
         → ((y : PerNs) → from_other_crate p (stop e t f y (k + 1) S) ≡ marked true (stop e t f y ((k + 1) + p) S))
         → let z : PerNs = record x { types = Some (record i { def = c }) } in from_other_crate p (stop e t f z k (s ∷ S)) ≡ marked true (stop e t f z (k + p) (s ∷ S))
     by_def i (def.ModuleId m) rest = by_module i m (same_crate (crate_of t m) (crate_of t f)) refl rest
-    by_def i (def.AdtId (adt.EnumId n)) rest = enum-shifted (record i { def = def.AdtId (adt.EnumId n) }) k p (s.variant n) S
+    by_def i (def.AdtId (adt.EnumId n)) rest = enum-shifted (record i { def = def.AdtId (adt.EnumId n) }) k p (s.variant n) (is_empty S)
     by_def i (def.AdtId _) rest = refl
     by_def i _ rest = refl
 
@@ -121,3 +129,25 @@ walk-stop t a pos (s ∷ S) = by a.here.types (λ b. walk-stop t b (pos + 1) S)
         → Ends (record a.here { types = o })
     by None rest = refl
     by (Some i) rest = by_def i i.def rest
+
+-- a move, by the definition that stands in types
+pub move-def : (t : Tree) (a : Stand) (pos : ℕ) (s : Reading) (b : Bool) (i : Item ModuleDefId ImportOrExternCrate) (d : ModuleDefId) → a.here.types ≡ Some i → i.def ≡ d → move t a pos s b ≡ move_at t a i pos s b d
+move-def t a pos s b i d e is =
+    ap (λ o. move t (record a { here = record a.here { types = o } }) pos s b) e ∙ ap (move_at t a i pos s b) is
+
+-- the rest of a walk, by a move
+abbrev pub by_move : Tree → Stand → ℕ → List Reading → Move → ResolvePathResult
+by_move t a pos S mv = elim mv [ Go b ↦ walk t b (pos + 1) S | End r ↦ marked a.differing r ]
+
+empty-map : {A B : Type 0} (f : A → B) (xs : List A) → is_empty (map f xs) ≡ nat_eq (length xs) 0
+empty-map f [] = refl
+empty-map f (x ∷ xs) = elim (eqb_tells (suc (length xs)) 0) [ inl h ↦ (let e : suc (length xs) ≡ 0 = h.1 in absurd (omega arith)) | inr h ↦ sym h.0 ]
+
+-- one step of a walk along names
+pub walk-names : (w : World) (L : LocalMap) (a : Stand) (pos : ℕ) (n : Name) (after rest : List Name) (b : Bool) (mv : Move)
+    → rest ≡ n ∷ after → b ≡ nat_eq (length after) 0 → mv ≡ move (tree_of w) a pos (read w L n) b
+    → walk (tree_of w) a pos (map (read w L) rest) ≡ by_move (tree_of w) a pos (map (read w L) after) mv
+walk-names w L a pos n after rest b mv e is m =
+    ap (λ ns. walk (tree_of w) a pos (map (read w L) ns)) e
+    ∙ ap (λ c. by_move (tree_of w) a pos (map (read w L) after) (move (tree_of w) a pos (read w L n) c)) (empty-map (read w L) after ∙ sym is)
+    ∙ ap (by_move (tree_of w) a pos (map (read w L) after)) (sym m)
