@@ -60,3 +60,10 @@ cut-shorter c (x ∷ xs) w r e = by (eqb x c) (cut c xs) refl e (cut-shorter c x
     by false (Some (v, q)) h e shorter =
         let below : length q < length xs = shorter v q h
         in rw (← behind (x ∷ v) q w r e) (omega arith)
+
+-- the lines of a text whose first line feed is met, and of one that has none
+pub split-some : (c : ℕ) (bs w r : List ℕ) → cut c bs ≡ Some (w, r) → slice_split (λ b. eqb b c) bs ≡ w ∷ slice_split (λ b. eqb b c) r
+split-some c bs w r e = slice_split-cut c bs ∙ ap (pieces c bs) e
+
+pub split-none : (c : ℕ) (bs : List ℕ) → cut c bs ≡ None → slice_split (λ b. eqb b c) bs ≡ bs ∷ []
+split-none c bs e = slice_split-cut c bs ∙ ap (pieces c bs) e

@@ -1,12 +1,15 @@
 -- What the words of a script stand for.
-use Rattle.std.proofs.Common.{◌≡◌, ◌≢◌, ℕ, ◌+◌, ◌<◌, ◌^◌, Bool, true, false, not, List, [], ◌∷◌, ◌++◌, Option, Some, None, Result, Ok, Err, length, get_or, arith, rules, refl, sym, ◌∙◌, suc, ap, nat_lt, eqb, ◌&&◌}
+use Rattle.std.proofs.Common.{◌≡◌, ◌≢◌, ℕ, ◌+◌, ◌<◌, ◌^◌, Bool, true, false, not, List, [], ◌∷◌, ◌++◌, Option, Some, None, Result, Ok, Err, length, get_or, arith, rules, refl, sym, ◌∙◌, suc, ap, nat_lt, eqb, ◌&&◌, cond, take, drop}
 use Rattle.std.specs.Option.{option_map, MatchOption}
 use Rattle.std.specs.Result.{OkIff, result_ok}
 use Rattle.std.specs.Char.{is_ascii_digit}
-use Rattle.std.specs.List.{list_all}
+use Rattle.std.specs.List.{list_all, position, position_from}
 use Rattle.std.specs.Str.{all_ascii_digits}
 use Rattle.std.specs.Str.Parse.{ParsesUnsigned, digits_value}
-use Rattle.std.proofs.lemmas.Bool.{eq-eqb, ne_eqb}
+use Rattle.std.proofs.lemmas.Bool.{eq-eqb, ne_eqb, eqb-true, eqb-false}
+use Rattle.std.proofs.lemmas.Iterator.Adapters.{position_from-zero}
+use Rattle.std.proofs.lemmas.List.{take-append-drop, drop_more, get_or-take, length-take}
+use Rattle.std.proofs.lemmas.List.Quantifiers.{position-Some}
 use Rattle.std.proofs.lemmas.Bool.Decides.{nat_tests}
 use Rattle.std.proofs.lemmas.Str.Parse.{IsNumeralModel, numerals_by_value, tells_all_ascii_digits, parse_digits}
 use Rattle.std.proofs.lemmas.Str.Pattern.{IsSplitOnceResult, split_parts}
@@ -57,3 +60,31 @@ cut-by_cases c bs (Some x) h = sym (ap (cut c) h.0 ∙ cut-first c x.0.now x.1.n
 -- what `split_once` gives at an ASCII character
 pub cut-split_once : (c : ℕ) (bs : List ℕ) (r : Option (Bor (List ℕ) × Bor (List ℕ))) → IsSplitOnceResult c bs r → c < 128 → parts r ≡ cut c bs
 cut-split_once c bs r h small = cut-by_cases c bs r (split_parts c bs r h small)
+
+absent-from : (c i : ℕ) (xs : List ℕ) → position_from (λ b. eqb b c) i xs ≡ None → cut c xs ≡ None
+absent-from c i [] e = refl
+absent-from c i (x ∷ xs) e = by (eqb x c) e (absent-from c (i + 1) xs)
+  where
+    by : (b : Bool) → cond {A = Option ℕ} b (Some i) (position_from (λ b. eqb b c) (i + 1) xs) ≡ None → (position_from (λ b. eqb b c) (i + 1) xs ≡ None → cut c xs ≡ None)
+        → cond {A = Option (List ℕ × List ℕ)} b (Some ([], xs)) (option_map (λ p. (x ∷ p.0, p.1)) (cut c xs)) ≡ None
+    by true e f = absurd cc
+    by false e f =
+        let longer : List ℕ × List ℕ → List ℕ × List ℕ = λ p. (x ∷ p.0, p.1)
+        in ap (option_map longer) (f e)
+
+-- where no byte is found, there is no cut
+pub cut-absent : (c : ℕ) (bs : List ℕ) → position (λ b. eqb b c) bs ≡ None → cut c bs ≡ None
+cut-absent c bs e = absent-from c 0 bs (sym (position_from-zero (λ b. eqb b c) bs) ∙ e)
+
+-- the cut at the place where the byte is found first
+pub cut-found : (c : ℕ) (bs : List ℕ) (i : ℕ) → position (λ b. eqb b c) bs ≡ Some i → cut c bs ≡ Some (take i bs, drop (i + 1) bs)
+cut-found c bs i e =
+    let found = position-Some (λ b. eqb b c) bs i 0 e
+    in let here : get_or bs i 0 ≡ c = eqb-true (get_or bs i 0) c found.1
+    in let whole : bs ≡ take i bs ++ c ∷ drop (i + 1) bs = sym (take-append-drop i bs) ∙ ap (λ r. take i bs ++ r) (drop_more bs i 0 found.0 ∙ ap (λ b. b ∷ drop (i + 1) bs) here)
+    in ap (cut c) whole ∙ cut-first c (take i bs) (drop (i + 1) bs) (λ k l. absent k l found.2)
+  where
+    absent : (k : ℕ) → k < length (take i bs) → ((k : ℕ) → k < i → eqb (get_or bs k 0) c ≡ false) → get_or (take i bs) k 0 ≢ c
+    absent k l before e2 =
+        let below : k < i = omega (arith, length-take i bs)
+        in eqb-false (get_or bs k 0) c (before k below) (sym (get_or-take i bs k 0 below) ∙ e2)

@@ -1,3 +1,6 @@
+pub mod Engine
+pub mod Faults
 pub mod Lines
+pub mod Runs
 pub mod Texts
 pub mod Words

@@ -1,7 +1,10 @@
 //! The script language of the tool: its words and lines, what they do, and the texts of answers.
 #![tactic(auto)]
 
+mod engine;
+mod fault;
 mod lines;
 pub mod print;
 pub mod read;
+pub mod script;
 mod words;
