@@ -3,3 +3,4 @@ pub mod WalkLemmas
 pub mod KnownLemmas
 pub mod OuterLemmas
 pub mod OverlayLemmas
+pub mod LayerLemmas

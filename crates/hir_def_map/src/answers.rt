@@ -1,6 +1,6 @@
 //! The answers that a path can end with.
 ghost use Rattle.std.specs.Prelude.{◌≡◌};
-ghost use Rattle.hir_def_map.specs.Answers.{reached, nothing_yes, nothing_no, stopped, variant_answer};
+ghost use Rattle.hir_def_map.specs.Answers.{reached, nothing_yes, nothing_no, stopped, variant_answer, settled};
 ghost use Rattle.hir_def_map.specs.Walk.{marked};
 
 use crate::result::{ReachedFixedPoint, ResolvePathResult, ResolvePathResultPrefixInfo};
@@ -88,5 +88,19 @@ pub(crate) fn marked(differing: bool, answer: ResolvePathResult) -> ResolvePathR
             enum_variant: answer.prefix_info.enum_variant,
         },
         ..answer
+    }
+}
+
+/// The answer of a module that lies in a block, or does not: a block's is for good.
+pub(crate) fn settled(in_block: bool, answer: ResolvePathResult) -> ResolvePathResult
+    ensures { result ≡ settled in_block answer }
+{
+    if in_block {
+        ResolvePathResult {
+            reached_fixedpoint: ReachedFixedPoint::Yes,
+            ..answer
+        }
+    } else {
+        answer
     }
 }

@@ -8,3 +8,4 @@ mod layers;
 pub mod question;
 pub mod result;
 mod segments;
+mod single;
