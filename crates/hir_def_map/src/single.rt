@@ -1,10 +1,11 @@
 //! What one place answers.
-ghost use Rattle.std.specs.Prelude.{◌≡◌, ◌≤◌, ◌&&◌, ◌∷◌, [], map};
+ghost use Rattle.std.specs.Prelude.{◌≡◌, ◌≤◌, ◌&&◌, if◌then◌else◌, map};
 ghost use Rattle.dm_base.specs.Tree.{IsKnown};
 ghost use Rattle.dm_maps.specs.Known.{KnowsAll, res_holds, local_holds};
 ghost use Rattle.dm_maps.specs.Maps.{LocalMap};
 ghost use Rattle.dm_maps.specs.Readings.{setting_of, read, is_2015_in};
 ghost use Rattle.dm_maps.specs.Trees.{tree_of};
+ghost use Rattle.hir_def_map.specs.Answers.{nothing_no};
 ghost use Rattle.hir_def_map.specs.Paths.{stop, enter, root_item, from_root, from_super, by_first_segment, missed, asks_root, single, In, Preludes};
 
 use crate::answers::{nothing_no, nothing_yes, settled};
@@ -90,7 +91,27 @@ fn from_super(world: &World, m: ModuleId, k: u8, segments: &[Name]) -> ResolvePa
     }
 }
 
+/// The answer after a first segment, by what it selects.
+fn after_first(
+    world: &World,
+    from: ModuleId,
+    found: PerNs,
+    missed: bool,
+    rest: &[Name],
+) -> ResolvePathResult
+    requires from { IsKnown (tree_of world.now) from }
+    requires known { KnowsAll world.now (res_holds found) }
+    ensures { (L : LocalMap) → result ≡ (if missed then nothing_no else stop (enter (tree_of world.now)) (tree_of world.now) from found 1 (map (read world.now L) rest.now)) }
+{
+    if missed {
+        nothing_no()
+    } else {
+        answer_from(world, from, found, 1, rest)
+    }
+}
+
 /// By what the first segment selects, at a module.
+#[tactic(auto, unfolding(dm_maps::specs::Readings::setting_of))]
 fn by_first_segment(
     world: &World,
     local: &LocalDefMap,
@@ -102,14 +123,80 @@ fn by_first_segment(
     requires local_known { KnowsAll world.now (local_holds local.now) }
     ensures { result ≡ by_first_segment (setting_of world.now) ask.now (In m) (map (read world.now local.now) segments.now) }
 {
-    let Some((segment, rest)) = segments.split_first() else {
-        return nothing_yes();
-    };
-    let found = layers_at(world, local, ask, m, segment, rest.is_empty());
-    if is_missed(world, ask, world.krate(m), &found) {
-        return nothing_no();
+    match segments.split_first() {
+        None => nothing_yes(),
+        Some((segment, rest)) => {
+            let is_last = rest.is_empty();
+            let found = layers_at(world, local, ask, m, segment, is_last);
+            let missed = is_missed(world, ask, world.krate(m), &found);
+            after_first(world, m, found, missed, rest)
+        }
     }
-    answer_from(world, m, found, 1, rest)
+}
+
+/// By what the first segment selects, in the preludes of a map.
+#[tactic(auto, unfolding(dm_maps::specs::Readings::setting_of))]
+fn by_first_in_preludes(
+    world: &World,
+    local: &LocalDefMap,
+    ask: &Ask,
+    id: MapId,
+    from: ModuleId,
+    segments: &[Name],
+) -> ResolvePathResult
+    requires module_known { IsKnown (tree_of world.now) from }
+    requires local_known { KnowsAll world.now (local_holds local.now) }
+    ensures { result ≡ by_first_segment (setting_of world.now) ask.now (Preludes id from) (map (read world.now local.now) segments.now) }
+{
+    match segments.split_first() {
+        None => nothing_yes(),
+        Some((segment, rest)) => {
+            let is_last = rest.is_empty();
+            let found = layers_in_preludes(world, local, ask, id, from, segment, is_last);
+            let missed = is_missed(world, ask, id.krate, &found);
+            after_first(world, from, found, missed, rest)
+        }
+    }
+}
+
+/// What a module answers alone.
+#[tactic(auto, unfolding(dm_maps::specs::Readings::setting_of))]
+pub(crate) fn single_at(
+    world: &World,
+    local: &LocalDefMap,
+    ask: &Ask,
+    m: ModuleId,
+    segments: &[Name],
+) -> ResolvePathResult
+    requires module_known { IsKnown (tree_of world.now) m }
+    requires local_known { KnowsAll world.now (local_holds local.now) }
+    ensures { result ≡ single (setting_of world.now) ask.now (map (read world.now local.now) segments.now) (In m) }
+{
+    match ask.kind {
+        PathKind::Crate => from_root(world, m, world.krate(m), segments),
+        PathKind::DollarCrate(krate) => from_root(world, m, krate, segments),
+        PathKind::Super(k) => from_super(world, m, k, segments),
+        _ => by_first_segment(world, local, ask, m, segments),
+    }
+}
+
+/// What the preludes of a map answer alone, seen from a module.
+pub(crate) fn single_in_preludes(
+    world: &World,
+    local: &LocalDefMap,
+    ask: &Ask,
+    id: MapId,
+    from: ModuleId,
+    segments: &[Name],
+) -> ResolvePathResult
+    requires module_known { IsKnown (tree_of world.now) from }
+    requires local_known { KnowsAll world.now (local_holds local.now) }
+    ensures { result ≡ single (setting_of world.now) ask.now (map (read world.now local.now) segments.now) (Preludes id from) }
+{
+    match ask.kind {
+        PathKind::Crate | PathKind::DollarCrate(_) | PathKind::Super(_) => nothing_yes(),
+        _ => by_first_in_preludes(world, local, ask, id, from, segments),
+    }
 }
 
 /// Whether a path that begins with `::` finds nothing, where the rule of edition 2015 does not hold.
