@@ -1,10 +1,13 @@
 //! What a name means: one item in each namespace at most.
 ghost use Rattle.std.specs.Prelude.{◌≡◌, ⊤, [], ◌∷◌, codes, true, false};
 ghost use Rattle.dm_base.specs.Items.{nothing, over};
+ghost use Rattle.dm_base.specs.ItemList.{items_of};
+ghost use Rattle.dm_base.specs.Reresolved.{is_reresolved};
 ghost use Rattle.dm_base.specs.PerNs.{type_alone, value_alone, macro_alone, type_and_value, of_def, is_empty, is_full, definition, seen_as, availability, AsksItem, AsksInOrder};
 
 use crate::imports::{ImportId, ImportOrExternCrate, ImportOrGlob};
 use crate::item_ids::{AdtId, MacroId, ModuleDefId};
+use crate::items::IterItems;
 use crate::visibility::Visibility;
 use bitflags::{Flag, Flags};
 
@@ -71,6 +74,15 @@ pub struct Item<Def, Import = ImportId> {
     pub def: Def,
     pub vis: Visibility,
     pub import: Option<Import>,
+}
+
+impl<Def: PartialEq, Import: Copy + PartialEq> Item<Def, Import> {
+    /// Whether `import` is an import, the one that brought this item, and stands for another definition now.
+    pub fn is_reresolved_by(&self, def: &Def, import: Option<Import>) -> bool
+        ensures { result ≡ is_reresolved Import.eq Def.eq self.now def.now import }
+    {
+        import.is_some() && self.import == import && self.def != *def
+    }
 }
 
 pub type TypesItem = Item<ModuleDefId, ImportOrExternCrate>;
@@ -310,6 +322,13 @@ impl PerNs {
             return self;
         }
         self.or(f())
+    }
+
+    /// The items in a row, types before values before macros, each with the import that brought it.
+    pub fn iter_items(self) -> IterItems
+        ensures { result ≡ items_of self }
+    {
+        IterItems::new(self)
     }
 }
 
