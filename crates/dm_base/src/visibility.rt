@@ -17,7 +17,7 @@ pub enum VisibilityExplicitness {
 }
 
 /// A visibility as it is written, before its path is resolved.
-#[derive(Drop)]
+#[derive(PartialEq, Eq, Drop, Debug)]
 pub enum RawVisibility {
     /// `pub(in path)` and the like.
     Module(ModPath, VisibilityExplicitness),
