@@ -44,11 +44,11 @@ impl<Def: Copy, Import: Copy> Overlay for Option<Item<Def, Import>> {
 
     ghost idempotent = { first_same };
 
-    fn empty() -> Self {
+    fn empty() -> Option<Item<Def, Import>> {
         None
     }
 
-    fn over(self, other: Self) -> Self {
+    fn over(self, other: Option<Item<Def, Import>>) -> Option<Item<Def, Import>> {
         self.or(other)
     }
 }
@@ -67,11 +67,11 @@ impl Overlay for Option<usize> {
 
     ghost idempotent = { greatest_same };
 
-    fn empty() -> Self {
+    fn empty() -> Option<usize> {
         None
     }
 
-    fn over(self, other: Self) -> Self {
+    fn over(self, other: Option<usize>) -> Option<usize> {
         match (self, other) {
             (Some(upper), Some(lower)) => Some(upper.max(lower)),
             (Some(upper), None) => Some(upper),
@@ -94,11 +94,11 @@ impl Overlay for PerNs {
 
     ghost idempotent = { over_same };
 
-    fn empty() -> Self {
+    fn empty() -> PerNs {
         PerNs::none()
     }
 
-    fn over(self, other: Self) -> Self {
+    fn over(self, other: PerNs) -> PerNs {
         self.or(other)
     }
 }

@@ -168,8 +168,8 @@ impl PerNs {
         }
     }
 
-    /// What a definition means: the one namespace that it belongs to, or types and values for a struct or a variant
-    /// whose constructor has a visibility.
+    /// The items of a definition: one in the namespace that it belongs to, and for a struct or a variant whose constructor
+    /// has a visibility one in types and one in values.
     pub fn from_def(
         def: ModuleDefId,
         vis: Visibility,
@@ -276,7 +276,9 @@ impl PerNs {
         self.macros
     }
 
-    /// The items whose visibility passes. The type, the value and the macro are asked about in that order, each once.
+    /// The items whose visibility passes.
+    ///
+    /// `f` is asked about the type, the value and the macro in that order, once about each that is there.
     pub fn filter_visibility<F: FnMut(Visibility) -> bool + Drop>(self, mut f: F) -> PerNs
         requires { F.IsAlwaysCallable f }
         ensures { AsksInOrder F.step self f result }
@@ -312,7 +314,10 @@ impl PerNs {
             macros: self.macros.or(other.macros),
         }
     }
-    /// In each namespace this item, else that of the answer of `f`, which is asked once, and only where an item is missing.
+
+    /// In each namespace this item, else that of the answer of `f`.
+    ///
+    /// `f` is asked once where an item is missing, and never where none is.
     pub fn or_else<F: FnOnce() -> PerNs>(self, f: F) -> PerNs
         requires { is_full self ≡ false → F.pre f }
         ensures full { is_full self ≡ true → result ≡ self }
