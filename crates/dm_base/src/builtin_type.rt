@@ -251,7 +251,7 @@ impl fmt::Display for BuiltinType {
     ghost output = { λ word. Some (builtin_word word) };
 
     fn fmt<W: fmt::Write>(&self, f: &mut fmt::Formatter<W>) -> fmt::Result {
-        f.write_str(self.as_str())
+        f.write_str(BuiltinType::as_str(*self))
     }
 }
 
@@ -259,7 +259,7 @@ impl fmt::Display for BuiltinInt {
     ghost output = { λ word. Some (int_word word) };
 
     fn fmt<W: fmt::Write>(&self, f: &mut fmt::Formatter<W>) -> fmt::Result {
-        f.write_str(self.as_str())
+        f.write_str(BuiltinInt::as_str(*self))
     }
 }
 
@@ -267,7 +267,7 @@ impl fmt::Display for BuiltinUint {
     ghost output = { λ word. Some (uint_word word) };
 
     fn fmt<W: fmt::Write>(&self, f: &mut fmt::Formatter<W>) -> fmt::Result {
-        f.write_str(self.as_str())
+        f.write_str(BuiltinUint::as_str(*self))
     }
 }
 
@@ -275,6 +275,6 @@ impl fmt::Display for BuiltinFloat {
     ghost output = { λ word. Some (float_word word) };
 
     fn fmt<W: fmt::Write>(&self, f: &mut fmt::Formatter<W>) -> fmt::Result {
-        f.write_str(self.as_str())
+        f.write_str(BuiltinFloat::as_str(*self))
     }
 }

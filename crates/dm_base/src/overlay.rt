@@ -99,6 +99,6 @@ impl Overlay for PerNs {
     }
 
     fn over(self, other: PerNs) -> PerNs {
-        self.or(other)
+        PerNs::or(self, other)
     }
 }

@@ -116,9 +116,8 @@ impl PerNs {
         ensures { result ≡ value_alone def vis import }
     {
         PerNs {
-            types: None,
             values: Some(Item { def, vis, import }),
-            macros: None,
+            ..PerNs::none()
         }
     }
 
@@ -128,8 +127,7 @@ impl PerNs {
     {
         PerNs {
             types: Some(Item { def, vis, import }),
-            values: None,
-            macros: None,
+            ..PerNs::none()
         }
     }
 
@@ -143,17 +141,12 @@ impl PerNs {
         ensures { result ≡ type_and_value types vis values vis import }
     {
         PerNs {
-            types: Some(Item {
-                def: types,
-                vis,
-                import,
-            }),
             values: Some(Item {
                 def: values,
                 vis,
                 import: import.and_then(ImportOrExternCrate::import_or_glob),
             }),
-            macros: None,
+            ..PerNs::types(types, vis, import)
         }
     }
 
@@ -162,9 +155,8 @@ impl PerNs {
         ensures { result ≡ macro_alone def vis import }
     {
         PerNs {
-            types: None,
-            values: None,
             macros: Some(Item { def, vis, import }),
+            ..PerNs::none()
         }
     }
 
@@ -178,27 +170,17 @@ impl PerNs {
     ) -> PerNs
         ensures { result ≡ of_def def vis value_ns_ctor_vis import }
     {
+        let value_import = import.and_then(ImportOrExternCrate::import_or_glob);
         match def {
             ModuleDefId::AdtId(AdtId::StructId(_)) | ModuleDefId::EnumVariantId(_) => {
+                let types = PerNs::types(def, vis, import);
                 match value_ns_ctor_vis {
-                    Some(ctor_vis) => PerNs {
-                        types: Some(Item { def, vis, import }),
-                        values: Some(Item {
-                            def,
-                            vis: ctor_vis,
-                            import: import.and_then(ImportOrExternCrate::import_or_glob),
-                        }),
-                        macros: None,
-                    },
-                    None => PerNs::types(def, vis, import),
+                    Some(ctor_vis) => types.or(PerNs::values(def, ctor_vis, value_import)),
+                    None => types,
                 }
             }
             ModuleDefId::FunctionId(_) | ModuleDefId::ConstId(_) | ModuleDefId::StaticId(_) => {
-                PerNs::values(
-                    def,
-                    vis,
-                    import.and_then(ImportOrExternCrate::import_or_glob),
-                )
+                PerNs::values(def, vis, value_import)
             }
             ModuleDefId::ModuleId(_)
             | ModuleDefId::AdtId(AdtId::UnionId(_) | AdtId::EnumId(_))

@@ -25,7 +25,8 @@ impl EditionedFileId {
     pub fn file_id(self) -> FileId
         ensures { result ≡ self.file }
     {
-        self.file
+        let EditionedFileId { file, .. } = self;
+        file
     }
 }
 
@@ -60,7 +61,8 @@ impl TreeId {
     pub fn file_id(self) -> HirFileId
         ensures { result ≡ self.file }
     {
-        self.file
+        let TreeId { file, .. } = self;
+        file
     }
 }
 

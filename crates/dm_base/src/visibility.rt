@@ -47,7 +47,7 @@ impl Visibility {
     pub fn is_visible_from_other_crate(self) -> bool
         ensures { result ≡ is_public self }
     {
-        matches!(self, Visibility::Public)
+        self.is_public()
     }
 
     /// Whether the module `from` sees an item of this visibility (docs/RULES.md, "Who sees what").
