@@ -7,12 +7,12 @@ use Rattle.dm_base.proofs.visibility.lifted.Goals as goal
 pub loop-from-preserved : goal.loop-from-preserved
 loop-from-preserved g c =
     let t = g.T.ModuleTree.tree c.args.tree.now in
-    let tree = g.met.T.ModuleTree.lawful c.args.tree.now in
+    let tree = c.outside.ensures.lawful in
     let at = c.loop-from.at in
     let outer = c.in-Some.outer in
     let to = c.args.to in
     let passes = is_lifted t c.args.from in
-    let is : outside t at ≡ Some outer = sym c.in-Some.ensures in
+    let is : outside t at ≡ Some outer = sym c.in-Some.ensures.value in
     let known = c.loop-from.invariant.known in
     record {
       known = tree.outside_known at outer known is;

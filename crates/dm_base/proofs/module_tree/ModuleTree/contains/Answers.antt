@@ -6,10 +6,10 @@ use Rattle.dm_base.proofs.module_tree.ModuleTree.contains.Goals as goal
 pub loop-a-preserved : goal.loop-a-preserved
 loop-a-preserved g c =
     let t = g.Self.ModuleTree.tree c.args.self.now in
-    let tree = g.met.Self.ModuleTree.lawful c.args.self.now in
+    let tree = c.containing.ensures.lawful in
     let at = c.loop-a.at in
     let outer = c.in-Some.outer in
-    let is : containing t at ≡ Some outer = sym c.in-Some.ensures in
+    let is : containing t at ≡ Some outer = sym c.in-Some.ensures.value in
     let known = c.loop-a.invariant.known in
     let rest = is_among c.args.a (chain t outer) in
     record {

@@ -1,0 +1,40 @@
+//! A world that is being built.
+ghost use Rattle.std.specs.Prelude.{◌≡◌, []};
+
+use crate::def_map::DefMap;
+use crate::local_def_map::LocalDefMap;
+use crate::place::Place;
+use crate::variants::EnumVariants;
+use dm_base::ids::{EnumId, ModuleId};
+use dm_base::item_ids::ItemKind;
+use dm_base::macros::MacroLoc;
+use indexmap::IndexMap;
+use std::alloc::Global;
+use std::marker::Model;
+
+/// The tables of a world, as they are filled.
+#[derive(Drop)]
+pub struct WorldBuilder {
+    pub(crate) crate_maps: Vec<DefMap>,
+    pub(crate) block_maps: Vec<DefMap>,
+    pub(crate) places: Vec<Place>,
+    pub(crate) local_maps: Vec<LocalDefMap>,
+    pub(crate) uses: Vec<ModuleId>,
+    pub(crate) items: Vec<(ItemKind, ModuleId)>,
+    pub(crate) enums: IndexMap<EnumId, EnumVariants>,
+    pub(crate) variants: Vec<EnumId>,
+    pub(crate) macros: Vec<(ModuleId, MacroLoc)>,
+    pub(crate) alloc: Global,
+}
+
+impl Model for WorldBuilder {
+    ghost use Rattle.std.specs.Prelude.{map};
+    ghost use Rattle.dm_maps.specs.World.{World};
+    ghost use Rattle.dm_maps.specs.Trees.{IsWorldOf, outline, containers_of};
+
+    ghost Value = { World };
+
+    ghost view = { λ w. record { crate_maps = w.crate_maps.items; block_maps = w.block_maps.items; places = w.places.items; local_maps = w.local_maps.items; uses = w.uses.items; items = w.items.items; enums = w.enums.entries; variants = w.variants.items; macros = w.macros.items } };
+
+    ghost invariant = { λ w. IsWorldOf w.places.items (map outline w.crate_maps.items) (map outline w.block_maps.items) (containers_of w.block_maps.items) };
+}

@@ -1,0 +1,121 @@
+//! The map of a crate or of a block.
+ghost use Rattle.std.specs.Prelude.{◌≡◌, ◌↔◌, IsTrue, IsSome, Some};
+ghost use Rattle.std.specs.Option.{option_copied};
+ghost use Rattle.dm_base.specs.Names.{find_name};
+ghost use Rattle.dm_maps.specs.Maps.{module_at, nth_module};
+
+use crate::module_data::ModuleData;
+use crate::modules_map::ModulesMap;
+use dm_base::ids::{BlockId, Crate, ExternCrateId, MapId, ModuleId, UseId};
+use dm_base::item_ids::MacroId;
+use dm_base::name::Name;
+use dm_base::source::Edition;
+use indexmap::IndexMap;
+use std::marker::Model;
+
+/// The modules of a crate, or of a block in it.
+#[derive(Drop)]
+pub struct DefMap {
+    id: MapId,
+    edition: Edition,
+    root: ModuleId,
+    parent: Option<ModuleId>,
+    modules: ModulesMap,
+    prelude: Option<(ModuleId, Option<UseId>)>,
+    macro_use_prelude: IndexMap<Name, (MacroId, Option<ExternCrateId>)>,
+}
+
+impl Model for DefMap {
+    ghost use Rattle.dm_maps.specs.Maps.{Map};
+
+    ghost Value = { Map };
+
+    ghost view = { λ m. record { id = m.id; edition = m.edition; root = m.root; parent = m.parent; modules = m.modules; prelude = m.prelude; macro_use = m.macro_use_prelude.entries } };
+}
+
+impl DefMap {
+    /// Whose map it is.
+    pub fn id(&self) -> MapId
+        ensures { result ≡ self.now.id }
+    {
+        self.id
+    }
+
+    /// The crate that the map belongs to.
+    pub fn krate(&self) -> Crate
+        ensures { result ≡ self.now.id.krate }
+    {
+        self.id.krate
+    }
+
+    /// The block whose map it is; none for a crate's.
+    pub fn block_id(&self) -> Option<BlockId>
+        ensures { result ≡ self.now.id.block }
+    {
+        self.id.block
+    }
+
+    /// The edition of the crate.
+    pub fn edition(&self) -> Edition
+        ensures { result ≡ self.now.edition }
+    {
+        self.edition
+    }
+
+    /// The root of this map.
+    pub fn root_module_id(&self) -> ModuleId
+        ensures { result ≡ self.now.root }
+    {
+        self.root
+    }
+
+    /// The module that contains the map's block; none for a crate's map.
+    pub fn parent(&self) -> Option<ModuleId>
+        ensures { result ≡ self.now.parent }
+    {
+        self.parent
+    }
+
+    /// The modules of this map, by number.
+    pub fn modules(&self) -> &ModulesMap
+        ensures { result.now ≡ self.now.modules }
+    {
+        &self.modules
+    }
+
+    /// Whether the module lies in this map.
+    pub fn has(&self, m: ModuleId) -> bool
+        ensures { IsTrue result ↔ IsSome (module_at self.now.modules m) }
+    {
+        let found = self.modules.get(m);
+        found.is_some()
+    }
+
+    /// The module of that number, if it lies in this map.
+    pub fn get(&self, m: ModuleId) -> Option<&ModuleData>
+        ensures { option_copied result ≡ module_at self.now.modules m }
+    {
+        self.modules.get(m)
+    }
+
+    /// The module at place `i`, counted from the root.
+    pub(crate) fn nth(&self, i: usize) -> Option<&ModuleData>
+        ensures { option_copied result ≡ nth_module self.now.modules i }
+    {
+        self.modules.nth(i)
+    }
+
+    /// The prelude module, with the use that named it.
+    pub fn prelude(&self) -> Option<(ModuleId, Option<UseId>)>
+        ensures { result ≡ self.now.prelude }
+    {
+        self.prelude
+    }
+
+    /// The macro that `#[macro_use]` brings under a name, with the item that brought it. Takes no memory.
+    pub fn macro_use_prelude(&self, name: &Name) -> Option<(MacroId, Option<ExternCrateId>)>
+        ensures { result ≡ find_name name.now self.now.macro_use }
+    {
+        self.macro_use_prelude.get(name).copied()
+    }
+}

@@ -1,0 +1,10 @@
+//! Where the modules of a world stand.
+use dm_base::ids::{MapId, ModuleId};
+
+/// Where a module stands: its map, its place among the map's modules, and its parent there.
+#[derive(Clone, Copy, PartialEq, Eq, Debug)]
+pub struct Place {
+    pub map: MapId,
+    pub index: u32,
+    pub parent: Option<ModuleId>,
+}

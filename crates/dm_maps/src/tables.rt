@@ -1,0 +1,129 @@
+//! Look-ups in the tables of a world, also while it is built. None of them takes memory.
+ghost use Rattle.std.specs.Prelude.{◌≡◌, ◌↔◌, IsTrue, IfSome, slice_get, nat_lt, length};
+ghost use Rattle.std.specs.Option.{option_copied, option_map};
+ghost use Rattle.dm_base.specs.Names.{find_name};
+ghost use Rattle.dm_base.specs.Tree.{IsTree, IsKnown};
+ghost use Rattle.dm_scope.specs.Scope.{bound_in};
+ghost use Rattle.dm_maps.specs.World.{place_of, numbered_map, map_of, module_in, module_of, scope_of};
+ghost use Rattle.dm_maps.specs.Readings.{variants_of};
+ghost use Rattle.dm_maps.specs.Trees.{IsWorld, map_id_in, parent_in, container_in, containers_of};
+
+use crate::builder::WorldBuilder;
+use crate::def_map::DefMap;
+use crate::module_data::ModuleData;
+use crate::place::Place;
+use dm_base::fields_shape::FieldsShape;
+use dm_base::ids::{BlockId, Crate, EnumId, EnumVariantId, MapId, ModuleId};
+use dm_base::name::Name;
+use dm_base::per_ns::PerNs;
+
+impl WorldBuilder {
+    /// Where a module stands.
+    pub(crate) fn place_of(&self, m: ModuleId) -> Option<Place>
+        ensures { result ≡ place_of self.now m }
+    {
+        self.places.get(m.0 as usize).copied()
+    }
+
+    /// The map of that id.
+    pub(crate) fn numbered_map(&self, id: MapId) -> Option<&DefMap>
+        ensures { option_copied result ≡ numbered_map self.now id }
+    {
+        match id.block {
+            None => self.crate_maps.get(id.krate.0 as usize),
+            Some(b) => self.block_maps.get(b.0 as usize),
+        }
+    }
+
+    /// The map that a module lies in.
+    pub(crate) fn map_of(&self, m: ModuleId) -> Option<&DefMap>
+        ensures { option_copied result ≡ map_of self.now m }
+    {
+        match self.place_of(m) {
+            None => None,
+            Some(place) => self.numbered_map(place.map),
+        }
+    }
+
+    /// A module, by its number.
+    pub(crate) fn module_of(&self, m: ModuleId) -> Option<&ModuleData>
+        ensures { option_copied result ≡ module_of self.now m }
+    {
+        match self.place_of(m) {
+            None => None,
+            Some(place) => self.module_in(place),
+        }
+    }
+
+    fn module_in(&self, place: Place) -> Option<&ModuleData>
+        ensures { option_copied result ≡ module_in self.now place }
+    {
+        match self.numbered_map(place.map) {
+            None => None,
+            Some(map) => map.nth(place.index as usize),
+        }
+    }
+
+    /// Whether the module is one of the world's.
+    pub(crate) fn has(&self, m: ModuleId) -> bool
+        ensures { result ≡ nat_lt m.0 (length self.now.places) }
+    {
+        (m.0 as usize) < self.places.len()
+    }
+
+    /// The id of the map that a module lies in.
+    pub(crate) fn map_id_of(&self, m: ModuleId) -> MapId
+        ensures { result ≡ map_id_in self.now.places m }
+    {
+        match self.places.get(m.0 as usize) {
+            None => MapId {
+                krate: Crate(0),
+                block: None,
+            },
+            Some(place) => place.map,
+        }
+    }
+
+    /// The parent of a module in its map.
+    pub(crate) fn parent_of(&self, m: ModuleId) -> Option<ModuleId>
+        ensures value { result ≡ parent_in self.now.places m }
+        ensures world { IsWorld self.now }
+    {
+        self.places.get(m.0 as usize)?.parent
+    }
+
+    /// The module that contains a block.
+    pub(crate) fn container_of(&self, block: Option<BlockId>) -> Option<ModuleId>
+        ensures value { result ≡ container_in (containers_of self.now.block_maps) block }
+        ensures world { IsWorld self.now }
+    {
+        let _block_maps = &self.block_maps;
+        match block {
+            None => None,
+            Some(b) => match self.block_maps.get(b.0 as usize) {
+                None => None,
+                Some(map) => map.parent(),
+            },
+        }
+    }
+
+    /// What a module's scope binds under a name; nothing where there is no such module.
+    pub(crate) fn bound_in(&self, m: ModuleId, name: &Name) -> PerNs
+        ensures { result ≡ bound_in (scope_of self.now m) name.now }
+    {
+        match self.module_of(m) {
+            None => PerNs::none(),
+            Some(data) => data.scope().get(name),
+        }
+    }
+
+    /// The variant of an enum under a name, with its shape.
+    pub(crate) fn variant_of(&self, e: EnumId, name: &Name) -> Option<(EnumVariantId, FieldsShape)>
+        ensures { result ≡ find_name name.now (variants_of self.now e) }
+    {
+        match self.enums.get(&e) {
+            None => None,
+            Some(variants) => variants.get(name),
+        }
+    }
+}

@@ -1,0 +1,46 @@
+//! The variants of an enum, by name.
+ghost use Rattle.std.specs.Prelude.{◌≡◌, []};
+ghost use Rattle.std.specs.Option.{option_copied};
+ghost use Rattle.dm_base.specs.Names.{find_name};
+
+use dm_base::fields_shape::FieldsShape;
+use dm_base::ids::EnumVariantId;
+use dm_base::name::Name;
+use indexmap::IndexMap;
+use std::alloc::Global;
+use std::marker::Model;
+
+/// The variants of an enum, in order.
+#[derive(Drop)]
+pub struct EnumVariants {
+    variants: IndexMap<Name, (EnumVariantId, FieldsShape)>,
+}
+
+impl Model for EnumVariants {
+    ghost use Rattle.std.specs.Prelude.{List};
+    ghost use Rattle.dm_base.specs.Names.{Name};
+    ghost use Rattle.dm_base.specs.declared.ids.EnumVariantId.{EnumVariantId};
+    ghost use Rattle.dm_base.specs.declared.fields_shape.FieldsShape.{FieldsShape};
+
+    ghost Value = { List (Name × (EnumVariantId × FieldsShape)) };
+
+    ghost view = { λ v. v.variants.entries };
+}
+
+impl EnumVariants {
+    /// No variants.
+    pub fn new(alloc: Global) -> EnumVariants
+        ensures { result ≡ [] }
+    {
+        EnumVariants {
+            variants: IndexMap::new(alloc),
+        }
+    }
+
+    /// The variant of that name, with its shape.
+    pub fn get(&self, name: &Name) -> Option<(EnumVariantId, FieldsShape)>
+        ensures { result ≡ find_name name.now self.now }
+    {
+        self.variants.get(name).copied()
+    }
+}

@@ -1,0 +1,83 @@
+//! A checked world, whose ids never dangle.
+ghost use Rattle.std.specs.Prelude.{◌≡◌, ◌↔◌, IsTrue, IfSome, Some, slice_get, nat_lt, length};
+ghost use Rattle.std.specs.Option.{option_copied, option_map};
+ghost use Rattle.dm_scope.specs.Scope.{bound_in};
+ghost use Rattle.dm_maps.specs.World.{place_of, numbered_map, map_of, module_of, scope_of};
+ghost use Rattle.dm_maps.specs.Known.{KnowsAll, res_holds};
+
+use crate::builder::WorldBuilder;
+use crate::def_map::DefMap;
+use dm_base::ids::{BlockId, Crate, MapId, ModuleId};
+use dm_base::module_tree::ModuleTree;
+use dm_base::name::Name;
+use dm_base::per_ns::PerNs;
+use std::marker::Model;
+
+/// A checked world: every id that one of its tables holds is one of its own, with its kind.
+#[derive(Drop)]
+pub struct World {
+    pub(crate) tables: WorldBuilder,
+}
+
+impl Model for World {
+    ghost use Rattle.dm_maps.specs.World.{World};
+    ghost use Rattle.dm_maps.specs.Sound.{IsSound};
+
+    ghost Value = { World };
+
+    ghost view = { λ w. w.tables };
+
+    ghost invariant = { λ w. IsSound w.tables };
+}
+
+impl World {
+    /// The map that a module lies in.
+    pub fn map_of(&self, m: ModuleId) -> Option<&DefMap>
+        ensures { option_copied result ≡ map_of self.now m }
+    {
+        self.tables.map_of(m)
+    }
+
+    /// The map of that id, by its number.
+    pub fn numbered_map(&self, id: MapId) -> Option<&DefMap>
+        ensures { option_copied result ≡ numbered_map self.now id }
+    {
+        self.tables.numbered_map(id)
+    }
+
+    /// What a module's scope binds under a name; nothing where there is no such module.
+    pub fn bound_in(&self, m: ModuleId, name: &Name) -> PerNs
+        ensures value { result ≡ bound_in (scope_of self.now m) name.now }
+        ensures known { KnowsAll self.now (res_holds result) }
+    {
+        self.tables.bound_in(m, name)
+    }
+}
+
+#[tactic(auto, unfolding(crate::specs::Trees::tree_of))]
+impl ModuleTree for World {
+    ghost use Rattle.dm_maps.specs.Trees.{tree_of};
+
+    ghost tree = { tree_of };
+
+    fn has(&self, m: ModuleId) -> bool {
+        self.tables.has(m)
+    }
+
+    fn krate(&self, m: ModuleId) -> Crate {
+        self.tables.map_id_of(m).krate
+    }
+
+    fn block(&self, m: ModuleId) -> Option<BlockId> {
+        self.tables.map_id_of(m).block
+    }
+
+    fn containing(&self, m: ModuleId) -> Option<ModuleId> {
+        let parent = self.tables.parent_of(m);
+        parent.or(self.outside(m))
+    }
+
+    fn outside(&self, m: ModuleId) -> Option<ModuleId> {
+        self.tables.container_of(self.tables.map_id_of(m).block)
+    }
+}

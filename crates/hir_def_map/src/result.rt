@@ -1,0 +1,36 @@
+//! What a path resolves to.
+use dm_base::per_ns::PerNs;
+
+/// What a path is resolved for: an import, or anything else.
+#[derive(Clone, Copy, PartialEq, Eq, Debug)]
+pub enum ResolveMode {
+    Import,
+    Other,
+}
+
+/// Whether what is known settles the answer: `No` only where more bindings could still change nothing into something.
+#[derive(Clone, Copy, PartialEq, Eq, Debug)]
+pub enum ReachedFixedPoint {
+    Yes,
+    No,
+}
+
+/// What a path went through before it was resolved.
+#[derive(Clone, Copy, PartialEq, Eq, Debug)]
+pub struct ResolvePathResultPrefixInfo {
+    /// A module of another crate than the origin's.
+    pub differing_crate: bool,
+    /// An enum, for one of its variants.
+    pub enum_variant: bool,
+}
+
+/// What a path resolves to.
+#[derive(Clone, Copy, PartialEq, Eq, Debug)]
+pub struct ResolvePathResult {
+    /// The definitions, per namespace.
+    pub resolved_def: PerNs,
+    /// The first segment that is left unresolved; none where the whole path is resolved.
+    pub segment_index: Option<usize>,
+    pub reached_fixedpoint: ReachedFixedPoint,
+    pub prefix_info: ResolvePathResultPrefixInfo,
+}
