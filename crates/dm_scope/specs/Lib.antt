@@ -1,4 +1,5 @@
 pub mod Bindings
+pub mod Derives
 pub mod Entries
 pub mod Flags
 pub mod Iterators

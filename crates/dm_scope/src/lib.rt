@@ -2,7 +2,9 @@
 #![tactic(auto)]
 
 pub mod bindings;
+pub mod derives;
 pub mod glob_imports;
 pub mod item_scope;
+pub mod iterators;
 mod keys;
 mod steps;
