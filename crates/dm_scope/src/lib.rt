@@ -7,4 +7,5 @@ pub mod glob_imports;
 pub mod item_scope;
 pub mod iterators;
 mod keys;
+pub mod picked;
 mod steps;
