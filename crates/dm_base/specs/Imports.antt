@@ -4,6 +4,11 @@ use Rattle.dm_base.specs.declared.imports.ImportOrExternCrate.{ImportOrExternCra
 use Rattle.dm_base.specs.declared.imports.ImportOrExternCrate.TheVariants as wide
 use Rattle.dm_base.specs.declared.imports.ImportOrGlob.{ImportOrGlob}
 use Rattle.dm_base.specs.declared.imports.ImportOrGlob.TheVariants as narrow
+use Rattle.dm_base.specs.declared.imports.ImportOrDef.{ImportOrDef}
+use Rattle.dm_base.specs.declared.imports.ImportOrDef.TheVariants as step
+use Rattle.dm_base.specs.declared.imports.ImportId.{ImportId}
+use Rattle.dm_base.specs.declared.imports.GlobId.{GlobId}
+use Rattle.dm_base.specs.declared.ids.UseId.{UseId}
 
 abbrev pub is_glob : ImportOrExternCrate → Bool
 is_glob (wide.Glob i) = true
@@ -45,3 +50,25 @@ globs_narrow (wide.ExternCrate k) e = cc
 pub globs_stay : (x : ImportOrGlob) → is_glob_or_import x ≡ is_glob (widened x)
 globs_stay (narrow.Glob i) = refl
 globs_stay (narrow.Import i) = refl
+
+-- the named import, the glob, and the use of an import; an extern crate has none of them
+abbrev pub import_of : ImportOrExternCrate → Option ImportId
+import_of (wide.Glob i) = None
+import_of (wide.Import i) = Some i
+import_of (wide.ExternCrate k) = None
+
+abbrev pub glob_of : ImportOrExternCrate → Option GlobId
+glob_of (wide.Glob i) = Some i
+glob_of (wide.Import i) = None
+glob_of (wide.ExternCrate k) = None
+
+abbrev pub use_of : ImportOrExternCrate → Option UseId
+use_of (wide.Glob i) = Some i.use_
+use_of (wide.Import i) = Some i.use_
+use_of (wide.ExternCrate k) = None
+
+-- what an import stands for, where that is the import itself
+abbrev pub as_step : ImportOrExternCrate → ImportOrDef
+as_step (wide.Glob i) = step.Glob i
+as_step (wide.Import i) = step.Import i
+as_step (wide.ExternCrate k) = step.ExternCrate k

@@ -5,3 +5,12 @@ pub mod Tree
 pub mod Visibility
 pub mod Definitions
 pub mod Imports
+pub mod Builtins
+pub mod Kinds
+pub mod Styles
+pub mod PerNs
+pub mod Overlays
+pub mod ItemHomes
+pub mod ItemList
+pub mod Reresolved
+pub mod Files

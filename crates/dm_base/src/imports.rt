@@ -1,4 +1,7 @@
 //! What brings a name into a scope.
+ghost use Rattle.std.specs.Prelude.{◌≡◌};
+ghost use Rattle.dm_base.specs.Imports.{narrowed, widened, import_of, glob_of, use_of, as_step};
+
 use crate::ids::{ExternCrateId, UseId, UseTreeIdx};
 use crate::item_ids::ModuleDefId;
 
@@ -24,11 +27,78 @@ pub enum ImportOrExternCrate {
     ExternCrate(ExternCrateId),
 }
 
+impl ImportOrExternCrate {
+    /// The import, if it can bring a value: no value comes from an extern crate.
+    pub fn import_or_glob(self) -> Option<ImportOrGlob>
+        ensures { result ≡ narrowed self }
+    {
+        match self {
+            ImportOrExternCrate::Import(id) => Some(ImportOrGlob::Import(id)),
+            ImportOrExternCrate::Glob(id) => Some(ImportOrGlob::Glob(id)),
+            ImportOrExternCrate::ExternCrate(_) => None,
+        }
+    }
+
+    /// The named import, if it is one.
+    pub fn import(self) -> Option<ImportId>
+        ensures { result ≡ import_of self }
+    {
+        match self {
+            ImportOrExternCrate::Import(id) => Some(id),
+            ImportOrExternCrate::Glob(_) | ImportOrExternCrate::ExternCrate(_) => None,
+        }
+    }
+
+    /// The glob import, if it is one.
+    pub fn glob(self) -> Option<GlobId>
+        ensures { result ≡ glob_of self }
+    {
+        match self {
+            ImportOrExternCrate::Glob(id) => Some(id),
+            ImportOrExternCrate::Import(_) | ImportOrExternCrate::ExternCrate(_) => None,
+        }
+    }
+
+    /// The `use` item that the import is a leaf of; an extern crate has none.
+    pub fn use_(self) -> Option<UseId>
+        ensures { result ≡ use_of self }
+    {
+        match self {
+            ImportOrExternCrate::Glob(id) => Some(id.use_),
+            ImportOrExternCrate::Import(id) => Some(id.use_),
+            ImportOrExternCrate::ExternCrate(_) => None,
+        }
+    }
+}
+
 /// What brings a value.
 #[derive(Clone, Copy, PartialEq, Eq, Hash, Debug)]
 pub enum ImportOrGlob {
     Glob(GlobId),
     Import(ImportId),
+}
+
+impl ImportOrGlob {
+    /// The named import, if it is one.
+    pub fn into_import(self) -> Option<ImportId>
+        ensures { result ≡ import_of (widened self) }
+    {
+        match self {
+            ImportOrGlob::Import(id) => Some(id),
+            ImportOrGlob::Glob(_) => None,
+        }
+    }
+}
+
+impl From<ImportOrGlob> for ImportOrExternCrate {
+    ghost from_gives = { λ import result. result ≡ widened import };
+
+    fn from(import: ImportOrGlob) -> ImportOrExternCrate {
+        match import {
+            ImportOrGlob::Glob(id) => ImportOrExternCrate::Glob(id),
+            ImportOrGlob::Import(id) => ImportOrExternCrate::Import(id),
+        }
+    }
 }
 
 /// What an import stands for: a further import, or a definition.
@@ -38,4 +108,27 @@ pub enum ImportOrDef {
     Glob(GlobId),
     ExternCrate(ExternCrateId),
     Def(ModuleDefId),
+}
+
+impl From<ImportOrExternCrate> for ImportOrDef {
+    ghost from_gives = { λ import result. result ≡ as_step import };
+
+    fn from(import: ImportOrExternCrate) -> ImportOrDef {
+        match import {
+            ImportOrExternCrate::Glob(id) => ImportOrDef::Glob(id),
+            ImportOrExternCrate::Import(id) => ImportOrDef::Import(id),
+            ImportOrExternCrate::ExternCrate(id) => ImportOrDef::ExternCrate(id),
+        }
+    }
+}
+
+impl From<ImportOrGlob> for ImportOrDef {
+    ghost from_gives = { λ import result. result ≡ as_step (widened import) };
+
+    fn from(import: ImportOrGlob) -> ImportOrDef {
+        match import {
+            ImportOrGlob::Glob(id) => ImportOrDef::Glob(id),
+            ImportOrGlob::Import(id) => ImportOrDef::Import(id),
+        }
+    }
 }

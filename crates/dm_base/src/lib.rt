@@ -4,14 +4,19 @@
 
 pub mod builtin_type;
 pub mod definition;
+pub mod fields_shape;
 pub mod ids;
 pub mod import_source;
 pub mod imports;
 pub mod item_ids;
+pub mod item_in_ns;
+pub mod items;
 pub mod macros;
 pub mod mod_path;
 pub mod module_tree;
 pub mod name;
+pub mod overlay;
 pub mod per_ns;
 pub mod source;
+pub mod symbol;
 pub mod visibility;

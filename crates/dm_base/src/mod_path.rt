@@ -1,5 +1,7 @@
 //! A path: its kind and its segments.
 ghost use Rattle.std.specs.Prelude.{◌≡◌};
+ghost use Rattle.std.specs.Cmp.{partial_equiv_from_equiv};
+ghost use Rattle.dm_base.specs.Path.{same_path, same_path_equivalence};
 
 use crate::ids::Crate;
 use crate::name::Name;
@@ -15,8 +17,13 @@ pub enum PathKind {
     Super(u8),
 }
 
+impl PathKind {
+    /// `self`: no step outwards.
+    pub const SELF: PathKind = PathKind::Super(0);
+}
+
 /// A path, which contracts see as its kind and the list of its segments.
-#[derive(Drop)]
+#[derive(Drop, Debug)]
 pub struct ModPath {
     kind: PathKind,
     segments: Vec<Name>,
@@ -38,15 +45,31 @@ impl ModPath {
         ModPath { kind, segments }
     }
 
+    /// Where the path begins.
     pub fn kind(&self) -> PathKind
         ensures { result ≡ self.now.kind }
     {
         self.kind
     }
 
+    /// The names of the path, from the first on.
     pub fn segments(&self) -> &[Name]
         ensures { result.now ≡ self.now.segments }
     {
         self.segments.as_slice()
     }
+}
+
+impl PartialEq for ModPath {
+    ghost eq = { same_path };
+
+    ghost laws = { partial_equiv_from_equiv same_path_equivalence };
+
+    fn eq(&self, other: &ModPath) -> bool {
+        self.kind == other.kind && self.segments == other.segments
+    }
+}
+
+impl Eq for ModPath {
+    ghost laws = { same_path_equivalence };
 }

@@ -1,10 +1,15 @@
 //! What a name means: one item in each namespace at most.
-ghost use Rattle.std.specs.Prelude.{◌≡◌};
+ghost use Rattle.std.specs.Prelude.{◌≡◌, ⊤, [], ◌∷◌, codes, true, false};
 ghost use Rattle.dm_base.specs.Items.{nothing, over};
+ghost use Rattle.dm_base.specs.ItemList.{items_of};
+ghost use Rattle.dm_base.specs.Reresolved.{is_reresolved};
+ghost use Rattle.dm_base.specs.PerNs.{type_alone, value_alone, macro_alone, type_and_value, of_def, is_empty, is_full, definition, seen_as, availability, AsksItem, AsksInOrder};
 
 use crate::imports::{ImportId, ImportOrExternCrate, ImportOrGlob};
-use crate::item_ids::{MacroId, ModuleDefId};
+use crate::item_ids::{AdtId, MacroId, ModuleDefId};
+use crate::items::IterItems;
 use crate::visibility::Visibility;
+use bitflags::{Flag, Flags};
 
 /// The namespaces, which hold one item each under one name.
 #[derive(Clone, Copy, PartialEq, Eq, Hash, Debug)]
@@ -14,12 +19,70 @@ pub enum Namespace {
     Macros,
 }
 
+/// In which namespaces there is an item, as the bits of a set.
+#[derive(Clone, Copy, PartialEq, Eq, Debug)]
+pub struct NsAvailability(pub u32);
+
+impl NsAvailability {
+    pub const TYPES: NsAvailability = NsAvailability(1);
+
+    pub const VALUES: NsAvailability = NsAvailability(2);
+
+    pub const MACROS: NsAvailability = NsAvailability(4);
+
+    const FLAGS: &'static [Flag<NsAvailability>] = &[
+        Flag {
+            name: "TYPES",
+            value: NsAvailability::TYPES,
+        },
+        Flag {
+            name: "VALUES",
+            value: NsAvailability::VALUES,
+        },
+        Flag {
+            name: "MACROS",
+            value: NsAvailability::MACROS,
+        },
+    ];
+}
+
+impl Flags for NsAvailability {
+    type Bits = u32;
+
+    ghost exact = { ⊤ };
+
+    ghost table = { (codes "TYPES", 1) ∷ (codes "VALUES", 2) ∷ (codes "MACROS", 4) ∷ [] };
+
+    ghost set_of = { λ availability. availability.0 };
+
+    fn flags<'a>() -> &'a [Flag<NsAvailability>] {
+        NsAvailability::FLAGS
+    }
+
+    fn bits(&self) -> u32 {
+        self.0
+    }
+
+    fn from_bits_retain(bits: u32) -> NsAvailability {
+        NsAvailability(bits)
+    }
+}
+
 /// A definition, who sees it, and the import that brought it.
 #[derive(Clone, Copy, PartialEq, Eq, Hash, Debug)]
 pub struct Item<Def, Import = ImportId> {
     pub def: Def,
     pub vis: Visibility,
     pub import: Option<Import>,
+}
+
+impl<Def: PartialEq, Import: Copy + PartialEq> Item<Def, Import> {
+    /// Whether `import` is an import, the one that brought this item, and stands for another definition now.
+    pub fn is_reresolved_by(&self, def: &Def, import: Option<Import>) -> bool
+        ensures { result ≡ is_reresolved Import.eq Def.eq self.now def.now import }
+    {
+        import.is_some() && self.import == import && self.def != *def
+    }
 }
 
 pub type TypesItem = Item<ModuleDefId, ImportOrExternCrate>;
@@ -48,6 +111,181 @@ impl PerNs {
         }
     }
 
+    /// A value alone.
+    pub fn values(def: ModuleDefId, vis: Visibility, import: Option<ImportOrGlob>) -> PerNs
+        ensures { result ≡ value_alone def vis import }
+    {
+        PerNs {
+            values: Some(Item { def, vis, import }),
+            ..PerNs::none()
+        }
+    }
+
+    /// A type alone.
+    pub fn types(def: ModuleDefId, vis: Visibility, import: Option<ImportOrExternCrate>) -> PerNs
+        ensures { result ≡ type_alone def vis import }
+    {
+        PerNs {
+            types: Some(Item { def, vis, import }),
+            ..PerNs::none()
+        }
+    }
+
+    /// A type and a value, both seen alike. An extern crate brings the type alone: the value is then without import.
+    pub fn both(
+        types: ModuleDefId,
+        values: ModuleDefId,
+        vis: Visibility,
+        import: Option<ImportOrExternCrate>,
+    ) -> PerNs
+        ensures { result ≡ type_and_value types vis values vis import }
+    {
+        PerNs {
+            values: Some(Item {
+                def: values,
+                vis,
+                import: import.and_then(ImportOrExternCrate::import_or_glob),
+            }),
+            ..PerNs::types(types, vis, import)
+        }
+    }
+
+    /// A macro alone.
+    pub fn macros(def: MacroId, vis: Visibility, import: Option<ImportOrExternCrate>) -> PerNs
+        ensures { result ≡ macro_alone def vis import }
+    {
+        PerNs {
+            macros: Some(Item { def, vis, import }),
+            ..PerNs::none()
+        }
+    }
+
+    /// The items of a definition: one in the namespace that it belongs to, and for a struct or a variant whose constructor
+    /// has a visibility one in types and one in values.
+    pub fn from_def(
+        def: ModuleDefId,
+        vis: Visibility,
+        value_ns_ctor_vis: Option<Visibility>,
+        import: Option<ImportOrExternCrate>,
+    ) -> PerNs
+        ensures { result ≡ of_def def vis value_ns_ctor_vis import }
+    {
+        let value_import = import.and_then(ImportOrExternCrate::import_or_glob);
+        match def {
+            ModuleDefId::AdtId(AdtId::StructId(_)) | ModuleDefId::EnumVariantId(_) => {
+                let types = PerNs::types(def, vis, import);
+                match value_ns_ctor_vis {
+                    Some(ctor_vis) => types.or(PerNs::values(def, ctor_vis, value_import)),
+                    None => types,
+                }
+            }
+            ModuleDefId::FunctionId(_) | ModuleDefId::ConstId(_) | ModuleDefId::StaticId(_) => {
+                PerNs::values(def, vis, value_import)
+            }
+            ModuleDefId::ModuleId(_)
+            | ModuleDefId::AdtId(AdtId::UnionId(_) | AdtId::EnumId(_))
+            | ModuleDefId::TraitId(_)
+            | ModuleDefId::TypeAliasId(_)
+            | ModuleDefId::BuiltinType(_) => PerNs::types(def, vis, import),
+            ModuleDefId::MacroId(id) => PerNs::macros(id, vis, import),
+        }
+    }
+
+    /// In which namespaces there is an item.
+    pub fn availability(&self) -> NsAvailability
+        ensures { result.0 ≡ availability self.now }
+    {
+        let mut result = NsAvailability::empty();
+        result.set(NsAvailability::TYPES, self.types.is_some());
+        result.set(NsAvailability::VALUES, self.values.is_some());
+        result.set(NsAvailability::MACROS, self.macros.is_some());
+        result
+    }
+
+    /// Whether there is an item in no namespace.
+    pub fn is_none(&self) -> bool
+        ensures { result ≡ is_empty self.now }
+    {
+        self.types.is_none() && self.values.is_none() && self.macros.is_none()
+    }
+
+    /// Whether there is an item in every namespace.
+    pub fn is_full(&self) -> bool
+        ensures { result ≡ is_full self.now }
+    {
+        self.types.is_some() && self.values.is_some() && self.macros.is_some()
+    }
+
+    /// The type's definition.
+    pub fn take_types(self) -> Option<ModuleDefId>
+        ensures { result ≡ definition self.types }
+    {
+        self.types.map(|item| item.def)
+    }
+
+    /// The type, with who sees it and its import.
+    pub fn take_types_full(self) -> Option<TypesItem>
+        ensures { result ≡ self.types }
+    {
+        self.types
+    }
+
+    /// The value's definition.
+    pub fn take_values(self) -> Option<ModuleDefId>
+        ensures { result ≡ definition self.values }
+    {
+        self.values.map(|item| item.def)
+    }
+
+    /// The value, with who sees it and its import.
+    pub fn take_values_full(self) -> Option<ValuesItem>
+        ensures { result ≡ self.values }
+    {
+        self.values
+    }
+
+    /// The macro's definition.
+    pub fn take_macros(self) -> Option<MacroId>
+        ensures { result ≡ definition self.macros }
+    {
+        self.macros.map(|item| item.def)
+    }
+
+    /// The macro, with who sees it and its import.
+    pub fn take_macros_full(self) -> Option<MacrosItem>
+        ensures { result ≡ self.macros }
+    {
+        self.macros
+    }
+
+    /// The items whose visibility passes.
+    ///
+    /// `f` is asked about the type, the value and the macro in that order, once about each that is there.
+    pub fn filter_visibility<F: FnMut(Visibility) -> bool + Drop>(self, mut f: F) -> PerNs
+        requires { F.IsAlwaysCallable f }
+        ensures { AsksInOrder F.step self f result }
+    {
+        let types = kept_if(self.types, &mut f);
+        let values = kept_if(self.values, &mut f);
+        let macros = kept_if(self.macros, &mut f);
+        PerNs {
+            types,
+            values,
+            macros,
+        }
+    }
+
+    /// The same items, each seen by `vis`.
+    pub fn with_visibility(self, vis: Visibility) -> PerNs
+        ensures { result ≡ seen_as vis self }
+    {
+        PerNs {
+            types: self.types.map(|item| Item { vis, ..item }),
+            values: self.values.map(|item| Item { vis, ..item }),
+            macros: self.macros.map(|item| Item { vis, ..item }),
+        }
+    }
+
     /// In each namespace this item, else the other's.
     pub fn or(self, other: PerNs) -> PerNs
         ensures { result ≡ over self other }
@@ -57,5 +295,49 @@ impl PerNs {
             values: self.values.or(other.values),
             macros: self.macros.or(other.macros),
         }
+    }
+
+    /// In each namespace this item, else that of the answer of `f`.
+    ///
+    /// `f` is asked once where an item is missing, and never where none is.
+    pub fn or_else<F: FnOnce() -> PerNs>(self, f: F) -> PerNs
+        requires { is_full self ≡ false → F.pre f }
+        ensures full { is_full self ≡ true → result ≡ self }
+        ensures asked { is_full self ≡ false → ((other : PerNs) × F.post f other × (result ≡ over self other)) }
+    {
+        if self.is_full() {
+            return self;
+        }
+        self.or(f())
+    }
+
+    /// The items in a row, types before values before macros, each with the import that brought it.
+    pub fn iter_items(self) -> IterItems
+        ensures { result ≡ items_of self }
+    {
+        IterItems::new(self)
+    }
+}
+
+impl Default for PerNs {
+    ghost is_default = { λ n. n ≡ nothing };
+
+    fn default() -> PerNs {
+        PerNs::none()
+    }
+}
+
+/// The item, if there is one and its visibility passes.
+fn kept_if<D: Copy, I: Copy, F: FnMut(Visibility) -> bool>(
+    item: Option<Item<D, I>>,
+    f: &mut F,
+) -> Option<Item<D, I>>
+    requires { F.IsAlwaysCallable f.old }
+    ensures asks { AsksItem F.step item f.old result f.new }
+    ensures callable { F.IsAlwaysCallable f.new }
+{
+    match item {
+        None => None,
+        Some(item) => if f(item.vis) { Some(item) } else { None },
     }
 }

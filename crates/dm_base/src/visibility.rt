@@ -3,9 +3,10 @@ ghost use Rattle.std.specs.Prelude.{◌≡◌, Some};
 ghost use Rattle.dm_base.specs.declared.visibility.Visibility.TheVariants.{Module};
 ghost use Rattle.dm_base.specs.declared.visibility.VisibilityExplicitness.TheVariants as explicitness;
 ghost use Rattle.dm_base.specs.Tree.{Tree, IsKnown, is_lifted, lift, sees};
-ghost use Rattle.dm_base.specs.Visibility.{NamesKnown};
+ghost use Rattle.dm_base.specs.Visibility.{NamesKnown, is_public};
 
 use crate::ids::{Crate, ModuleId};
+use crate::mod_path::ModPath;
 use crate::module_tree::ModuleTree;
 
 /// Whether a visibility was written, or follows from where the item stands.
@@ -13,6 +14,17 @@ use crate::module_tree::ModuleTree;
 pub enum VisibilityExplicitness {
     Explicit,
     Implicit,
+}
+
+/// A visibility as it is written, before its path is resolved.
+#[derive(PartialEq, Eq, Drop, Debug)]
+pub enum RawVisibility {
+    /// `pub(in path)` and the like.
+    Module(ModPath, VisibilityExplicitness),
+    /// `pub(self)`, or none written.
+    PubSelf(VisibilityExplicitness),
+    PubCrate,
+    Public,
 }
 
 /// Who sees an item: a module and what lies in it, a crate, or everyone.
@@ -24,6 +36,20 @@ pub enum Visibility {
 }
 
 impl Visibility {
+    /// Whether everyone sees the item.
+    pub fn is_public(&self) -> bool
+        ensures { result ≡ is_public self.now }
+    {
+        matches!(self, Visibility::Public)
+    }
+
+    /// Whether modules of other crates than its own see the item.
+    pub fn is_visible_from_other_crate(self) -> bool
+        ensures { result ≡ is_public self }
+    {
+        self.is_public()
+    }
+
     /// Whether the module `from` sees an item of this visibility (docs/RULES.md, "Who sees what").
     ///
     /// Takes no memory, and climbs at most once along the chain of `from`.

@@ -1,4 +1,4 @@
-use Rattle.std.proofs.Common.{◌≡◌, Bool, cond, Some, List, Option, find, unwrap_or, sym, ap, ◌∙◌}
+use Rattle.std.proofs.Common.{◌≡◌, Bool, cond, Some, List, find, unwrap_or, sym, ap, ◌∙◌}
 use Rattle.dm_base.specs.declared.ids.ModuleId.{ModuleId}
 use Rattle.dm_base.specs.Tree.{outward, outside, is_lifted}
 use Rattle.dm_base.proofs.TreeLemmas.{outward-outside}

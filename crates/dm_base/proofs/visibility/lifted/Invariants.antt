@@ -1,6 +1,5 @@
-use Rattle.std.proofs.Common.{◌≡◌, find, unwrap_or, Option}
-use Rattle.dm_base.specs.declared.ids.BlockId.{BlockId}
-use Rattle.dm_base.specs.Tree.{IsKnown, outward, is_lifted, lift, block_of, crate_of}
+use Rattle.std.proofs.Common.{◌≡◌, find, unwrap_or}
+use Rattle.dm_base.specs.Tree.{IsKnown, outward, is_lifted, lift}
 use Rattle.dm_base.proofs.visibility.lifted.Given as goal
 
 abbrev pub invariant-loop-from : goal.invariant-loop-from

@@ -1,0 +1,88 @@
+-- What a name means in each namespace: how such a set of items is made, read and asked about.
+use Rattle.std.specs.Prelude.{◌≡◌, ℕ, ◌+◌, Bool, ◌&&◌, Option, Some, None, is_some, is_none, option_and_then, option_map, if◌then◌else◌}
+use Rattle.dm_base.specs.declared.per_ns.Item.{Item}
+use Rattle.dm_base.specs.declared.per_ns.PerNs.{PerNs}
+use Rattle.dm_base.specs.declared.visibility.Visibility.{Visibility}
+use Rattle.dm_base.specs.declared.item_ids.AdtId.{AdtId}
+use Rattle.dm_base.specs.declared.item_ids.AdtId.TheVariants as adts
+use Rattle.dm_base.specs.declared.item_ids.ModuleDefId.{ModuleDefId}
+use Rattle.dm_base.specs.declared.item_ids.ModuleDefId.TheVariants as defs
+use Rattle.dm_base.specs.declared.item_ids.MacroId.{MacroId}
+use Rattle.dm_base.specs.declared.imports.ImportOrExternCrate.{ImportOrExternCrate}
+use Rattle.dm_base.specs.declared.imports.ImportOrGlob.{ImportOrGlob}
+use Rattle.dm_base.specs.Imports.{narrowed}
+
+abbrev pub type_alone : ModuleDefId → Visibility → Option ImportOrExternCrate → PerNs
+type_alone d v i = record { types = Some (record { def = d; vis = v; import = i }); values = None; macros = None }
+
+abbrev pub value_alone : ModuleDefId → Visibility → Option ImportOrGlob → PerNs
+value_alone d v i = record { types = None; values = Some (record { def = d; vis = v; import = i }); macros = None }
+
+abbrev pub macro_alone : MacroId → Visibility → Option ImportOrExternCrate → PerNs
+macro_alone d v i = record { types = None; values = None; macros = Some (record { def = d; vis = v; import = i }) }
+
+-- a value's import is the import, narrowed
+abbrev pub value_import : Option ImportOrExternCrate → Option ImportOrGlob
+value_import i = option_and_then narrowed i
+
+-- a type and a value, of one import
+abbrev pub type_and_value : ModuleDefId → Visibility → ModuleDefId → Visibility → Option ImportOrExternCrate → PerNs
+type_and_value d v e w i = record {
+  types = Some (record { def = d; vis = v; import = i });
+  values = Some (record { def = e; vis = w; import = value_import i });
+  macros = None;
+}
+
+-- a definition that is a type, and a value too where its constructor has a visibility
+abbrev pub constructed : ModuleDefId → Visibility → Option Visibility → Option ImportOrExternCrate → PerNs
+constructed d v None i = type_alone d v i
+constructed d v (Some w) i = type_and_value d v d w i
+
+abbrev pub of_adt : AdtId → ModuleDefId → Visibility → Option Visibility → Option ImportOrExternCrate → PerNs
+of_adt (adts.StructId s) d v c i = constructed d v c i
+of_adt (adts.UnionId u) d v c i = type_alone d v i
+of_adt (adts.EnumId e) d v c i = type_alone d v i
+
+-- the namespaces of a definition, seen by v, whose constructor is seen by c if it has one
+abbrev pub of_def : ModuleDefId → Visibility → Option Visibility → Option ImportOrExternCrate → PerNs
+of_def (defs.ModuleId m) v c i = type_alone (defs.ModuleId m) v i
+of_def (defs.FunctionId f) v c i = value_alone (defs.FunctionId f) v (value_import i)
+of_def (defs.AdtId a) v c i = of_adt a (defs.AdtId a) v c i
+of_def (defs.EnumVariantId e) v c i = constructed (defs.EnumVariantId e) v c i
+of_def (defs.ConstId k) v c i = value_alone (defs.ConstId k) v (value_import i)
+of_def (defs.StaticId s) v c i = value_alone (defs.StaticId s) v (value_import i)
+of_def (defs.TraitId t) v c i = type_alone (defs.TraitId t) v i
+of_def (defs.TypeAliasId t) v c i = type_alone (defs.TypeAliasId t) v i
+of_def (defs.BuiltinType b) v c i = type_alone (defs.BuiltinType b) v i
+of_def (defs.MacroId m) v c i = macro_alone m v i
+
+abbrev pub is_empty : PerNs → Bool
+is_empty n = is_none n.types && is_none n.values && is_none n.macros
+
+abbrev pub is_full : PerNs → Bool
+is_full n = is_some n.types && is_some n.values && is_some n.macros
+
+abbrev pub definition : {D I : Type 0} → Option (Item D I) → Option D
+definition o = option_map (λ i. i.def) o
+
+abbrev pub seen_as_item : {D I : Type 0} → Visibility → Option (Item D I) → Option (Item D I)
+seen_as_item v None = None
+seen_as_item v (Some i) = Some (record i { vis = v })
+
+-- the same items, seen by v
+abbrev pub seen_as : Visibility → PerNs → PerNs
+seen_as v n = record { types = seen_as_item v n.types; values = seen_as_item v n.values; macros = seen_as_item v n.macros }
+
+-- 1 where there is a type, 2 where there is a value, 4 where there is a macro, and their sums
+abbrev pub availability : PerNs → ℕ
+availability n = (if is_some n.types then 1 else 0) + (if is_some n.values then 2 else 0) + (if is_some n.macros then 4 else 0)
+
+-- one item is asked about, if there is one: `step` is one call of the asker, from its state f to g
+abbrev pub AsksItem : {F D I : Type 0} → (F → Visibility → Bool → F → Type 0) → Option (Item D I) → F → Option (Item D I) → F → Type 0
+AsksItem step None f r g = (r ≡ None) × (g ≡ f)
+AsksItem step (Some x) f r g = (b : Bool) × step f x.vis b g × (r ≡ (if b then Some x else None))
+
+-- the type, the value and the macro are asked about in that order, and those stay that pass
+abbrev pub AsksInOrder : {F : Type 0} → (F → Visibility → Bool → F → Type 0) → PerNs → F → PerNs → Type 0
+AsksInOrder {F} step n f r =
+    (g : F) × (h : F) × (k : F) × AsksItem step n.types f r.types g × AsksItem step n.values g r.values h × AsksItem step n.macros h r.macros k
