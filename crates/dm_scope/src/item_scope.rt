@@ -6,6 +6,7 @@ ghost use Rattle.dm_scope.specs.Scope.{no_scope, bound_in};
 ghost use Rattle.dm_scope.specs.Shows.{Shows};
 
 mod lists;
+mod lookups;
 mod mutators;
 mod push;
 
