@@ -1,8 +1,12 @@
 //! The maps of crates and blocks, and checked worlds of them.
 #![tactic(auto)]
 
+mod add_items;
+mod add_modules;
+pub mod build_fault;
 pub mod builder;
 pub mod def_map;
+mod growth;
 pub mod held;
 pub mod local_def_map;
 pub mod modes;
@@ -10,6 +14,7 @@ pub mod module_data;
 pub mod module_origin;
 pub mod modules_map;
 pub mod place;
+mod scopes;
 mod tables;
 pub mod variants;
 pub mod world;

@@ -58,7 +58,7 @@ impl WorldBuilder {
     {
         match self.numbered_map(place.map) {
             None => None,
-            Some(map) => map.nth(place.index as usize),
+            Some(map) => map.nth(place.index),
         }
     }
 
