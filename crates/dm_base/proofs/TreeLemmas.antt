@@ -1,5 +1,5 @@
 -- Chains of modules, step by step.
-use Rattle.std.proofs.Common.{◌≡◌, ◌≤◌, ◌<◌, ℕ, zero, suc, [], ◌∷◌, Option, None, Some, refl, ap, ◌∙◌, arith}
+use Rattle.std.proofs.Common.{◌≡◌, ◌≤◌, ◌<◌, ℕ, zero, suc, [], ◌∷◌, Option, None, Some, refl, sym, ap, ◌∙◌, arith}
 use Rattle.std.specs.Option.{option_map_or}
 use Rattle.dm_base.specs.declared.ids.ModuleId.{ModuleId}
 use Rattle.dm_base.specs.Tree.{Tree, IsTree, IsKnown, containing, outside, chain_within, chain, outward_within, outward}
@@ -37,6 +37,11 @@ module _ (t : Tree) (tree : IsTree t) where
   pub chain-alone : (m : ModuleId) → IsKnown t m → containing t m ≡ None → chain t m ≡ m ∷ []
   chain-alone m known e =
       chain_within-enough m.0 (suc m.0) m known (omega arith) (omega arith) ∙ ap (λ o. m ∷ option_map_or (chain_within m.0 t) o []) e
+
+  -- both in one
+  pub chain-step : (m : ModuleId) (o : Option ModuleId) → IsKnown t m → o ≡ containing t m → chain t m ≡ m ∷ option_map_or (chain t) o []
+  chain-step m None known e = chain-alone m known (sym e)
+  chain-step m (Some c) known e = chain-containing m c known (sym e)
 
   -- the same of lifting
   outward_within-enough : (n k : ℕ) (m : ModuleId) → IsKnown t m → m.0 ≤ n → m.0 ≤ k → outward_within n t m ≡ outward_within k t m

@@ -1,7 +1,8 @@
 //! Trees of modules, whoever keeps them.
-ghost use Rattle.std.specs.Prelude.{◌≡◌, ◌↔◌, IsTrue, Bool, true};
+ghost use Rattle.std.specs.Prelude.{◌≡◌, ◌↔◌, ◌<◌, IsTrue, Bool, true, false, ◌∷◌, []};
+ghost use Rattle.std.specs.Option.{option_map_or, ForSome, ForNone};
 ghost use Rattle.dm_base.specs.declared.ids.ModuleId.{ModuleId};
-ghost use Rattle.dm_base.specs.Tree.{Tree, IsKnown, IsTree, crate_of, block_of, containing, outside, chain, is_among};
+ghost use Rattle.dm_base.specs.Tree.{Tree, IsKnown, IsTree, crate_of, block_of, containing, outside, chain, is_among, in_block_map};
 
 use crate::ids::{BlockId, Crate, ModuleId};
 
@@ -38,6 +39,22 @@ pub trait ModuleTree {
         requires { IsKnown (tree self.now) m }
         ensures value { result ≡ outside (tree self.now) m }
         ensures lawful { IsTree (tree self.now) };
+
+    /// The containing module, with what a climb along the chain needs of it.
+    fn climb(&self, m: ModuleId) -> Option<ModuleId>
+        requires { IsKnown (tree self.now) m }
+        ensures value { result ≡ containing (tree self.now) m }
+
+        // The chain of a module is the module, then the chain of its containing module.
+        ensures chain { chain (tree self.now) m ≡ m ∷ option_map_or (chain (tree self.now)) result [] }
+        ensures known { ForSome result (IsKnown (tree self.now)) }
+        ensures smaller { ForSome result (λ c. c.0 < m.0) }
+
+        // What nothing contains lies in no block.
+        ensures outmost { ForNone result (in_block_map (tree self.now) m ≡ false) }
+    {
+        self.containing(m)
+    }
 
     /// Whether `a` is `m` or contains it, however far out.
     fn contains(&self, a: ModuleId, m: ModuleId) -> bool

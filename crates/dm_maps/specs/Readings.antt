@@ -85,13 +85,28 @@ variants_of w e = option_map_or (λ vs. vs) (lookup (same_enum e) w.enums) []
 abbrev pub macro_uses_of : World → MapId → List (Name × (MacroId × Option ExternCrateId))
 macro_uses_of w id = option_map_or (λ m. m.macro_use) (numbered_map w id) []
 
+-- the root of a crate, and of a block's map
+abbrev pub root_of : World → Crate → Option ModuleId
+root_of w k = option_map (λ m. m.root) (crate_map w k)
+
+abbrev pub block_root_of : World → BlockId → Option ModuleId
+block_root_of w b = option_map (λ m. m.root) (slice_get w.block_maps b.0)
+
+abbrev pub is_2015_in : World → Crate → Bool
+is_2015_in w k = option_map_or (λ m. is_edition_2015 m.edition) (crate_map w k) false
+
+-- the prelude module of a map
+abbrev pub prelude_in : World → MapId → Option ModuleId
+prelude_in w id = option_and_then (λ m. option_map (λ p. p.0) m.prelude) (numbered_map w id)
+
 unfoldable pub setting_of : World → Setting
+unfolding tree_of
 setting_of w = record {
   tree = tree_of w;
-  root_of = λ k. option_map (λ m. m.root) (crate_map w k);
-  is_2015 = λ k. option_map_or (λ m. is_edition_2015 m.edition) (crate_map w k) false;
-  block_root = λ b. option_map (λ m. m.root) (slice_get w.block_maps b.0);
-  prelude = λ id. option_and_then (λ m. option_map (λ p. p.0) m.prelude) (numbered_map w id);
+  root_of = root_of w;
+  is_2015 = is_2015_in w;
+  block_root = block_root_of w;
+  prelude = prelude_in w;
   styles = styles_in w;
 }
 

@@ -13,6 +13,8 @@ pub mod modes;
 pub mod module_data;
 pub mod module_origin;
 pub mod modules_map;
+mod path_look_ups;
+mod path_tables;
 pub mod place;
 mod scopes;
 mod tables;

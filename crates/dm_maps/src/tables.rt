@@ -5,13 +5,15 @@ ghost use Rattle.dm_base.specs.Names.{find_name};
 ghost use Rattle.dm_base.specs.Tree.{IsTree, IsKnown};
 ghost use Rattle.dm_scope.specs.Scope.{bound_in};
 ghost use Rattle.dm_maps.specs.World.{place_of, numbered_map, map_of, module_in, module_of, scope_of};
+ghost use Rattle.dm_maps.specs.Readings.{variants_of};
 ghost use Rattle.dm_maps.specs.Trees.{IsWorld, map_id_in, parent_in, container_in, containers_of};
 
 use crate::builder::WorldBuilder;
 use crate::def_map::DefMap;
 use crate::module_data::ModuleData;
 use crate::place::Place;
-use dm_base::ids::{BlockId, Crate, MapId, ModuleId};
+use dm_base::fields_shape::FieldsShape;
+use dm_base::ids::{BlockId, Crate, EnumId, EnumVariantId, MapId, ModuleId};
 use dm_base::name::Name;
 use dm_base::per_ns::PerNs;
 
@@ -112,6 +114,16 @@ impl WorldBuilder {
         match self.module_of(m) {
             None => PerNs::none(),
             Some(data) => data.scope().get(name),
+        }
+    }
+
+    /// The variant of an enum under a name, with its shape.
+    pub(crate) fn variant_of(&self, e: EnumId, name: &Name) -> Option<(EnumVariantId, FieldsShape)>
+        ensures { result ≡ find_name name.now (variants_of self.now e) }
+    {
+        match self.enums.get(&e) {
+            None => None,
+            Some(variants) => variants.get(name),
         }
     }
 }

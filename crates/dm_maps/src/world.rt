@@ -16,7 +16,7 @@ use std::marker::Model;
 /// A checked world: every id that one of its tables holds is one of its own, with its kind.
 #[derive(Drop)]
 pub struct World {
-    tables: WorldBuilder,
+    pub(crate) tables: WorldBuilder,
 }
 
 impl Model for World {

@@ -1,10 +1,159 @@
--- The bindings of one namespace.
-use Rattle.std.specs.Prelude.{List}
-use Rattle.dm_base.specs.Names.{Name}
+-- The bindings of one namespace, and what a push does to them.
+use Rattle.std.specs.Prelude.{◌≡◌, ◌&&◌, ◌||◌, Bool, true, false, not, List, Option, None, Some, is_some, if◌then◌else◌}
+use Rattle.std.specs.Option.{option_and_then}
+use Rattle.std.specs.Map.{set_value}
+use Rattle.indexmap.specs.IndexMap.{insert_entry}
+use Rattle.dm_base.specs.Names.{Name, same_name, find_name}
+use Rattle.dm_base.specs.declared.ids.ModuleId.{ModuleId}
 use Rattle.dm_base.specs.declared.per_ns.Item.{Item}
 use Rattle.dm_base.specs.declared.imports.ImportOrDef.{ImportOrDef}
+use Rattle.dm_base.specs.declared.imports.ImportOrDef.TheVariants as target
+use Rattle.dm_base.specs.declared.imports.ImportOrExternCrate.{ImportOrExternCrate}
+use Rattle.dm_base.specs.declared.imports.ImportOrExternCrate.TheVariants as wide
+use Rattle.dm_base.specs.declared.item_ids.ModuleDefId.{ModuleDefId}
+use Rattle.dm_scope.specs.Entries.{add_entry, is_new, without_new}
+use Rattle.dm_scope.specs.Flags.{Flags, has_flag, add_flag, clear_flag, flags_finished}
 
 -- one namespace of a scope: its bindings in order of first binding, and what each import that brought one stands for
 pub record Bound (D I : Type 0) : Type 0 where
   pub items : List (Name × Item D I)
   pub records : List (I × ImportOrDef)
+
+-- How a namespace compares and reads its imports and definitions.
+pub record Reading (D I : Type 0) : Type 0 where
+  pub same_import : I → I → Bool
+  pub same_def : D → D → Bool
+  pub globs : I → Bool
+  pub narrowed : ImportOrExternCrate → Option I
+  pub widened : I → ImportOrExternCrate
+  pub widened_def : D → ModuleDefId
+
+abbrev pub reading : {D I : Type 0} → (I → I → Bool) → (D → D → Bool) → (I → Bool) → (ImportOrExternCrate → Option I) → (I → ImportOrExternCrate) → (D → ModuleDefId) → Reading D I
+reading same_import same_def globs narrowed widened widened_def =
+    record { same_import = same_import; same_def = same_def; globs = globs; narrowed = narrowed; widened = widened; widened_def = widened_def }
+
+-- an import as what another import stands for
+abbrev pub target_of : ImportOrExternCrate → ImportOrDef
+target_of (wide.Glob i) = target.Glob i
+target_of (wide.Import i) = target.Import i
+target_of (wide.ExternCrate k) = target.ExternCrate k
+
+abbrev pub is_glob_by : {I : Type 0} → (I → Bool) → Option I → Bool
+is_glob_by globs None = false
+is_glob_by globs (Some i) = globs i
+
+module _ {D I : Type 0} (r : Reading D I) where
+  -- the import of a push, as the namespace stores and records it
+  abbrev pub import_of : Option ImportOrExternCrate → Option I
+  import_of by = option_and_then r.narrowed by
+
+  abbrev pub is_glob : Option I → Bool
+  is_glob import = is_glob_by r.globs import
+
+  -- both are there, and they are one import
+  abbrev pub is_same : Option I → Option I → Bool
+  is_same None other = false
+  is_same (Some i) None = false
+  is_same (Some i) (Some j) = r.same_import i j
+
+  -- Whether a push is effective, from what is bound under its name and whether the glob flag stands. A vacant name is
+  -- bound. Where the name is bound a glob push does nothing. Any other push replaces the binding if the glob flag stood,
+  -- or if its import is the stored one and its definition is another.
+  abbrev pub writes : Option (Item D I) → Bool → Item D I → Option I → Bool
+  writes None flag item import = true
+  writes (Some old) flag item import =
+      not (is_glob import) && (flag || (is_same import old.import && not (r.same_def old.def item.def)))
+
+  -- what the record of an import becomes: the import that the pushed item carried, else its definition
+  abbrev pub recorded_from : Option I → D → ImportOrDef
+  recorded_from None def = target.Def (r.widened_def def)
+  recorded_from (Some i) def = target_of (r.widened i)
+
+  abbrev pub recorded : Item D I → ImportOrDef
+  recorded item = recorded_from item.import item.def
+
+  -- the item that is stored for a pushed one: its definition and visibility, with the import of the push
+  abbrev pub stored : Item D I → Option I → Item D I
+  stored item import = record item { import = import }
+
+  -- the records after an import is recorded, if there is one
+  abbrev pub with_record : List (I × ImportOrDef) → Option I → ImportOrDef → List (I × ImportOrDef)
+  with_record records None value = records
+  with_record records (Some i) value = insert_entry r.same_import records i value
+
+  -- the namespace after an effective push: a name that is bound keeps its place, a new one goes last, and the import of
+  -- the push is recorded
+  abbrev pub bound : Bound D I → Name → Item D I → Option I → Bound D I
+  bound s name item import = record {
+    items = insert_entry same_name s.items name (stored item import);
+    records = with_record s.records import (recorded item);
+  }
+
+  -- the namespace after a push
+  abbrev pub pushed : Bound D I → Bool → Name → Item D I → Option I → Bound D I
+  pushed s flag name item import = if writes (find_name name s.items) flag item import then bound s name item import else s
+
+  -- the flags after an effective push: a glob's is set, and any other push's is cleared
+  abbrev pub flagged : Flags → ModuleId → Name → Option I → Flags
+  flagged fs m name import = if is_glob import then add_flag fs m name else clear_flag fs m name
+
+  -- One push into a namespace, of an item that the push may have there: whether it is effective, the bindings that it
+  -- leaves, and the flags.
+  abbrev pub is_effective_at : Bound D I → Flags → ModuleId → Name → Option (Item D I) → Option ImportOrExternCrate → Bool
+  is_effective_at s fs m name None by = false
+  is_effective_at s fs m name (Some item) by = writes (find_name name s.items) (has_flag fs m name) item (import_of by)
+
+  abbrev pub bound_after : Bound D I → Flags → ModuleId → Name → Option (Item D I) → Option ImportOrExternCrate → Bound D I
+  bound_after s fs m name None by = s
+  bound_after s fs m name (Some item) by = pushed s (has_flag fs m name) name item (import_of by)
+
+  abbrev pub flags_after : Bound D I → Flags → ModuleId → Name → Option (Item D I) → Option ImportOrExternCrate → Flags
+  flags_after s fs m name item by = if is_effective_at s fs m name item by then flagged fs m name (import_of by) else fs
+
+-- The steps of a push, of which the first can be refused.
+module _ {I : Type 0} (eq : I → I → Bool) where
+  -- the records with the import as a key, if there is one
+  abbrev pub add_import : List (I × ImportOrDef) → Option I → ImportOrDef → List (I × ImportOrDef)
+  add_import records None value = records
+  add_import records (Some i) value = add_entry eq records i value
+
+  -- whether the import is not recorded yet
+  abbrev pub is_new_import : List (I × ImportOrDef) → Option I → Bool
+  is_new_import records None = false
+  is_new_import records (Some i) = is_new eq records i
+
+  -- the records with the value at the import, where it is recorded
+  abbrev pub set_import : List (I × ImportOrDef) → Option I → ImportOrDef → List (I × ImportOrDef)
+  set_import records None value = records
+  set_import records (Some i) value = set_value (eq i) records value
+
+module _ {D I : Type 0} (r : Reading D I) where
+  -- the namespace with the new keys of a push that writes put last
+  abbrev pub with_keys : Bound D I → Name → Item D I → Option I → Bound D I
+  with_keys s name item import = record {
+    items = add_entry same_name s.items name (stored r item import);
+    records = add_import r.same_import s.records import (recorded r item);
+  }
+
+  abbrev pub is_new_record : List (I × ImportOrDef) → Option I → Bool
+  is_new_record = is_new_import r.same_import
+
+  -- the namespace with the values of a push at the keys that stand
+  abbrev pub written : Bound D I → Name → Item D I → Option I → Bound D I
+  written s name item import = record {
+    items = set_value (same_name name) s.items (stored r item import);
+    records = set_import r.same_import s.records import (recorded r item);
+  }
+
+  -- the namespace after the second step of a push
+  abbrev pub finished : Bound D I → Bool → Name → Option (Item D I) → Option ImportOrExternCrate → Bound D I
+  finished s writes name None by = s
+  finished s writes name (Some item) by = if writes then written s name item (import_of r by) else s
+
+  -- and its flags
+  abbrev pub flags_done : Flags → Bool → ModuleId → Name → Option ImportOrExternCrate → Flags
+  flags_done fs writes m name by = if writes then flags_finished fs m name (is_glob r (import_of r by)) else fs
+
+-- the namespace with its last keys taken off, where they are new
+abbrev pub without_keys : {D I : Type 0} → Bound D I → Bool → Bool → Bound D I
+without_keys s new_item new_record = record { items = without_new new_item s.items; records = without_new new_record s.records }

@@ -1,2 +1,10 @@
 pub mod Bindings
+pub mod Entries
+pub mod Flags
+pub mod Iterators
+pub mod Push
+pub mod Pushes
+pub mod Rows
+pub mod Sameness
 pub mod Scope
+pub mod Shows

@@ -1,15 +1,30 @@
 //! The bindings of one namespace.
-ghost use Rattle.std.specs.Prelude.{◌≡◌, []};
-ghost use Rattle.std.specs.Option.{option_copied};
-ghost use Rattle.dm_base.specs.Names.{find_name};
+ghost use Rattle.std.specs.Prelude.{◌≡◌, List, [], ◌∷◌, ◌++◌, length, true, false, Some, OnErr, OnOk, IfOk};
+ghost use Rattle.std.specs.Option.{option_copied, option_and_then};
+ghost use Rattle.std.specs.Iterator.{at_most};
+ghost use Rattle.std.specs.Map.{lookup};
+ghost use Rattle.std.specs.Map.Iter.{TakesFirst, ShowsInOrder};
+ghost use Rattle.dm_base.specs.declared.per_ns.Item.{Item};
+ghost use Rattle.dm_scope.specs.Iterators.{deref_name};
+ghost use Rattle.dm_base.specs.declared.ids.ModuleId.{ModuleId};
+ghost use Rattle.dm_base.specs.Names.{Name, same_name, find_name};
+ghost use Rattle.dm_base.specs.Tree.{same_module};
+ghost use Rattle.dm_scope.specs.Pushes.{Push, ShowsIn, is_effective};
+ghost use Rattle.dm_scope.specs.Entries.{is_new};
+ghost use Rattle.dm_scope.specs.Flags.{has_flag, without_flag};
+ghost use Rattle.dm_scope.specs.Bindings.{reading, import_of, is_glob_by, writes, stored, recorded, target_of, bound_after, flags_after, is_effective_at, with_keys, without_keys, is_new_record, written, is_new_import, add_import, set_import, finished, flags_done};
 
+use crate::glob_imports::GlobFlags;
+use crate::keys::{add_key, add_name, take_off, write_at};
+use crate::steps::{NewFlag, NewKeys};
 use dm_base::definition::Definition;
+use dm_base::ids::ModuleId;
 use dm_base::import_source::ImportSource;
-use dm_base::imports::ImportOrDef;
+use dm_base::imports::{ImportOrDef, ImportOrExternCrate};
 use dm_base::name::Name;
 use dm_base::per_ns::Item;
-use indexmap::IndexMap;
-use std::alloc::Global;
+use indexmap::{IndexMap, map};
+use std::alloc::{AllocError, Global};
 use std::marker::Model;
 
 /// The bindings of one namespace, with the records of its imports.
@@ -17,6 +32,7 @@ use std::marker::Model;
 pub struct Bindings<D: Definition, I: ImportSource> {
     items: IndexMap<Name, Item<D, I>>,
     records: IndexMap<I, ImportOrDef>,
+    alloc: Global,
 }
 
 impl<D: Definition, I: ImportSource> Model for Bindings<D, I> {
@@ -27,21 +43,302 @@ impl<D: Definition, I: ImportSource> Model for Bindings<D, I> {
     ghost view = { λ b. record { items = b.items.entries; records = b.records.entries } };
 }
 
+/// The bindings of a namespace, each as a name and its item, in order of first binding.
+#[derive(Drop)]
+pub struct Iter<'a, D, I> {
+    entries: map::Iter<'a, Name, Item<D, I>>,
+}
+
+impl<'a, D, I> Model for Iter<'a, D, I> {
+    ghost use Rattle.std.specs.Prelude.{List};
+    ghost use Rattle.dm_base.specs.Names.{Name};
+    ghost use Rattle.dm_base.specs.declared.per_ns.Item.{Item};
+
+    ghost Value = { List (Name × Item D I) };
+
+    ghost view = { λ a. a.entries };
+}
+
+impl<'a, D: Copy, I: Copy> Iterator for Iter<'a, D, I> {
+    type Item = (&'a Name, Item<D, I>);
+
+    ghost next_gives = { TakesFirst deref_name };
+
+    ghost remaining = { λ s. at_most (length s) };
+
+    fn next(&mut self) -> Option<(&'a Name, Item<D, I>)> {
+        let (name, item) = self.entries.next()?;
+        Some((name, *item))
+    }
+
+    fn size_hint(&self) -> (usize, Option<usize>) {
+        self.entries.size_hint()
+    }
+}
+
 impl<D: Definition, I: ImportSource> Bindings<D, I> {
-    /// No bindings.
+    /// No bindings. Takes no memory.
     pub fn new(alloc: Global) -> Self
-        ensures { result ≡ record { items = []; records = [] } }
+        ensures empty { result ≡ record { items = []; records = [] } }
+
+        // With a new table they show the empty list of pushes.
+        ensures shown { (m : ModuleId) → ShowsIn (reading I.eq D.eq I.globs I.narrowed I.widened D.widened_def) result (has_flag [] m) [] }
     {
         Bindings {
             items: IndexMap::new(alloc),
             records: IndexMap::new(alloc),
+            alloc,
         }
     }
 
-    /// What is bound under a name.
+    /// What is bound under a name. Takes no memory: one look-up.
     pub fn get(&self, name: &Name) -> Option<&Item<D, I>>
         ensures { option_copied result ≡ find_name name.now self.now.items }
     {
         self.items.get(name)
+    }
+
+    /// The bindings, in order of first binding. Takes no memory.
+    pub fn iter(&self) -> Iter<'_, D, I>
+        ensures rest { result ≡ self.now.items }
+        ensures runs { ShowsInOrder (deref_name {X = Item D I}) }
+    {
+        Iter {
+            entries: self.items.iter(),
+        }
+    }
+
+    /// What an import that brought a binding stands for. Takes no memory: one look-up.
+    pub fn record_of(&self, import: &I) -> Option<ImportOrDef>
+        ensures { result ≡ lookup (I.eq import.now) self.now.records }
+    {
+        self.records.get(import).copied()
+    }
+
+    /// One push of a name of a module, with the glob flags of its namespace (docs/RULES.md, "What a push does").
+    ///
+    /// Answers whether the push is effective. Where memory is short, bindings and flags are as they were.
+    pub fn push(
+        &mut self,
+        flags: &mut GlobFlags,
+        lookup: (ModuleId, Name),
+        item: Item<D, I>,
+        import: Option<ImportOrExternCrate>,
+    ) -> Result<bool, AllocError>
+        ensures answer { IfOk result (λ effective. effective ≡ is_effective_at (reading I.eq D.eq I.globs I.narrowed I.widened D.widened_def) self.old flags.old lookup.0 lookup.1 (Some item) import) }
+        ensures bindings { OnOk result (self.new ≡ bound_after (reading I.eq D.eq I.globs I.narrowed I.widened D.widened_def) self.old flags.old lookup.0 lookup.1 (Some item) import) }
+        ensures flags { OnOk result (flags.new ≡ flags_after (reading I.eq D.eq I.globs I.narrowed I.widened D.widened_def) self.old flags.old lookup.0 lookup.1 (Some item) import) }
+        ensures err { OnErr result (self.new ≡ self.old) }
+        ensures err_flags { OnErr result (flags.new ≡ flags.old) }
+
+        // Where they show a list of pushes, they show it with this push after it, and the answer is as that list says.
+        ensures shown { (ps : List (Push D I)) → ShowsIn (reading I.eq D.eq I.globs I.narrowed I.widened D.widened_def) self.old (has_flag flags.old lookup.0) ps → OnOk result (ShowsIn (reading I.eq D.eq I.globs I.narrowed I.widened D.widened_def) self.new (has_flag flags.new lookup.0) (ps ++ record { name = lookup.1; item = item; by = import_of (reading I.eq D.eq I.globs I.narrowed I.widened D.widened_def) import } ∷ [])) }
+        ensures shown_answer { (ps : List (Push D I)) → ShowsIn (reading I.eq D.eq I.globs I.narrowed I.widened D.widened_def) self.old (has_flag flags.old lookup.0) ps → IfOk result (λ effective. effective ≡ is_effective (reading I.eq D.eq I.globs I.narrowed I.widened D.widened_def) ps (record { name = lookup.1; item = item; by = import_of (reading I.eq D.eq I.globs I.narrowed I.widened D.widened_def) import })) }
+        ensures elsewhere { (k : ModuleId) (n : Name) → same_module lookup.0 k ≡ false → has_flag flags.new k n ≡ has_flag flags.old k n }
+    {
+        let (m, name) = lookup;
+        let new = self.grow(flags, m, &name, Some(item), import)?;
+        self.finish(flags, new, m, &name, Some(item), import);
+        Ok(new.writes)
+    }
+
+    /// The first step of a push: new keys go last. The second step cannot fail.
+    pub(crate) fn grow(
+        &mut self,
+        flags: &mut GlobFlags,
+        m: ModuleId,
+        name: &Name,
+        item: Option<Item<D, I>>,
+        import: Option<ImportOrExternCrate>,
+    ) -> Result<NewKeys, AllocError>
+        ensures writes { IfOk result (λ new. new.writes ≡ is_effective_at (reading I.eq D.eq I.globs I.narrowed I.widened D.widened_def) self.old flags.old m name.now item import) }
+        ensures undo { IfOk result (λ new. without_keys self.new new.item new.record_key ≡ self.old) }
+        ensures undo_flags { IfOk result (λ new. without_flag flags.new m new.flag ≡ flags.old) }
+        ensures finish { IfOk result (λ new. finished (reading I.eq D.eq I.globs I.narrowed I.widened D.widened_def) self.new new.writes name.now item import ≡ bound_after (reading I.eq D.eq I.globs I.narrowed I.widened D.widened_def) self.old flags.old m name.now item import) }
+        ensures finish_flags { IfOk result (λ new. flags_done (reading I.eq D.eq I.globs I.narrowed I.widened D.widened_def) flags.new new.writes m name.now import ≡ flags_after (reading I.eq D.eq I.globs I.narrowed I.widened D.widened_def) self.old flags.old m name.now item import) }
+        ensures err { OnErr result (self.new ≡ self.old) }
+        ensures err_flags { OnErr result (flags.new ≡ flags.old) }
+    {
+        let Some(item) = item else {
+            return Ok(NewKeys::none());
+        };
+        let import = narrowed(import);
+        if !self.writes(flags.contains(m, name), name, &item, import) {
+            return Ok(NewKeys::none());
+        }
+        let new = self.add_keys(name, &item, import)?;
+        match flags.grow(m, name, is_glob(import)) {
+            Ok(flag) => Ok(NewKeys { flag, ..new }),
+            Err(refused) => {
+                self.remove_keys(new);
+                Err(refused)
+            }
+        }
+    }
+
+    /// Takes the first step of a push back.
+    pub(crate) fn undo(&mut self, flags: &mut GlobFlags, new: NewKeys, m: ModuleId)
+        ensures bindings { self.new ≡ without_keys self.old new.item new.record_key }
+        ensures flags { flags.new ≡ without_flag flags.old m new.flag }
+    {
+        self.remove_keys(new);
+        flags.undo(m, new.flag);
+    }
+
+    /// The second step of a push. Takes no memory.
+    pub(crate) fn finish(
+        &mut self,
+        flags: &mut GlobFlags,
+        new: NewKeys,
+        m: ModuleId,
+        name: &Name,
+        item: Option<Item<D, I>>,
+        import: Option<ImportOrExternCrate>,
+    )
+        ensures bindings { self.new ≡ finished (reading I.eq D.eq I.globs I.narrowed I.widened D.widened_def) self.old new.writes name.now item import }
+        ensures flags { flags.new ≡ flags_done (reading I.eq D.eq I.globs I.narrowed I.widened D.widened_def) flags.old new.writes m name.now import }
+    {
+        if !new.writes {
+            return;
+        }
+        let import = narrowed(import);
+        flags.finish(m, name, is_glob(import));
+        if let Some(item) = item {
+            self.write(name, &item, import);
+        }
+    }
+
+    /// Whether a push is effective.
+    fn writes(&self, flag: bool, name: &Name, item: &Item<D, I>, import: Option<I>) -> bool
+        ensures { result ≡ writes (reading I.eq D.eq I.globs I.narrowed I.widened D.widened_def) (find_name name.now self.now.items) flag item.now import }
+    {
+        let Some(old) = self.get(name) else {
+            return true;
+        };
+        match import {
+            None => flag,
+            Some(i) => !i.is_glob() && (flag || (old.import == Some(i) && old.def != item.def)),
+        }
+    }
+
+    /// Puts the new keys of a push that writes last, with their values. Where memory is short, nothing changes.
+    fn add_keys(
+        &mut self,
+        name: &Name,
+        item: &Item<D, I>,
+        import: Option<I>,
+    ) -> Result<NewKeys, AllocError>
+        ensures writes { IfOk result (λ new. new.writes ≡ true) }
+        ensures item { IfOk result (λ new. new.item ≡ is_new same_name self.old.items name.now) }
+        ensures record_key { IfOk result (λ new. new.record_key ≡ is_new_record (reading I.eq D.eq I.globs I.narrowed I.widened D.widened_def) self.old.records import) }
+        ensures ok { OnOk result (self.new ≡ with_keys (reading I.eq D.eq I.globs I.narrowed I.widened D.widened_def) self.old name.now item.now import) }
+        ensures err { OnErr result (self.new ≡ self.old) }
+    {
+        let item_is_new = add_name(&mut self.items, name, stored(item, import), self.alloc)?;
+        match add_record(&mut self.records, import, recorded(item)) {
+            Ok(record_is_new) => Ok(NewKeys {
+                writes: true,
+                item: item_is_new,
+                record_key: record_is_new,
+                flag: NewFlag::Stood,
+            }),
+            Err(refused) => {
+                take_off(&mut self.items, item_is_new);
+                Err(refused)
+            }
+        }
+    }
+
+    /// Takes the new keys off again.
+    fn remove_keys(&mut self, new: NewKeys)
+        ensures { self.new ≡ without_keys self.old new.item new.record_key }
+    {
+        take_off(&mut self.items, new.item);
+        take_off(&mut self.records, new.record_key);
+    }
+
+    /// Writes at keys that stand. Takes no memory.
+    fn write(&mut self, name: &Name, item: &Item<D, I>, import: Option<I>)
+        ensures { self.new ≡ written (reading I.eq D.eq I.globs I.narrowed I.widened D.widened_def) self.old name.now item.now import }
+    {
+        write_at(&mut self.items, name, stored(item, import));
+        write_record(&mut self.records, import, recorded(item));
+    }
+}
+
+/// The item that is stored for a pushed one.
+fn stored<D: Definition, I: ImportSource>(item: &Item<D, I>, import: Option<I>) -> Item<D, I>
+    ensures { result ≡ stored (reading I.eq D.eq I.globs I.narrowed I.widened D.widened_def) item.now import }
+{
+    Item {
+        def: item.def,
+        vis: item.vis,
+        import,
+    }
+}
+
+/// The import of a push, as the namespace stores it.
+fn narrowed<I: ImportSource>(import: Option<ImportOrExternCrate>) -> Option<I>
+    ensures { result ≡ option_and_then I.narrowed import }
+{
+    match import {
+        None => None,
+        Some(i) => I::narrow(i),
+    }
+}
+
+fn is_glob<I: ImportSource>(import: Option<I>) -> bool
+    ensures { result ≡ is_glob_by I.globs import }
+{
+    match import {
+        None => false,
+        Some(i) => i.is_glob(),
+    }
+}
+
+/// What the record of a push's import becomes.
+fn recorded<D: Definition, I: ImportSource>(item: &Item<D, I>) -> ImportOrDef
+    ensures { result ≡ recorded (reading I.eq D.eq I.globs I.narrowed I.widened D.widened_def) item.now }
+{
+    match item.import {
+        None => ImportOrDef::Def(item.def.widen_def()),
+        Some(i) => target_of(i.widen()),
+    }
+}
+
+fn target_of(import: ImportOrExternCrate) -> ImportOrDef
+    ensures { result ≡ target_of import }
+{
+    match import {
+        ImportOrExternCrate::Glob(id) => ImportOrDef::Glob(id),
+        ImportOrExternCrate::Import(id) => ImportOrDef::Import(id),
+        ImportOrExternCrate::ExternCrate(id) => ImportOrDef::ExternCrate(id),
+    }
+}
+
+fn add_record<I: ImportSource>(
+    records: &mut IndexMap<I, ImportOrDef>,
+    import: Option<I>,
+    value: ImportOrDef,
+) -> Result<bool, AllocError>
+    ensures new { IfOk result (λ new. new ≡ is_new_import I.eq records.old.entries import) }
+    ensures ok { OnOk result (records.new.entries ≡ add_import I.eq records.old.entries import value) }
+    ensures err { OnErr result (records.new.entries ≡ records.old.entries) }
+{
+    match import {
+        None => Ok(false),
+        Some(i) => add_key(records, i, value),
+    }
+}
+
+fn write_record<I: ImportSource>(
+    records: &mut IndexMap<I, ImportOrDef>,
+    import: Option<I>,
+    value: ImportOrDef,
+)
+    ensures { records.new.entries ≡ set_import I.eq records.old.entries import value }
+{
+    if let Some(i) = import {
+        write_at(records, &i, value);
     }
 }

@@ -2,4 +2,8 @@
 #![tactic(auto)]
 
 pub mod bindings;
+pub mod glob_imports;
 pub mod item_scope;
+mod last_legacy;
+mod keys;
+mod steps;

@@ -6,6 +6,8 @@ use Rattle.dm_base.specs.declared.ids.Crate.{Crate}
 use Rattle.dm_base.specs.declared.ids.MapId.{MapId}
 use Rattle.dm_base.specs.declared.ids.ExternCrateId.{ExternCrateId}
 use Rattle.dm_base.specs.declared.ids.EnumId.{EnumId}
+use Rattle.dm_base.specs.declared.ids.EnumVariantId.{EnumVariantId}
+use Rattle.dm_base.specs.declared.fields_shape.FieldsShape.{FieldsShape}
 use Rattle.dm_base.specs.declared.item_ids.ModuleDefId.{ModuleDefId}
 use Rattle.dm_base.specs.declared.item_ids.ModuleDefId.TheVariants as def
 use Rattle.dm_base.specs.declared.item_ids.AdtId.{AdtId}
@@ -29,22 +31,13 @@ use Rattle.dm_maps.specs.declared.modes.MacroSubNs.TheVariants.{Bang, Attr}
 use Rattle.dm_maps.specs.Maps.{LocalMap}
 use Rattle.dm_maps.specs.World.{World}
 use Rattle.dm_maps.specs.Readings.{Setting, Reading, setting_of, read}
-use Rattle.hir_def_map.specs.declared.result.ResolveMode.{ResolveMode}
+use Rattle.hir_def_map.specs.declared.question.Ask.{Ask}
 use Rattle.hir_def_map.specs.declared.result.ResolveMode.TheVariants as mode
 use Rattle.hir_def_map.specs.declared.result.ReachedFixedPoint.TheVariants.{Yes, No}
 use Rattle.hir_def_map.specs.declared.result.ResolvePathResult.{ResolvePathResult}
 use Rattle.hir_def_map.specs.Answers.{reached, nothing_yes, nothing_no, stopped, variant_answer, from_other_crate, either_yes, merged}
 
--- A question but for its segments: from where it is asked, for an import or not, whether builtin types may go before
--- modules, what macros are expected, and where its path begins.
-pub record Ask : Type 0 where
-  pub origin : ModuleId
-  pub mode : ResolveMode
-  pub shadow : BuiltinShadowMode
-  pub expected : Option MacroSubNs
-  pub kind : PathKind
-
--- Two ways into another crate's module, or the same at other segments, are told apart by this argument of the definitions below.
+-- What segments answer from a module of another crate.
 abbrev pub Entering : Type 0
 Entering = ModuleId → List Reading → ResolvePathResult
 
@@ -77,14 +70,29 @@ stations t f x b (s ∷ rest) = record { position = b; here = x; rest = s ∷ re
 abbrev pub is_stop : Tree → ModuleId → Station → Bool
 is_stop t f j = elim j.rest [ [] ↦ true | ◌∷◌ s rest ↦ is_none (next_module t f j.here) ]
 
--- At an enum: a known last variant is reached, a known one with segments left is nothing, and at an unknown one the enum is left.
-abbrev pub at_enum : Item ModuleDefId ImportOrExternCrate → EnumId → ℕ → Reading → List Reading → ResolvePathResult
-at_enum i e j s rest = elim (s.variant e) [ None ↦ stopped i j | Some v ↦ elim rest [ [] ↦ variant_answer i v | ◌∷◌ r rs ↦ nothing_no ] ]
+-- At an enum: a known variant is reached where it is the last segment, and is nothing where segments are left; at an unknown one the
+-- enum is left.
+abbrev pub at_variant : Item ModuleDefId ImportOrExternCrate → ℕ → Option (EnumVariantId × FieldsShape) → Bool → ResolvePathResult
+at_variant i j None is_last = stopped i j
+at_variant i j (Some v) true = variant_answer i v
+at_variant i j (Some v) false = nothing_no
+
+abbrev pub is_empty : {A : Type 0} → List A → Bool
+is_empty [] = true
+is_empty (x ∷ xs) = false
+
+abbrev pub at_enum : Item ModuleDefId ImportOrExternCrate → EnumId → ℕ → Reading → Bool → ResolvePathResult
+at_enum i e j s is_last = at_variant i j (s.variant e) is_last
+
+-- at a struct or a union the path stops
+abbrev pub at_adt : Item ModuleDefId ImportOrExternCrate → ℕ → Reading → Bool → AdtId → ResolvePathResult
+at_adt i j s is_last (adt.EnumId e) = at_enum i e j s is_last
+at_adt i j s is_last _ = stopped i j
 
 -- by what a definition is, where segments are left: a module of another crate, an enum, or anything else
 abbrev pub at_definition : Entering → Item ModuleDefId ImportOrExternCrate → ℕ → Reading → List Reading → ModuleDefId → ResolvePathResult
 at_definition enter i j s rest (def.ModuleId m) = from_other_crate j (enter m (s ∷ rest))
-at_definition enter i j s rest (def.AdtId (adt.EnumId e)) = at_enum i e j s rest
+at_definition enter i j s rest (def.AdtId a) = at_adt i j s (is_empty rest) a
 at_definition enter i j s rest _ = stopped i j
 
 -- the answer at the stop: what stands there at the end, else by what stands there in types
@@ -159,9 +167,12 @@ prelude w id s = option_map_or s.bound (w.prelude id) nothing
 abbrev pub builtin : Reading → PerNs
 builtin s = option_map_or (λ b. public_type (def.BuiltinType b) None) s.builtin nothing
 
--- in edition 2015 a path of an import, or one that begins with `::`, begins at the crate's root
+-- the questions that edition 2015 answers from the crate's root: of imports, and of paths that begin with `::`
+abbrev pub asks_root : Ask → Bool
+asks_root q = elim q.kind [ kind.Abs ↦ true | kind.Plain ↦ elim q.mode [ mode.Import ↦ true | mode.Other ↦ false ] | _ ↦ false ]
+
 abbrev pub by_2015_rule : Setting → Ask → Place → Bool
-by_2015_rule w q p = w.is_2015 (map_at w.tree p).krate && elim q.kind [ kind.Abs ↦ true | kind.Plain ↦ elim q.mode [ mode.Import ↦ true | mode.Other ↦ false ] | _ ↦ false ]
+by_2015_rule w q p = w.is_2015 (map_at w.tree p).krate && asks_root q
 
 abbrev pub is_module_def : ModuleDefId → Bool
 is_module_def (def.ModuleId m) = true
@@ -178,41 +189,42 @@ builtins_of w m s = if in_block_map w.tree m then nothing else builtin s
 abbrev pub are_builtins_first : Ask → PerNs → Bool → Bool
 are_builtins_first q own is_last = elim q.shadow [ shadow.Other ↦ true | shadow.Module ↦ false ] && is_last && is_module own.types
 
-abbrev pub scope_and_builtins : Setting → Ask → ModuleId → Reading → Bool → List PerNs
-scope_and_builtins w q m s is_last =
-    if are_builtins_first q (s.bound m) is_last
-    then builtins_of w m s ∷ fitting w q.expected (s.bound m) ∷ []
-    else fitting w q.expected (s.bound m) ∷ builtins_of w m s ∷ []
+-- the builtin types or the scope
+abbrev pub builtins_or_scope : Setting → Ask → ModuleId → Reading → Bool → PerNs
+builtins_or_scope w q m s builtins_go = if builtins_go then builtins_of w m s else fitting w q.expected (s.bound m)
 
--- a block's root skips the extern prelude and the prelude module
-abbrev pub unless_block_root : Setting → ModuleId → PerNs → List PerNs
-unless_block_root w m x = if is_block_root w.tree m then [] else x ∷ []
+-- a block's root skips the extern prelude and the prelude module: a layer that is skipped is nothing
+abbrev pub unless_block_root : Setting → ModuleId → PerNs → PerNs
+unless_block_root w m x = if is_block_root w.tree m then nothing else x
 
 abbrev pub root_scope : Setting → ModuleId → Reading → PerNs
 root_scope w m s = option_map_or s.bound (w.root_of (crate_of w.tree m)) nothing
 
 -- What a first segment selects, layer by layer. By the 2015 rule: the scope of the crate's root, the extern prelude. After `::`: the
 -- extern prelude. Else: legacy macros, the scope and the builtin types, the extern prelude, the macro_use prelude, the prelude module.
+abbrev pub layers_by_2015_rule : Setting → Place → Reading → List PerNs
+layers_by_2015_rule w (In m) s = root_scope w m s ∷ unless_block_root w m (extern_prelude s) ∷ []
+layers_by_2015_rule w (Preludes id f) s = extern_prelude s ∷ []
+
+abbrev pub plain_layers : Setting → Ask → Place → Reading → Bool → List PerNs
+plain_layers w q (In m) s is_last =
+    let builtins_first = are_builtins_first q (s.bound m) is_last in
+    legacy w q.expected m s
+    ∷ builtins_or_scope w q m s builtins_first
+    ∷ builtins_or_scope w q m s (not builtins_first)
+    ∷ unless_block_root w m (extern_prelude s)
+    ∷ macro_use_prelude (w.tree.map_of m) s
+    ∷ unless_block_root w m (prelude w (w.tree.map_of m) s)
+    ∷ []
+plain_layers w q (Preludes id f) s is_last = extern_prelude s ∷ macro_use_prelude id s ∷ prelude w id s ∷ []
+
 abbrev pub layers : Setting → Ask → Place → Reading → Bool → List PerNs
-layers w q (In m) s is_last =
-    if by_2015_rule w q (In m) then root_scope w m s ∷ unless_block_root w m (extern_prelude s)
-    else elim q.kind [
-      | kind.Abs ↦ extern_prelude s ∷ []
-      | _ ↦ legacy w q.expected m s ∷ scope_and_builtins w q m s is_last ++ unless_block_root w m (extern_prelude s) ++ macro_use_prelude (w.tree.map_of m) s ∷ unless_block_root w m (prelude w (w.tree.map_of m) s)
-    ]
-layers w q (Preludes id f) s is_last =
-    if by_2015_rule w q (Preludes id f) then extern_prelude s ∷ []
-    else elim q.kind [
-      | kind.Abs ↦ extern_prelude s ∷ []
-      | _ ↦ extern_prelude s ∷ macro_use_prelude id s ∷ prelude w id s ∷ []
-    ]
+layers w q p s is_last =
+    if by_2015_rule w q p then layers_by_2015_rule w p s
+    else elim q.kind [ kind.Abs ↦ extern_prelude s ∷ [] | _ ↦ plain_layers w q p s is_last ]
 
 abbrev pub is_nothing : PerNs → Bool
 is_nothing x = is_none x.types && is_none x.values && is_none x.macros
-
-abbrev pub is_empty : {A : Type 0} → List A → Bool
-is_empty [] = true
-is_empty (x ∷ xs) = false
 
 -- after `::`, where the 2015 rule does not hold, a name that no layer has is not there yet
 abbrev pub is_missed : Setting → Ask → Place → PerNs → Bool

@@ -1,0 +1,99 @@
+//! What paths read of a world beside its scopes. None of these calls takes memory.
+ghost use Rattle.std.specs.Prelude.{◌≡◌, IsTrue};
+ghost use Rattle.std.specs.Option.{ForSome};
+ghost use Rattle.dm_base.specs.Names.{find_name};
+ghost use Rattle.dm_base.specs.Tree.{IsKnown, is_block_root};
+ghost use Rattle.dm_maps.specs.declared.held.HeldId.TheVariants as held;
+ghost use Rattle.dm_maps.specs.Known.{knows};
+ghost use Rattle.dm_maps.specs.Readings.{variants_of, root_of, block_root_of, is_2015_in, prelude_in, macro_uses_of, styles_in};
+ghost use Rattle.dm_maps.specs.Trees.{tree_of};
+ghost use Rattle.dm_maps.specs.World.{scope_of};
+ghost use Rattle.dm_scope.specs.Scope.{legacy_in};
+
+use crate::def_map::DefMap;
+use crate::world::World;
+use dm_base::fields_shape::FieldsShape;
+use dm_base::ids::{BlockId, Crate, EnumId, EnumVariantId, ExternCrateId, MapId, ModuleId};
+use dm_base::item_ids::MacroId;
+use dm_base::macros::MacroCallStyles;
+use dm_base::name::Name;
+use dm_base::source::Edition;
+
+impl World {
+    /// Whether a module is the root of a block's map.
+    #[tactic(auto, unfolding(crate::specs::Trees::tree_of))]
+    pub fn is_block_root(&self, m: ModuleId) -> bool
+        ensures { result ≡ is_block_root (tree_of self.now) m }
+    {
+        self.tables.map_id_of(m).block.is_some() && self.tables.parent_of(m).is_none()
+    }
+
+    /// The root of a crate.
+    pub fn root_of(&self, krate: Crate) -> Option<ModuleId>
+        ensures value { result ≡ root_of self.now krate }
+        ensures known { ForSome result (IsKnown (tree_of self.now)) }
+    {
+        self.tables.root_of(krate)
+    }
+
+    /// The root of a block's map.
+    pub fn block_root_of(&self, block: BlockId) -> Option<ModuleId>
+        ensures value { result ≡ block_root_of self.now block }
+        ensures known { ForSome result (IsKnown (tree_of self.now)) }
+    {
+        self.tables.block_root_of(block)
+    }
+
+    /// Whether a crate is of edition 2015.
+    pub fn is_2015(&self, krate: Crate) -> bool
+        ensures { result ≡ is_2015_in self.now krate }
+    {
+        match self.tables.crate_map(krate) {
+            None => false,
+            Some(map) => matches!(map.edition(), Edition::Edition2015),
+        }
+    }
+
+    /// The prelude module of a map.
+    pub fn prelude_of(&self, id: MapId) -> Option<ModuleId>
+        ensures { result ≡ prelude_in self.now id }
+    {
+        match self.tables.numbered_map(id) {
+            None => None,
+            Some(map) => match map.prelude() {
+                None => None,
+                Some(prelude) => Some(prelude.0),
+            },
+        }
+    }
+
+    /// The macro that `#[macro_use]` brings into a map under a name.
+    pub fn macro_use_of(&self, id: MapId, name: &Name) -> Option<(MacroId, Option<ExternCrateId>)>
+        ensures value { result ≡ find_name name.now (macro_uses_of self.now id) }
+        ensures known { ForSome result (λ e. IsTrue (knows self.now (held.Macro e.0))) }
+    {
+        self.tables.macro_use_of(id, name)
+    }
+
+    /// The last legacy macro of a module under a name.
+    pub fn legacy_of(&self, m: ModuleId, name: &Name) -> Option<MacroId>
+        ensures value { result ≡ legacy_in (scope_of self.now m) name.now }
+        ensures known { ForSome result (λ l. IsTrue (knows self.now (held.Macro l))) }
+    {
+        self.tables.legacy_of(m, name)
+    }
+
+    /// The styles of a macro: none for one that is not the world's.
+    pub fn styles_of(&self, m: MacroId) -> MacroCallStyles
+        ensures { result ≡ styles_in self.now m }
+    {
+        self.tables.styles_of(m)
+    }
+
+    /// The variant of an enum under a name, with its shape.
+    pub fn variant_of(&self, e: EnumId, name: &Name) -> Option<(EnumVariantId, FieldsShape)>
+        ensures { result ≡ find_name name.now (variants_of self.now e) }
+    {
+        self.tables.variant_of(e, name)
+    }
+}

@@ -1,0 +1,102 @@
+//! What paths read of the tables of a world.
+ghost use Rattle.std.specs.Prelude.{◌≡◌};
+ghost use Rattle.std.specs.Option.{option_copied};
+ghost use Rattle.dm_base.specs.Names.{find_name};
+ghost use Rattle.dm_maps.specs.Known.{macro_number};
+ghost use Rattle.dm_maps.specs.Readings.{root_of, block_root_of, macro_uses_of, styles_by, styles_in, no_style};
+ghost use Rattle.dm_maps.specs.World.{crate_map, scope_of};
+ghost use Rattle.dm_scope.specs.Scope.{legacy_in};
+
+use bitflags::Flags;
+use crate::builder::WorldBuilder;
+use crate::def_map::DefMap;
+use dm_base::ids::{BlockId, Crate, ExternCrateId, MapId, ModuleId};
+use dm_base::item_ids::MacroId;
+use dm_base::macros::{MacroCallStyles, MacroLoc};
+use dm_base::name::Name;
+
+impl WorldBuilder {
+    /// The map of a crate.
+    pub(crate) fn crate_map(&self, krate: Crate) -> Option<&DefMap>
+        ensures { option_copied result ≡ crate_map self.now krate }
+    {
+        self.crate_maps.get(krate.0 as usize)
+    }
+
+    /// The root of a crate.
+    pub(crate) fn root_of(&self, krate: Crate) -> Option<ModuleId>
+        ensures { result ≡ root_of self.now krate }
+    {
+        match self.crate_map(krate) {
+            None => None,
+            Some(map) => Some(map.root_module_id()),
+        }
+    }
+
+    /// The root of a block's map.
+    pub(crate) fn block_root_of(&self, block: BlockId) -> Option<ModuleId>
+        ensures { result ≡ block_root_of self.now block }
+    {
+        match self.block_maps.get(block.0 as usize) {
+            None => None,
+            Some(map) => Some(map.root_module_id()),
+        }
+    }
+
+    /// The macro that `#[macro_use]` brings into a map under a name.
+    pub(crate) fn macro_use_of(
+        &self,
+        id: MapId,
+        name: &Name,
+    ) -> Option<(MacroId, Option<ExternCrateId>)>
+        ensures { result ≡ find_name name.now (macro_uses_of self.now id) }
+    {
+        match self.numbered_map(id) {
+            None => None,
+            Some(map) => map.macro_use_prelude(name),
+        }
+    }
+
+    /// The last legacy macro of a module under a name.
+    pub(crate) fn legacy_of(&self, m: ModuleId, name: &Name) -> Option<MacroId>
+        ensures { result ≡ legacy_in (scope_of self.now m) name.now }
+    {
+        match self.module_of(m) {
+            None => None,
+            Some(data) => data.scope().last_legacy_macro(name),
+        }
+    }
+
+    /// The styles of a macro: none for one that is not there.
+    pub(crate) fn styles_of(&self, m: MacroId) -> MacroCallStyles
+        ensures { result ≡ styles_in self.now m }
+    {
+        match self.macros.get(number_of(m) as usize) {
+            None => MacroCallStyles::empty(),
+            Some(entry) => styles_by(m, entry.1),
+        }
+    }
+}
+
+/// The number of a macro in the list of all macros.
+fn number_of(m: MacroId) -> u32
+    ensures { result ≡ macro_number m }
+{
+    match m {
+        MacroId::Macro2Id(id) => id.0,
+        MacroId::MacroRulesId(id) => id.0,
+        MacroId::ProcMacroId(id) => id.0,
+    }
+}
+
+/// The styles of a macro, where what stands under its number is of its kind.
+fn styles_by(m: MacroId, loc: MacroLoc) -> MacroCallStyles
+    ensures { result ≡ styles_by m loc }
+{
+    match (m, loc) {
+        (MacroId::Macro2Id(_), MacroLoc::Macro2(_)) => loc.styles(),
+        (MacroId::MacroRulesId(_), MacroLoc::MacroRules(_)) => loc.styles(),
+        (MacroId::ProcMacroId(_), MacroLoc::Proc(_)) => loc.styles(),
+        _ => MacroCallStyles::empty(),
+    }
+}

@@ -1,0 +1,11 @@
+pub mod EntryLemmas
+pub mod BindingLemmas
+pub mod ClosedLemmas
+pub mod FlagLemmas
+pub mod HasFlagLemmas
+pub mod Outcomes
+pub mod PushLemmas
+pub mod ReadingLemmas
+pub mod RunLemmas
+pub mod SamenessLemmas
+pub mod ShowLemmas

@@ -1,0 +1,28 @@
+use Rattle.std.proofs.Common.{◌≡◌, ◌∙◌, ◌++◌, ◌∷◌, [], Some, sym, ap, subst₂}
+use Rattle.dm_scope.specs.Bindings.{reading, import_of, is_effective_at}
+use Rattle.dm_scope.specs.Flags.{has_flag}
+use Rattle.dm_scope.specs.Pushes.{ShowsIn}
+use Rattle.dm_scope.proofs.ClosedLemmas.{ShowsIn-after, is_effective-after}
+use Rattle.dm_scope.proofs.HasFlagLemmas.{has_flag-elsewhere}
+use Rattle.dm_scope.proofs.bindings.Bindings.push.Goals as goal
+
+pub returns-clause-shown : goal.returns-clause-shown
+returns-clause-shown g c ps shows =
+    let r = reading g.I.PartialEq.eq g.D.PartialEq.eq g.I.ImportSource.globs g.I.ImportSource.narrowed g.I.ImportSource.widened g.D.Definition.widened_def in
+    subst₂ (λ s f. ShowsIn r s (has_flag f c.args.lookup.0) (ps ++ record { name = c.args.lookup.1; item = c.args.item; by = import_of r c.args.import } ∷ []))
+    (sym (c.finish.ensures.bindings ∙ c.in_ok-new.ensures.finish)) (sym (c.finish.ensures.flags ∙ c.in_ok-new.ensures.finish_flags))
+    (ShowsIn-after r (record { import_refl = g.met.I.Eq.laws.refl; import_same = g.met.I.ImportSource.same; def_same = g.met.D.Definition.same })
+    c.args.self.now c.args.flags.now c.args.lookup.0 ps shows c.args.lookup.1 c.args.item c.args.import)
+
+pub returns-clause-shown_answer : goal.returns-clause-shown_answer
+returns-clause-shown_answer g c ps shows =
+    let r = reading g.I.PartialEq.eq g.D.PartialEq.eq g.I.ImportSource.globs g.I.ImportSource.narrowed g.I.ImportSource.widened g.D.Definition.widened_def in
+    c.in_ok-new.ensures.writes
+    ∙ is_effective-after r (record { import_refl = g.met.I.Eq.laws.refl; import_same = g.met.I.ImportSource.same; def_same = g.met.D.Definition.same })
+    c.args.self.now c.args.flags.now c.args.lookup.0 ps shows c.args.lookup.1 c.args.item c.args.import
+
+pub returns-clause-elsewhere : goal.returns-clause-elsewhere
+returns-clause-elsewhere g c k n apart =
+    let r = reading g.I.PartialEq.eq g.D.PartialEq.eq g.I.ImportSource.globs g.I.ImportSource.narrowed g.I.ImportSource.widened g.D.Definition.widened_def in
+    ap (λ f. has_flag f k n) (c.finish.ensures.flags ∙ c.in_ok-new.ensures.finish_flags)
+    ∙ has_flag-elsewhere r c.args.flags.now (is_effective_at r c.args.self.now c.args.flags.now c.args.lookup.0 c.args.lookup.1 (Some c.args.item) c.args.import) c.args.lookup.0 c.args.lookup.1 (import_of r c.args.import) k n apart

@@ -1,0 +1,20 @@
+use Rattle.std.proofs.Common.{◌≡◌, ◌∙◌, ◌++◌, ◌∷◌, [], sym, subst, subst₂}
+use Rattle.dm_scope.specs.Shows.{ScopePush, Shows}
+use Rattle.dm_scope.proofs.ClosedLemmas.{Shows-after, push_answer-is_answered, Shows-elsewhere}
+use Rattle.dm_scope.proofs.item_scope.ItemScope.push_res_with_import.Goals as goal
+
+pub returns-clause-shown : goal.returns-clause-shown
+returns-clause-shown c ps shows =
+    let p : ScopePush = record { name = c.args.lookup.1; res = c.args.def; by = c.args.import } in
+    subst₂ (λ s g. Shows s g c.args.lookup.0 (ps ++ p ∷ [])) (sym c.in_ok-answer.ensures.scope) (sym c.in_ok-answer.ensures.globs)
+    (Shows-after c.args.self.now c.args.glob_imports.now c.args.lookup.0 ps shows p)
+
+pub returns-clause-shown_answer : goal.returns-clause-shown_answer
+returns-clause-shown_answer c ps shows =
+    c.in_ok-answer.ensures.answer
+    ∙ push_answer-is_answered c.args.self.now c.args.glob_imports.now c.args.lookup.0 ps shows (record { name = c.args.lookup.1; res = c.args.def; by = c.args.import })
+
+pub returns-clause-elsewhere : goal.returns-clause-elsewhere
+returns-clause-elsewhere c other k ps apart shows =
+    subst (λ g. Shows other g k ps) (sym c.in_ok-answer.ensures.globs)
+    (Shows-elsewhere c.args.self.now other c.args.glob_imports.now c.args.lookup.0 k ps apart shows (record { name = c.args.lookup.1; res = c.args.def; by = c.args.import }))

@@ -1,0 +1,15 @@
+use Rattle.std.proofs.Common.{◌≡◌, ◌∙◌, Option, None, Some, is_some, true, false, refl, sym, ap, not}
+use Rattle.indexmap.proofs.CallerLemmas.{insert_entry-new}
+use Rattle.dm_scope.proofs.EntryLemmas.{add_entry-new, add_entry-present, absent}
+use Rattle.dm_scope.proofs.keys.add_key.Goals as goal
+
+pub returns-then-contains_key-clause-entries : goal.returns-then-contains_key-clause-entries
+returns-then-contains_key-clause-entries g c =
+    sym (add_entry-present g.K.PartialEq.eq c.args.key c.args.value c.args.map.now.entries (ap not (sym c.if-contains_key.ensures)))
+
+pub returns-clause-entries : goal.returns-clause-entries
+returns-clause-entries g c =
+    let e = sym c.if-contains_key.ensures in
+    c.in_ok-insert.ensures.entries
+    ∙ insert_entry-new g.K.PartialEq.eq c.args.map.now c.args.key c.args.value (absent _ e)
+    ∙ sym (add_entry-new g.K.PartialEq.eq c.args.key c.args.value c.args.map.now.entries (ap not e))

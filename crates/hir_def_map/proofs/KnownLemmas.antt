@@ -1,0 +1,130 @@
+-- What is known of the parts of known items.
+use Rattle.std.proofs.Common.{◌≡◌, Bool, true, false, cond, List, [], ◌∷◌, ◌++◌, Option, Some, None, refl, subst, ap}
+use Rattle.std.specs.Option.{option_map_or}
+use Rattle.dm_base.specs.declared.imports.ImportOrExternCrate.{ImportOrExternCrate}
+use Rattle.dm_base.specs.declared.imports.ImportOrGlob.{ImportOrGlob}
+use Rattle.dm_base.specs.declared.ids.ModuleId.{ModuleId}
+use Rattle.dm_base.specs.declared.item_ids.ModuleDefId.{ModuleDefId}
+use Rattle.dm_base.specs.declared.item_ids.ModuleDefId.TheVariants as def
+use Rattle.dm_base.specs.declared.item_ids.MacroId.{MacroId}
+use Rattle.dm_base.specs.declared.per_ns.Item.{Item}
+use Rattle.dm_base.specs.declared.per_ns.PerNs.{PerNs}
+use Rattle.dm_base.specs.declared.visibility.Visibility.{Visibility}
+use Rattle.dm_base.specs.declared.visibility.Visibility.TheVariants.{Module, PubCrate, Public}
+use Rattle.dm_base.specs.declared.ids.ExternCrateId.{ExternCrateId}
+use Rattle.dm_base.specs.Items.{keep, seen_by, public_type, first, over}
+use Rattle.dm_base.specs.Names.{Name, find_name, same_name}
+use Rattle.dm_base.specs.Tree.{IsKnown}
+use Rattle.dm_base.specs.Visibility.{NamesKnown}
+use Rattle.dm_maps.specs.declared.held.HeldId.{HeldId}
+use Rattle.dm_maps.specs.declared.held.HeldId.TheVariants as held
+use Rattle.dm_maps.specs.Known.{KnowsAll, knows, def_holds, vis_holds, import_holds, value_import_holds, type_holds, value_holds, macro_holds, res_holds, local_holds}
+use Rattle.dm_maps.specs.Maps.{LocalMap}
+use Rattle.dm_maps.specs.Trees.{tree_of}
+use Rattle.dm_maps.specs.World.{World}
+use Rattle.hir_def_map.specs.Paths.{by_crate}
+
+pub knows-left : (w : World) (hs ks : List HeldId) → KnowsAll w (hs ++ ks) → KnowsAll w hs
+knows-left w [] ks k = tt
+knows-left w (h ∷ hs) ks k = (k.0, knows-left w hs ks k.1)
+
+pub knows-right : (w : World) (hs ks : List HeldId) → KnowsAll w (hs ++ ks) → KnowsAll w ks
+knows-right w [] ks k = k
+knows-right w (h ∷ hs) ks k = knows-right w hs ks k.1
+
+pub knows-append : (w : World) (hs ks : List HeldId) → KnowsAll w hs → KnowsAll w ks → KnowsAll w (hs ++ ks)
+knows-append w [] ks k l = l
+knows-append w (h ∷ hs) ks k l = (k.0, knows-append w hs ks k.1 l)
+
+-- the module that a known visibility names is the tree's
+vis_known : (w : World) (v : Visibility) → KnowsAll w (vis_holds v) → NamesKnown (tree_of w) v
+unfolding tree_of
+vis_known w (Module m e) k = k.0
+vis_known w (PubCrate c) k = tt
+vis_known w Public k = tt
+
+-- the middle part of three
+knows-middle : (w : World) (hs ks ls : List HeldId) → KnowsAll w (hs ++ ks ++ ls) → KnowsAll w ks
+knows-middle w hs ks ls k = knows-right w hs ks (knows-left w (hs ++ ks) ls k)
+
+module _ (w : World) (x : PerNs) (k : KnowsAll w (res_holds x)) where
+  pub types-known : KnowsAll w (option_map_or type_holds x.types [])
+  types-known = knows-left w (option_map_or type_holds x.types []) (option_map_or value_holds x.values []) (knows-left w (option_map_or type_holds x.types [] ++ option_map_or value_holds x.values []) (option_map_or macro_holds x.macros []) k)
+
+  pub values-known : KnowsAll w (option_map_or value_holds x.values [])
+  values-known = knows-middle w (option_map_or type_holds x.types []) (option_map_or value_holds x.values []) (option_map_or macro_holds x.macros []) k
+
+  pub macros-known : KnowsAll w (option_map_or macro_holds x.macros [])
+  macros-known = knows-right w (option_map_or type_holds x.types [] ++ option_map_or value_holds x.values []) (option_map_or macro_holds x.macros []) k
+
+  pub type_vis-known : (i : Item ModuleDefId ImportOrExternCrate) → x.types ≡ Some i → NamesKnown (tree_of w) i.vis
+  type_vis-known i e =
+      let P : Option (Item ModuleDefId ImportOrExternCrate) → Type 0 = λ o. KnowsAll w (option_map_or type_holds o []) in
+      vis_known w i.vis (knows-middle w (def_holds i.def) (vis_holds i.vis) (option_map_or import_holds i.import []) (subst P e types-known))
+
+  pub type_def-known : (i : Item ModuleDefId ImportOrExternCrate) → x.types ≡ Some i → KnowsAll w (def_holds i.def)
+  type_def-known i e =
+      let P : Option (Item ModuleDefId ImportOrExternCrate) → Type 0 = λ o. KnowsAll w (option_map_or type_holds o []) in
+      knows-left w (def_holds i.def) (vis_holds i.vis) (knows-left w (def_holds i.def ++ vis_holds i.vis) (option_map_or import_holds i.import []) (subst P e types-known))
+
+  -- a module that is a known type is the tree's
+  pub type_module-known : (i : Item ModuleDefId ImportOrExternCrate) (m : ModuleId) → x.types ≡ Some i → i.def ≡ def.ModuleId m → IsKnown (tree_of w) m
+  unfolding tree_of
+  type_module-known i m e is = let P : ModuleDefId → Type 0 = λ d. KnowsAll w (def_holds d) in (subst P is (type_def-known i e)).0
+
+  pub value_vis-known : (i : Item ModuleDefId ImportOrGlob) → x.values ≡ Some i → NamesKnown (tree_of w) i.vis
+  value_vis-known i e =
+      let P : Option (Item ModuleDefId ImportOrGlob) → Type 0 = λ o. KnowsAll w (option_map_or value_holds o []) in
+      vis_known w i.vis (knows-middle w (def_holds i.def) (vis_holds i.vis) (option_map_or value_import_holds i.import []) (subst P e values-known))
+
+  pub macro_vis-known : (i : Item MacroId ImportOrExternCrate) → x.macros ≡ Some i → NamesKnown (tree_of w) i.vis
+  macro_vis-known i e =
+      let P : Option (Item MacroId ImportOrExternCrate) → Type 0 = λ o. KnowsAll w (option_map_or macro_holds o []) in
+      vis_known w i.vis (knows-middle w (held.Macro i.def ∷ []) (vis_holds i.vis) (option_map_or import_holds i.import []) (subst P e macros-known))
+
+kept-known : (w : World) {A : Type 0} (holds : A → List HeldId) (p : A → Bool) (o : Option A) → KnowsAll w (option_map_or holds o []) → KnowsAll w (option_map_or holds (keep p o) [])
+kept-known w holds p None k = tt
+kept-known w {A} holds p (Some x) k = by (p x)
+  where
+    by : (b : Bool) → KnowsAll w (option_map_or holds (cond b (Some x) None) [])
+    by true = k
+    by false = tt
+
+-- what is kept of known items is known
+pub seen_by-known : (w : World) (p : Visibility → Bool) (x : PerNs) → KnowsAll w (res_holds x) → KnowsAll w (res_holds (seen_by p x))
+seen_by-known w p x k =
+    knows-append w _ _
+    (knows-append w _ _ (kept-known w type_holds (λ i. p i.vis) x.types (types-known w x k)) (kept-known w value_holds (λ i. p i.vis) x.values (values-known w x k)))
+    (kept-known w macro_holds (λ i. p i.vis) x.macros (macros-known w x k))
+
+-- items but for a macro that does not pass are known
+pub macros_kept-known : (w : World) (p : Item MacroId ImportOrExternCrate → Bool) (x : PerNs) → KnowsAll w (res_holds x) → KnowsAll w (res_holds (record x { macros = keep p x.macros }))
+macros_kept-known w p x k =
+    knows-append w _ _
+    (knows-left w (option_map_or type_holds x.types [] ++ option_map_or value_holds x.values []) (option_map_or macro_holds x.macros []) k)
+    (kept-known w macro_holds p x.macros (macros-known w x k))
+
+-- a module of a known local map is known
+pub local-known : (w : World) (L : LocalMap) (n : Name) (e : ModuleId × Option ExternCrateId) → KnowsAll w (local_holds L) → find_name n L ≡ Some e → KnowsAll w (held.Module e.0 ∷ [])
+local-known w [] n e k is = cc
+local-known w (l ∷ L) n e k is = by (same_name n l.0) is (local-known w L n e k.1)
+  where
+    by : (b : Bool) → cond b (Some l.1) (find_name n L) ≡ Some e → (find_name n L ≡ Some e → KnowsAll w (held.Module e.0 ∷ [])) → KnowsAll w (held.Module e.0 ∷ [])
+    by true same rest = let P : Option (ModuleId × Option ExternCrateId) → Type 0 = λ o. KnowsAll w (option_map_or (λ d. held.Module d.0 ∷ []) o []) in subst P same (k.0, tt)
+    by false there rest = rest there
+
+-- a module of the extern prelude, public
+pub public_module-known : (w : World) (m : ModuleId) (e : Option ExternCrateId) → KnowsAll w (held.Module m ∷ []) → KnowsAll w (res_holds (public_type (def.ModuleId m) (by_crate e)))
+public_module-known w m None k = k
+public_module-known w m (Some x) k = k
+
+first-known : (w : World) {A : Type 0} (holds : A → List HeldId) (a b : Option A) → KnowsAll w (option_map_or holds a []) → KnowsAll w (option_map_or holds b []) → KnowsAll w (option_map_or holds (first a b) [])
+first-known w holds None b k l = l
+first-known w holds (Some x) b k l = k
+
+-- known items over known items are known
+pub over-known : (w : World) (a b : PerNs) → KnowsAll w (res_holds a) → KnowsAll w (res_holds b) → KnowsAll w (res_holds (over a b))
+over-known w a b k l =
+    knows-append w _ _
+    (knows-append w _ _ (first-known w type_holds a.types b.types (types-known w a k) (types-known w b l)) (first-known w value_holds a.values b.values (values-known w a k) (values-known w b l)))
+    (first-known w macro_holds a.macros b.macros (macros-known w a k) (macros-known w b l))

@@ -1,0 +1,33 @@
+use Rattle.std.proofs.Common.{◌≡◌, ◌+◌, ap, sym, subst, ◌∙◌, map, arith, length}
+use Rattle.dm_maps.specs.Readings.{read}
+use Rattle.dm_maps.specs.Trees.{tree_of}
+use Rattle.hir_def_map.specs.declared.segments.Move.{Move}
+use Rattle.hir_def_map.specs.Walk.{GoesKnown}
+use Rattle.hir_def_map.proofs.WalkLemmas.{walk-names, by_move}
+use Rattle.hir_def_map.proofs.segments.walk.Goals as goal
+
+pub returns-in-End : goal.returns-in-End
+returns-in-End c = λ L.
+    let w = c.args.world.now in
+    c.marked.ensures
+    ∙ ap (by_move (tree_of w) c.segments.at c.segments.passed (map (read w L) c.in-Some.after.now)) (sym c.in-End.is)
+    ∙ sym (walk-names w L c.segments.at c.segments.passed c.in-Some.segment.now c.in-Some.after.now c.segments.rest.now c.is_empty.result c.move_on.result c.in-Some.ensures.cases.0 c.is_empty.ensures (c.move_on.ensures.value L))
+    ∙ c.segments.invariant.same L
+
+pub segments-preserved : goal.segments-preserved
+segments-preserved c =
+    let w = c.args.world.now in
+    let goes : GoesKnown w c.move_on.result = c.move_on.ensures.goes in
+    let P : Move → Type 0 = λ mv. GoesKnown w mv in
+    let known = subst P c.in-Go.is goes in
+    let shorter = c.in-Some.ensures.cases.1 in
+    let before = c.segments.invariant.counted in
+    record {
+      origin = known.0;
+      known = known.1;
+      counted = omega arith;
+      same = λ L.
+          ap (by_move (tree_of w) c.segments.at c.segments.passed (map (read w L) c.in-Some.after.now)) (sym c.in-Go.is)
+          ∙ sym (walk-names w L c.segments.at c.segments.passed c.in-Some.segment.now c.in-Some.after.now c.segments.rest.now c.is_empty.result c.move_on.result c.in-Some.ensures.cases.0 c.is_empty.ensures (c.move_on.ensures.value L))
+          ∙ c.segments.invariant.same L;
+    }

@@ -1,0 +1,19 @@
+use Rattle.std.proofs.Common.{◌≡◌, ◌+◌, ◌≤◌, map, length}
+use Rattle.dm_base.specs.Tree.{IsKnown}
+use Rattle.dm_maps.specs.Known.{KnowsAll, res_holds}
+use Rattle.dm_maps.specs.Maps.{LocalMap}
+use Rattle.dm_maps.specs.Readings.{read}
+use Rattle.dm_maps.specs.Trees.{tree_of}
+use Rattle.hir_def_map.specs.Walk.{walk}
+use Rattle.hir_def_map.proofs.segments.walk.Given as goal
+
+abbrev pub invariant-segments : goal.invariant-segments
+invariant-segments l = record {
+  origin : IsKnown (tree_of l.world) l.at.origin;
+  known : KnowsAll l.world (res_holds l.at.here);
+  counted : l.passed + length l.rest ≡ l.fn.position + length l.fn.segments;
+  same : (L : LocalMap) → walk (tree_of l.world) l.at l.passed (map (read l.world L) l.rest) ≡ walk (tree_of l.world) l.fn.from l.fn.position (map (read l.world L) l.fn.segments);
+}
+
+abbrev pub decreases-segments : goal.decreases-segments
+decreases-segments l = length l.rest

@@ -1,0 +1,10 @@
+//! What paths mean: name resolution over a checked world.
+#![tactic(auto)]
+
+mod answers;
+mod first_segment;
+mod home;
+mod layers;
+pub mod question;
+pub mod result;
+mod segments;
