@@ -9,3 +9,8 @@ pub mod Builtins
 pub mod Kinds
 pub mod Styles
 pub mod PerNs
+pub mod Overlays
+pub mod ItemHomes
+pub mod ItemList
+pub mod Reresolved
+pub mod Files

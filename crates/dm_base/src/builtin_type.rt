@@ -1,9 +1,11 @@
 //! The builtin types, which each program has under fixed names.
-ghost use Rattle.std.specs.Prelude.{◌≡◌, Some};
+ghost use Rattle.std.specs.Prelude.{◌≡◌, IfOk, Some};
 ghost use Rattle.dm_base.specs.Names.{find_name};
 ghost use Rattle.dm_base.specs.Builtins.{builtin_words, int_words, uint_words, float_words, builtin_word, int_word, uint_word, float_word};
 
-use crate::name::Name;
+use crate::name::{AsName, Name};
+use crate::symbol::Symbol;
+use std::alloc::{AllocError, Global};
 use std::fmt;
 
 /// The signed integers.
@@ -49,6 +51,37 @@ pub enum BuiltinType {
 }
 
 impl BuiltinType {
+    const ALL: [BuiltinType; 19] = [
+        BuiltinType::Char,
+        BuiltinType::Bool,
+        BuiltinType::Str,
+        BuiltinType::Int(BuiltinInt::Isize),
+        BuiltinType::Int(BuiltinInt::I8),
+        BuiltinType::Int(BuiltinInt::I16),
+        BuiltinType::Int(BuiltinInt::I32),
+        BuiltinType::Int(BuiltinInt::I64),
+        BuiltinType::Int(BuiltinInt::I128),
+        BuiltinType::Uint(BuiltinUint::Usize),
+        BuiltinType::Uint(BuiltinUint::U8),
+        BuiltinType::Uint(BuiltinUint::U16),
+        BuiltinType::Uint(BuiltinUint::U32),
+        BuiltinType::Uint(BuiltinUint::U64),
+        BuiltinType::Uint(BuiltinUint::U128),
+        BuiltinType::Float(BuiltinFloat::F16),
+        BuiltinType::Float(BuiltinFloat::F32),
+        BuiltinType::Float(BuiltinFloat::F64),
+        BuiltinType::Float(BuiltinFloat::F128),
+    ];
+
+    /// The builtin types in order, each under its name.
+    ///
+    /// Fails where memory runs out, and then changes nothing.
+    pub fn all_builtin_types(alloc: Global) -> Result<[(Name, BuiltinType); 19], AllocError>
+        ensures { IfOk result (λ all. all ≡ builtin_words) }
+    {
+        BuiltinType::ALL.try_map(|builtin: BuiltinType| named(alloc, builtin))
+    }
+
     /// The builtin type that a name means where nothing shadows it. Takes no memory.
     pub fn by_name(name: &Name) -> Option<BuiltinType>
         ensures { result ≡ find_name name.now builtin_words }
@@ -93,6 +126,21 @@ impl BuiltinType {
     }
 }
 
+/// A builtin type under its name.
+fn named(alloc: Global, builtin: BuiltinType) -> Result<(Name, BuiltinType), AllocError>
+    ensures { IfOk result (λ named. named ≡ (builtin_word builtin, builtin)) }
+{
+    Ok((builtin.as_name(alloc)?, builtin))
+}
+
+impl AsName for BuiltinType {
+    ghost name_of = { builtin_word };
+
+    fn as_name(&self, alloc: Global) -> Result<Name, AllocError> {
+        Name::new(alloc, self.as_str())
+    }
+}
+
 impl BuiltinInt {
     /// The signed integer that a literal's suffix names. Takes no memory.
     pub fn from_suffix(suffix: &str) -> Option<BuiltinInt>
@@ -107,6 +155,13 @@ impl BuiltinInt {
             "i128" => Some(BuiltinInt::I128),
             _ => None,
         }
+    }
+
+    /// The signed integer that a literal's suffix names, as a symbol. Takes no memory.
+    pub fn from_suffix_sym(suffix: &Symbol) -> Option<BuiltinInt>
+        ensures { result ≡ find_name suffix.now int_words }
+    {
+        BuiltinInt::from_suffix(suffix.as_str())
     }
 
     /// The word of a signed integer type.
@@ -139,6 +194,13 @@ impl BuiltinUint {
             "u128" => Some(BuiltinUint::U128),
             _ => None,
         }
+    }
+
+    /// The unsigned integer that a literal's suffix names, as a symbol. Takes no memory.
+    pub fn from_suffix_sym(suffix: &Symbol) -> Option<BuiltinUint>
+        ensures { result ≡ find_name suffix.now uint_words }
+    {
+        BuiltinUint::from_suffix(suffix.as_str())
     }
 
     /// The word of a unsigned integer type.
@@ -189,7 +251,7 @@ impl fmt::Display for BuiltinType {
     ghost output = { λ word. Some (builtin_word word) };
 
     fn fmt<W: fmt::Write>(&self, f: &mut fmt::Formatter<W>) -> fmt::Result {
-        f.write_str(self.as_str())
+        f.write_str(BuiltinType::as_str(*self))
     }
 }
 
@@ -197,7 +259,7 @@ impl fmt::Display for BuiltinInt {
     ghost output = { λ word. Some (int_word word) };
 
     fn fmt<W: fmt::Write>(&self, f: &mut fmt::Formatter<W>) -> fmt::Result {
-        f.write_str(self.as_str())
+        f.write_str(BuiltinInt::as_str(*self))
     }
 }
 
@@ -205,7 +267,7 @@ impl fmt::Display for BuiltinUint {
     ghost output = { λ word. Some (uint_word word) };
 
     fn fmt<W: fmt::Write>(&self, f: &mut fmt::Formatter<W>) -> fmt::Result {
-        f.write_str(self.as_str())
+        f.write_str(BuiltinUint::as_str(*self))
     }
 }
 
@@ -213,6 +275,6 @@ impl fmt::Display for BuiltinFloat {
     ghost output = { λ word. Some (float_word word) };
 
     fn fmt<W: fmt::Write>(&self, f: &mut fmt::Formatter<W>) -> fmt::Result {
-        f.write_str(self.as_str())
+        f.write_str(BuiltinFloat::as_str(*self))
     }
 }

@@ -26,7 +26,7 @@ impl Definition for ModuleDefId {
 
     ghost same = { Prim.search rules };
 
-    fn widen_def(self) -> ModuleDefId {
+    fn widen_def(self) -> Self {
         self
     }
 }

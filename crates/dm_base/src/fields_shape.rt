@@ -11,7 +11,7 @@ pub enum FieldsShape {
 }
 
 impl FieldsShape {
-    /// Whether the name of what has these fields is also a value: a constructor, or the one value there is.
+    /// Whether a struct or variant with these fields is also a value under its name.
     pub fn has_value_ns_ctor(self) -> bool
         ensures { result ≡ has_constructor self }
     {

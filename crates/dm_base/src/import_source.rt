@@ -58,7 +58,7 @@ impl ImportSource for ImportOrExternCrate {
         Some(import)
     }
 
-    fn widen(self) -> ImportOrExternCrate {
+    fn widen(self) -> Self {
         self
     }
 

@@ -1,5 +1,7 @@
 //! A path: its kind and its segments.
 ghost use Rattle.std.specs.Prelude.{◌≡◌};
+ghost use Rattle.std.specs.Cmp.{partial_equiv_from_equiv};
+ghost use Rattle.dm_base.specs.Path.{same_path, same_path_equivalence};
 
 use crate::ids::Crate;
 use crate::name::Name;
@@ -21,7 +23,7 @@ impl PathKind {
 }
 
 /// A path, which contracts see as its kind and the list of its segments.
-#[derive(Drop)]
+#[derive(Drop, Debug)]
 pub struct ModPath {
     kind: PathKind,
     segments: Vec<Name>,
@@ -56,4 +58,18 @@ impl ModPath {
     {
         self.segments.as_slice()
     }
+}
+
+impl PartialEq for ModPath {
+    ghost eq = { same_path };
+
+    ghost laws = { partial_equiv_from_equiv same_path_equivalence };
+
+    fn eq(&self, other: &ModPath) -> bool {
+        self.kind == other.kind && self.segments == other.segments
+    }
+}
+
+impl Eq for ModPath {
+    ghost laws = { same_path_equivalence };
 }

@@ -1,10 +1,13 @@
 //! What a name means: one item in each namespace at most.
 ghost use Rattle.std.specs.Prelude.{◌≡◌, ⊤, [], ◌∷◌, codes, true, false};
 ghost use Rattle.dm_base.specs.Items.{nothing, over};
+ghost use Rattle.dm_base.specs.ItemList.{items_of};
+ghost use Rattle.dm_base.specs.Reresolved.{is_reresolved};
 ghost use Rattle.dm_base.specs.PerNs.{type_alone, value_alone, macro_alone, type_and_value, of_def, is_empty, is_full, definition, seen_as, availability, AsksItem, AsksInOrder};
 
 use crate::imports::{ImportId, ImportOrExternCrate, ImportOrGlob};
 use crate::item_ids::{AdtId, MacroId, ModuleDefId};
+use crate::items::IterItems;
 use crate::visibility::Visibility;
 use bitflags::{Flag, Flags};
 
@@ -73,6 +76,15 @@ pub struct Item<Def, Import = ImportId> {
     pub import: Option<Import>,
 }
 
+impl<Def: PartialEq, Import: Copy + PartialEq> Item<Def, Import> {
+    /// Whether `import` is an import, the one that brought this item, and stands for another definition now.
+    pub fn is_reresolved_by(&self, def: &Def, import: Option<Import>) -> bool
+        ensures { result ≡ is_reresolved Import.eq Def.eq self.now def.now import }
+    {
+        import.is_some() && self.import == import && self.def != *def
+    }
+}
+
 pub type TypesItem = Item<ModuleDefId, ImportOrExternCrate>;
 
 pub type ValuesItem = Item<ModuleDefId, ImportOrGlob>;
@@ -104,9 +116,8 @@ impl PerNs {
         ensures { result ≡ value_alone def vis import }
     {
         PerNs {
-            types: None,
             values: Some(Item { def, vis, import }),
-            macros: None,
+            ..PerNs::none()
         }
     }
 
@@ -116,8 +127,7 @@ impl PerNs {
     {
         PerNs {
             types: Some(Item { def, vis, import }),
-            values: None,
-            macros: None,
+            ..PerNs::none()
         }
     }
 
@@ -131,17 +141,12 @@ impl PerNs {
         ensures { result ≡ type_and_value types vis values vis import }
     {
         PerNs {
-            types: Some(Item {
-                def: types,
-                vis,
-                import,
-            }),
             values: Some(Item {
                 def: values,
                 vis,
                 import: import.and_then(ImportOrExternCrate::import_or_glob),
             }),
-            macros: None,
+            ..PerNs::types(types, vis, import)
         }
     }
 
@@ -150,14 +155,13 @@ impl PerNs {
         ensures { result ≡ macro_alone def vis import }
     {
         PerNs {
-            types: None,
-            values: None,
             macros: Some(Item { def, vis, import }),
+            ..PerNs::none()
         }
     }
 
-    /// What a definition means: the one namespace that it belongs to, or types and values for a struct or a variant
-    /// whose constructor has a visibility.
+    /// The items of a definition: one in the namespace that it belongs to, and for a struct or a variant whose constructor
+    /// has a visibility one in types and one in values.
     pub fn from_def(
         def: ModuleDefId,
         vis: Visibility,
@@ -166,27 +170,17 @@ impl PerNs {
     ) -> PerNs
         ensures { result ≡ of_def def vis value_ns_ctor_vis import }
     {
+        let value_import = import.and_then(ImportOrExternCrate::import_or_glob);
         match def {
             ModuleDefId::AdtId(AdtId::StructId(_)) | ModuleDefId::EnumVariantId(_) => {
+                let types = PerNs::types(def, vis, import);
                 match value_ns_ctor_vis {
-                    Some(ctor_vis) => PerNs {
-                        types: Some(Item { def, vis, import }),
-                        values: Some(Item {
-                            def,
-                            vis: ctor_vis,
-                            import: import.and_then(ImportOrExternCrate::import_or_glob),
-                        }),
-                        macros: None,
-                    },
-                    None => PerNs::types(def, vis, import),
+                    Some(ctor_vis) => types.or(PerNs::values(def, ctor_vis, value_import)),
+                    None => types,
                 }
             }
             ModuleDefId::FunctionId(_) | ModuleDefId::ConstId(_) | ModuleDefId::StaticId(_) => {
-                PerNs::values(
-                    def,
-                    vis,
-                    import.and_then(ImportOrExternCrate::import_or_glob),
-                )
+                PerNs::values(def, vis, value_import)
             }
             ModuleDefId::ModuleId(_)
             | ModuleDefId::AdtId(AdtId::UnionId(_) | AdtId::EnumId(_))
@@ -264,7 +258,9 @@ impl PerNs {
         self.macros
     }
 
-    /// The items whose visibility passes. The type, the value and the macro are asked about in that order, each once.
+    /// The items whose visibility passes.
+    ///
+    /// `f` is asked about the type, the value and the macro in that order, once about each that is there.
     pub fn filter_visibility<F: FnMut(Visibility) -> bool + Drop>(self, mut f: F) -> PerNs
         requires { F.IsAlwaysCallable f }
         ensures { AsksInOrder F.step self f result }
@@ -300,7 +296,10 @@ impl PerNs {
             macros: self.macros.or(other.macros),
         }
     }
-    /// In each namespace this item, else that of the answer of `f`, which is asked once, and only where an item is missing.
+
+    /// In each namespace this item, else that of the answer of `f`.
+    ///
+    /// `f` is asked once where an item is missing, and never where none is.
     pub fn or_else<F: FnOnce() -> PerNs>(self, f: F) -> PerNs
         requires { is_full self ≡ false → F.pre f }
         ensures full { is_full self ≡ true → result ≡ self }
@@ -310,6 +309,13 @@ impl PerNs {
             return self;
         }
         self.or(f())
+    }
+
+    /// The items in a row, types before values before macros, each with the import that brought it.
+    pub fn iter_items(self) -> IterItems
+        ensures { result ≡ items_of self }
+    {
+        IterItems::new(self)
     }
 }
 

@@ -1,4 +1,7 @@
 //! Where things stand in source text.
+ghost use Rattle.std.specs.Prelude.{◌≡◌};
+ghost use Rattle.dm_base.specs.Files.{macro_file};
+
 use crate::ids::{BlockId, FileAstId, FileId, MacroCallId};
 
 /// An edition of the language.
@@ -17,6 +20,16 @@ pub struct EditionedFileId {
     pub edition: Edition,
 }
 
+impl EditionedFileId {
+    /// The file, without its edition.
+    pub fn file_id(self) -> FileId
+        ensures { result ≡ self.file }
+    {
+        let EditionedFileId { file, .. } = self;
+        file
+    }
+}
+
 /// A file, or what a macro call expands to.
 #[derive(Clone, Copy, PartialEq, Eq, PartialOrd, Ord, Hash, Debug)]
 pub enum HirFileId {
@@ -24,11 +37,33 @@ pub enum HirFileId {
     Macro(MacroCallId),
 }
 
+impl HirFileId {
+    /// The macro call whose expansion it is, if it is one.
+    pub fn macro_file(self) -> Option<MacroCallId>
+        ensures { result ≡ macro_file self }
+    {
+        match self {
+            HirFileId::File(_) => None,
+            HirFileId::Macro(id) => Some(id),
+        }
+    }
+}
+
 /// The item tree of a file, or of a block in it.
 #[derive(Clone, Copy, PartialEq, Eq, PartialOrd, Ord, Hash, Debug)]
 pub struct TreeId {
     pub file: HirFileId,
     pub block: Option<BlockId>,
+}
+
+impl TreeId {
+    /// The file or the expansion that the tree is of.
+    pub fn file_id(self) -> HirFileId
+        ensures { result ≡ self.file }
+    {
+        let TreeId { file, .. } = self;
+        file
+    }
 }
 
 /// An item in the syntax of a file.

@@ -17,7 +17,7 @@ pub enum VisibilityExplicitness {
 }
 
 /// A visibility as it is written, before its path is resolved.
-#[derive(Drop)]
+#[derive(PartialEq, Eq, Drop, Debug)]
 pub enum RawVisibility {
     /// `pub(in path)` and the like.
     Module(ModPath, VisibilityExplicitness),
@@ -47,7 +47,7 @@ impl Visibility {
     pub fn is_visible_from_other_crate(self) -> bool
         ensures { result ≡ is_public self }
     {
-        matches!(self, Visibility::Public)
+        self.is_public()
     }
 
     /// Whether the module `from` sees an item of this visibility (docs/RULES.md, "Who sees what").

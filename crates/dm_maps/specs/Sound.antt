@@ -1,5 +1,5 @@
 -- What a checked world's look-ups give: ids of the world.
-use Rattle.std.specs.Prelude.{ℕ, IsTrue, Option, Some, None, slice_get}
+use Rattle.std.specs.Prelude.{◌≡◌, IsSome, ℕ, IsTrue, Option, Some, None, slice_get}
 use Rattle.std.specs.Option.{ForSome, option_map}
 use Rattle.dm_base.specs.declared.ids.ModuleId.{ModuleId}
 use Rattle.dm_base.specs.declared.ids.BlockId.{BlockId}
@@ -9,7 +9,8 @@ use Rattle.dm_base.specs.Names.{Name, find_name}
 use Rattle.dm_base.specs.Tree.{IsKnown}
 use Rattle.dm_scope.specs.Scope.{bound_in, legacy_in}
 use Rattle.dm_maps.specs.declared.held.HeldId.TheVariants as held
-use Rattle.dm_maps.specs.World.{World, scope_of, crate_map}
+use Rattle.dm_maps.specs.Maps.{Map, module_at}
+use Rattle.dm_maps.specs.World.{World, scope_of, crate_map, map_of, numbered_map}
 use Rattle.dm_maps.specs.Known.{knows, KnowsAll, res_holds}
 use Rattle.dm_maps.specs.Readings.{macro_uses_of, block_root_of, root_of}
 use Rattle.dm_maps.specs.Trees.{tree_of}
@@ -21,3 +22,5 @@ pub record IsSound (w : World) : Type 0 where
   pub block_roots : (b : BlockId) → ForSome (block_root_of w b) (IsKnown (tree_of w))
   pub macro_uses : (id : MapId) (n : Name) → ForSome (find_name n (macro_uses_of w id)) (λ e. IsTrue (knows w (held.Macro e.0)))
   pub legacies : (m : ModuleId) (n : Name) → ForSome (legacy_in (scope_of w m) n) (λ l. IsTrue (knows w (held.Macro l)))
+  pub lies : (map : Map) (m : ModuleId) → numbered_map w map.id ≡ Some map → IsSome (module_at map.modules m) → map_of w m ≡ Some map
+  pub placed : (m : ModuleId) → IsSome (map_of w m) → IsKnown (tree_of w) m

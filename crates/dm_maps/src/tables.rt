@@ -60,7 +60,7 @@ impl WorldBuilder {
     {
         match self.numbered_map(place.map) {
             None => None,
-            Some(map) => map.nth(place.index as usize),
+            Some(map) => map.nth(place.index),
         }
     }
 

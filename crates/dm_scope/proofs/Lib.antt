@@ -3,6 +3,7 @@ pub mod BindingLemmas
 pub mod ClosedLemmas
 pub mod FlagLemmas
 pub mod HasFlagLemmas
+pub mod LookupLemmas
 pub mod Outcomes
 pub mod PushLemmas
 pub mod ReadingLemmas

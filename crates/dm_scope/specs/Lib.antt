@@ -1,7 +1,9 @@
 pub mod Bindings
+pub mod Derives
 pub mod Entries
 pub mod Flags
 pub mod Iterators
+pub mod Lookups
 pub mod Push
 pub mod Pushes
 pub mod Rows

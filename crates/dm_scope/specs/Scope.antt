@@ -1,5 +1,5 @@
 -- Scopes, as contracts see them.
-use Rattle.std.specs.Prelude.{Bool, List, [], ◌∷◌, Option, Some, None}
+use Rattle.std.specs.Prelude.{Bool, List, [], ◌∷◌, Option, Some, None, map}
 use Rattle.dm_base.specs.declared.ids.ImplId.{ImplId}
 use Rattle.dm_base.specs.declared.ids.BuiltinDeriveImplId.{BuiltinDeriveImplId}
 use Rattle.dm_base.specs.declared.ids.ExternBlockId.{ExternBlockId}
@@ -16,7 +16,9 @@ use Rattle.dm_base.specs.declared.item_ids.MacroId.{MacroId}
 use Rattle.dm_base.specs.declared.per_ns.PerNs.{PerNs}
 use Rattle.dm_base.specs.declared.visibility.Visibility.{Visibility}
 use Rattle.dm_base.specs.Names.{Name, find_name}
+use Rattle.smallvec.specs.SmallVec.{SmallVec}
 use Rattle.dm_scope.specs.Bindings.{Bound}
+use Rattle.dm_scope.specs.Derives.{Derive}
 
 -- A scope: what it binds in each namespace, the names that no import could resolve, its legacy macros by name, and the
 -- lists of what is defined in it.
@@ -35,6 +37,8 @@ pub record Scope : Type 0 where
   pub unnamed_traits : List (TraitId × Visibility × Option ImportId)
   pub attr_macros : List (AstId × MacroCallId)
   pub macro_invocations : List (AstId × MacroCallId)
+  -- the derive attributes of each item
+  pub derive_macros : List (AstId × List Derive)
 
 -- a fresh scope
 abbrev pub no_scope : Scope
@@ -53,6 +57,7 @@ no_scope = record {
   unnamed_traits = [];
   attr_macros = [];
   macro_invocations = [];
+  derive_macros = [];
 }
 
 -- what a scope binds under a name
@@ -67,3 +72,7 @@ last_of (x ∷ xs) = elim xs [ [] ↦ Some x | ◌∷◌ y ys ↦ last_of xs ]
 -- the last legacy macro of a scope under a name
 abbrev pub legacy_in : Scope → Name → Option MacroId
 legacy_in s n = elim (find_name n s.legacy_macros) [ None ↦ None | Some ms ↦ last_of ms ]
+
+-- the legacy macros of each name, of the entries of a table
+abbrev pub legacy_of : List (Name × SmallVec MacroId) → List (Name × List MacroId)
+legacy_of es = map (λ e. (e.0, e.1.items)) es

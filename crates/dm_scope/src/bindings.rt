@@ -1,5 +1,5 @@
 //! The bindings of one namespace.
-ghost use Rattle.std.specs.Prelude.{◌≡◌, List, [], ◌∷◌, ◌++◌, length, true, false, Some, OnErr, OnOk, IfOk};
+ghost use Rattle.std.specs.Prelude.{◌≡◌, map, List, [], ◌∷◌, ◌++◌, length, true, false, Some, OnErr, OnOk, IfOk};
 ghost use Rattle.std.specs.Option.{option_copied, option_and_then};
 ghost use Rattle.std.specs.Iterator.{at_most};
 ghost use Rattle.std.specs.Map.{lookup};
@@ -140,6 +140,13 @@ impl<D: Definition, I: ImportSource> Bindings<D, I> {
         let new = self.grow(flags, m, &name, Some(item), import)?;
         self.finish(flags, new, m, &name, Some(item), import);
         Ok(new.writes)
+    }
+
+    /// The items, in order of first binding.
+    pub(crate) fn items(&self) -> &[Item<D, I>]
+        ensures { result.now ≡ map (λ e. e.1) self.now.items }
+    {
+        self.items.values().as_slice()
     }
 
     /// The first step of a push: new keys go last. The second step cannot fail.

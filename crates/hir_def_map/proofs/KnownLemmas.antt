@@ -128,3 +128,8 @@ over-known w a b k l =
     knows-append w _ _
     (knows-append w _ _ (first-known w type_holds a.types b.types (types-known w a k) (types-known w b l)) (first-known w value_holds a.values b.values (values-known w a k) (values-known w b l)))
     (first-known w macro_holds a.macros b.macros (macros-known w a k) (macros-known w b l))
+
+-- a module of the tree is known
+pub root-known : (w : World) (m : ModuleId) → IsKnown (tree_of w) m → KnowsAll w (res_holds (public_type (def.ModuleId m) None))
+unfolding tree_of
+root-known w m k = (k, tt)

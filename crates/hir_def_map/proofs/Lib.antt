@@ -3,3 +3,6 @@ pub mod WalkLemmas
 pub mod KnownLemmas
 pub mod OuterLemmas
 pub mod OverlayLemmas
+pub mod LayerLemmas
+pub mod MergeLemmas
+pub mod PlaceLemmas

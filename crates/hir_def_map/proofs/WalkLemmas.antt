@@ -139,7 +139,7 @@ move-def t a pos s b i d e is =
 abbrev pub by_move : Tree → Stand → ℕ → List Reading → Move → ResolvePathResult
 by_move t a pos S mv = elim mv [ Go b ↦ walk t b (pos + 1) S | End r ↦ marked a.differing r ]
 
-empty-map : {A B : Type 0} (f : A → B) (xs : List A) → is_empty (map f xs) ≡ nat_eq (length xs) 0
+pub empty-map : {A B : Type 0} (f : A → B) (xs : List A) → is_empty (map f xs) ≡ nat_eq (length xs) 0
 empty-map f [] = refl
 empty-map f (x ∷ xs) = elim (eqb_tells (suc (length xs)) 0) [ inl h ↦ (let e : suc (length xs) ≡ 0 = h.1 in absurd (omega arith)) | inr h ↦ sym h.0 ]
 

@@ -35,7 +35,7 @@ use Rattle.hir_def_map.specs.declared.question.Ask.{Ask}
 use Rattle.hir_def_map.specs.declared.result.ResolveMode.TheVariants as mode
 use Rattle.hir_def_map.specs.declared.result.ReachedFixedPoint.TheVariants.{Yes, No}
 use Rattle.hir_def_map.specs.declared.result.ResolvePathResult.{ResolvePathResult}
-use Rattle.hir_def_map.specs.Answers.{reached, nothing_yes, nothing_no, stopped, variant_answer, from_other_crate, either_yes, merged}
+use Rattle.hir_def_map.specs.Answers.{reached, nothing_yes, nothing_no, stopped, variant_answer, from_other_crate, settled, merged}
 
 -- What segments answer from a module of another crate.
 abbrev pub Entering : Type 0
@@ -114,8 +114,7 @@ abbrev pub enter_within : ℕ → Tree → Entering
 enter_within zero t m S = nothing_yes
 enter_within (suc n) t m S =
     let h = home t m in
-    let a = stop (enter_within n t) t h (root_item h) 0 S in
-    record a { reached_fixedpoint = either_yes a.reached_fixedpoint (if in_block_map t h then Yes else No) }
+    settled (in_block_map t h) (stop (enter_within n t) t h (root_item h) 0 S)
 
 -- What `self::` and the segments answer from a module, with no places, prelude or expectation. Each module of another
 -- crate that is met leaves fewer segments.
@@ -227,15 +226,15 @@ abbrev pub is_nothing : PerNs → Bool
 is_nothing x = is_none x.types && is_none x.values && is_none x.macros
 
 -- after `::`, where the 2015 rule does not hold, a name that no layer has is not there yet
-abbrev pub is_missed : Setting → Ask → Place → PerNs → Bool
-is_missed w q p x = elim q.kind [ kind.Abs ↦ not (by_2015_rule w q p) && is_nothing x | _ ↦ false ]
+abbrev pub missed : Ask → Bool → PerNs → Bool
+missed q by_2015 x = elim q.kind [ kind.Abs ↦ not by_2015 && is_nothing x | _ ↦ false ]
 
 -- by what the first segment selects; a path without segments is nothing
 abbrev pub by_first_segment : Setting → Ask → Place → List Reading → ResolvePathResult
 by_first_segment w q p [] = nothing_yes
 by_first_segment w q p (s ∷ rest) =
     let x = overlay (layers w q p s (is_empty rest)) in
-    if is_missed w q p x then nothing_no else stop (enter w.tree) w.tree (seen_from p) x 1 rest
+    if missed q (by_2015_rule w q p) x then nothing_no else stop (enter w.tree) w.tree (seen_from p) x 1 rest
 
 -- from the root of a crate
 abbrev pub from_root : Setting → ModuleId → Crate → List Reading → ResolvePathResult
@@ -274,10 +273,14 @@ up_to h (m ∷ ms) = m ∷ (if same_module m h then [] else up_to h ms)
 abbrev pub prelude_place : Setting → ModuleId → List Place
 prelude_place w h = option_map_or (λ r. Preludes (record { krate = crate_of w.tree h; block = None }) r ∷ []) (option_and_then w.block_root (block_of w.tree h)) []
 
--- the places that a question from m asks: the modules up to the nearest that is no block's root, and then, where that lies in a
--- block, the preludes of the crate
+-- the modules of a list up to h, and then the preludes of h
+abbrev pub places_along : Setting → ModuleId → List ModuleId → List Place
+places_along w h ms = map In (up_to h ms) ++ prelude_place w h
+
+-- The places that a question from m asks: the modules up to the nearest that is no block's root, and then, where that lies in a
+-- block, the preludes of the crate.
 abbrev pub places : Setting → ModuleId → List Place
-places w m = map In (up_to (home w.tree m) (chain w.tree m)) ++ prelude_place w (home w.tree m)
+places w m = places_along w (home w.tree m) (chain w.tree m)
 
 -- the answer of a setting to segments that are read
 unfoldable pub answer_of : Setting → Ask → List Reading → ResolvePathResult

@@ -1,19 +1,21 @@
 //! What a first segment selects.
-ghost use Rattle.std.specs.Prelude.{◌≡◌, Bool, not, ◌∷◌, []};
+ghost use Rattle.std.specs.Prelude.{◌≡◌, ◌&&◌, Bool, not, ◌∷◌, []};
 ghost use Rattle.dm_base.specs.Items.{over, overlay};
 ghost use Rattle.dm_base.specs.Tree.{IsKnown};
 ghost use Rattle.dm_maps.specs.Known.{KnowsAll, res_holds, local_holds};
 ghost use Rattle.dm_maps.specs.Maps.{LocalMap};
-ghost use Rattle.dm_maps.specs.Readings.{setting_of, read};
+ghost use Rattle.dm_maps.specs.Readings.{setting_of, read, is_2015_in};
 ghost use Rattle.dm_maps.specs.Trees.{tree_of};
 ghost use Rattle.dm_maps.specs.World.{World, scope_of};
 ghost use Rattle.dm_scope.specs.Scope.{bound_in};
-ghost use Rattle.hir_def_map.specs.Paths.{asks_root, are_builtins_first, builtins_of, builtins_or_scope, unless_block_root, extern_prelude, prelude, plain_layers, In};
+ghost use Rattle.dm_base.specs.declared.ids.ModuleId.{ModuleId};
+ghost use Rattle.hir_def_map.specs.declared.question.Ask.{Ask};
+ghost use Rattle.hir_def_map.specs.Paths.{asks_root, are_builtins_first, builtins_of, builtins_or_scope, unless_block_root, layers_by_2015_rule, extern_prelude, prelude, plain_layers, layers, In, Preludes};
 
 use crate::layers::{builtin, extern_prelude, fitting, legacy, macro_use_prelude, prelude, root_scope};
 use crate::question::Ask;
 use crate::result::ResolveMode;
-use dm_base::ids::{MapId, ModuleId};
+use dm_base::ids::{Crate, MapId, ModuleId};
 use dm_base::item_ids::ModuleDefId;
 use dm_base::mod_path::PathKind;
 use dm_base::module_tree::ModuleTree;
@@ -159,4 +161,84 @@ fn six_layers(a: PerNs, b: PerNs, c: PerNs, d: PerNs, e: PerNs, f: PerNs) -> Per
     ensures known { (w : World) → KnowsAll w (res_holds a) → KnowsAll w (res_holds b) → KnowsAll w (res_holds c) → KnowsAll w (res_holds d) → KnowsAll w (res_holds e) → KnowsAll w (res_holds f) → KnowsAll w (res_holds result) }
 {
     over(a, over(b, over(c, over(d, over(e, f)))))
+}
+
+/// Whether the question is answered by the rule of edition 2015, in a crate.
+fn by_2015_rule(world: &World, ask: &Ask, krate: Crate) -> bool
+    ensures { result ≡ (is_2015_in world.now krate && asks_root ask.now) }
+{
+    world.is_2015(krate) && asks_root(ask)
+}
+
+/// What edition 2015 selects: the scope of the crate's root, and the extern prelude.
+fn root_layers(world: &World, local: &LocalDefMap, m: ModuleId, segment: &Name) -> PerNs
+    requires module_known { IsKnown (tree_of world.now) m }
+    requires local_known { KnowsAll world.now (local_holds local.now) }
+    ensures value { result ≡ overlay (layers_by_2015_rule (setting_of world.now) (In m) (read world.now local.now segment.now)) }
+    ensures known { KnowsAll world.now (res_holds result) }
+{
+    let root = root_scope(world, m, segment);
+    let externs = extern_layer(world, local, m, segment);
+    over(root, externs)
+}
+
+/// What the preludes of a map select for a path without `::`.
+fn plain_preludes(world: &World, local: &LocalDefMap, id: MapId, segment: &Name) -> PerNs
+    requires { KnowsAll world.now (local_holds local.now) }
+    ensures value { (q : Ask) (f : ModuleId) (is_last : Bool) → result ≡ overlay (plain_layers (setting_of world.now) q (Preludes id f) (read world.now local.now segment.now) is_last) }
+    ensures known { KnowsAll world.now (res_holds result) }
+{
+    let externs = extern_prelude(world, local, segment);
+    let macro_uses = macro_use_prelude(world, id, segment);
+    let preludes = prelude(world, id, segment);
+    over(externs, over(macro_uses, preludes))
+}
+
+/// What the layers of a first segment select at a module.
+#[tactic(auto, unfolding(dm_maps::specs::Readings::read, dm_maps::specs::Readings::setting_of))]
+pub(crate) fn layers_at(
+    world: &World,
+    local: &LocalDefMap,
+    ask: &Ask,
+    m: ModuleId,
+    segment: &Name,
+    is_last: bool,
+) -> PerNs
+    requires module_known { IsKnown (tree_of world.now) m }
+    requires local_known { KnowsAll world.now (local_holds local.now) }
+    ensures value { result ≡ overlay (layers (setting_of world.now) ask.now (In m) (read world.now local.now segment.now) is_last) }
+    ensures known { KnowsAll world.now (res_holds result) }
+{
+    if by_2015_rule(world, ask, world.krate(m)) {
+        return root_layers(world, local, m, segment);
+    }
+    match ask.kind {
+        PathKind::Abs => extern_prelude(world, local, segment),
+        _ => plain_layers(world, local, ask, m, segment, is_last),
+    }
+}
+
+/// What the layers of a first segment select in the preludes of a map.
+#[tactic(auto, unfolding(dm_maps::specs::Readings::read, dm_maps::specs::Readings::setting_of))]
+pub(crate) fn layers_in_preludes(
+    world: &World,
+    local: &LocalDefMap,
+    ask: &Ask,
+    id: MapId,
+    from: ModuleId,
+    segment: &Name,
+    is_last: bool,
+) -> PerNs
+    requires { KnowsAll world.now (local_holds local.now) }
+    ensures value { result ≡ overlay (layers (setting_of world.now) ask.now (Preludes id from) (read world.now local.now segment.now) is_last) }
+    ensures known { KnowsAll world.now (res_holds result) }
+{
+    let externs = extern_prelude(world, local, segment);
+    if by_2015_rule(world, ask, id.krate) {
+        return externs;
+    }
+    match ask.kind {
+        PathKind::Abs => externs,
+        _ => plain_preludes(world, local, id, segment),
+    }
 }

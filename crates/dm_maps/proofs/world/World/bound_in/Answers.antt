@@ -1,7 +1,7 @@
-use Rattle.std.proofs.Common.{◌≡◌, ◌∙◌, ap, sym, subst}
+use Rattle.std.proofs.Common.{◌∙◌, ap, sym, subst}
 use Rattle.dm_base.specs.declared.per_ns.PerNs.{PerNs}
 use Rattle.dm_scope.specs.Scope.{bound_in}
-use Rattle.dm_maps.specs.World.{World, scope_of}
+use Rattle.dm_maps.specs.World.{scope_of}
 use Rattle.dm_maps.specs.Sound.{IsSound}
 use Rattle.dm_maps.specs.Known.{KnowsAll, res_holds}
 use Rattle.dm_maps.proofs.world.World.bound_in.Goals as goal

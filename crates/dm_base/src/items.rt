@@ -1,0 +1,58 @@
+//! The items of all namespaces in a row.
+ghost use Rattle.std.specs.Iterator.{YieldsFirst, item_count};
+
+use crate::imports::ImportOrExternCrate;
+use crate::item_in_ns::ItemInNs;
+use crate::per_ns::PerNs;
+use std::marker::Model;
+
+/// The items that a name means, types before values before macros, each with the import that brought it.
+///
+/// Contracts see the list of those that are left.
+#[derive(Drop)]
+pub struct IterItems {
+    left: PerNs,
+}
+
+impl Model for IterItems {
+    ghost use Rattle.std.specs.Prelude.{List};
+    ghost use Rattle.dm_base.specs.ItemList.{Listed, items_of};
+
+    ghost Value = { List Listed };
+
+    ghost view = { λ items. items_of items.left };
+}
+
+impl IterItems {
+    ghost use Rattle.std.specs.Prelude.{◌≡◌};
+    ghost use Rattle.dm_base.specs.ItemList.{items_of};
+
+    /// The items of a set, none of them taken yet.
+    pub(crate) fn new(items: PerNs) -> IterItems
+        ensures { result ≡ items_of items }
+    {
+        IterItems { left: items }
+    }
+}
+
+impl Iterator for IterItems {
+    type Item = (ItemInNs, Option<ImportOrExternCrate>);
+
+    ghost next_gives = { YieldsFirst (λ items. items) };
+
+    ghost remaining = { item_count (λ items. items) };
+
+    fn next(&mut self) -> Option<(ItemInNs, Option<ImportOrExternCrate>)> {
+        if let Some(item) = self.left.types.take() {
+            return Some((ItemInNs::Types(item.def), item.import));
+        }
+        if let Some(item) = self.left.values.take() {
+            return Some((
+                ItemInNs::Values(item.def),
+                item.import.map(ImportOrExternCrate::from),
+            ));
+        }
+        let item = self.left.macros.take()?;
+        Some((ItemInNs::Macros(item.def), item.import))
+    }
+}

@@ -1,0 +1,55 @@
+-- Which layers a question has.
+use Rattle.std.proofs.Common.{◌≡◌, Bool, true, false, cond, List, [], ◌∷◌, refl, ap, sym, ◌∙◌, map, nat_eq, length}
+use Rattle.dm_base.specs.declared.mod_path.PathKind.{PathKind}
+use Rattle.dm_base.specs.declared.mod_path.PathKind.TheVariants as kind
+use Rattle.dm_base.specs.declared.per_ns.PerNs.{PerNs}
+use Rattle.dm_base.specs.declared.ids.ModuleId.{ModuleId}
+use Rattle.dm_base.specs.Items.{overlay}
+use Rattle.dm_base.specs.Tree.{crate_of}
+use Rattle.dm_base.specs.Names.{Name}
+use Rattle.dm_maps.specs.Maps.{LocalMap}
+use Rattle.dm_maps.specs.Readings.{Setting, Reading, setting_of, read}
+use Rattle.dm_maps.specs.World.{World}
+use Rattle.hir_def_map.specs.Answers.{nothing_no}
+use Rattle.hir_def_map.proofs.WalkLemmas.{empty-map}
+use Rattle.hir_def_map.specs.declared.question.Ask.{Ask}
+use Rattle.hir_def_map.specs.declared.result.ResolvePathResult.{ResolvePathResult}
+use Rattle.hir_def_map.specs.Paths.{Place, In, from_root, from_super, single, by_2015_rule, layers_by_2015_rule, extern_prelude, plain_layers, layers, missed, by_first_segment, stop, enter, seen_from}
+
+abbrev later_layers : Setting → Ask → Place → Reading → Bool → PathKind → List PerNs
+later_layers w q p s is_last k = elim k [ kind.Abs ↦ extern_prelude s ∷ [] | _ ↦ plain_layers w q p s is_last ]
+
+pub layers-plain : (w : Setting) (q : Ask) (p : Place) (s : Reading) (is_last : Bool) → by_2015_rule w q p ≡ false → (q.kind ≡ kind.Abs → ⊥) → layers w q p s is_last ≡ plain_layers w q p s is_last
+layers-plain w q p s is_last later is = ap (λ (b : Bool). cond b (layers_by_2015_rule w p s) (later_layers w q p s is_last q.kind)) later ∙ by q.kind is
+  where
+    by : (k : PathKind) → (k ≡ kind.Abs → ⊥) → later_layers w q p s is_last k ≡ plain_layers w q p s is_last
+    by kind.Abs f = absurd (f refl)
+    by kind.Plain f = refl
+    by kind.Crate f = refl
+    by (kind.DollarCrate c) f = refl
+    by (kind.Super n) f = refl
+
+-- the answer by a first segment, along names
+pub first-names : (w : World) (L : LocalMap) (q : Ask) (p : Place) (n : Name) (rest segments : List Name) (x : PerNs) (is_last is_missed : Bool)
+    → segments ≡ n ∷ rest → is_last ≡ nat_eq (length rest) 0 → x ≡ overlay (layers (setting_of w) q p (read w L n) is_last) → is_missed ≡ missed q (by_2015_rule (setting_of w) q p) x
+    → by_first_segment (setting_of w) q p (map (read w L) segments) ≡ cond is_missed nothing_no (stop (enter (setting_of w).tree) (setting_of w).tree (seen_from p) x 1 (map (read w L) rest))
+first-names w L q p n rest segments x is_last is_missed e last_is x_is missed_is =
+    let g = setting_of w in
+    let S = map (read w L) rest in
+    let found = λ (b : Bool). overlay (layers g q p (read w L n) b) in
+    let ended = λ (m : Bool) (y : PerNs). cond m nothing_no (stop (enter g.tree) g.tree (seen_from p) y 1 S) in
+    ap (λ ns. by_first_segment g q p (map (read w L) ns)) e
+    ∙ ap (λ y. ended (missed q (by_2015_rule g q p) y) y) (ap found (empty-map (read w L) rest ∙ sym last_is) ∙ sym x_is)
+    ∙ ap (λ m. ended m x) (sym missed_is)
+
+-- what a module answers alone, by the kind of path
+abbrev pub single_by : Setting → Ask → List Reading → ModuleId → PathKind → ResolvePathResult
+single_by w q S m k = elim k [
+  | kind.Crate ↦ from_root w m (crate_of w.tree m) S
+  | kind.DollarCrate c ↦ from_root w m c S
+  | kind.Super n ↦ from_super w.tree m n S
+  | _ ↦ by_first_segment w q (In m) S
+]
+
+pub single-kind : (w : Setting) (q : Ask) (S : List Reading) (m : ModuleId) (k : PathKind) → q.kind ≡ k → single w q S (In m) ≡ single_by w q S m k
+single-kind w q S m k is = ap (single_by w q S m) is

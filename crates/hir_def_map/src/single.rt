@@ -1,0 +1,210 @@
+//! What one place answers.
+ghost use Rattle.std.specs.Prelude.{◌≡◌, ◌≤◌, ◌&&◌, if◌then◌else◌, map};
+ghost use Rattle.dm_base.specs.Tree.{IsKnown};
+ghost use Rattle.dm_maps.specs.Known.{KnowsAll, res_holds, local_holds};
+ghost use Rattle.dm_maps.specs.Maps.{LocalMap};
+ghost use Rattle.dm_maps.specs.Readings.{setting_of, read, is_2015_in};
+ghost use Rattle.dm_maps.specs.Trees.{tree_of};
+ghost use Rattle.hir_def_map.specs.Answers.{nothing_no};
+ghost use Rattle.hir_def_map.specs.Paths.{stop, enter, root_item, from_root, from_super, by_first_segment, missed, asks_root, single, In, Preludes};
+
+use crate::answers::{nothing_no, nothing_yes, settled};
+use crate::first_segment::{asks_root, layers_at, layers_in_preludes};
+use crate::home::{home, outer_member};
+use crate::question::Ask;
+use crate::result::ResolvePathResult;
+use crate::segments::{Stand, walk};
+use dm_base::ids::{Crate, MapId, ModuleId};
+use dm_base::item_ids::ModuleDefId;
+use dm_base::mod_path::PathKind;
+use dm_base::module_tree::ModuleTree;
+use dm_base::name::Name;
+use dm_base::per_ns::PerNs;
+use dm_base::visibility::Visibility;
+use dm_maps::local_def_map::LocalDefMap;
+use dm_maps::world::World;
+
+/// The answer at the first stop of the segments, seen from `from`, where `position` segments are behind.
+fn answer_from(
+    world: &World,
+    from: ModuleId,
+    here: PerNs,
+    position: usize,
+    segments: &[Name],
+) -> ResolvePathResult
+    requires from { IsKnown (tree_of world.now) from }
+    requires known { KnowsAll world.now (res_holds here) }
+    requires position { position ≤ 1 }
+    ensures { (L : LocalMap) → result ≡ stop (enter (tree_of world.now)) (tree_of world.now) from here position (map (read world.now L) segments.now) }
+{
+    let stand = Stand {
+        differing: false,
+        origin: from,
+        here,
+    };
+    walk(world, stand, position, segments)
+}
+
+/// A module, as what a path has reached.
+fn root_item(world: &World, m: ModuleId) -> PerNs
+    requires { IsKnown (tree_of world.now) m }
+    ensures value { result ≡ root_item m }
+    ensures known { KnowsAll world.now (res_holds result) }
+{
+    PerNs::types(ModuleDefId::ModuleId(m), Visibility::Public, None)
+}
+
+/// From the root of a crate.
+#[tactic(auto, unfolding(dm_maps::specs::Readings::setting_of))]
+fn from_root(world: &World, m: ModuleId, krate: Crate, segments: &[Name]) -> ResolvePathResult
+    requires { IsKnown (tree_of world.now) m }
+    ensures { (L : LocalMap) → result ≡ from_root (setting_of world.now) m krate (map (read world.now L) segments.now) }
+{
+    match world.root_of(krate) {
+        None => nothing_yes(),
+        Some(root) => answer_from(world, m, root_item(world, root), 0, segments),
+    }
+}
+
+/// What `self::` and the segments answer from a module.
+fn enter(world: &World, m: ModuleId, segments: &[Name]) -> ResolvePathResult
+    requires { IsKnown (tree_of world.now) m }
+    ensures { (L : LocalMap) → result ≡ enter (tree_of world.now) m (map (read world.now L) segments.now) }
+{
+    let inside = home(world, m);
+    let answer = answer_from(world, inside, root_item(world, inside), 0, segments);
+    settled(world.block(inside).is_some(), answer)
+}
+
+/// From member `k` of the chain without the roots of blocks. One of another map is entered.
+fn from_super(world: &World, m: ModuleId, k: u8, segments: &[Name]) -> ResolvePathResult
+    requires { IsKnown (tree_of world.now) m }
+    ensures { (L : LocalMap) → result ≡ from_super (tree_of world.now) m k (map (read world.now L) segments.now) }
+{
+    match outer_member(world, m, k) {
+        None => nothing_yes(),
+        Some(outer) => if world.krate(outer) == world.krate(m) && world.block(outer) == world.block(m) {
+            answer_from(world, m, root_item(world, outer), 0, segments)
+        } else {
+            enter(world, outer, segments)
+        },
+    }
+}
+
+/// The answer after a first segment, by what it selects.
+fn after_first(
+    world: &World,
+    from: ModuleId,
+    found: PerNs,
+    missed: bool,
+    rest: &[Name],
+) -> ResolvePathResult
+    requires from { IsKnown (tree_of world.now) from }
+    requires known { KnowsAll world.now (res_holds found) }
+    ensures { (L : LocalMap) → result ≡ (if missed then nothing_no else stop (enter (tree_of world.now)) (tree_of world.now) from found 1 (map (read world.now L) rest.now)) }
+{
+    if missed {
+        nothing_no()
+    } else {
+        answer_from(world, from, found, 1, rest)
+    }
+}
+
+/// By what the first segment selects, at a module.
+#[tactic(auto, unfolding(dm_maps::specs::Readings::setting_of))]
+fn by_first_segment(
+    world: &World,
+    local: &LocalDefMap,
+    ask: &Ask,
+    m: ModuleId,
+    segments: &[Name],
+) -> ResolvePathResult
+    requires module_known { IsKnown (tree_of world.now) m }
+    requires local_known { KnowsAll world.now (local_holds local.now) }
+    ensures { result ≡ by_first_segment (setting_of world.now) ask.now (In m) (map (read world.now local.now) segments.now) }
+{
+    match segments.split_first() {
+        None => nothing_yes(),
+        Some((segment, rest)) => {
+            let is_last = rest.is_empty();
+            let found = layers_at(world, local, ask, m, segment, is_last);
+            let missed = is_missed(world, ask, world.krate(m), &found);
+            after_first(world, m, found, missed, rest)
+        }
+    }
+}
+
+/// By what the first segment selects, in the preludes of a map.
+#[tactic(auto, unfolding(dm_maps::specs::Readings::setting_of))]
+fn by_first_in_preludes(
+    world: &World,
+    local: &LocalDefMap,
+    ask: &Ask,
+    id: MapId,
+    from: ModuleId,
+    segments: &[Name],
+) -> ResolvePathResult
+    requires module_known { IsKnown (tree_of world.now) from }
+    requires local_known { KnowsAll world.now (local_holds local.now) }
+    ensures { result ≡ by_first_segment (setting_of world.now) ask.now (Preludes id from) (map (read world.now local.now) segments.now) }
+{
+    match segments.split_first() {
+        None => nothing_yes(),
+        Some((segment, rest)) => {
+            let is_last = rest.is_empty();
+            let found = layers_in_preludes(world, local, ask, id, from, segment, is_last);
+            let missed = is_missed(world, ask, id.krate, &found);
+            after_first(world, from, found, missed, rest)
+        }
+    }
+}
+
+/// What a module answers alone.
+#[tactic(auto, unfolding(dm_maps::specs::Readings::setting_of))]
+pub(crate) fn single_at(
+    world: &World,
+    local: &LocalDefMap,
+    ask: &Ask,
+    m: ModuleId,
+    segments: &[Name],
+) -> ResolvePathResult
+    requires module_known { IsKnown (tree_of world.now) m }
+    requires local_known { KnowsAll world.now (local_holds local.now) }
+    ensures { result ≡ single (setting_of world.now) ask.now (map (read world.now local.now) segments.now) (In m) }
+{
+    match ask.kind {
+        PathKind::Crate => from_root(world, m, world.krate(m), segments),
+        PathKind::DollarCrate(krate) => from_root(world, m, krate, segments),
+        PathKind::Super(k) => from_super(world, m, k, segments),
+        _ => by_first_segment(world, local, ask, m, segments),
+    }
+}
+
+/// What the preludes of a map answer alone, seen from a module.
+pub(crate) fn single_in_preludes(
+    world: &World,
+    local: &LocalDefMap,
+    ask: &Ask,
+    id: MapId,
+    from: ModuleId,
+    segments: &[Name],
+) -> ResolvePathResult
+    requires module_known { IsKnown (tree_of world.now) from }
+    requires local_known { KnowsAll world.now (local_holds local.now) }
+    ensures { result ≡ single (setting_of world.now) ask.now (map (read world.now local.now) segments.now) (Preludes id from) }
+{
+    match ask.kind {
+        PathKind::Crate | PathKind::DollarCrate(_) | PathKind::Super(_) => nothing_yes(),
+        _ => by_first_in_preludes(world, local, ask, id, from, segments),
+    }
+}
+
+/// Whether a path that begins with `::` finds nothing, where the rule of edition 2015 does not hold.
+fn is_missed(world: &World, ask: &Ask, krate: Crate, found: &PerNs) -> bool
+    ensures { result ≡ missed ask.now (is_2015_in world.now krate && asks_root ask.now) found.now }
+{
+    match ask.kind {
+        PathKind::Abs => !(world.is_2015(krate) && asks_root(ask)) && found.is_none(),
+        _ => false,
+    }
+}
