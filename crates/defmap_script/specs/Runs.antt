@@ -2,11 +2,11 @@
 use Rattle.std.specs.Prelude.{◌≡◌, ◌⊎◌, ℕ, ◌+◌, ◌==◌, List, [], ◌∷◌, ◌++◌, Option, Some, None, Result, Ok, Err}
 use Rattle.std.specs.List.{slice_split}
 use Rattle.defmap_script.specs.declared.fault.Fault.{Fault}
-use Rattle.defmap_script.specs.declared.fault.Fault.TheVariants.{BadLine, NeedsWorld, NeedsBuilder, Unknown, OutOfMemory}
+use Rattle.defmap_script.specs.declared.fault.Fault.TheVariants.{OutOfMemory}
 use Rattle.defmap_script.specs.declared.script.Lines.{Lines}
 use Rattle.defmap_script.specs.declared.script.RunEnd.{RunEnd}
 use Rattle.defmap_script.specs.declared.script.RunEnd.TheVariants as ends
-use Rattle.defmap_script.specs.Engine.{Tool, fresh, line_step}
+use Rattle.defmap_script.specs.Engine.{Tool, IsLineStep}
 use Rattle.defmap_script.specs.Faults.{refusal}
 
 -- the lines of an input, which line feeds part
@@ -26,5 +26,5 @@ end_of _ = ends.Refused
 abbrev pub Runs : Tool → ℕ → List (List ℕ) → List ℕ → RunEnd → Type 0
 Runs t n [] printed end = (printed ≡ []) × (end ≡ ends.Done)
 Runs t n (l ∷ ls) printed end =
-    ((s : Tool × List ℕ) × (more : List ℕ) × (line_step t l ≡ Ok s) × (printed ≡ s.1 ++ more) × Runs s.0 (n + 1) ls more end)
-    ⊎ ((f : Fault) × ((f ≡ OutOfMemory) ⊎ (line_step t l ≡ Err f)) × ((printed ≡ refusal n f) ⊎ (printed ≡ [])) × (end ≡ end_of f))
+    ((s : Tool × List ℕ) × (more : List ℕ) × IsLineStep t l (Ok s) × (printed ≡ s.1 ++ more) × Runs s.0 (n + 1) ls more end)
+    ⊎ ((f : Fault) × ((f ≡ OutOfMemory) ⊎ IsLineStep t l (Err f)) × ((printed ≡ refusal n f) ⊎ (printed ≡ [])) × (end ≡ end_of f))

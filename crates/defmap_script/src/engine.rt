@@ -1,21 +1,38 @@
 //! What the tool holds, and what a command does to it.
-ghost use Rattle.defmap_script.specs.Engine.{Steps, reply_text, fresh};
-ghost use Rattle.defmap_script.specs.Lines.{asked};
-ghost use Rattle.std.specs.Prelude.{◌≡◌, Some};
+ghost use Rattle.std.specs.Prelude.{◌≡◌, Some, IfOk};
+ghost use Rattle.dm_maps.specs.Build.{with_crate, with_module, with_item};
+ghost use Rattle.dm_maps.specs.Faults.{crate_fault, child_fault, item_fault};
+ghost use Rattle.defmap_script.specs.Engine.{Builds, file_of, fresh, inline, is_thin, IsAnswered, PushesInto, reply_text, Steps};
+ghost use Rattle.defmap_script.specs.Lines.{asked, asking, Checks, words_left};
 
 use crate::fault::Fault;
-use crate::lines::Command;
+use crate::lines::{Command, Question, Words};
 use crate::print::AnswerWords;
+use dm_base::ids::{Crate, FileAstId, FileId, ModuleId};
+use dm_base::item_ids::ItemKind;
+use dm_base::mod_path::{ModPath, PathKind};
+use dm_base::name::Name;
+use dm_base::per_ns::PerNs;
+use dm_base::source::{Edition, EditionedFileId, HirFileId, TreeId};
+use dm_base::visibility::Visibility;
+use dm_maps::builder::WorldBuilder;
+use dm_maps::def_map::DefMap;
+use dm_maps::maps_of::local_def_map;
+use dm_maps::module_origin::ModuleOrigin;
+use dm_maps::world::World;
+use dm_scope::glob_imports::PerNsGlobImports;
+use hir_def_map::path_resolution::ResolvePath;
 use hir_def_map::result::ResolvePathResult;
-use std::alloc::Global;
+use std::alloc::{AllocError, Global};
 use std::fmt;
 use std::marker::Model;
+use std::mem;
 
 /// What the tool holds: tables that are filled, or a checked world.
-#[derive(Clone, Copy)]
+#[derive(Drop)]
 pub(crate) enum Stage {
-    Building,
-    Checked,
+    Building(WorldBuilder),
+    Checked(World),
 }
 
 /// What a line prints.
@@ -39,10 +56,11 @@ impl fmt::Display for Reply {
     }
 }
 
-/// The state of a run.
+/// The state of a run. A line that is refused ends the run, so it leaves no state that matters.
 #[derive(Drop)]
 pub(crate) struct Engine {
     stage: Stage,
+    globs: PerNsGlobImports,
     alloc: Global,
 }
 
@@ -51,16 +69,17 @@ impl Model for Engine {
 
     ghost Value = { Tool };
 
-    ghost view = { λ e. record { stage = e.stage } };
+    ghost view = { λ e. record { stage = e.stage; globs = e.globs } };
 }
 
 impl Engine {
-    /// A tool that holds an empty builder.
+    /// A tool that holds an empty builder, which takes its memory from `alloc`. It takes none yet.
     pub(crate) fn new(alloc: Global) -> Engine
         ensures { result ≡ fresh }
     {
         Engine {
-            stage: Stage::Building,
+            stage: Stage::Building(WorldBuilder::new(alloc)),
+            globs: PerNsGlobImports::new(alloc),
             alloc,
         }
     }
@@ -69,15 +88,157 @@ impl Engine {
     pub(crate) fn run(&mut self, command: Command<'_>) -> Result<Reply, Fault>
         ensures { Steps self.old (asked command.entry) result self.new }
     {
-        match (self.stage, command) {
-            (Stage::Building, Command::Path(_)) => Err(Fault::NeedsWorld),
-            (Stage::Checked, Command::Path(_)) => Err(Fault::Unknown),
-            (Stage::Building, Command::Check) => {
-                self.stage = Stage::Checked;
-                Ok(Reply::Nothing)
-            }
-            (Stage::Checked, _) => Err(Fault::NeedsBuilder),
-            (Stage::Building, _) => Ok(Reply::Nothing),
+        match &mut self.stage {
+            Stage::Building(builder) => match command {
+                Command::Crate { edition, file } => add_crate(builder, edition, file),
+                Command::Module {
+                    parent,
+                    name,
+                    visibility,
+                } => add_module(builder, self.alloc, parent, name, visibility),
+                Command::Item { kind, module } => add_item(builder, kind, module),
+                Command::Push { module, name, res } => {
+                    push(builder, &mut self.globs, self.alloc, module, name, res)
+                }
+                Command::Check => self.check(),
+                Command::Path(_) => Err(Fault::NeedsWorld),
+            },
+            Stage::Checked(world) => match command {
+                Command::Path(question) => answer(world, self.alloc, question),
+                _ => Err(Fault::NeedsBuilder),
+            },
         }
     }
+
+    /// From the builder to the checked world.
+    fn check(&mut self) -> Result<Reply, Fault>
+        ensures { Steps self.old Checks result self.new }
+    {
+        let empty = Stage::Building(WorldBuilder::new(self.alloc));
+        match mem::replace(&mut self.stage, empty) {
+            Stage::Building(builder) => match builder.check() {
+                Ok(world) => {
+                    self.stage = Stage::Checked(world);
+                    Ok(Reply::Nothing)
+                }
+                Err((_, fault)) => Err(Fault::World(fault)),
+            },
+            Stage::Checked(_) => Err(Fault::NeedsBuilder),
+        }
+    }
+}
+
+fn add_crate(
+    builder: &mut WorldBuilder,
+    edition: Edition,
+    file: FileId,
+) -> Result<Reply, Fault>
+    ensures { Builds (crate_fault builder.old) (with_crate builder.old edition (file_of file edition)) result builder.new }
+{
+    builder.add_crate(edition, EditionedFileId { file, edition })?;
+    Ok(Reply::Nothing)
+}
+
+fn add_module(
+    builder: &mut WorldBuilder,
+    alloc: Global,
+    parent: ModuleId,
+    name: &str,
+    visibility: Visibility,
+) -> Result<Reply, Fault>
+    ensures { Builds (child_fault builder.old parent name.now) (with_module builder.old parent name.now inline visibility) result builder.new }
+{
+    let name = Name::new(alloc, name)?;
+    builder.add_module(parent, name, inline(), visibility)?;
+    Ok(Reply::Nothing)
+}
+
+/// Where the modules of a script come from: they are written out in a file of the newest edition that scripts knew first.
+fn inline() -> ModuleOrigin
+    ensures { result ≡ inline }
+{
+    ModuleOrigin::Inline {
+        definition_tree_id: TreeId {
+            file: HirFileId::File(EditionedFileId {
+                file: FileId(0),
+                edition: Edition::Edition2021,
+            }),
+            block: None,
+        },
+        definition: FileAstId(0),
+    }
+}
+
+fn add_item(builder: &mut WorldBuilder, kind: ItemKind, m: ModuleId) -> Result<Reply, Fault>
+    ensures { Builds (item_fault builder.old m) (with_item builder.old kind m) result builder.new }
+{
+    builder.add_item(kind, m)?;
+    Ok(Reply::Nothing)
+}
+
+/// Pushes into the scope of a module of the builder.
+fn push(
+    builder: &mut WorldBuilder,
+    globs: &mut PerNsGlobImports,
+    alloc: Global,
+    m: ModuleId,
+    name: &str,
+    res: PerNs,
+) -> Result<Reply, Fault>
+    ensures { PushesInto builder.old globs.old m name.now res result builder.new globs.new }
+{
+    let Some(scope) = builder.scope_mut(m) else {
+        return Err(Fault::Unknown);
+    };
+    let name = Name::new(alloc, name)?;
+    let changed = scope.push_res_with_import(globs, (m, name), res, None)?;
+    Ok(Reply::Pushed(changed))
+}
+
+/// What a path means in a world.
+fn answer(world: &World, alloc: Global, question: Question<'_>) -> Result<Reply, Fault>
+    ensures { IsAnswered world.now (asking question.entry) result }
+{
+    let Some(map) = world.map_of(question.from) else {
+        return Err(Fault::Unknown);
+    };
+    let beginning = ModPath::from_segments(question.kind, Vec::new(alloc));
+    if !world.has_crate(map.krate()) || !world.knows_path(&beginning) {
+        return Err(Fault::Unknown);
+    }
+    if !is_thin(world, map, question.kind) {
+        return Err(Fault::BadLine);
+    }
+    let local = local_def_map(world, map.krate());
+    let path = ModPath::from_segments(question.kind, names(alloc, question.segments)?);
+    Ok(Reply::Answered(map.resolve_path_fp_with_macro(
+        local,
+        world,
+        question.mode,
+        question.from,
+        &path,
+        question.shadow,
+        question.expected,
+    )))
+}
+
+/// Whether a question is answered so far: of a world of one crate, not of edition 2015, by a path that begins with a name or
+/// with `crate`.
+fn is_thin(world: &World, map: &DefMap, kind: PathKind) -> bool
+    ensures { result ≡ is_thin world.now map.now kind }
+{
+    !world.has_crate(Crate(1))
+        && map.edition() != Edition::Edition2015
+        && matches!(kind, PathKind::Plain | PathKind::Crate)
+}
+
+/// The words as names.
+fn names(alloc: Global, words: Words<'_>) -> Result<Vec<Name>, AllocError>
+    ensures { IfOk result (λ names. names.items ≡ words_left words.entry) }
+{
+    let mut names = Vec::new(alloc);
+    for word in words {
+        names.push(Name::new(alloc, word)?)?;
+    }
+    Ok(names)
 }

@@ -8,3 +8,6 @@ pub mod print;
 pub mod read;
 pub mod script;
 mod words;
+
+#[cfg(test)]
+mod tests;

@@ -63,9 +63,12 @@ fn refuse(number: usize, fault: Fault, out: &mut Vec<u8>) -> RunEnd
     }
     match fault {
         Fault::OutOfMemory => RunEnd::OutOfMemory,
-        Fault::BadLine | Fault::NeedsWorld | Fault::NeedsBuilder | Fault::Unknown => {
-            RunEnd::Refused
-        }
+        Fault::BadLine
+        | Fault::NeedsWorld
+        | Fault::NeedsBuilder
+        | Fault::Unknown
+        | Fault::Build(_)
+        | Fault::World(_) => RunEnd::Refused,
     }
 }
 
