@@ -1,6 +1,5 @@
 -- Runs of scripts, line by line.
-use Rattle.std.proofs.Common.{◌≡◌, ◌⊎◌, ℕ, ◌+◌, ◌≤◌, List, [], ◌∷◌, ◌++◌, Result, Ok, Err, length, arith, refl, sym, ◌∙◌, ap, subst, inl, inr, append_assoc, append-nil, eqb}
-use Rattle.std.specs.List.{slice_split}
+use Rattle.std.proofs.Common.{◌≡◌, ◌⊎◌, ℕ, ◌+◌, ◌≤◌, List, [], ◌∷◌, ◌++◌, Ok, Err, length, arith, refl, sym, ◌∙◌, ap, subst, inl, inr, append_assoc, append-nil, eqb}
 use Rattle.std.proofs.lemmas.List.Splits.{length-slice_split}
 use Rattle.std.proofs.lemmas.List.Sums.{count_by-le-length}
 use Rattle.defmap_script.specs.declared.fault.Fault.{Fault}
@@ -21,8 +20,8 @@ goes_on-begin t n ls = record { by = λ more end r. r }
 pub goes_on-line : (t u v : Tool) (n k : ℕ) (ls rest : List (List ℕ)) (q p l : List ℕ) → GoesOn t n ls q u k (l ∷ rest) → IsLineStep u l (Ok (v, p))
     → GoesOn t n ls (q ++ p) v (k + 1) rest
 goes_on-line t u v n k ls rest q p l h e = record {
-    by = λ more end r. subst (λ printed. Runs t n ls printed end) (sym (append_assoc q p more)) (h.by (p ++ more) end (inl ((v, p), more, e, refl, r)))
-  }
+  by = λ more end r. subst (λ printed. Runs t n ls printed end) (sym (append_assoc q p more)) (h.by (p ++ more) end (inl ((v, p), more, e, refl, r)));
+}
 
 pub goes_on-end : (t u : Tool) (n k : ℕ) (ls : List (List ℕ)) (q : List ℕ) → GoesOn t n ls q u k [] → Runs t n ls q Done
 goes_on-end t u n k ls q h = subst (λ printed. Runs t n ls printed Done) (append-nil q) (h.by [] Done (refl, refl))

@@ -1,5 +1,5 @@
 -- What the words of a script stand for.
-use Rattle.std.proofs.Common.{◌≡◌, ◌≢◌, ℕ, ◌+◌, ◌<◌, ◌^◌, Bool, true, false, not, List, [], ◌∷◌, ◌++◌, Option, Some, None, Result, Ok, Err, length, get_or, arith, rules, refl, sym, ◌∙◌, suc, ap, nat_lt, eqb, ◌&&◌, cond, take, drop}
+use Rattle.std.proofs.Common.{◌≡◌, ◌≢◌, ℕ, ◌+◌, ◌<◌, ◌^◌, Bool, true, false, List, [], ◌∷◌, ◌++◌, Option, Some, None, Result, Ok, Err, length, get_or, arith, refl, sym, ◌∙◌, suc, ap, eqb, ◌&&◌, cond, take, drop}
 use Rattle.std.specs.Option.{option_map, MatchOption}
 use Rattle.std.specs.Result.{OkIff, result_ok}
 use Rattle.std.specs.Char.{is_ascii_digit}

@@ -1,6 +1,6 @@
 -- What the tool holds, and what a line does to it.
-use Rattle.std.specs.Prelude.{◌≡◌, ◌⊎◌, ◌&&◌, not, if◌then◌else◌, ℕ, List, [], ◌∷◌, ◌++◌, Bool, true, false, IsTrue, IsSome, Option, Some, None, Result, Ok, Err, MatchResult, MatchOption, slice_get, codes}
-use Rattle.std.specs.Option.{option_map_or}
+use Rattle.std.specs.Prelude.{◌≡◌, ◌⊎◌, ◌&&◌, not, if◌then◌else◌, ℕ, List, [], ◌++◌, Bool, true, false, IsTrue, IsSome, Option, Some, None, Result, Ok, Err, MatchResult, MatchOption, slice_get, codes}
+use Rattle.std.specs.Borrow.{Bor}
 use Rattle.dm_base.specs.Names.{Name}
 use Rattle.dm_base.specs.declared.ids.FileId.{FileId}
 use Rattle.dm_base.specs.declared.ids.ModuleId.{ModuleId}
@@ -22,9 +22,9 @@ use Rattle.dm_maps.specs.declared.module_origin.ModuleOrigin.TheVariants.{Inline
 use Rattle.dm_maps.specs.Build.{no_world, with_crate, with_module, with_item}
 use Rattle.dm_maps.specs.Faults.{crate_fault, child_fault, item_fault}
 use Rattle.dm_maps.specs.First.{holders, IsChecked, IsFirstFault}
-use Rattle.dm_maps.specs.Known.{knows, KnowsAll, path_holds}
-use Rattle.dm_maps.specs.Maps.{Map, LocalMap}
-use Rattle.dm_maps.specs.World.{World, map_of, own_scope, with_scope}
+use Rattle.dm_maps.specs.Known.{knows, KnowsAll, local_holds, path_holds}
+use Rattle.dm_maps.specs.Maps.{Map, LocalMap, module_at}
+use Rattle.dm_maps.specs.World.{World, map_of, numbered_map, own_scope, with_scope}
 use Rattle.hir_def_map.specs.Paths.{answer}
 use Rattle.defmap_script.specs.declared.engine.Reply.{Reply}
 use Rattle.defmap_script.specs.declared.engine.Reply.TheVariants.{Nothing, Pushed, Answered}
@@ -178,3 +178,15 @@ abbrev pub PushesInto : World → Globs → ModuleId → Name → PerNs → Resu
 PushesInto w g m n x r v h = MatchResult r
     (λ reply. pushed w g m n x (own_scope w m) ≡ Ok (building v h, reply))
     (λ f. (f ≡ faults.OutOfMemory) ⊎ (pushed w g m n x (own_scope w m) ≡ Err f))
+
+-- ---- Calls with the world
+
+-- a look-up of what a question is about: none exactly where the question is not known
+abbrev pub Finds : World → Asking → Option (Bor Map × Bor LocalMap) → Type 0
+Finds w q r = MatchOption r
+    ((map : Map) (local : LocalMap) → ¬ (IsKnownQuestion w q map local))
+    (λ p. IsKnownQuestion w q p.0.now p.1.now × (numbered_map w p.0.now.id ≡ Some p.0.now) × IsSome (module_at p.0.now.modules q.from) × KnowsAll w (local_holds p.1.now))
+
+-- a call that answers a question, or is refused for it or for want of memory
+abbrev pub Answers : World → Asking → Result Reply Fault → Type 0
+Answers w q r = IsAnswered w q r ⊎ (r ≡ Err faults.OutOfMemory)

@@ -1,5 +1,5 @@
 -- What the words of a script stand for. A word of another form stands for nothing.
-use Rattle.std.specs.Prelude.{ℕ, ◌==◌, ◌&&◌, nat_lt, List, [], ◌∷◌, ◌++◌, Option, Some, None, if◌then◌else◌, length, codes}
+use Rattle.std.specs.Prelude.{ℕ, ◌==◌, ◌&&◌, nat_lt, List, [], ◌∷◌, Option, Some, None, if◌then◌else◌, length, codes}
 use Rattle.std.specs.Char.{is_ascii_digit}
 use Rattle.std.specs.List.{list_all}
 use Rattle.std.specs.Option.{option_map, option_and_then}
@@ -8,8 +8,6 @@ use Rattle.dm_base.specs.Names.{Name, same_name, find_name}
 use Rattle.dm_base.specs.Builtins.{builtin_words}
 use Rattle.dm_base.specs.Imports.{narrowed}
 use Rattle.dm_base.specs.Items.{first}
-use Rattle.dm_base.specs.declared.ids.Crate.{Crate}
-use Rattle.dm_base.specs.declared.ids.ModuleId.{ModuleId}
 use Rattle.dm_base.specs.declared.ids.UseId.{UseId}
 use Rattle.dm_base.specs.declared.ids.UseTreeIdx.{UseTreeIdx}
 use Rattle.dm_base.specs.declared.item_ids.AdtId.TheVariants as adt
@@ -137,7 +135,7 @@ import_word w = if same_name w (codes "none") then Some None else option_map (λ
 abbrev pub item_parts : Name → Name → Name → Option (Item ModuleDefId ImportOrExternCrate)
 item_parts d v i =
     option_and_then (λ def. option_and_then (λ vis. option_map (λ import. record { def = def; vis = vis; import = import }) (import_word i))
-      (visibility v)) (definition d)
+    (visibility v)) (definition d)
 
 -- `-` for none, or a definition, a visibility and an import with slashes between
 abbrev pub types_word : Name → Option (Option (Item ModuleDefId ImportOrExternCrate))

@@ -2,7 +2,7 @@
 ghost use Rattle.std.specs.Prelude.{◌≡◌, Some, IfOk};
 ghost use Rattle.dm_maps.specs.Build.{with_crate, with_module, with_item};
 ghost use Rattle.dm_maps.specs.Faults.{crate_fault, child_fault, item_fault};
-ghost use Rattle.defmap_script.specs.Engine.{Builds, file_of, fresh, inline, is_thin, IsAnswered, PushesInto, reply_text, Steps};
+ghost use Rattle.defmap_script.specs.Engine.{Builds, file_of, fresh, inline, is_thin, Answers, Finds, PushesInto, reply_text, Steps};
 ghost use Rattle.defmap_script.specs.Lines.{asked, asking, Checks, words_left};
 
 use crate::fault::Fault;
@@ -17,6 +17,7 @@ use dm_base::source::{Edition, EditionedFileId, HirFileId, TreeId};
 use dm_base::visibility::Visibility;
 use dm_maps::builder::WorldBuilder;
 use dm_maps::def_map::DefMap;
+use dm_maps::local_def_map::LocalDefMap;
 use dm_maps::maps_of::local_def_map;
 use dm_maps::module_origin::ModuleOrigin;
 use dm_maps::world::World;
@@ -24,9 +25,8 @@ use dm_scope::glob_imports::PerNsGlobImports;
 use hir_def_map::path_resolution::ResolvePath;
 use hir_def_map::result::ResolvePathResult;
 use std::alloc::{AllocError, Global};
-use std::fmt;
 use std::marker::Model;
-use std::mem;
+use std::{fmt, mem};
 
 /// What the tool holds: tables that are filled, or a checked world.
 #[derive(Drop)]
@@ -128,11 +128,7 @@ impl Engine {
     }
 }
 
-fn add_crate(
-    builder: &mut WorldBuilder,
-    edition: Edition,
-    file: FileId,
-) -> Result<Reply, Fault>
+fn add_crate(builder: &mut WorldBuilder, edition: Edition, file: FileId) -> Result<Reply, Fault>
     ensures { Builds (crate_fault builder.old) (with_crate builder.old edition (file_of file edition)) result builder.new }
 {
     builder.add_crate(edition, EditionedFileId { file, edition })?;
@@ -197,19 +193,14 @@ fn push(
 
 /// What a path means in a world.
 fn answer(world: &World, alloc: Global, question: Question<'_>) -> Result<Reply, Fault>
-    ensures { IsAnswered world.now (asking question.entry) result }
+    ensures { Answers world.now (asking question.entry) result }
 {
-    let Some(map) = world.map_of(question.from) else {
+    let Some((map, local)) = known(world, alloc, question) else {
         return Err(Fault::Unknown);
     };
-    let beginning = ModPath::from_segments(question.kind, Vec::new(alloc));
-    if !world.has_crate(map.krate()) || !world.knows_path(&beginning) {
-        return Err(Fault::Unknown);
-    }
     if !is_thin(world, map, question.kind) {
         return Err(Fault::BadLine);
     }
-    let local = local_def_map(world, map.krate());
     let path = ModPath::from_segments(question.kind, names(alloc, question.segments)?);
     Ok(Reply::Answered(map.resolve_path_fp_with_macro(
         local,
@@ -220,6 +211,22 @@ fn answer(world: &World, alloc: Global, question: Question<'_>) -> Result<Reply,
         question.shadow,
         question.expected,
     )))
+}
+
+/// The map that a question is about and the extern prelude of its crate, where all that the question names is the world's.
+fn known<'a>(
+    world: &'a World,
+    alloc: Global,
+    question: Question<'_>,
+) -> Option<(&'a DefMap, &'a LocalDefMap)>
+    ensures { Finds world.now (asking question.entry) result }
+{
+    let map = world.map_of(question.from)?;
+    let beginning = ModPath::from_segments(question.kind, Vec::new(alloc));
+    if !world.has_crate(map.krate()) || !world.knows_path(&beginning) {
+        return None;
+    }
+    Some((map, local_def_map(world, map.krate())))
 }
 
 /// Whether a question is answered so far: of a world of one crate, not of edition 2015, by a path that begins with a name or

@@ -1,6 +1,6 @@
 //! Why a line is refused.
 ghost use Rattle.std.specs.Prelude.{◌≡◌, Some};
-ghost use Rattle.defmap_script.specs.Faults.{build_fault, fault_text, build_fault_text, world_fault_text, kind_text, holder_text};
+ghost use Rattle.defmap_script.specs.Faults.{build_fault, fault_text, build_fault_text, world_fault_text, kind_text, holder_text, map_text};
 ghost use Rattle.defmap_script.specs.declared.fault.Fault.TheVariants as faults;
 
 use crate::lines::BadLine;
@@ -126,7 +126,7 @@ impl fmt::Display for KindWord {
     }
 }
 
-/// The word of a holder: `c` and the crate of a crate's map, `b` and the block of a block's, `m` and a module, or `tables`.
+/// The word of a holder: that of a map, `m` and a module, or `tables`.
 #[derive(Clone, Copy)]
 struct HolderWord(Holder);
 
@@ -135,13 +135,24 @@ impl fmt::Display for HolderWord {
 
     fn fmt<W: fmt::Write>(&self, f: &mut fmt::Formatter<W>) -> fmt::Result {
         match self.0 {
-            Holder::Map(MapId { krate, block: None }) => write!(f, "c{}", krate.0),
-            Holder::Map(MapId {
-                krate: _,
-                block: Some(block),
-            }) => write!(f, "b{}", block.0),
+            Holder::Map(id) => write!(f, "{}", MapWord(id)),
             Holder::Module(id) => write!(f, "m{}", id.0),
             Holder::Tables => f.write_str("tables"),
+        }
+    }
+}
+
+/// The word of a map: `c` and its crate, or `b` and its block.
+#[derive(Clone, Copy)]
+struct MapWord(MapId);
+
+impl fmt::Display for MapWord {
+    ghost output = { λ w. Some (map_text w.0.krate.0 w.0.block) };
+
+    fn fmt<W: fmt::Write>(&self, f: &mut fmt::Formatter<W>) -> fmt::Result {
+        match self.0.block {
+            None => write!(f, "c{}", self.0.krate.0),
+            Some(block) => write!(f, "b{}", block.0),
         }
     }
 }

@@ -7,7 +7,6 @@ mod lines;
 pub mod print;
 pub mod read;
 pub mod script;
-mod words;
-
 #[cfg(test)]
 mod tests;
+mod words;

@@ -2,7 +2,6 @@
 ghost use Rattle.std.specs.Prelude.{ℕ, List, ◌≡◌, ◌==◌, ◌<◌, ◌++◌, ◌⊎◌, IfSome, length, position};
 ghost use Rattle.std.specs.Iterator.{YieldsFirstRef, item_count};
 ghost use Rattle.std.specs.Option.{option_map};
-
 ghost use Rattle.defmap_script.specs.Engine.{fresh, LineSteps};
 ghost use Rattle.defmap_script.specs.Faults.{refusal};
 ghost use Rattle.defmap_script.specs.Runs.{lines, lines_left, end_of, Runs};

@@ -146,10 +146,7 @@ pub(crate) fn visibility(word: &str) -> Option<Visibility>
         "crate" => Some(Visibility::PubCrate(Crate(number(rest)?))),
         "in" => {
             let (module, how) = cut_at_colon(rest)?;
-            Some(Visibility::Module(
-                ModuleId(number(module)?),
-                explicitness(how)?,
-            ))
+            Some(Visibility::Module(ModuleId(number(module)?), explicitness(how)?))
         }
         _ => None,
     }
@@ -174,9 +171,7 @@ pub(crate) fn import(word: &str) -> Option<Option<ImportOrExternCrate>>
     }
     let (kind, rest) = cut_at_colon(word)?;
     match kind {
-        "extern" => Some(Some(ImportOrExternCrate::ExternCrate(ExternCrateId(
-            number(rest)?,
-        )))),
+        "extern" => Some(Some(ImportOrExternCrate::ExternCrate(ExternCrateId(number(rest)?)))),
         "import" => {
             let (use_, idx) = use_leaf(rest)?;
             Some(Some(ImportOrExternCrate::Import(ImportId { use_, idx })))
@@ -242,11 +237,13 @@ pub(crate) fn macros_item(word: &str) -> Option<Option<MacrosItem>>
 {
     match types_item(word)? {
         None => Some(None),
-        Some(Item {
-            def: ModuleDefId::MacroId(def),
-            vis,
-            import,
-        }) => Some(Some(Item { def, vis, import })),
+        Some(
+            Item {
+                def: ModuleDefId::MacroId(def),
+                vis,
+                import,
+            },
+        ) => Some(Some(Item { def, vis, import })),
         Some(_) => None,
     }
 }

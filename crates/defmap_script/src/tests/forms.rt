@@ -8,8 +8,16 @@ fn lines_that_say_nothing_are_counted(rt: HostRuntime) -> Result<(), Fail> {
     let rows = [
         (b"".as_slice(), b"".as_slice(), RunEnd::Done),
         (b"\n\n\n".as_slice(), b"".as_slice(), RunEnd::Done),
-        (b"   \n# a comment\n#\n#\xff\xfe\n".as_slice(), b"".as_slice(), RunEnd::Done),
-        (b"\n# no\n  \nnonsense".as_slice(), b"refused 4 BadLine\n".as_slice(), RunEnd::Refused),
+        (
+            b"   \n# a comment\n#\n#\xff\xfe\n".as_slice(),
+            b"".as_slice(),
+            RunEnd::Done,
+        ),
+        (
+            b"\n# no\n  \nnonsense".as_slice(),
+            b"refused 4 BadLine\n".as_slice(),
+            RunEnd::Refused,
+        ),
         (b"check".as_slice(), b"".as_slice(), RunEnd::Done),
         (b"check\n".as_slice(), b"".as_slice(), RunEnd::Done),
     ];
@@ -39,10 +47,14 @@ fn spaces_alone_part_words(rt: HostRuntime) -> Result<(), Fail> {
         assert_eq!(rt; end, RunEnd::Refused);
         assert_eq!(rt; out.as_slice(), b"refused 1 BadLine\n".as_slice());
     }
-    let script = b"  crate   2021  0  \n item struct 0\n  push 0 S\r struct:0/pub/none  -  - none \ncheck  \n   path 0 other module any plain S\r";
+    let script =
+        b"  crate   2021  0  \n item struct 0\n  push 0 S\r struct:0/pub/none  -  - none \ncheck  \n   path 0 other module any plain S\r";
     let (out, end) = ran(rt.alloc(), script.as_slice(), b"")?;
     assert_eq!(rt; end, RunEnd::Done);
-    assert_eq!(rt; out.as_slice(), b"true\nstruct:0/pub/none - - yes - -\n".as_slice());
+    assert_eq!(rt;
+        out.as_slice(),
+        b"true\nstruct:0/pub/none - - yes - -\n".as_slice()
+    );
     Ok(())
 }
 

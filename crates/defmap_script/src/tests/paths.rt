@@ -26,21 +26,54 @@ true
 #[test]
 fn answers_are_those_of_the_scoping_rules(rt: HostRuntime) -> Result<(), Fail> {
     let rows = [
-        ("path 0 other module any crate a S", "- fn:1/pub/none - yes - -\n"),
-        ("path 1 other module any crate a S", "struct:0/in:1:implicit/none fn:1/pub/none - yes - -\n"),
-        ("path 1 other module any plain S", "struct:0/in:1:implicit/none fn:1/pub/none - yes - -\n"),
-        ("path 1 other module any crate a S z", "struct:0/in:1:implicit/none - - yes 2 -\n"),
+        (
+            "path 0 other module any crate a S",
+            "- fn:1/pub/none - yes - -\n",
+        ),
+        (
+            "path 1 other module any crate a S",
+            "struct:0/in:1:implicit/none fn:1/pub/none - yes - -\n",
+        ),
+        (
+            "path 1 other module any plain S",
+            "struct:0/in:1:implicit/none fn:1/pub/none - yes - -\n",
+        ),
+        (
+            "path 1 other module any crate a S z",
+            "struct:0/in:1:implicit/none - - yes 2 -\n",
+        ),
         ("path 0 other module any plain a S z", "- - - no - -\n"),
-        ("path 0 other module any plain u8", "mod:2/pub/none - - yes - -\n"),
-        ("path 0 other other any plain u8", "builtin:u8/pub/none - - yes - -\n"),
-        ("path 0 other other any plain u8 x", "struct:0/pub/none - - yes - -\n"),
-        ("path 0 other module any crate", "mod:0/pub/none - - yes - -\n"),
+        (
+            "path 0 other module any plain u8",
+            "mod:2/pub/none - - yes - -\n",
+        ),
+        (
+            "path 0 other other any plain u8",
+            "builtin:u8/pub/none - - yes - -\n",
+        ),
+        (
+            "path 0 other other any plain u8 x",
+            "struct:0/pub/none - - yes - -\n",
+        ),
+        (
+            "path 0 other module any crate",
+            "mod:0/pub/none - - yes - -\n",
+        ),
         ("path 0 other module any plain", "- - - yes - -\n"),
         ("path 0 other module any plain nope", "- - - yes - -\n"),
         ("path 0 other module any plain nope x", "- - - no - -\n"),
-        ("path 0 import module any crate a", "mod:1/pub/none - - yes - -\n"),
-        ("path 0 other module bang plain a", "mod:1/pub/none - - yes - -\n"),
-        ("path 0 other module attr plain a", "mod:1/pub/none - - yes - -\n"),
+        (
+            "path 0 import module any crate a",
+            "mod:1/pub/none - - yes - -\n",
+        ),
+        (
+            "path 0 other module bang plain a",
+            "mod:1/pub/none - - yes - -\n",
+        ),
+        (
+            "path 0 other module attr plain a",
+            "mod:1/pub/none - - yes - -\n",
+        ),
     ];
     for (line, answer) in rows {
         let (out, end) = ran(rt.alloc(), WORLD.as_bytes(), line.as_bytes())?;

@@ -66,8 +66,14 @@ fn bad_lines_are_refused(rt: HostRuntime) -> Result<(), Fail> {
 #[test]
 fn each_refusal_names_its_line_and_fault(rt: HostRuntime) -> Result<(), Fail> {
     let rows = [
-        ("crate 2021 0\npath 0 other module any plain x", "refused 2 NeedsWorld\n"),
-        ("path 9 import other attr dollar:9", "refused 1 NeedsWorld\n"),
+        (
+            "crate 2021 0\npath 0 other module any plain x",
+            "refused 2 NeedsWorld\n",
+        ),
+        (
+            "path 9 import other attr dollar:9",
+            "refused 1 NeedsWorld\n",
+        ),
         ("check\ncrate 2021 0", "refused 2 NeedsBuilder\n"),
         ("check\nmodule 9 a pub", "refused 2 NeedsBuilder\n"),
         ("check\nitem fn 9", "refused 2 NeedsBuilder\n"),
@@ -75,15 +81,33 @@ fn each_refusal_names_its_line_and_fault(rt: HostRuntime) -> Result<(), Fail> {
         ("check\ncheck", "refused 2 NeedsBuilder\n"),
         ("push 0 S - - - none", "refused 1 Unknown\n"),
         ("crate 2021 0\npush 1 S - - - none", "refused 2 Unknown\n"),
-        ("check\npath 0 other module any plain", "refused 2 Unknown\n"),
-        ("crate 2021 0\ncrate 2021 0\ncheck\npath 0 other module any plain", "refused 4 BadLine\n"),
-        ("crate 2015 0\ncheck\npath 0 other module any plain", "refused 3 BadLine\n"),
+        (
+            "check\npath 0 other module any plain",
+            "refused 2 Unknown\n",
+        ),
+        (
+            "crate 2021 0\ncrate 2021 0\ncheck\npath 0 other module any plain",
+            "refused 4 BadLine\n",
+        ),
+        (
+            "crate 2015 0\ncheck\npath 0 other module any plain",
+            "refused 3 BadLine\n",
+        ),
         ("module 0 a pub", "refused 1 NoSuchModule\n"),
         ("crate 2021 0\nmodule 1 a pub", "refused 2 NoSuchModule\n"),
         ("item struct 0", "refused 1 NoSuchModule\n"),
-        ("crate 2021 0\nmodule 0 a pub\nmodule 0 a pub", "refused 3 TakenChild\n"),
-        ("crate 2021 0\nmodule 0 a in:7:implicit\ncheck", "refused 3 UnknownModule m1 7\n"),
-        ("crate 2021 0\nmodule 0 a crate:1\ncheck", "refused 3 UnknownCrate m1 1\n"),
+        (
+            "crate 2021 0\nmodule 0 a pub\nmodule 0 a pub",
+            "refused 3 TakenChild\n",
+        ),
+        (
+            "crate 2021 0\nmodule 0 a in:7:implicit\ncheck",
+            "refused 3 UnknownModule m1 7\n",
+        ),
+        (
+            "crate 2021 0\nmodule 0 a crate:1\ncheck",
+            "refused 3 UnknownCrate m1 1\n",
+        ),
     ];
     for (script, printed) in rows {
         let (out, end) = ran(rt.alloc(), script.as_bytes(), b"\nnonsense\n")?;
@@ -107,11 +131,19 @@ fn a_check_names_the_first_fault(rt: HostRuntime) -> Result<(), Fail> {
         ("variant:0/pub/none - -", "UnknownItem m1 0"),
         ("- - rules:0/pub/none", "UnknownMacro m1 0"),
         ("macro2:6/pub/none - -", "UnknownMacro m1 6"),
-        ("struct:3/pub/none union:2/in:9:implicit/none proc:1/pub/none", "UnknownModule m1 9"),
-        ("struct:3/pub/none union:2/pub/none proc:1/pub/none", "UnknownItem m1 2"),
+        (
+            "struct:3/pub/none union:2/in:9:implicit/none proc:1/pub/none",
+            "UnknownModule m1 9",
+        ),
+        (
+            "struct:3/pub/none union:2/pub/none proc:1/pub/none",
+            "UnknownItem m1 2",
+        ),
     ];
     for (items, fault) in rows {
-        let script = format!(in rt.alloc(); "crate 2021 0\nmodule 0 a pub\nmodule 0 b pub\nitem fn 0\npush 2 y mod:7/pub/none - - none\npush 1 z {items} none\ncheck\n")?;
+        let script = format!(in rt.alloc();
+            "crate 2021 0\nmodule 0 a pub\nmodule 0 b pub\nitem fn 0\npush 2 y mod:7/pub/none - - none\npush 1 z {items} none\ncheck\n"
+        )?;
         let printed = format!(in rt.alloc(); "true\ntrue\nrefused 7 {fault}\n")?;
         let (out, end) = ran(rt.alloc(), script.as_bytes(), b"")?;
         assert_eq!(rt; end, RunEnd::Refused, "{items}");

@@ -1,6 +1,6 @@
-use Rattle.std.proofs.Common.{rules, arith, [], ◌∷◌, ◌≡◌, ◌+◌, ◌≤◌, length, sym, ap, append-nil}
+use Rattle.std.proofs.Common.{rules, arith, [], ◌∷◌, ◌≡◌, length, sym, ap, append-nil}
 use Rattle.defmap_script.specs.Engine.{fresh}
-use Rattle.defmap_script.specs.Runs.{lines, lines_left, Runs}
+use Rattle.defmap_script.specs.Runs.{lines, lines_left}
 use Rattle.defmap_script.proofs.RunLemmas.{Printed, goes_on-begin, printed-line, ran-end, ran-refused, length-lines}
 use Rattle.defmap_script.proofs.script.run_script.Goals as goal
 
@@ -16,17 +16,21 @@ returns-in-Err c =
     let step : lines_left c.loop-line.line-iterator ≡ c.in-Some.line.now ∷ lines_left c.next.new.self = search rules
     in let so_far : Printed c.args.out.now.items c.loop-line.out.items fresh (lines c.args.input.now) c.loop-line.engine c.loop-line.number (c.in-Some.line.now ∷ lines_left c.next.new.self) = rw (← step) c.loop-line.invariant.0
     in rw c.refuse.ensures.end
-      (ran-refused c.args.out.now.items c.loop-line.out.items c.refuse.new.out.items c.in-Some.line.now (lines c.args.input.now) (lines_left c.next.new.self)
-        fresh c.loop-line.engine c.loop-line.number c.in-Err.fault so_far c.in-Err.ensures.0 (rw c.in-Err.ensures.1 at c.refuse.ensures.line))
+    (ran-refused c.args.out.now.items c.loop-line.out.items c.refuse.new.out.items c.in-Some.line.now (lines c.args.input.now) (lines_left c.next.new.self)
+    fresh c.loop-line.engine c.loop-line.number c.in-Err.fault so_far c.in-Err.ensures.0 (rw c.in-Err.ensures.1 at c.refuse.ensures.line))
 
 pub loop-line-preserved : goal.loop-line-preserved
 loop-line-preserved c =
     let step : lines_left c.loop-line.line-iterator ≡ c.in-Some.line.now ∷ lines_left c.next.new.self = search rules
     in let so_far : Printed c.args.out.now.items c.loop-line.out.items fresh (lines c.args.input.now) c.loop-line.engine c.loop-line.number (c.in-Some.line.now ∷ lines_left c.next.new.self) = rw (← step) c.loop-line.invariant.0
     in let one_less = ap length step
-    in ( printed-line c.args.out.now.items c.loop-line.out.items c.run_line.new.out.items c.in-Some.line.now c.in_default.ensures.0 (lines c.args.input.now) (lines_left c.next.new.self)
-           fresh c.loop-line.engine c.run_line.new.engine c.loop-line.number so_far c.in_default.ensures.1 c.in_default.ensures.2
-       , omega (arith, c.loop-line.invariant.1), tt, tt)
+    in (
+      printed-line c.args.out.now.items c.loop-line.out.items c.run_line.new.out.items c.in-Some.line.now c.in_default.ensures.0 (lines c.args.input.now) (lines_left c.next.new.self)
+          fresh c.loop-line.engine c.run_line.new.engine c.loop-line.number so_far c.in_default.ensures.1 c.in_default.ensures.2,
+      omega (arith, c.loop-line.invariant.1),
+      tt,
+      tt,
+    )
 
 pub returns : goal.returns
 returns c =

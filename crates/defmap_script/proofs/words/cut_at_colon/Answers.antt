@@ -1,4 +1,4 @@
-use Rattle.std.proofs.Common.{◌≡◌, lit<}
+use Rattle.std.proofs.Common.{lit<}
 use Rattle.defmap_script.proofs.WordLemmas.{cut-split_once}
 use Rattle.defmap_script.proofs.words.cut_at_colon.Goals as goal
 

@@ -1,4 +1,4 @@
-use Rattle.std.proofs.Common.{◌≡◌, Option, Some, None, [], ◌∷◌, rules, arith, length, eqb, true, false, ◌∙◌, sym, ap}
+use Rattle.std.proofs.Common.{◌≡◌, Some, None, [], ◌∷◌, rules, arith, length, eqb, true, false, ◌∙◌, sym, ap}
 use Rattle.defmap_script.specs.Lines.{words}
 use Rattle.defmap_script.specs.Words.{cut}
 use Rattle.defmap_script.proofs.LineLemmas.{words-last, words-skip, words-first, cut-shorter}
