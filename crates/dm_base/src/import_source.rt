@@ -23,6 +23,7 @@ pub trait ImportSource: Copy + Eq + Hash {
     fn widen(self) -> ImportOrExternCrate
         ensures { result ≡ widened self };
 
+    /// Whether the import is a glob.
     fn is_glob(self) -> bool
         ensures { result ≡ globs self };
 

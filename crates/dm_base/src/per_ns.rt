@@ -24,10 +24,13 @@ pub enum Namespace {
 pub struct NsAvailability(pub u32);
 
 impl NsAvailability {
+    /// There is a type.
     pub const TYPES: NsAvailability = NsAvailability(1);
 
+    /// There is a value.
     pub const VALUES: NsAvailability = NsAvailability(2);
 
+    /// There is a macro.
     pub const MACROS: NsAvailability = NsAvailability(4);
 
     const FLAGS: &'static [Flag<NsAvailability>] = &[
@@ -85,10 +88,13 @@ impl<Def: PartialEq, Import: Copy + PartialEq> Item<Def, Import> {
     }
 }
 
+/// A type; an extern crate may have brought it.
 pub type TypesItem = Item<ModuleDefId, ImportOrExternCrate>;
 
+/// A value, which no extern crate brings.
 pub type ValuesItem = Item<ModuleDefId, ImportOrGlob>;
 
+/// A macro; an extern crate may have brought it.
 pub type MacrosItem = Item<MacroId, ImportOrExternCrate>;
 
 /// What a name means in each namespace.
