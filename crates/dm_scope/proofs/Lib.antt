@@ -1,5 +1,6 @@
 pub mod EntryLemmas
 pub mod BindingLemmas
+pub mod ChangeLemmas
 pub mod ClosedLemmas
 pub mod FlagLemmas
 pub mod HasFlagLemmas
@@ -9,4 +10,5 @@ pub mod PushLemmas
 pub mod ReadingLemmas
 pub mod RunLemmas
 pub mod SamenessLemmas
+pub mod TableListLemmas
 pub mod ShowLemmas

@@ -4,7 +4,7 @@ ghost use Rattle.std.specs.Iterator.{at_most};
 ghost use Rattle.std.specs.List.{filter_map};
 ghost use Rattle.std.specs.Map.Iter.{TakesFirst, deref_pair};
 ghost use Rattle.dm_scope.specs.Iterators.{any_impl, trait_impl, inherent_impl, module_of, trait_of, deref_legacy};
-ghost use Rattle.dm_scope.specs.Scope.{legacy_of};
+ghost use Rattle.dm_scope.specs.TableLists.{lists_of};
 
 use crate::picked::{Pick, Picked};
 use dm_base::ids::{ImplId, MacroCallId, ModuleId, TraitId};
@@ -204,16 +204,16 @@ impl<'a> Model for LegacyMacros<'a> {
     ghost use Rattle.std.specs.Prelude.{List};
     ghost use Rattle.dm_base.specs.declared.item_ids.MacroId.{MacroId};
     ghost use Rattle.dm_base.specs.Names.{Name};
-    ghost use Rattle.dm_scope.specs.Scope.{legacy_of};
+    ghost use Rattle.dm_scope.specs.TableLists.{lists_of};
 
     ghost Value = { List (Name × List MacroId) };
 
-    ghost view = { λ a. legacy_of a.rest };
+    ghost view = { λ a. lists_of a.rest };
 }
 
 impl<'a> LegacyMacros<'a> {
     pub(crate) fn new(table: &'a IndexMap<Name, SmallVec<MacroId, 1>>) -> Self
-        ensures { result ≡ legacy_of table.now.entries }
+        ensures { result ≡ lists_of table.now.entries }
     {
         LegacyMacros { rest: table.iter() }
     }
