@@ -1,3 +1,4 @@
+pub mod DeriveLemmas
 pub mod EntryLemmas
 pub mod BindingLemmas
 pub mod ChangeLemmas

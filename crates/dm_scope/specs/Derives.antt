@@ -1,6 +1,7 @@
 -- Derive attributes, as contracts see them.
-use Rattle.std.specs.Prelude.{ℕ, List, [], ◌∷◌, Option, None, Some, map, find, replicate, slice_set, nat_eq, if◌then◌else◌}
+use Rattle.std.specs.Prelude.{ℕ, Bool, List, [], ◌∷◌, Option, None, Some, map, find, replicate, slice_set, nat_eq, if◌then◌else◌}
 use Rattle.std.specs.Option.{option_and_then}
+use Rattle.std.specs.Borrow.{Bor}
 use Rattle.std.specs.Map.{lookup}
 use Rattle.dm_base.specs.declared.ids.AttrId.{AttrId}
 use Rattle.dm_base.specs.declared.ids.MacroCallId.{MacroCallId}
@@ -24,6 +25,9 @@ pub record Derive : Type 0 where
 
 abbrev pub derive_of : DeriveMacroInvocation → Derive
 derive_of d = record { attr_id = d.attr_id; attr_call_id = d.attr_call_id; slots = d.derive_call_ids.items }
+
+abbrev pub has_id : AttrId → DeriveMacroInvocation → Bool
+has_id id d = nat_eq d.attr_id.0 id.0
 
 -- the derive attributes of each item, of the entries of a table
 abbrev pub derives_of : List (AstId × SmallVec DeriveMacroInvocation) → List (AstId × List Derive)
@@ -54,3 +58,7 @@ fill_first id i call (d ∷ ds) = if nat_eq d.attr_id.0 id.0 then with_slot i ca
 abbrev pub fill_slot : AstId → AttrId → ℕ → Either MacroCallId BuiltinDeriveImplId → List (AstId × List Derive) → List (AstId × List Derive)
 fill_slot adt id i call [] = []
 fill_slot adt id i call (e ∷ es) = if same_ast adt e.0 then (e.0, fill_first id i call e.1) ∷ es else e ∷ fill_slot adt id i call es
+
+-- an item's attributes, behind a reference
+abbrev pub deref_derives : AstId × Bor (List DeriveMacroInvocation) → AstId × List Derive
+deref_derives p = (p.0, map derive_of p.1.now)
