@@ -11,5 +11,6 @@ pub mod PushLemmas
 pub mod ReadingLemmas
 pub mod RunLemmas
 pub mod SamenessLemmas
+pub mod SortLemmas
 pub mod TableListLemmas
 pub mod ShowLemmas

@@ -11,4 +11,5 @@ pub mod Rows
 pub mod Sameness
 pub mod Scope
 pub mod Shows
+pub mod Sorted
 pub mod TableLists

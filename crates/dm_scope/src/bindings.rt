@@ -151,6 +151,20 @@ impl<D: Definition, I: ImportSource> Bindings<D, I> {
         self.items.values().as_slice()
     }
 
+    /// The names that are bound, in order of first binding.
+    pub(crate) fn names(&self) -> &[Name]
+        ensures { result.now ≡ map (λ e. e.0) self.now.items }
+    {
+        self.items.keys().as_slice()
+    }
+
+    /// The imports that have a record.
+    pub(crate) fn imports(&self) -> &[I]
+        ensures { result.now ≡ map (λ e. e.0) self.now.records }
+    {
+        self.records.keys().as_slice()
+    }
+
     /// The first step of a push: new keys go last. The second step cannot fail.
     pub(crate) fn grow(
         &mut self,

@@ -11,6 +11,7 @@ mod lists;
 mod lookups;
 mod mutators;
 mod push;
+mod sorted;
 
 use crate::bindings::Bindings;
 use crate::derives::DeriveMacroInvocation;
