@@ -12,8 +12,8 @@ use Rattle.hir_def_map.proofs.OuterLemmas.{chain-head}
 apart : (t : Tree) (m h : ModuleId) → is_block_root t m ≡ true → is_block_root t h ≡ false → same_module m h ≡ false
 apart t m h is not_root =
     elim (eqb_tells m.0 h.0) [
-    | inl e ↦ (let same : m ≡ h = (λ i. record { 0 = e.1 i }) in absurd (false≢true (sym not_root ∙ sym (ap (is_block_root t) same) ∙ is)))
-    | inr e ↦ e.0
+      | inl e ↦ (let same : m ≡ h = (λ i. record { 0 = e.1 i }) in absurd (false≢true (sym not_root ∙ sym (ap (is_block_root t) same) ∙ is)))
+      | inr e ↦ e.0
     ]
 
 -- a block's root is asked, and then what contains it

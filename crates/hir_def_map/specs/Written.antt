@@ -144,13 +144,16 @@ binds_types items = record no_scope { types = bindings items [] }
 
 -- a module with a scope, written where it is declared
 abbrev pub module_with : ℕ → Option ModuleId → Scope → ModuleId × maps.Module
-module_with m parent scope = (number m, record {
-      origin = Inline (record { file = File (record { file = record { 0 = 0 }; edition = Edition2021 }); block = None }) (record { 0 = 0 });
-      visibility = Public;
-      parent = parent;
-      children = [];
-      scope = scope;
-    })
+module_with m parent scope = (
+  number m,
+  record {
+    origin = Inline (record { file = File (record { file = record { 0 = 0 }; edition = Edition2021 }); block = None }) (record { 0 = 0 });
+    visibility = Public;
+    parent = parent;
+    children = [];
+    scope = scope;
+  },
+)
 
 abbrev pub a_map : MapId → Edition → ℕ → Option ModuleId → Modules → Map
 a_map id edition root inside modules = record { id = id; edition = edition; root = number root; parent = inside; modules = modules; prelude = None; macro_use = [] }
