@@ -1,5 +1,5 @@
 -- Which ids are a world's, with their kinds.
-use Rattle.std.specs.Prelude.{ℕ, nat_eq, nat_lt, Bool, true, false, IsTrue, List, [], ◌∷◌, ◌++◌, Option, Some, None, length, map, slice_get}
+use Rattle.std.specs.Prelude.{ℕ, nat_lt, Bool, true, false, IsTrue, List, [], ◌∷◌, ◌++◌, length, map, slice_get}
 use Rattle.std.specs.Option.{option_map_or}
 use Rattle.std.specs.List.{AllByRecursion}
 use Rattle.dm_base.specs.declared.item_ids.ItemKind.{ItemKind}

@@ -1,6 +1,17 @@
+pub mod Origins
 pub mod Maps
 pub mod World
+pub mod Asked
+pub mod Build
+pub mod Faults
+pub mod First
+pub mod Held
+pub mod Holds
 pub mod Known
+pub mod LendingMap
+pub mod LendingModule
+pub mod LendingModules
+pub mod LendingWorld
 pub mod Readings
 pub mod Sound
 pub mod Trees

@@ -1,8 +1,8 @@
 -- Modules and maps, as contracts see them.
-use Rattle.std.specs.Prelude.{ℕ, Bool, List, [], Option, Some, None, map, slice_get, nat_eq}
-use Rattle.std.specs.Option.{option_map, option_and_then}
+use Rattle.std.specs.Prelude.{ℕ, List, [], ◌∷◌, ◌++◌, Option, Some, None, map, slice_get}
+use Rattle.std.specs.Option.{option_map}
 use Rattle.std.specs.Map.{lookup}
-use Rattle.indexmap.specs.IndexMap.{set_value_at}
+use Rattle.indexmap.specs.IndexMap.{set_value_at, insert_entry}
 use Rattle.dm_base.specs.declared.ids.ModuleId.{ModuleId}
 use Rattle.dm_base.specs.declared.ids.MapId.{MapId}
 use Rattle.dm_base.specs.declared.ids.UseId.{UseId}
@@ -10,9 +10,9 @@ use Rattle.dm_base.specs.declared.ids.ExternCrateId.{ExternCrateId}
 use Rattle.dm_base.specs.declared.item_ids.MacroId.{MacroId}
 use Rattle.dm_base.specs.declared.source.Edition.{Edition}
 use Rattle.dm_base.specs.declared.visibility.Visibility.{Visibility}
-use Rattle.dm_base.specs.Names.{Name}
+use Rattle.dm_base.specs.Names.{Name, same_name}
 use Rattle.dm_base.specs.Tree.{same_module}
-use Rattle.dm_scope.specs.Scope.{Scope}
+use Rattle.dm_scope.specs.Scope.{Scope, no_scope}
 use Rattle.dm_maps.specs.declared.module_origin.ModuleOrigin.{ModuleOrigin}
 
 -- a module: where it comes from, who sees it, its parent in its map, its children by name, its scope
@@ -65,3 +65,31 @@ with_scope_at es i s = put_scope es i (nth_module es i) s
 -- the map with s as the scope of the module at place i
 abbrev pub map_with_scope : Map → ℕ → Scope → Map
 map_with_scope m i s = record m { modules = with_scope_at m.modules i s }
+
+-- a new module: it has no children, and its scope binds nothing
+abbrev pub fresh_module : ModuleOrigin → Visibility → Option ModuleId → Module
+fresh_module o v p = record { origin = o; visibility = v; parent = p; children = []; scope = no_scope }
+
+-- the module with m as its child of that name
+abbrev pub with_child : Module → Name → ModuleId → Module
+with_child d n m = record d { children = insert_entry same_name d.children n m }
+
+abbrev pub put_child : Modules → ℕ → Option Module → Name → ModuleId → Modules
+put_child es i None n m = es
+put_child es i (Some d) n m = set_value_at es i (with_child d n m)
+
+-- the modules with m as a child of the module at place i
+abbrev pub with_child_at : Modules → ℕ → Name → ModuleId → Modules
+with_child_at es i n m = put_child es i (nth_module es i) n m
+
+-- the modules with one more, of number m, that is a child of the module at place i
+abbrev pub with_new_child : Modules → ℕ → Name → ModuleId → Module → Modules
+with_new_child es i n m d = with_child_at (es ++ (m, d) ∷ []) i n m
+
+-- the map with one more module, of number m, that is a child of the module at place i
+abbrev pub map_with_child : Map → ℕ → Name → ModuleId → Module → Map
+map_with_child map i n m d = record map { modules = with_new_child map.modules i n m d }
+
+-- a new map, with its root alone
+abbrev pub fresh_map : MapId → Edition → Option ModuleId → ModuleId → Module → Map
+fresh_map id e p m d = record { id = id; edition = e; root = m; parent = p; modules = (m, d) ∷ []; prelude = None; macro_use = [] }

@@ -1,5 +1,5 @@
 -- What a world says of no name, and of one name.
-use Rattle.std.specs.Prelude.{ℕ, nat_eq, Bool, true, false, List, [], ◌∷◌, Option, Some, None, slice_get}
+use Rattle.std.specs.Prelude.{nat_eq, Bool, true, false, List, [], Option, slice_get}
 use Rattle.std.specs.Option.{option_map, option_map_or, option_and_then}
 use Rattle.std.specs.Map.{lookup}
 use Rattle.dm_base.specs.declared.ids.ModuleId.{ModuleId}
@@ -8,7 +8,6 @@ use Rattle.dm_base.specs.declared.ids.Crate.{Crate}
 use Rattle.dm_base.specs.declared.ids.EnumId.{EnumId}
 use Rattle.dm_base.specs.declared.ids.EnumVariantId.{EnumVariantId}
 use Rattle.dm_base.specs.declared.ids.ExternCrateId.{ExternCrateId}
-use Rattle.dm_base.specs.declared.ids.UseId.{UseId}
 use Rattle.dm_base.specs.declared.ids.MapId.{MapId}
 use Rattle.dm_base.specs.declared.item_ids.MacroId.{MacroId}
 use Rattle.dm_base.specs.declared.item_ids.MacroId.TheVariants.{Macro2Id, MacroRulesId, ProcMacroId}
@@ -25,7 +24,7 @@ use Rattle.dm_base.specs.Tree.{Tree}
 use Rattle.dm_base.specs.Builtins.{builtin_words}
 use Rattle.dm_base.specs.Styles.{styles_of}
 use Rattle.dm_scope.specs.Scope.{bound_in, legacy_in}
-use Rattle.dm_maps.specs.Maps.{Map, LocalMap}
+use Rattle.dm_maps.specs.Maps.{LocalMap}
 use Rattle.dm_maps.specs.World.{World, crate_map, numbered_map, scope_of}
 use Rattle.dm_maps.specs.Trees.{tree_of}
 use Rattle.dm_maps.specs.Known.{macro_number}

@@ -1,5 +1,5 @@
 -- Worlds, as contracts see them.
-use Rattle.std.specs.Prelude.{ℕ, Bool, List, [], ◌∷◌, Option, Some, None, slice_get, slice_set}
+use Rattle.std.specs.Prelude.{ℕ, List, Option, Some, None, slice_get, slice_set}
 use Rattle.std.specs.Option.{option_map, option_map_or, option_and_then}
 use Rattle.dm_base.specs.declared.ids.ModuleId.{ModuleId}
 use Rattle.dm_base.specs.declared.ids.Crate.{Crate}
@@ -12,7 +12,7 @@ use Rattle.dm_base.specs.declared.macros.MacroLoc.{MacroLoc}
 use Rattle.dm_base.specs.Names.{Name}
 use Rattle.dm_scope.specs.Scope.{Scope, no_scope}
 use Rattle.dm_maps.specs.declared.place.Place.{Place}
-use Rattle.dm_maps.specs.Maps.{Map, Module, LocalMap, nth_module, scope_at, map_with_scope}
+use Rattle.dm_maps.specs.Maps.{Map, Module, LocalMap, nth_module, map_with_scope}
 
 -- The tables of a world. A number of a list is an id: the third of `uses` is the use of number 2.
 pub record World : Type 0 where
@@ -79,3 +79,11 @@ with_scope_in w (Some p) s = elim p.map.block [
 -- the world with s as the scope of module m
 abbrev pub with_scope : World → ModuleId → Scope → World
 with_scope w m s = with_scope_in w (place_of w m) s
+
+-- the scope at place i of map k
+abbrev pub scope_in : List Map → ℕ → ℕ → Option Scope
+scope_in ms k i = option_map (λ d. d.scope) (option_and_then (λ map. nth_module map.modules i) (slice_get ms k))
+
+-- the scope of a module, where there is such a module
+abbrev pub own_scope : World → ModuleId → Option Scope
+own_scope w m = option_map (λ d. d.scope) (module_of w m)

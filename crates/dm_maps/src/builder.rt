@@ -1,5 +1,6 @@
 //! A world that is being built.
-ghost use Rattle.std.specs.Prelude.{◌≡◌, []};
+ghost use Rattle.std.specs.Prelude.{◌≡◌};
+ghost use Rattle.dm_maps.specs.Build.{no_world};
 
 use crate::def_map::DefMap;
 use crate::local_def_map::LocalDefMap;
@@ -28,13 +29,33 @@ pub struct WorldBuilder {
 }
 
 impl Model for WorldBuilder {
-    ghost use Rattle.std.specs.Prelude.{map};
+    ghost use Rattle.std.specs.Prelude.{length};
     ghost use Rattle.dm_maps.specs.World.{World};
-    ghost use Rattle.dm_maps.specs.Trees.{IsWorldOf, outline, containers_of};
+    ghost use Rattle.dm_maps.specs.Trees.{IsWorldOf, outlines, containers_of};
 
     ghost Value = { World };
 
     ghost view = { λ w. record { crate_maps = w.crate_maps.items; block_maps = w.block_maps.items; places = w.places.items; local_maps = w.local_maps.items; uses = w.uses.items; items = w.items.items; enums = w.enums.entries; variants = w.variants.items; macros = w.macros.items } };
 
-    ghost invariant = { λ w. IsWorldOf w.places.items (map outline w.crate_maps.items) (map outline w.block_maps.items) (containers_of w.block_maps.items) };
+    ghost invariant = { λ w. IsWorldOf w.places.items (outlines w.crate_maps.items) (outlines w.block_maps.items) (containers_of w.block_maps.items) (length w.local_maps.items) };
+}
+
+impl WorldBuilder {
+    /// A builder of nothing, which takes its memory from `alloc`. It takes none yet.
+    pub fn new(alloc: Global) -> WorldBuilder
+        ensures { result ≡ no_world }
+    {
+        WorldBuilder {
+            crate_maps: Vec::new(alloc),
+            block_maps: Vec::new(alloc),
+            places: Vec::new(alloc),
+            local_maps: Vec::new(alloc),
+            uses: Vec::new(alloc),
+            items: Vec::new(alloc),
+            enums: IndexMap::new(alloc),
+            variants: Vec::new(alloc),
+            macros: Vec::new(alloc),
+            alloc,
+        }
+    }
 }

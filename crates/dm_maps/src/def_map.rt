@@ -1,8 +1,10 @@
 //! The map of a crate or of a block.
-ghost use Rattle.std.specs.Prelude.{◌≡◌, ◌↔◌, IsTrue, IsSome, Some};
-ghost use Rattle.std.specs.Option.{option_copied};
+ghost use Rattle.std.specs.Prelude.{◌≡◌, ◌↔◌, IsTrue, IsSome, Some, None, IfOk, OnOk, OnErr};
+ghost use Rattle.std.specs.Option.{option_copied, option_copied_mut};
+ghost use Rattle.std.specs.Borrow.{sem};
 ghost use Rattle.dm_base.specs.Names.{find_name};
-ghost use Rattle.dm_maps.specs.Maps.{module_at, nth_module};
+ghost use Rattle.dm_maps.specs.Maps.{module_at, nth_module, scope_at, fresh_map, map_with_child};
+ghost use Rattle.dm_maps.specs.LendingMap.{LendsMapScope};
 
 use crate::module_data::ModuleData;
 use crate::modules_map::ModulesMap;
@@ -10,7 +12,9 @@ use dm_base::ids::{BlockId, Crate, ExternCrateId, MapId, ModuleId, UseId};
 use dm_base::item_ids::MacroId;
 use dm_base::name::Name;
 use dm_base::source::Edition;
+use dm_scope::item_scope::ItemScope;
 use indexmap::IndexMap;
+use std::alloc::{AllocError, Global};
 use std::marker::Model;
 
 /// The modules of a crate, or of a block in it.
@@ -34,6 +38,29 @@ impl Model for DefMap {
 }
 
 impl DefMap {
+    /// A new map, with its root alone.
+    pub(crate) fn with_root(
+        id: MapId,
+        edition: Edition,
+        parent: Option<ModuleId>,
+        root: ModuleId,
+        added: ModuleData,
+        alloc: Global,
+    ) -> Result<DefMap, AllocError>
+        ensures { IfOk result (λ map. map ≡ fresh_map id edition parent root added) }
+    {
+        let modules = ModulesMap::with_root(root, added, alloc)?;
+        Ok(DefMap {
+            id,
+            edition,
+            root,
+            parent,
+            modules,
+            prelude: None,
+            macro_use_prelude: IndexMap::new(alloc),
+        })
+    }
+
     /// Whose map it is.
     pub fn id(&self) -> MapId
         ensures { result ≡ self.now.id }
@@ -117,5 +144,36 @@ impl DefMap {
         ensures { result ≡ find_name name.now self.now.macro_use }
     {
         self.macro_use_prelude.get(name).copied()
+    }
+
+    /// Adds a module, as a child of the one at place `i`.
+    pub(crate) fn add_child(
+        &mut self,
+        i: usize,
+        name: Name,
+        m: ModuleId,
+        added: ModuleData,
+    ) -> Result<(), AllocError>
+        requires { module_at self.old.modules m ≡ None }
+        ensures ok { OnOk result (self.new ≡ map_with_child self.old i name m added) }
+        ensures err { OnErr result (self.new ≡ self.old) }
+    {
+        self.modules.add_child(i, name, m, added)?;
+        Ok(())
+    }
+
+    /// What the module at place `i` binds, to be changed.
+    pub(crate) fn scope_mut(&mut self, i: usize) -> Option<&mut ItemScope>
+        ensures* writes_back { sem 𝓛 (LendsMapScope self.entry i result) }
+        ensures value { option_copied_mut result ≡ scope_at self.old.modules i }
+    {
+        self.modules.scope_mut(i)
+    }
+
+    /// The macros that `#[macro_use]` brings.
+    pub(crate) fn macro_uses(&self) -> &IndexMap<Name, (MacroId, Option<ExternCrateId>)>
+        ensures { result.now.entries ≡ self.now.macro_use }
+    {
+        &self.macro_use_prelude
     }
 }

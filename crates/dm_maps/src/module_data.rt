@@ -1,5 +1,9 @@
 //! A module of a map.
-ghost use Rattle.std.specs.Prelude.{◌≡◌};
+ghost use Rattle.std.specs.Prelude.{◌≡◌, OnOk, OnErr};
+ghost use Rattle.std.specs.Borrow.{sem};
+ghost use Rattle.dm_base.specs.Names.{find_name};
+ghost use Rattle.dm_maps.specs.Maps.{fresh_module, with_child};
+ghost use Rattle.dm_maps.specs.LendingModule.{LendsModuleScope};
 
 use crate::module_origin::ModuleOrigin;
 use dm_base::ids::ModuleId;
@@ -7,6 +11,7 @@ use dm_base::name::Name;
 use dm_base::visibility::Visibility;
 use dm_scope::item_scope::ItemScope;
 use indexmap::IndexMap;
+use std::alloc::{AllocError, Global};
 use std::marker::Model;
 
 /// A module of a map.
@@ -28,6 +33,24 @@ impl Model for ModuleData {
 }
 
 impl ModuleData {
+    /// A module that has no children, and whose scope binds nothing.
+    pub(crate) fn fresh(
+        origin: ModuleOrigin,
+        visibility: Visibility,
+        parent: Option<ModuleId>,
+        alloc: Global,
+    ) -> ModuleData
+        ensures { result ≡ fresh_module origin visibility parent }
+    {
+        ModuleData {
+            origin,
+            visibility,
+            parent,
+            children: IndexMap::new(alloc),
+            scope: ItemScope::new(alloc),
+        }
+    }
+
     /// Where the module comes from.
     pub fn origin(&self) -> ModuleOrigin
         ensures { result ≡ self.now.origin }
@@ -54,5 +77,29 @@ impl ModuleData {
         ensures { result.now ≡ self.now.scope }
     {
         &self.scope
+    }
+
+    /// The child of that name.
+    pub(crate) fn child(&self, name: &Name) -> Option<ModuleId>
+        ensures { result ≡ find_name name.now self.now.children }
+    {
+        self.children.get(name).copied()
+    }
+
+    /// Adds a child. A name that is there would keep its place and take the new child.
+    pub(crate) fn add_child(&mut self, name: Name, m: ModuleId) -> Result<(), AllocError>
+        ensures ok { OnOk result (self.new ≡ with_child self.old name m) }
+        ensures err { OnErr result (self.new ≡ self.old) }
+    {
+        self.children.insert(name, m)?;
+        Ok(())
+    }
+
+    /// What the module binds, to be changed.
+    pub(crate) fn scope_mut(&mut self) -> &mut ItemScope
+        ensures* writes_back { sem 𝓛 (LendsModuleScope self.entry result) }
+        ensures value { result.now ≡ self.old.scope }
+    {
+        &mut self.scope
     }
 }

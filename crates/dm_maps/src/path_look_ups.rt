@@ -1,5 +1,5 @@
 //! What paths read of a world beside its scopes. None of these calls takes memory.
-ghost use Rattle.std.specs.Prelude.{◌≡◌, IsTrue};
+ghost use Rattle.std.specs.Prelude.{◌≡◌, IsTrue, IsSome, Some, true};
 ghost use Rattle.std.specs.Option.{ForSome};
 ghost use Rattle.dm_base.specs.Names.{find_name};
 ghost use Rattle.dm_base.specs.Tree.{IsKnown, is_block_root};
@@ -7,7 +7,8 @@ ghost use Rattle.dm_maps.specs.declared.held.HeldId.TheVariants as held;
 ghost use Rattle.dm_maps.specs.Known.{knows};
 ghost use Rattle.dm_maps.specs.Readings.{variants_of, root_of, block_root_of, is_2015_in, prelude_in, macro_uses_of, styles_in};
 ghost use Rattle.dm_maps.specs.Trees.{tree_of};
-ghost use Rattle.dm_maps.specs.World.{scope_of};
+ghost use Rattle.dm_maps.specs.World.{scope_of, map_of, numbered_map};
+ghost use Rattle.dm_maps.specs.Maps.{module_at};
 ghost use Rattle.dm_scope.specs.Scope.{legacy_in};
 
 use crate::def_map::DefMap;
@@ -20,6 +21,18 @@ use dm_base::name::Name;
 use dm_base::source::Edition;
 
 impl World {
+    /// Whether a module of a map is one of the world's: it is, where the map is the world's of its id.
+    pub fn has_module_of(&self, map: &DefMap, m: ModuleId) -> bool
+        requires map { numbered_map self.now map.now.id ≡ Some map.now }
+        requires lies { IsSome (module_at map.now.modules m) }
+        ensures value { result ≡ true }
+        ensures known { IsKnown (tree_of self.now) m }
+        ensures its_map { map_of self.now m ≡ Some map.now }
+    {
+        let _tables = &self.tables;
+        true
+    }
+
     /// Whether a module is the root of a block's map.
     #[tactic(auto, unfolding(crate::specs::Trees::tree_of))]
     pub fn is_block_root(&self, m: ModuleId) -> bool

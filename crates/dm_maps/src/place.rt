@@ -5,6 +5,6 @@ use dm_base::ids::{MapId, ModuleId};
 #[derive(Clone, Copy, PartialEq, Eq, Debug)]
 pub struct Place {
     pub map: MapId,
-    pub index: u32,
+    pub index: usize,
     pub parent: Option<ModuleId>,
 }

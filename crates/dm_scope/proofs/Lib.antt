@@ -1,11 +1,16 @@
+pub mod DeriveLemmas
 pub mod EntryLemmas
 pub mod BindingLemmas
+pub mod ChangeLemmas
 pub mod ClosedLemmas
 pub mod FlagLemmas
 pub mod HasFlagLemmas
+pub mod LookupLemmas
 pub mod Outcomes
 pub mod PushLemmas
 pub mod ReadingLemmas
 pub mod RunLemmas
 pub mod SamenessLemmas
+pub mod SortLemmas
+pub mod TableListLemmas
 pub mod ShowLemmas

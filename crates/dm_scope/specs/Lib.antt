@@ -1,10 +1,15 @@
 pub mod Bindings
+pub mod Changes
+pub mod Derives
 pub mod Entries
 pub mod Flags
 pub mod Iterators
+pub mod Lookups
 pub mod Push
 pub mod Pushes
 pub mod Rows
 pub mod Sameness
 pub mod Scope
 pub mod Shows
+pub mod Sorted
+pub mod TableLists

@@ -14,6 +14,11 @@ use Rattle.dm_base.specs.declared.imports.ImportOrExternCrate.{ImportOrExternCra
 use Rattle.dm_base.specs.declared.imports.ImportOrExternCrate.TheVariants as wide
 use Rattle.dm_base.specs.declared.imports.ImportOrGlob.{ImportOrGlob}
 use Rattle.dm_base.specs.declared.imports.ImportOrGlob.TheVariants as narrow
+use Rattle.dm_base.specs.declared.source.AstId.{AstId}
+use Rattle.dm_base.specs.declared.source.Edition.{Edition}
+use Rattle.dm_base.specs.declared.source.Edition.TheVariants as edition
+use Rattle.dm_base.specs.declared.source.HirFileId.{HirFileId}
+use Rattle.dm_base.specs.declared.source.HirFileId.TheVariants as file
 use Rattle.dm_base.specs.declared.item_ids.AdtId.{AdtId}
 use Rattle.dm_base.specs.declared.item_ids.AdtId.TheVariants as adt
 use Rattle.dm_base.specs.declared.item_ids.MacroId.{MacroId}
@@ -101,3 +106,20 @@ same_def (def.TypeAliasId i) (def.TypeAliasId j) = nat_eq i.0 j.0
 same_def (def.BuiltinType i) (def.BuiltinType j) = same_builtin i j
 same_def (def.MacroId i) (def.MacroId j) = same_macro i j
 same_def x y = false
+
+abbrev pub same_edition : Edition → Edition → Bool
+same_edition edition.Edition2015 edition.Edition2015 = true
+same_edition edition.Edition2018 edition.Edition2018 = true
+same_edition edition.Edition2021 edition.Edition2021 = true
+same_edition edition.Edition2024 edition.Edition2024 = true
+same_edition x y = false
+
+-- the same file under the same edition, or the same macro call
+abbrev pub same_file : HirFileId → HirFileId → Bool
+same_file (file.File i) (file.File j) = nat_eq i.file.0 j.file.0 && same_edition i.edition j.edition
+same_file (file.Macro i) (file.Macro j) = nat_eq i.0 j.0
+same_file x y = false
+
+-- items in syntax: in the same file, with the same number
+unfoldable pub same_ast : AstId → AstId → Bool
+same_ast i j = same_file i.file_id j.file_id && nat_eq i.value.0 j.value.0

@@ -17,6 +17,7 @@ use Rattle.dm_base.specs.declared.per_ns.PerNs.{PerNs}
 use Rattle.dm_base.specs.declared.visibility.Visibility.{Visibility}
 use Rattle.dm_base.specs.Names.{Name, find_name}
 use Rattle.dm_scope.specs.Bindings.{Bound}
+use Rattle.dm_scope.specs.Derives.{Derive}
 
 -- A scope: what it binds in each namespace, the names that no import could resolve, its legacy macros by name, and the
 -- lists of what is defined in it.
@@ -35,6 +36,8 @@ pub record Scope : Type 0 where
   pub unnamed_traits : List (TraitId × Visibility × Option ImportId)
   pub attr_macros : List (AstId × MacroCallId)
   pub macro_invocations : List (AstId × MacroCallId)
+  -- the derive attributes of each item
+  pub derive_macros : List (AstId × List Derive)
 
 -- a fresh scope
 abbrev pub no_scope : Scope
@@ -53,6 +56,7 @@ no_scope = record {
   unnamed_traits = [];
   attr_macros = [];
   macro_invocations = [];
+  derive_macros = [];
 }
 
 -- what a scope binds under a name

@@ -2,8 +2,11 @@
 #![tactic(auto)]
 
 pub mod bindings;
+pub mod derives;
 pub mod glob_imports;
 pub mod item_scope;
-mod last_legacy;
+pub mod iterators;
 mod keys;
+pub mod picked;
 mod steps;
+mod table_lists;

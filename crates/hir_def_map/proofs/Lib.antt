@@ -4,3 +4,5 @@ pub mod KnownLemmas
 pub mod OuterLemmas
 pub mod OverlayLemmas
 pub mod LayerLemmas
+pub mod MergeLemmas
+pub mod PlaceLemmas

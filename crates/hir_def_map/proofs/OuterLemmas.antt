@@ -9,7 +9,7 @@ module _ (t : Tree) where
   outside_blocks ms = filter (λ c. not (is_block_root t c)) ms
 
   -- a chain begins with its module
-  chain-head : (n : ℕ) (m : ModuleId) → (l : List ModuleId) × (chain_within n t m ≡ m ∷ l)
+  pub chain-head : (n : ℕ) (m : ModuleId) → (l : List ModuleId) × (chain_within n t m ≡ m ∷ l)
   chain-head zero m = ([], refl)
   chain-head (suc n) m = (option_map_or (chain_within n t) (containing t m) [], refl)
 
@@ -34,3 +34,7 @@ module _ (t : Tree) where
   outer-next m l k i is e less =
       let n : k - i ≡ suc (k - (i + 1)) = omega arith in
       ap (λ xs. slice_get xs (k - i)) (outer-stays m l is e) ∙ ap (slice_get (m ∷ outside_blocks l)) n
+
+  -- two modules that are no block's root, with the same chain without roots, are one
+  pub same-home : (m h : ModuleId) → outer t m ≡ outer t h → is_block_root t m ≡ false → is_block_root t h ≡ false → m ≡ h
+  same-home m h e is not_root = let both : Some m ≡ Some h = sym (outer-first m is) ∙ ap (λ l. slice_get l 0) e ∙ outer-first h not_root in cc

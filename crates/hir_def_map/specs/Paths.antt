@@ -273,10 +273,14 @@ up_to h (m ∷ ms) = m ∷ (if same_module m h then [] else up_to h ms)
 abbrev pub prelude_place : Setting → ModuleId → List Place
 prelude_place w h = option_map_or (λ r. Preludes (record { krate = crate_of w.tree h; block = None }) r ∷ []) (option_and_then w.block_root (block_of w.tree h)) []
 
--- the places that a question from m asks: the modules up to the nearest that is no block's root, and then, where that lies in a
--- block, the preludes of the crate
+-- the modules of a list up to h, and then the preludes of h
+abbrev pub places_along : Setting → ModuleId → List ModuleId → List Place
+places_along w h ms = map In (up_to h ms) ++ prelude_place w h
+
+-- The places that a question from m asks: the modules up to the nearest that is no block's root, and then, where that lies in a
+-- block, the preludes of the crate.
 abbrev pub places : Setting → ModuleId → List Place
-places w m = map In (up_to (home w.tree m) (chain w.tree m)) ++ prelude_place w (home w.tree m)
+places w m = places_along w (home w.tree m) (chain w.tree m)
 
 -- the answer of a setting to segments that are read
 unfoldable pub answer_of : Setting → Ask → List Reading → ResolvePathResult

@@ -5,6 +5,8 @@ mod answers;
 mod first_segment;
 mod home;
 mod layers;
+pub mod path_resolution;
+mod places;
 pub mod question;
 pub mod result;
 mod segments;

@@ -1,0 +1,60 @@
+-- Lists and entries that grow, or are written at a place.
+use Rattle.std.proofs.Common.{◌≡◌, ◌-◌, ℕ, zero, suc, List, [], ◌∷◌, ◌++◌, Some, length, take, set, map, slice_get, ◌⊎◌, inl, inr, sym, ap, ◌∙◌, refl, arith, length-append}
+use Rattle.std.proofs.Math.Seq.{take-append_seam}
+use Rattle.indexmap.specs.IndexMap.{set_value_at}
+
+-- a list less the one that was added
+pub take-push : {X : Type 0} (xs : List X) (x : X) → take (length (xs ++ x ∷ []) - 1) (xs ++ x ∷ []) ≡ xs
+take-push xs x =
+    let n : length (xs ++ x ∷ []) - 1 ≡ length xs = omega (arith, length-append xs (x ∷ [])) in
+    ap (λ i. take i (xs ++ x ∷ [])) n ∙ take-append_seam xs (x ∷ [])
+
+-- what stands at a place, written there again, changes nothing
+pub set_value_at-own : {K V : Type 0} (es : List (K × V)) (i : ℕ) (v : V) → slice_get (map (λ e. e.1) es) i ≡ Some v → set_value_at es i v ≡ es
+set_value_at-own [] i v h = refl
+set_value_at-own (e ∷ es) zero v h = let same : e.1 ≡ v = cc in ap (λ y. (e.0, y) ∷ es) (sym same)
+set_value_at-own (e ∷ es) (suc i) v h = ap (λ l. e ∷ l) (set_value_at-own es i v h)
+
+pub set-own : {X : Type 0} (xs : List X) (i : ℕ) (x : X) → slice_get xs i ≡ Some x → set xs i x ≡ xs
+set-own [] i x h = refl
+set-own (y ∷ ys) zero x h = let same : y ≡ x = cc in ap (λ z. z ∷ ys) (sym same)
+set-own (y ∷ ys) (suc i) x h = ap (λ l. y ∷ l) (set-own ys i x h)
+
+-- an element of a list with one more at its end is one of the list, or the new one
+pub get-push : {X : Type 0} (xs : List X) (x : X) (i : ℕ) (y : X) → slice_get (xs ++ x ∷ []) i ≡ Some y → (slice_get xs i ≡ Some y) ⊎ ((i ≡ length xs) × (x ≡ y))
+get-push [] x zero y h = inr (refl, cc)
+get-push [] x (suc i) y h = cc
+get-push (z ∷ zs) x zero y h = inl h
+get-push (z ∷ zs) x (suc i) y h = elim (get-push zs x i y h) [ inl e ↦ inl e | inr e ↦ inr (ap suc e.0, e.1) ]
+
+-- the elements of a list stay where more come after them
+pub get-append : {X : Type 0} (xs ys : List X) (i : ℕ) (y : X) → slice_get xs i ≡ Some y → slice_get (xs ++ ys) i ≡ Some y
+get-append [] ys i y h = cc
+get-append (x ∷ xs) ys zero y h = h
+get-append (x ∷ xs) ys (suc i) y h = get-append xs ys i y h
+
+-- the one that was added stands at the end
+pub get-last : {X : Type 0} (xs : List X) (x : X) → slice_get (xs ++ x ∷ []) (length xs) ≡ Some x
+get-last [] x = refl
+get-last (y ∷ ys) x = get-last ys x
+
+-- what was written stands at its place, and the others stay
+pub get-set_same : {X : Type 0} (xs : List X) (i : ℕ) (x y : X) → slice_get xs i ≡ Some x → slice_get (set xs i y) i ≡ Some y
+get-set_same [] i x y h = cc
+get-set_same (z ∷ zs) zero x y h = refl
+get-set_same (z ∷ zs) (suc i) x y h = get-set_same zs i x y h
+
+pub get-set_other : {X : Type 0} (xs : List X) (i j : ℕ) (y : X) → (j ≡ i → ⊥) → slice_get (set xs i y) j ≡ slice_get xs j
+get-set_other [] i j y h = refl
+get-set_other (z ∷ zs) zero zero y h = absurd (h refl)
+get-set_other (z ∷ zs) zero (suc j) y h = refl
+get-set_other (z ∷ zs) (suc i) zero y h = refl
+get-set_other (z ∷ zs) (suc i) (suc j) y h = get-set_other zs i j y (λ e. h (ap suc e))
+
+-- an element after a write is the one that was written, or one of the list
+pub get-set : {X : Type 0} (xs : List X) (i j : ℕ) (x y z : X) → slice_get xs i ≡ Some x → slice_get (set xs i y) j ≡ Some z → ((j ≡ i) × (z ≡ y)) ⊎ (slice_get xs j ≡ Some z)
+get-set [] i j x y z h g = inr g
+get-set (w ∷ ws) zero zero x y z h g = inl (refl, cc)
+get-set (w ∷ ws) zero (suc j) x y z h g = inr g
+get-set (w ∷ ws) (suc i) zero x y z h g = inr g
+get-set (w ∷ ws) (suc i) (suc j) x y z h g = elim (get-set ws i j x y z h g) [ inl e ↦ inl (ap suc e.0, e.1) | inr e ↦ inr e ]

@@ -1,0 +1,16 @@
+pub mod EntryLemmas
+pub mod ResultLemmas
+pub mod GrowthLemmas
+pub mod ModuleGrowth
+pub mod CrateGrowth
+pub mod WorldGrowth
+pub mod FaultLemmas
+pub mod ScopeLemmas
+pub mod AllLemmas
+pub mod Sets
+pub mod Order
+pub mod FirstLemmas
+pub mod Least
+pub mod SoundLemmas
+pub mod LastLemmas
+pub mod MapLemmas

@@ -1,0 +1,206 @@
+-- What holds of every world still holds with a module more, and with a crate more.
+use Rattle.std.proofs.Common.{◌≡◌, ◌<◌, ◌≤◌, ◌+◌, ℕ, zero, suc, List, [], ◌∷◌, ◌++◌, Option, Some, None, length, map, set, slice_get, inl, inr, sym, ap, ◌∙◌, refl, subst, arith, length-append}
+use Rattle.std.proofs.Math.ListN.{length-set}
+use Rattle.std.specs.Option.{option_map, option_map_or}
+use Rattle.std.proofs.lemmas.Option.{slice_get_within, slice_get-map}
+use Rattle.indexmap.specs.IndexMap.{set_value_at}
+use Rattle.dm_base.specs.declared.ids.ModuleId.{ModuleId}
+use Rattle.dm_base.specs.declared.ids.BlockId.{BlockId}
+use Rattle.dm_base.specs.declared.ids.MapId.{MapId}
+use Rattle.dm_base.specs.Names.{Name}
+use Rattle.dm_maps.specs.declared.place.Place.{Place}
+use Rattle.dm_maps.specs.Maps.{Map, Module, Modules, nth_module, put_child, with_child_at, map_with_child}
+use Rattle.dm_maps.specs.Build.{put_child_in, maps_with_child, crate_maps_with_child, block_maps_with_child}
+use Rattle.dm_maps.specs.Trees.{no_map, Outline, outline, outlines, containers_of, IsPlaced, IsWorldOf, Stands, AreMaps, is_crate_id, is_block_id, map_id_in, numbered_outline}
+use Rattle.dm_maps.proofs.EntryLemmas.{get-push, get-last, get-set_same, set-own}
+use Rattle.dm_maps.proofs.GrowthLemmas.{longer, place_below, after, map_id_in-append, IsPlaced-append, IsTree-placed, AreMaps-append, AreMaps-longer, Grows, Grows-same, Grows-longer, Stands-grows}
+
+-- ---- Outlines of maps, of which one has a module more.
+
+abbrev pub longer_in : List Outline → ℕ → ModuleId → Option ModuleId → List Outline
+longer_in os k m q = option_map_or (λ o. set os k (longer o m q)) (slice_get os k) os
+
+abbrev pub crates_longer : List Outline → MapId → ModuleId → Option ModuleId → List Outline
+crates_longer cs id m q = elim id.block [ None ↦ longer_in cs id.krate.0 m q | Some b ↦ cs ]
+
+abbrev pub blocks_longer : List Outline → MapId → ModuleId → Option ModuleId → List Outline
+blocks_longer bs id m q = elim id.block [ None ↦ bs | Some b ↦ longer_in bs b.0 m q ]
+
+pub map-set : {X Y : Type 0} (f : X → Y) (xs : List X) (k : ℕ) (x : X) → map f (set xs k x) ≡ set (map f xs) k (f x)
+map-set f [] k x = refl
+map-set f (y ∷ ys) zero x = refl
+map-set f (y ∷ ys) (suc k) x = ap (λ l. f y ∷ l) (map-set f ys k x)
+
+-- what a write leaves of an element stays
+pub map-set_own : {X Y : Type 0} (f : X → Y) (xs : List X) (k : ℕ) (x y : X) → slice_get xs k ≡ Some x → f y ≡ f x → map f (set xs k y) ≡ map f xs
+map-set_own f xs k x y at same =
+    map-set f xs k y ∙ ap (set (map f xs) k) same ∙ set-own (map f xs) k (f x) (slice_get-map f xs k ∙ ap (option_map f) at)
+
+pub map-push : {X Y : Type 0} (f : X → Y) (xs : List X) (x : X) → map f (xs ++ x ∷ []) ≡ map f xs ++ f x ∷ []
+map-push f [] x = refl
+map-push f (y ∷ ys) x = ap (λ l. f y ∷ l) (map-push f ys x)
+
+abbrev pub entry : (ModuleId × Module) → ModuleId × Option ModuleId
+entry e = (e.0, e.1.parent)
+
+pub entries-set : (es : Modules) (i : ℕ) (d e : Module) → nth_module es i ≡ Some d → e.parent ≡ d.parent → map entry (set_value_at es i e) ≡ map entry es
+entries-set [] i d e h p = refl
+entries-set (x ∷ es) zero d e h p = let same : x.1 ≡ d = cc in ap (λ o. (x.0, o) ∷ map entry es) (p ∙ ap (λ (y : Module). y.parent) (sym same))
+entries-set (x ∷ es) (suc i) d e h p = ap (λ l. entry x ∷ l) (entries-set es i d e h p)
+
+entries-with_child_at : (es : Modules) (i : ℕ) (n : Name) (m : ModuleId) → map entry (with_child_at es i n m) ≡ map entry es
+entries-with_child_at es i n m = by (nth_module es i) refl
+  where
+    by : (o : Option Module) → nth_module es i ≡ o → map entry (put_child es i o n m) ≡ map entry es
+    by None h = refl
+    by (Some d) h = entries-set es i d _ h refl
+
+outline-map_with_child : (o : Map) (i : ℕ) (n : Name) (m : ModuleId) (d : Module) → outline (map_with_child o i n m d) ≡ longer (outline o) m d.parent
+outline-map_with_child o i n m d =
+    ap (λ es. record (outline o) { modules = es }) (entries-with_child_at (o.modules ++ (m, d) ∷ []) i n m ∙ map-push entry o.modules (m, d))
+
+outlines-with_child : (ms : List Map) (k i : ℕ) (n : Name) (m : ModuleId) (d : Module) → outlines (maps_with_child ms k i n m d) ≡ longer_in (outlines ms) k m d.parent
+outlines-with_child ms k i n m d = by (slice_get ms k) refl
+  where
+    by : (o : Option Map) → slice_get ms k ≡ o → outlines (put_child_in ms k o i n m d) ≡ longer_in (outlines ms) k m d.parent
+    by None e = sym (ap (λ o. option_map_or (λ x. set (outlines ms) k (longer x m d.parent)) o (outlines ms)) (slice_get-map outline ms k ∙ ap (option_map outline) e))
+    by (Some x) e =
+        map-set outline ms k (map_with_child x i n m d)
+        ∙ ap (set (outlines ms) k) (outline-map_with_child x i n m d)
+        ∙ sym (ap (λ o. option_map_or (λ y. set (outlines ms) k (longer y m d.parent)) o (outlines ms)) (slice_get-map outline ms k ∙ ap (option_map outline) e))
+
+containers-with_child : (ms : List Map) (k i : ℕ) (n : Name) (m : ModuleId) (d : Module) → containers_of (maps_with_child ms k i n m d) ≡ containers_of ms
+containers-with_child ms k i n m d = by (slice_get ms k) refl
+  where
+    by : (o : Option Map) → slice_get ms k ≡ o → containers_of (put_child_in ms k o i n m d) ≡ containers_of ms
+    by None e = refl
+    by (Some x) e = map-set_own (λ (y : Map). y.parent) ms k x (map_with_child x i n m d) e refl
+
+pub outlines-crate_child : (ms : List Map) (id : MapId) (i : ℕ) (n : Name) (m : ModuleId) (d : Module) → outlines (crate_maps_with_child ms id i n m d) ≡ crates_longer (outlines ms) id m d.parent
+outlines-crate_child ms id i n m d = elim id.block as (λ block. outlines (elim block [ None ↦ maps_with_child ms id.krate.0 i n m d | Some b ↦ ms ]) ≡ elim block [ None ↦ longer_in (outlines ms) id.krate.0 m d.parent | Some b ↦ outlines ms ]) [
+  | None ↦ outlines-with_child ms id.krate.0 i n m d
+  | Some b ↦ refl
+]
+
+pub outlines-block_child : (ms : List Map) (id : MapId) (i : ℕ) (n : Name) (m : ModuleId) (d : Module) → outlines (block_maps_with_child ms id i n m d) ≡ blocks_longer (outlines ms) id m d.parent
+outlines-block_child ms id i n m d = elim id.block as (λ block. outlines (elim block [ None ↦ ms | Some b ↦ maps_with_child ms b.0 i n m d ]) ≡ elim block [ None ↦ outlines ms | Some b ↦ longer_in (outlines ms) b.0 m d.parent ]) [
+  | None ↦ refl
+  | Some b ↦ outlines-with_child ms b.0 i n m d
+]
+
+pub containers-block_child : (ms : List Map) (id : MapId) (i : ℕ) (n : Name) (m : ModuleId) (d : Module) → containers_of (block_maps_with_child ms id i n m d) ≡ containers_of ms
+containers-block_child ms id i n m d = elim id.block as (λ block. containers_of (elim block [ None ↦ ms | Some b ↦ maps_with_child ms b.0 i n m d ]) ≡ containers_of ms) [
+  | None ↦ refl
+  | Some b ↦ containers-with_child ms b.0 i n m d
+]
+
+-- ---- With a module more below `q`, which stands at the place `at`, in a map of outline o.
+
+module _ (ps : List Place) (cs bs : List Outline) (inside : List (Option ModuleId)) (n : ℕ) (w : IsWorldOf ps cs bs inside n)
+    (q : ModuleId) (at : Place) (is : slice_get ps q.0 ≡ Some at) (room : length ps < 4294967295) (o : Outline) (of_id : o.id ≡ at.map) where
+  within : q.0 < length ps
+  within = slice_get_within ps q.0 at is
+
+  new_placed : IsPlaced (ps ++ place_below o q ∷ []) inside (length ps) (place_below o q)
+  new_placed = record {
+    parent = λ r e.
+        let same : q ≡ r = cc in
+        let map_is : map_id_in (ps ++ place_below o q ∷ []) q ≡ o.id = map_id_in-append ps (place_below o q ∷ []) q within ∙ ap (λ x. option_map_or (λ (p : Place). p.map) x no_map) is ∙ sym of_id in
+        subst (λ (x : ModuleId). (x.0 < length ps) × (map_id_in (ps ++ place_below o q ∷ []) x ≡ o.id)) same (within, map_is);
+    block = λ b e.
+        let h = (w.placed q at is).block b (ap (λ (id : MapId). id.block) (sym of_id) ∙ e) in record {
+          container = h.container;
+          is = h.is;
+          smaller = let l = h.smaller in let k = within in omega arith;
+          same_crate = ap (λ (id : MapId). id.krate) (map_id_in-append ps (place_below o q ∷ []) h.container (let l = h.smaller in let k = within in omega arith)) ∙ h.same_crate ∙ ap (λ (id : MapId). id.krate) (sym of_id);
+        };
+  }
+
+  placed : (m : ModuleId) (p : Place) → slice_get (ps ++ place_below o q ∷ []) m.0 ≡ Some p → IsPlaced (ps ++ place_below o q ∷ []) inside m.0 p
+  placed m p e = elim (get-push ps (place_below o q) m.0 p e) [
+    | inl g ↦
+        let l : m.0 ≤ length ps = let k = slice_get_within ps m.0 p g in omega arith in
+        IsPlaced-append ps (place_below o q ∷ []) inside inside m.0 p (λ b c h. h) l (w.placed m p g)
+    | inr g ↦ subst (λ x. IsPlaced (ps ++ place_below o q ∷ []) inside m.0 x) g.1 (subst (λ i. IsPlaced (ps ++ place_below o q ∷ []) inside i (place_below o q)) (sym g.0) new_placed)
+  ]
+
+  module _ (ds es : List Outline) (crates : Grows cs ds) (blocks : Grows bs es)
+      (there : numbered_outline ds es at.map ≡ Some (longer o (after ps) (Some q)))
+      (crate_maps : AreMaps is_crate_id (ps ++ place_below o q ∷ []) ds) (block_maps : AreMaps is_block_id (ps ++ place_below o q ∷ []) es)
+      (crate_count : length ds ≡ length cs) (block_count : length es ≡ length bs) where
+    new_stands : Stands ds es (after ps) (place_below o q)
+    new_stands = record {
+      there = longer o (after ps) (Some q);
+      is_map = ap (numbered_outline ds es) of_id ∙ there;
+      of_id = refl;
+      is_module = get-last o.modules (after ps, Some q);
+    }
+
+    stands : (m : ModuleId) (p : Place) → slice_get (ps ++ place_below o q ∷ []) m.0 ≡ Some p → Stands ds es m p
+    stands m p e = elim (get-push ps (place_below o q) m.0 p e) [
+      | inl g ↦ Stands-grows cs bs ds es m p crates blocks (w.stands m p g)
+      | inr g ↦ subst (Stands ds es m) g.1 (subst (λ i. Stands ds es (record { 0 = i }) (place_below o q)) (sym g.0) new_stands)
+    ]
+
+    in_crates : (m : ModuleId) (p : Place) → slice_get (ps ++ place_below o q ∷ []) m.0 ≡ Some p → p.map.krate.0 < length ds
+    in_crates m p e = elim (get-push ps (place_below o q) m.0 p e) [
+      | inl g ↦ let l = w.in_crates m p g in omega arith
+      | inr g ↦
+          let l = w.in_crates q at is in
+          let same : at.map.krate.0 ≡ p.map.krate.0 = ap (λ (id : MapId). id.krate.0) (sym of_id) ∙ ap (λ (x : Place). x.map.krate.0) g.1 in
+          omega arith
+    ]
+
+    longer_world : IsWorldOf (ps ++ place_below o q ∷ []) ds es inside n
+    longer_world =
+        let more : length (ps ++ place_below o q ∷ []) ≡ length ps + 1 = length-append ps (place_below o q ∷ []) in record {
+          tree = IsTree-placed (ps ++ place_below o q ∷ []) inside placed;
+          placed = placed;
+          stands = stands;
+          crates = crate_maps;
+          blocks = block_maps;
+          in_crates = in_crates;
+          externs = w.externs ∙ sym crate_count;
+          crate_count = let k = w.crate_count in omega arith;
+          block_count = let k = w.block_count in omega arith;
+          numbers = omega arith;
+        }
+
+  length-longer_in : (os : List Outline) (k : ℕ) (m : ModuleId) (r : Option ModuleId) → length (longer_in os k m r) ≡ length os
+  length-longer_in os k m r = by (slice_get os k)
+    where
+      by : (x : Option Outline) → length (option_map_or (λ y. set os k (longer y m r)) x os) ≡ length os
+      by None = refl
+      by (Some x) = length-set os k (longer x m r)
+
+  pub longer_crate : at.map.block ≡ None → slice_get cs at.map.krate.0 ≡ Some o → IsWorldOf (ps ++ place_below o q ∷ []) (longer_in cs at.map.krate.0 (after ps) (Some q)) bs inside n
+  longer_crate none there =
+      let k = at.map.krate.0 in
+      let made : longer_in cs k (after ps) (Some q) ≡ set cs k (longer o (after ps) (Some q)) = ap (λ x. option_map_or (λ y. set cs k (longer y (after ps) (Some q))) x cs) there in
+      let P : List Outline → Type 0 = λ ds. IsWorldOf (ps ++ place_below o q ∷ []) ds bs inside n in
+      let ds = set cs k (longer o (after ps) (Some q)) in
+      let found : numbered_outline ds bs at.map ≡ Some (longer o (after ps) (Some q)) =
+      (λ i. elim (none i) [ None ↦ slice_get ds k | Some b ↦ slice_get bs b.0 ]) ∙ get-set_same cs k o (longer o (after ps) (Some q)) there in
+      subst P (sym made)
+      (longer_world ds bs (Grows-longer cs k o (after ps) (Some q) there) (Grows-same bs) found (AreMaps-longer is_crate_id ps cs k o q there w.crates) (AreMaps-append is_block_id ps (place_below o q ∷ []) bs w.blocks) (length-set cs k (longer o (after ps) (Some q))) refl)
+
+  pub longer_block : (b : BlockId) → at.map.block ≡ Some b → slice_get bs b.0 ≡ Some o → IsWorldOf (ps ++ place_below o q ∷ []) cs (longer_in bs b.0 (after ps) (Some q)) inside n
+  longer_block b some there =
+      let k = b.0 in
+      let made : longer_in bs k (after ps) (Some q) ≡ set bs k (longer o (after ps) (Some q)) = ap (λ x. option_map_or (λ y. set bs k (longer y (after ps) (Some q))) x bs) there in
+      let P : List Outline → Type 0 = λ es. IsWorldOf (ps ++ place_below o q ∷ []) cs es inside n in
+      let es = set bs k (longer o (after ps) (Some q)) in
+      let found : numbered_outline cs es at.map ≡ Some (longer o (after ps) (Some q)) =
+      (λ i. elim (some i) [ None ↦ slice_get cs at.map.krate.0 | Some x ↦ slice_get es x.0 ]) ∙ get-set_same bs k o (longer o (after ps) (Some q)) there in
+      subst P (sym made)
+      (longer_world cs es (Grows-same cs) (Grows-longer bs k o (after ps) (Some q) there) found (AreMaps-append is_crate_id ps (place_below o q ∷ []) cs w.crates) (AreMaps-longer is_block_id ps bs k o q there w.blocks) refl (length-set bs k (longer o (after ps) (Some q))))
+
+-- a module more below q, in its map
+pub IsWorldOf-longer : (ps : List Place) (cs bs : List Outline) (inside : List (Option ModuleId)) (n : ℕ) (w : IsWorldOf ps cs bs inside n) (q : ModuleId) (at : Place) → slice_get ps q.0 ≡ Some at → length ps < 4294967295 → (o : Outline) → o.id ≡ at.map → numbered_outline cs bs at.map ≡ Some o
+    → IsWorldOf (ps ++ place_below o q ∷ []) (crates_longer cs at.map (after ps) (Some q)) (blocks_longer bs at.map (after ps) (Some q)) inside n
+IsWorldOf-longer ps cs bs inside n w q at is room o of_id there = by at.map.block refl there
+  where
+    by : (block : Option BlockId) → at.map.block ≡ block → elim block [ None ↦ slice_get cs at.map.krate.0 | Some b ↦ slice_get bs b.0 ] ≡ Some o
+        → IsWorldOf (ps ++ place_below o q ∷ []) (elim block [ None ↦ longer_in cs at.map.krate.0 (after ps) (Some q) | Some b ↦ cs ]) (elim block [ None ↦ bs | Some b ↦ longer_in bs b.0 (after ps) (Some q) ]) inside n
+    by None e g = longer_crate ps cs bs inside n w q at is room o of_id e g
+    by (Some b) e g = longer_block ps cs bs inside n w q at is room o of_id b e g

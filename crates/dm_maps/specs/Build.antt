@@ -1,0 +1,107 @@
+-- What builder calls change.
+use Rattle.std.specs.Prelude.{◌≡◌, IfSome, ℕ, List, [], ◌∷◌, ◌++◌, Option, Some, None, length, slice_get, slice_set}
+use Rattle.std.specs.Option.{option_map_or}
+use Rattle.dm_base.specs.declared.ids.ModuleId.{ModuleId}
+use Rattle.dm_base.specs.declared.ids.Crate.{Crate}
+use Rattle.dm_base.specs.declared.ids.MapId.{MapId}
+use Rattle.dm_base.specs.declared.source.Edition.{Edition}
+use Rattle.dm_base.specs.declared.source.EditionedFileId.{EditionedFileId}
+use Rattle.dm_base.specs.declared.visibility.Visibility.{Visibility}
+use Rattle.dm_base.specs.declared.visibility.Visibility.TheVariants.{Public}
+use Rattle.dm_base.specs.declared.item_ids.ItemKind.{ItemKind}
+use Rattle.dm_base.specs.declared.item_ids.ItemKind.TheVariants as item
+use Rattle.dm_base.specs.declared.item_ids.ModuleDefId.{ModuleDefId}
+use Rattle.dm_base.specs.declared.item_ids.ModuleDefId.TheVariants as def
+use Rattle.dm_base.specs.declared.item_ids.AdtId.TheVariants as adt
+use Rattle.dm_base.specs.Names.{Name}
+use Rattle.dm_maps.specs.declared.place.Place.{Place}
+use Rattle.dm_maps.specs.declared.module_origin.ModuleOrigin.{ModuleOrigin}
+use Rattle.dm_maps.specs.declared.module_origin.ModuleOrigin.TheVariants.{CrateRoot}
+use Rattle.dm_maps.specs.Maps.{Map, Module, fresh_module, fresh_map, map_with_child, module_at}
+use Rattle.dm_maps.specs.World.{World, place_of, numbered_map}
+
+-- a builder of nothing
+abbrev pub no_world : World
+no_world = record {
+  crate_maps = [];
+  block_maps = [];
+  places = [];
+  local_maps = [];
+  uses = [];
+  items = [];
+  enums = [];
+  variants = [];
+  macros = [];
+}
+
+-- the number of the next module, and of the next crate
+abbrev pub next_module : World → ModuleId
+next_module w = record { 0 = length w.places }
+
+abbrev pub next_crate : World → Crate
+next_crate w = record { 0 = length w.crate_maps }
+
+-- the map of a new crate: its root lies in that file, and everyone sees it
+abbrev pub fresh_crate : Crate → Edition → EditionedFileId → ModuleId → Map
+fresh_crate k e f m = fresh_map (record { krate = k; block = None }) e None m (fresh_module (CrateRoot f) Public None)
+
+-- the world with a crate more: its map has the root alone, and its extern prelude no entry
+abbrev pub with_crate : World → Edition → EditionedFileId → World
+with_crate w e f = record w {
+  crate_maps = w.crate_maps ++ fresh_crate (next_crate w) e f (next_module w) ∷ [];
+  places = w.places ++ (record { map = record { krate = next_crate w; block = None }; index = 0; parent = None }) ∷ [];
+  local_maps = w.local_maps ++ [] ∷ [];
+}
+
+abbrev pub put_child_in : List Map → ℕ → Option Map → ℕ → Name → ModuleId → Module → List Map
+put_child_in ms k None i n m d = ms
+put_child_in ms k (Some map) i n m d = slice_set ms k (map_with_child map i n m d)
+
+-- the maps, of which the one of number k has a module more, a child of the module at place i
+abbrev pub maps_with_child : List Map → ℕ → ℕ → Name → ModuleId → Module → List Map
+maps_with_child ms k i n m d = put_child_in ms k (slice_get ms k) i n m d
+
+abbrev pub crate_maps_with_child : List Map → MapId → ℕ → Name → ModuleId → Module → List Map
+crate_maps_with_child ms id i n m d = elim id.block [ None ↦ maps_with_child ms id.krate.0 i n m d | Some b ↦ ms ]
+
+abbrev pub block_maps_with_child : List Map → MapId → ℕ → Name → ModuleId → Module → List Map
+block_maps_with_child ms id i n m d = elim id.block [ None ↦ ms | Some b ↦ maps_with_child ms b.0 i n m d ]
+
+-- no module of the map of number k has that number
+abbrev pub IsFree : List Map → ℕ → ModuleId → Type 0
+IsFree ms k m = IfSome (slice_get ms k) (λ map. module_at map.modules m ≡ None)
+
+-- the place of the next module in a map, below that parent
+abbrev pub next_place : World → MapId → ModuleId → Place
+next_place w id m = record { map = id; index = option_map_or (λ map. length map.modules) (numbered_map w id) 0; parent = Some m }
+
+-- the world with a module more, a child of the module m at the place p
+abbrev pub with_child_at_place : World → ModuleId → Place → Name → Module → World
+with_child_at_place w m p n d = record w {
+  crate_maps = crate_maps_with_child w.crate_maps p.map p.index n (next_module w) d;
+  block_maps = block_maps_with_child w.block_maps p.map p.index n (next_module w) d;
+  places = w.places ++ next_place w p.map m ∷ [];
+}
+
+-- the world with a module more, a child of m
+abbrev pub with_child_of : World → ModuleId → Name → Module → World
+with_child_of w m n d = option_map_or (λ p. with_child_at_place w m p n d) (place_of w m) w
+
+-- the world with a module more, a child of m: it has no children yet, and its scope binds nothing
+abbrev pub with_module : World → ModuleId → Name → ModuleOrigin → Visibility → World
+with_module w m n o v = with_child_of w m n (fresh_module o v (Some m))
+
+-- the world with an item more in a module
+abbrev pub with_item : World → ItemKind → ModuleId → World
+with_item w k m = record w { items = w.items ++ (k, m) ∷ [] }
+
+-- the definition that an item of that kind and number is
+abbrev pub item_def : ItemKind → ℕ → ModuleDefId
+item_def item.Function n = def.FunctionId (record { 0 = n })
+item_def item.Struct n = def.AdtId (adt.StructId (record { 0 = n }))
+item_def item.Union n = def.AdtId (adt.UnionId (record { 0 = n }))
+item_def item.Enum n = def.AdtId (adt.EnumId (record { 0 = n }))
+item_def item.Const n = def.ConstId (record { 0 = n })
+item_def item.Static n = def.StaticId (record { 0 = n })
+item_def item.Trait n = def.TraitId (record { 0 = n })
+item_def item.TypeAlias n = def.TypeAliasId (record { 0 = n })

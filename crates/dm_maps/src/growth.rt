@@ -1,0 +1,189 @@
+//! Growth of lists and maps, all or nothing.
+ghost use Rattle.std.specs.Prelude.{◌≡◌, ◌-◌, ◌++◌, ◌∷◌, [], None, OnOk, OnErr, IfSome, take, length};
+ghost use Rattle.indexmap.specs.IndexMap.{get};
+ghost use Rattle.dm_maps.specs.Maps.{with_child_at};
+ghost use Rattle.dm_maps.specs.Build.{IsFree, maps_with_child, crate_maps_with_child, block_maps_with_child};
+
+use crate::def_map::DefMap;
+use crate::local_def_map::LocalDefMap;
+use crate::module_data::ModuleData;
+use crate::place::Place;
+use dm_base::ids::ModuleId;
+use dm_base::name::Name;
+use indexmap::IndexMap;
+use std::alloc::{AllocError, Global};
+use std::hash::Hash;
+
+/// Puts a new key last.
+pub(crate) fn put_last<K: Eq + Hash + Drop, V: Drop>(
+    map: &mut IndexMap<K, V>,
+    key: K,
+    value: V,
+) -> Result<(), AllocError>
+    requires { get K.eq map.old key ≡ None }
+    ensures ok { OnOk result (map.new.entries ≡ map.old.entries ++ (key, value) ∷ []) }
+    ensures err { OnErr result (map.new.entries ≡ map.old.entries) }
+{
+    map.insert(key, value)?;
+    Ok(())
+}
+
+/// Takes the last key off again.
+pub(crate) fn drop_last<K: Eq + Hash + Drop, V: Drop>(map: &mut IndexMap<K, V>)
+    ensures { map.new.entries ≡ take (length map.old.entries - 1) map.old.entries }
+{
+    map.pop();
+}
+
+/// Lists `m` among the children of the module at place `i`.
+pub(crate) fn list_child(
+    modules: &mut IndexMap<ModuleId, ModuleData>,
+    i: usize,
+    name: Name,
+    m: ModuleId,
+) -> Result<(), AllocError>
+    ensures ok { OnOk result (modules.new.entries ≡ with_child_at modules.old.entries i name m) }
+    ensures err { OnErr result (modules.new.entries ≡ modules.old.entries) }
+{
+    match modules.get_index_mut(i) {
+        None => Ok(()),
+        Some(data) => data.add_child(name, m),
+    }
+}
+
+/// Adds a module to the map of number `k`, as a child of the one at place `i`.
+fn add_child_in(
+    maps: &mut Vec<DefMap>,
+    k: usize,
+    i: usize,
+    name: Name,
+    m: ModuleId,
+    added: ModuleData,
+) -> Result<(), AllocError>
+    requires { IsFree maps.old.items k m }
+    ensures ok { OnOk result (maps.new.items ≡ maps_with_child maps.old.items k i name m added) }
+    ensures err { OnErr result (maps.new.items ≡ maps.old.items) }
+{
+    match maps.get_mut(k) {
+        None => Ok(()),
+        Some(map) => map.add_child(i, name, m, added),
+    }
+}
+
+/// A module that is added: its number, its name as a child of the module at `at`, and its own place.
+#[derive(Drop)]
+pub(crate) struct NewChild {
+    pub(crate) at: Place,
+    pub(crate) place: Place,
+    pub(crate) name: Name,
+    pub(crate) m: ModuleId,
+    pub(crate) added: ModuleData,
+}
+
+/// Adds a module to the map that it lies in.
+fn add_child_below(
+    crate_maps: &mut Vec<DefMap>,
+    block_maps: &mut Vec<DefMap>,
+    child: NewChild,
+) -> Result<(), AllocError>
+    requires crate_free { IsFree crate_maps.old.items child.at.map.krate.0 child.m }
+    requires block_free { IfSome child.at.map.block (λ b. IsFree block_maps.old.items b.0 child.m) }
+    ensures crate_maps { OnOk result (crate_maps.new.items ≡ crate_maps_with_child crate_maps.old.items child.at.map child.at.index child.name child.m child.added) }
+    ensures block_maps { OnOk result (block_maps.new.items ≡ block_maps_with_child block_maps.old.items child.at.map child.at.index child.name child.m child.added) }
+    ensures old_crates { OnErr result (crate_maps.new.items ≡ crate_maps.old.items) }
+    ensures old_blocks { OnErr result (block_maps.new.items ≡ block_maps.old.items) }
+{
+    let at = child.at;
+    match at.map.block {
+        None => add_child_in(
+            crate_maps,
+            at.map.krate.0 as usize,
+            at.index,
+            child.name,
+            child.m,
+            child.added,
+        ),
+        Some(b) => add_child_in(
+            block_maps,
+            b.0 as usize,
+            at.index,
+            child.name,
+            child.m,
+            child.added,
+        ),
+    }
+}
+
+/// Adds a module, with its place.
+pub(crate) fn add_child(
+    places: &mut Vec<Place>,
+    crate_maps: &mut Vec<DefMap>,
+    block_maps: &mut Vec<DefMap>,
+    child: NewChild,
+) -> Result<(), AllocError>
+    requires crate_free { IsFree crate_maps.old.items child.at.map.krate.0 child.m }
+    requires block_free { IfSome child.at.map.block (λ b. IsFree block_maps.old.items b.0 child.m) }
+    ensures places { OnOk result (places.new.items ≡ places.old.items ++ child.place ∷ []) }
+    ensures crate_maps { OnOk result (crate_maps.new.items ≡ crate_maps_with_child crate_maps.old.items child.at.map child.at.index child.name child.m child.added) }
+    ensures block_maps { OnOk result (block_maps.new.items ≡ block_maps_with_child block_maps.old.items child.at.map child.at.index child.name child.m child.added) }
+    ensures old_places { OnErr result (places.new.items ≡ places.old.items) }
+    ensures old_crates { OnErr result (crate_maps.new.items ≡ crate_maps.old.items) }
+    ensures old_blocks { OnErr result (block_maps.new.items ≡ block_maps.old.items) }
+{
+    places.push(child.place)?;
+    match add_child_below(crate_maps, block_maps, child) {
+        Ok(()) => Ok(()),
+        Err(refused) => {
+            places.pop();
+            Err(refused)
+        }
+    }
+}
+
+/// Adds a map, with the place of its root.
+fn add_map(
+    places: &mut Vec<Place>,
+    place: Place,
+    maps: &mut Vec<DefMap>,
+    map: DefMap,
+) -> Result<(), AllocError>
+    ensures places { OnOk result (places.new.items ≡ places.old.items ++ place ∷ []) }
+    ensures maps { OnOk result (maps.new.items ≡ maps.old.items ++ map ∷ []) }
+    ensures old_places { OnErr result (places.new.items ≡ places.old.items) }
+    ensures old_maps { OnErr result (maps.new.items ≡ maps.old.items) }
+{
+    places.push(place)?;
+    match maps.push(map) {
+        Ok(()) => Ok(()),
+        Err(refused) => {
+            places.pop();
+            Err(AllocError::from(refused))
+        }
+    }
+}
+
+/// Adds the map of a crate, with the place of its root and an empty extern prelude.
+pub(crate) fn add_crate_map(
+    places: &mut Vec<Place>,
+    place: Place,
+    local_maps: &mut Vec<LocalDefMap>,
+    crate_maps: &mut Vec<DefMap>,
+    map: DefMap,
+    alloc: Global,
+) -> Result<(), AllocError>
+    ensures places { OnOk result (places.new.items ≡ places.old.items ++ place ∷ []) }
+    ensures locals { OnOk result (local_maps.new.items ≡ local_maps.old.items ++ [] ∷ []) }
+    ensures maps { OnOk result (crate_maps.new.items ≡ crate_maps.old.items ++ map ∷ []) }
+    ensures old_places { OnErr result (places.new.items ≡ places.old.items) }
+    ensures old_locals { OnErr result (local_maps.new.items ≡ local_maps.old.items) }
+    ensures old_maps { OnErr result (crate_maps.new.items ≡ crate_maps.old.items) }
+{
+    local_maps.push(LocalDefMap::new(alloc))?;
+    match add_map(places, place, crate_maps, map) {
+        Ok(()) => Ok(()),
+        Err(refused) => {
+            local_maps.pop();
+            Err(refused)
+        }
+    }
+}

@@ -1,0 +1,61 @@
+//! What a scope says of one name, of one definition, or of one place in the syntax.
+ghost use Rattle.std.specs.Prelude.{◌≡◌, option_map, option_copied, find};
+ghost use Rattle.std.specs.Map.{lookup};
+ghost use Rattle.dm_base.specs.Names.{find_name};
+ghost use Rattle.dm_scope.specs.Lookups.{def_and_vis, shown_name, name_in, trait_vis};
+ghost use Rattle.dm_scope.specs.Sameness.{same_ast};
+
+use super::ItemScope;
+use dm_base::ids::{MacroCallId, TraitId};
+use dm_base::item_ids::{MacroId, ModuleDefId};
+use dm_base::item_in_ns::ItemInNs;
+use dm_base::name::Name;
+use dm_base::source::AstId;
+use dm_base::visibility::Visibility;
+
+impl ItemScope {
+    /// What a name is bound to as a type, and who sees it. Takes no memory: one look-up.
+    pub fn type_(&self, name: &Name) -> Option<(ModuleDefId, Visibility)>
+        ensures { result ≡ option_map def_and_vis (find_name name.now self.now.types.items) }
+    {
+        let item = self.types.get(name)?;
+        Some((item.def, item.vis))
+    }
+
+    /// What a name is bound to as a macro. Takes no memory: one look-up.
+    pub fn makro(&self, name: &Name) -> Option<MacroId>
+        ensures { result ≡ option_map (λ x. x.def) (find_name name.now self.now.macros.items) }
+    {
+        let item = self.macros.get(name)?;
+        Some(item.def)
+    }
+
+    /// The legacy macros of a name, in order of definition. Takes no memory: one look-up.
+    #[tactic(auto, using(crate::proofs::LookupLemmas::find_legacy))]
+    pub fn get_legacy_macro(&self, name: &Name) -> Option<&[MacroId]>
+        ensures { option_copied result ≡ find_name name.now self.now.legacy_macros }
+    {
+        let macros = self.legacy_macros.get(name)?;
+        Some(macros.as_slice())
+    }
+
+    /// The call of a function-like macro. Takes no memory: one look-up.
+    #[tactic(auto, using(crate::proofs::SamenessLemmas::ast_test_is))]
+    pub fn macro_invoc(&self, call: AstId) -> Option<MacroCallId>
+        ensures { result ≡ lookup (same_ast call) self.now.macro_invocations }
+    {
+        self.macro_invocations.get(&call).copied()
+    }
+
+    /// Who sees a trait that was imported without a name, by its first such import. Takes no memory.
+    pub fn unnamed_trait_vis(&self, tr: TraitId) -> Option<Visibility>
+        ensures { result ≡ trait_vis tr self.now.unnamed_traits }
+    {
+        for unnamed in &self.unnamed_traits {
+            if unnamed.0 == tr {
+                return Some(unnamed.1);
+            }
+        }
+        None
+    }
+}

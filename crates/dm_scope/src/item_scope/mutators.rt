@@ -1,0 +1,121 @@
+//! What collectors put into a scope beside pushes.
+ghost use Rattle.std.specs.Prelude.{◌≡◌, [], ◌∷◌, ◌++◌, OnOk, OnErr};
+ghost use Rattle.indexmap.specs.IndexMap.{insert_entry};
+ghost use Rattle.dm_base.specs.Names.{same_name};
+ghost use Rattle.dm_scope.specs.TableLists.{add_to_list};
+ghost use Rattle.dm_scope.specs.Sameness.{same_ast};
+
+use super::ItemScope;
+use crate::table_lists::add_to_list;
+use dm_base::ids::{
+    BuiltinDeriveImplId, ConstId, ExternBlockId, ExternCrateId, ImplId, MacroCallId, TraitId,
+};
+use dm_base::imports::ImportId;
+use dm_base::item_ids::{MacroId, ModuleDefId};
+use dm_base::name::Name;
+use dm_base::source::AstId;
+use dm_base::visibility::Visibility;
+use std::alloc::AllocError;
+
+impl ItemScope {
+    /// Declares a definition. Where memory is short, nothing changes.
+    pub fn declare(&mut self, def: ModuleDefId) -> Result<(), AllocError>
+        ensures ok { OnOk result (self.new ≡ record self.old { declarations = self.old.declarations ++ def ∷ [] }) }
+        ensures err { OnErr result (self.new ≡ self.old) }
+    {
+        self.declarations.push(def)?;
+        Ok(())
+    }
+
+    /// Defines an `impl` block, of a trait or of none. Where memory is short, nothing changes.
+    pub fn define_impl(&mut self, imp: ImplId, is_trait_impl: bool) -> Result<(), AllocError>
+        ensures ok { OnOk result (self.new ≡ record self.old { impls = self.old.impls ++ (imp, is_trait_impl) ∷ [] }) }
+        ensures err { OnErr result (self.new ≡ self.old) }
+    {
+        self.impls.push((imp, is_trait_impl))?;
+        Ok(())
+    }
+
+    /// Defines an `impl` block that a builtin derive writes. Where memory is short, nothing changes.
+    pub fn define_builtin_derive_impl(&mut self, imp: BuiltinDeriveImplId) -> Result<(), AllocError>
+        ensures ok { OnOk result (self.new ≡ record self.old { builtin_derive_impls = self.old.builtin_derive_impls ++ imp ∷ [] }) }
+        ensures err { OnErr result (self.new ≡ self.old) }
+    {
+        self.builtin_derive_impls.push(imp)?;
+        Ok(())
+    }
+
+    /// Defines an `extern` block. Where memory is short, nothing changes.
+    pub fn define_extern_block(&mut self, extern_block: ExternBlockId) -> Result<(), AllocError>
+        ensures ok { OnOk result (self.new ≡ record self.old { extern_blocks = self.old.extern_blocks ++ extern_block ∷ [] }) }
+        ensures err { OnErr result (self.new ≡ self.old) }
+    {
+        self.extern_blocks.push(extern_block)?;
+        Ok(())
+    }
+
+    /// Defines an `extern crate` item. Where memory is short, nothing changes.
+    pub fn define_extern_crate_decl(
+        &mut self,
+        extern_crate: ExternCrateId,
+    ) -> Result<(), AllocError>
+        ensures ok { OnOk result (self.new ≡ record self.old { extern_crate_decls = self.old.extern_crate_decls ++ extern_crate ∷ [] }) }
+        ensures err { OnErr result (self.new ≡ self.old) }
+    {
+        self.extern_crate_decls.push(extern_crate)?;
+        Ok(())
+    }
+
+    /// Defines a constant without a name. Where memory is short, nothing changes.
+    pub fn define_unnamed_const(&mut self, konst: ConstId) -> Result<(), AllocError>
+        ensures ok { OnOk result (self.new ≡ record self.old { unnamed_consts = self.old.unnamed_consts ++ konst ∷ [] }) }
+        ensures err { OnErr result (self.new ≡ self.old) }
+    {
+        self.unnamed_consts.push(konst)?;
+        Ok(())
+    }
+
+    /// Imports a trait without a name. Where memory is short, nothing changes.
+    pub fn push_unnamed_trait(
+        &mut self,
+        tr: TraitId,
+        vis: Visibility,
+        import: Option<ImportId>,
+    ) -> Result<(), AllocError>
+        ensures ok { OnOk result (self.new ≡ record self.old { unnamed_traits = self.old.unnamed_traits ++ (tr, vis, import) ∷ [] }) }
+        ensures err { OnErr result (self.new ≡ self.old) }
+    {
+        self.unnamed_traits.push((tr, vis, import))?;
+        Ok(())
+    }
+
+    /// Sets the call of an attribute macro on an item, in place of one that was set. Where memory is short, nothing
+    /// changes.
+    #[tactic(auto, using(crate::proofs::SamenessLemmas::ast_test_is))]
+    pub fn add_attr_macro_invoc(&mut self, item: AstId, call: MacroCallId) -> Result<(), AllocError>
+        ensures ok { OnOk result (self.new ≡ record self.old { attr_macros = insert_entry same_ast self.old.attr_macros item call }) }
+        ensures err { OnErr result (self.new ≡ self.old) }
+    {
+        self.attr_macros.insert(item, call)?;
+        Ok(())
+    }
+
+    /// Sets the call of a function-like macro, in place of one that was set. Where memory is short, nothing changes.
+    #[tactic(auto, using(crate::proofs::SamenessLemmas::ast_test_is))]
+    pub fn add_macro_invoc(&mut self, call: AstId, call_id: MacroCallId) -> Result<(), AllocError>
+        ensures ok { OnOk result (self.new ≡ record self.old { macro_invocations = insert_entry same_ast self.old.macro_invocations call call_id }) }
+        ensures err { OnErr result (self.new ≡ self.old) }
+    {
+        self.macro_invocations.insert(call, call_id)?;
+        Ok(())
+    }
+
+    /// Defines a legacy macro, after those of its name. Where memory is short, nothing changes.
+    pub fn define_legacy_macro(&mut self, name: Name, mac: MacroId) -> Result<(), AllocError>
+        ensures ok { OnOk result (self.new ≡ record self.old { legacy_macros = add_to_list same_name self.old.legacy_macros name mac }) }
+        ensures err { OnErr result (self.new ≡ self.old) }
+    {
+        add_to_list(&mut self.legacy_macros, name, mac, self.alloc)?;
+        Ok(())
+    }
+}

@@ -1,0 +1,164 @@
+//! A push into all namespaces of a scope.
+ghost use Rattle.std.specs.Prelude.{◌≡◌, false, List, [], ◌∷◌, ◌++◌, IfOk, OnOk, OnErr};
+ghost use Rattle.dm_base.specs.declared.ids.ModuleId.{ModuleId};
+ghost use Rattle.dm_base.specs.Tree.{same_module};
+ghost use Rattle.dm_scope.specs.Bindings.{bound_after, flags_after};
+ghost use Rattle.dm_scope.specs.Push.{macros_reading, is_empty, unresolved_after, is_new_unresolved, scope_after, globs_after, push_answer, push_answer_from_values, push_answer_from_macros};
+ghost use Rattle.dm_scope.specs.Scope.{Scope};
+ghost use Rattle.dm_scope.specs.Shows.{ScopePush, Shows, is_answered};
+
+use super::ItemScope;
+use crate::glob_imports::PerNsGlobImports;
+use dm_base::ids::ModuleId;
+use dm_base::imports::ImportOrExternCrate;
+use dm_base::name::Name;
+use dm_base::per_ns::PerNs;
+use std::alloc::AllocError;
+
+impl ItemScope {
+    /// Pushes what an import, or a declaration, resolves a name of a module to (docs/RULES.md, "What a push does").
+    ///
+    /// Answers whether a namespace was written, or the name went among the unresolved ones. Where memory is short,
+    /// scope and glob table are as they were.
+    pub fn push_res_with_import(
+        &mut self,
+        glob_imports: &mut PerNsGlobImports,
+        lookup: (ModuleId, Name),
+        def: PerNs,
+        import: Option<ImportOrExternCrate>,
+    ) -> Result<bool, AllocError>
+        ensures answer { IfOk result (λ answer. answer ≡ push_answer self.old glob_imports.old lookup.0 lookup.1 def import) }
+        ensures scope { OnOk result (self.new ≡ scope_after self.old glob_imports.old lookup.0 lookup.1 def import) }
+        ensures globs { OnOk result (glob_imports.new ≡ globs_after self.old glob_imports.old lookup.0 lookup.1 def import) }
+        ensures err { OnErr result (self.new ≡ self.old) }
+        ensures err_globs { OnErr result (glob_imports.new ≡ glob_imports.old) }
+
+        // Where scope and table show a list of pushes under the module, they show it with this push after it, and the
+        // answer is as that list says. After want of memory, and under another module, what was shown is shown.
+        ensures shown { (ps : List ScopePush) → Shows self.old glob_imports.old lookup.0 ps → OnOk result (Shows self.new glob_imports.new lookup.0 (ps ++ record { name = lookup.1; res = def; by = import } ∷ [])) }
+        ensures shown_answer { (ps : List ScopePush) → Shows self.old glob_imports.old lookup.0 ps → IfOk result (λ answer. answer ≡ is_answered ps (record { name = lookup.1; res = def; by = import })) }
+        ensures refused { (k : ModuleId) (ps : List ScopePush) → Shows self.old glob_imports.old k ps → OnErr result (Shows self.new glob_imports.new k ps) }
+        ensures elsewhere { (other : Scope) (k : ModuleId) (ps : List ScopePush) → same_module lookup.0 k ≡ false → Shows other glob_imports.old k ps → Shows other glob_imports.new k ps }
+    {
+        let (m, name) = lookup;
+        let answer = self.push_from_types(glob_imports, m, &name, &def, import)?;
+        Ok(answer)
+    }
+
+    /// The push, in all namespaces: the first step, then all that is below, then the second step, or all taken back.
+    #[tactic(auto, using(crate::proofs::SamenessLemmas::types_reading_is))]
+    fn push_from_types(
+        &mut self,
+        globs: &mut PerNsGlobImports,
+        m: ModuleId,
+        name: &Name,
+        def: &PerNs,
+        import: Option<ImportOrExternCrate>,
+    ) -> Result<bool, AllocError>
+        ensures answer { IfOk result (λ answer. answer ≡ push_answer self.old globs.old m name.now def.now import) }
+        ensures scope { OnOk result (self.new ≡ scope_after self.old globs.old m name.now def.now import) }
+        ensures globs { OnOk result (globs.new ≡ globs_after self.old globs.old m name.now def.now import) }
+        ensures err { OnErr result (self.new ≡ self.old) }
+        ensures err_globs { OnErr result (globs.new ≡ globs.old) }
+    {
+        let new = self
+            .types
+            .grow(&mut globs.types, m, name, def.types, import)?;
+        match self.push_from_values(globs, m, name, def, import) {
+            Ok(below) => {
+                self.types
+                    .finish(&mut globs.types, new, m, name, def.types, import);
+                Ok(new.writes || below)
+            }
+            Err(refused) => {
+                self.types.undo(&mut globs.types, new, m);
+                Err(refused)
+            }
+        }
+    }
+
+    /// The push from the values on.
+    #[tactic(auto, using(crate::proofs::SamenessLemmas::values_reading_is))]
+    fn push_from_values(
+        &mut self,
+        globs: &mut PerNsGlobImports,
+        m: ModuleId,
+        name: &Name,
+        def: &PerNs,
+        import: Option<ImportOrExternCrate>,
+    ) -> Result<bool, AllocError>
+        ensures answer { IfOk result (λ answer. answer ≡ push_answer_from_values self.old globs.old m name.now def.now import) }
+        ensures scope { OnOk result (self.new ≡ record (scope_after self.old globs.old m name.now def.now import) { types = self.old.types }) }
+        ensures globs { OnOk result (globs.new ≡ record (globs_after self.old globs.old m name.now def.now import) { types = globs.old.types }) }
+        ensures err { OnErr result (self.new ≡ self.old) }
+        ensures err_globs { OnErr result (globs.new ≡ globs.old) }
+    {
+        let new = self
+            .values
+            .grow(&mut globs.values, m, name, def.values, import)?;
+        match self.push_from_macros(globs, m, name, def, import) {
+            Ok(below) => {
+                self.values
+                    .finish(&mut globs.values, new, m, name, def.values, import);
+                Ok(new.writes || below)
+            }
+            Err(refused) => {
+                self.values.undo(&mut globs.values, new, m);
+                Err(refused)
+            }
+        }
+    }
+
+    /// The push from the macros on.
+    #[tactic(auto, using(crate::proofs::SamenessLemmas::macros_reading_is))]
+    fn push_from_macros(
+        &mut self,
+        globs: &mut PerNsGlobImports,
+        m: ModuleId,
+        name: &Name,
+        def: &PerNs,
+        import: Option<ImportOrExternCrate>,
+    ) -> Result<bool, AllocError>
+        ensures answer { IfOk result (λ answer. answer ≡ push_answer_from_macros self.old globs.old m name.now def.now import) }
+        ensures scope { OnOk result (self.new ≡ record self.old { macros = bound_after macros_reading self.old.macros globs.old.macros m name.now def.now.macros import; unresolved = unresolved_after self.old.unresolved name.now def.now }) }
+        ensures globs { OnOk result (globs.new ≡ record globs.old { macros = flags_after macros_reading self.old.macros globs.old.macros m name.now def.now.macros import }) }
+        ensures err { OnErr result (self.new ≡ self.old) }
+        ensures err_globs { OnErr result (globs.new ≡ globs.old) }
+    {
+        let new = self
+            .macros
+            .grow(&mut globs.macros, m, name, def.macros, import)?;
+        match self.push_unresolved(name, def) {
+            Ok(below) => {
+                self.macros
+                    .finish(&mut globs.macros, new, m, name, def.macros, import);
+                Ok(new.writes || below)
+            }
+            Err(refused) => {
+                self.macros.undo(&mut globs.macros, new, m);
+                Err(refused)
+            }
+        }
+    }
+
+    /// Puts the name of an empty push among the unresolved ones.
+    fn push_unresolved(&mut self, name: &Name, def: &PerNs) -> Result<bool, AllocError>
+        ensures answer { IfOk result (λ answer. answer ≡ is_new_unresolved self.old.unresolved name.now def.now) }
+        ensures scope { OnOk result (self.new ≡ record self.old { unresolved = unresolved_after self.old.unresolved name.now def.now }) }
+        ensures err { OnErr result (self.new ≡ self.old) }
+    {
+        if !is_empty(def) || self.unresolved.contains(name) {
+            return Ok(false);
+        }
+        let key = name.copy(self.alloc)?;
+        self.unresolved.insert(key)?;
+        Ok(true)
+    }
+}
+
+/// Whether a push resolved to nothing.
+fn is_empty(def: &PerNs) -> bool
+    ensures { result ≡ is_empty def.now }
+{
+    def.types.is_none() && def.values.is_none() && def.macros.is_none()
+}

@@ -1,0 +1,71 @@
+//! The places that a question asks.
+ghost use Rattle.std.specs.Prelude.{◌≡◌, map};
+ghost use Rattle.dm_base.specs.Tree.{IsKnown};
+ghost use Rattle.dm_maps.specs.Known.{KnowsAll, local_holds};
+ghost use Rattle.dm_maps.specs.Readings.{setting_of, read};
+ghost use Rattle.dm_maps.specs.Trees.{tree_of};
+ghost use Rattle.hir_def_map.specs.Answers.{merged};
+ghost use Rattle.hir_def_map.specs.Paths.{single, prelude_place, places};
+
+use crate::answers::{merge, nothing_no};
+use crate::home::home;
+use crate::question::Ask;
+use crate::result::ResolvePathResult;
+use crate::single::{single_at, single_in_preludes};
+use dm_base::ids::{MapId, ModuleId};
+use dm_base::module_tree::ModuleTree;
+use dm_base::name::Name;
+use dm_maps::local_def_map::LocalDefMap;
+use dm_maps::world::World;
+
+/// What the preludes of a module's crate answer, seen from the root of its block; nothing yet where it lies in none.
+#[tactic(auto, unfolding(dm_maps::specs::Readings::setting_of))]
+fn preludes_of(
+    world: &World,
+    local: &LocalDefMap,
+    ask: &Ask,
+    m: ModuleId,
+    segments: &[Name],
+) -> ResolvePathResult
+    requires module_known { IsKnown (tree_of world.now) m }
+    requires local_known { KnowsAll world.now (local_holds local.now) }
+    ensures { result ≡ merged (map (single (setting_of world.now) ask.now (map (read world.now local.now) segments.now)) (prelude_place (setting_of world.now) m)) }
+{
+    let Some(block) = world.block(m) else {
+        return nothing_no();
+    };
+    let id = MapId {
+        krate: world.krate(m),
+        block: None,
+    };
+    match world.block_root_of(block) {
+        None => nothing_no(),
+        Some(root) => merge(single_in_preludes(world, local, ask, id, root, segments), nothing_no()),
+    }
+}
+
+/// The answer of all places, from the origin outwards.
+#[tactic(auto, unfolding(dm_maps::specs::Readings::setting_of))]
+pub(crate) fn answer_outwards(
+    world: &World,
+    local: &LocalDefMap,
+    ask: &Ask,
+    segments: &[Name],
+) -> ResolvePathResult
+    requires module_known { IsKnown (tree_of world.now) ask.now.origin }
+    requires local_known { KnowsAll world.now (local_holds local.now) }
+    ensures { result ≡ merged (map (single (setting_of world.now) ask.now (map (read world.now local.now) segments.now)) (places (setting_of world.now) ask.now.origin)) }
+{
+    let inside = home(world, ask.origin);
+    let mut answer = nothing_no();
+    let mut at = ask.origin;
+    'roots: while world.is_block_root(at) {
+        answer = merge(answer, single_at(world, local, ask, at, segments));
+        match world.climb(at) {
+            None => unreachable!("a block's root lies in a module"),
+            Some(outer) => at = outer,
+        }
+    }
+    let own = single_at(world, local, ask, inside, segments);
+    merge(answer, merge(own, preludes_of(world, local, ask, inside, segments)))
+}
