@@ -1,11 +1,11 @@
 -- The places of a question, one after another.
-use Rattle.std.proofs.Common.{◌≡◌, ◌++◌, Bool, true, false, cond, List, [], ◌∷◌, refl, sym, ap, ◌∙◌, map, subst, inl, inr, nat_eq}
+use Rattle.std.proofs.Common.{◌≡◌, ◌++◌, true, false, cond, List, [], ◌∷◌, refl, sym, ap, ◌∙◌, map, inl, inr}
 use Rattle.std.proofs.lemmas.Bool.Decides.{eqb_tells}
 use Rattle.std.proofs.lemmas.Bool.{false≢true}
 use Rattle.dm_base.specs.declared.ids.ModuleId.{ModuleId}
 use Rattle.dm_base.specs.Tree.{Tree, chain, is_block_root, same_module}
 use Rattle.dm_maps.specs.Readings.{Setting}
-use Rattle.hir_def_map.specs.Paths.{Place, In, up_to, prelude_place, places_along}
+use Rattle.hir_def_map.specs.Paths.{In, up_to, prelude_place, places_along}
 use Rattle.hir_def_map.proofs.OuterLemmas.{chain-head}
 
 -- a block's root is not the module h that is none
