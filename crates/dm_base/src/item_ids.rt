@@ -12,6 +12,8 @@ use crate::ids::{
     ConstId, EnumId, EnumVariantId, ExternBlockId, FunctionId, ImplId, Macro2Id, MacroRulesId,
     ModuleId, ProcMacroId, StaticId, StructId, TraitId, TypeAliasId, UnionId,
 };
+use std::alloc::Global;
+use std::default::MadeWith;
 
 /// A struct, a union or an enum.
 #[derive(Clone, Copy, PartialEq, Eq, PartialOrd, Ord, Hash, Debug)]
@@ -51,6 +53,13 @@ pub enum MacroId {
     Macro2Id(Macro2Id),
     MacroRulesId(MacroRulesId),
     ProcMacroId(ProcMacroId),
+}
+
+/// The blank that an unused inline place of a list of macros holds.
+impl MadeWith<Global> for MacroId {
+    fn made_with(_alloc: Global) -> MacroId {
+        MacroId::Macro2Id(Macro2Id(0))
+    }
 }
 
 impl From<Macro2Id> for MacroId {

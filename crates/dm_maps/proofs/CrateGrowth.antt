@@ -69,6 +69,14 @@ module _ (ps : List Place) (cs bs : List Outline) (inside : List (Option ModuleI
         subst (P k) g.1 (subst (λ i. P i own) (sym g.0) (refl, IsMap-root ps (crate_id (length cs))))
   ]
 
+  in_crates : (m : ModuleId) (p : Place) → slice_get more m.0 ≡ Some p → p.map.krate.0 < length (cs ++ own ∷ [])
+  in_crates m p e =
+      let maps : length (cs ++ own ∷ []) ≡ length cs + 1 = length-append cs (own ∷ []) in
+      elim (get-push ps (root_place (crate_id (length cs))) m.0 p e) [
+        | inl g ↦ let l = w.in_crates m p g in omega arith
+        | inr g ↦ let same : length cs ≡ p.map.krate.0 = ap (λ (x : Place). x.map.krate.0) g.1 in omega arith
+      ]
+
   pub IsWorldOf-crate : IsWorldOf (ps ++ root_place (crate_id (length cs)) ∷ []) (cs ++ root_outline ps (crate_id (length cs)) ∷ []) bs inside (n + 1)
   IsWorldOf-crate =
       let places : length more ≡ length ps + 1 = length-append ps (root_place (crate_id (length cs)) ∷ []) in
@@ -78,6 +86,7 @@ module _ (ps : List Place) (cs bs : List Outline) (inside : List (Option ModuleI
         stands = stands;
         crates = crates;
         blocks = AreMaps-append is_block_id ps (root_place (crate_id (length cs)) ∷ []) bs w.blocks;
+        in_crates = in_crates;
         externs = let k = w.externs in omega arith;
         crate_count = let k = w.crate_count in omega arith;
         block_count = let k = w.block_count in omega arith;

@@ -6,3 +6,11 @@ pub mod CrateGrowth
 pub mod WorldGrowth
 pub mod FaultLemmas
 pub mod ScopeLemmas
+pub mod AllLemmas
+pub mod Sets
+pub mod Order
+pub mod FirstLemmas
+pub mod Least
+pub mod SoundLemmas
+pub mod LastLemmas
+pub mod MapLemmas

@@ -142,6 +142,15 @@ module _ (ps : List Place) (cs bs : List Outline) (inside : List (Option ModuleI
       | inr g ↦ subst (Stands ds es m) g.1 (subst (λ i. Stands ds es (record { 0 = i }) (place_below o q)) (sym g.0) new_stands)
     ]
 
+    in_crates : (m : ModuleId) (p : Place) → slice_get (ps ++ place_below o q ∷ []) m.0 ≡ Some p → p.map.krate.0 < length ds
+    in_crates m p e = elim (get-push ps (place_below o q) m.0 p e) [
+      | inl g ↦ let l = w.in_crates m p g in omega arith
+      | inr g ↦
+          let l = w.in_crates q at is in
+          let same : at.map.krate.0 ≡ p.map.krate.0 = ap (λ (id : MapId). id.krate.0) (sym of_id) ∙ ap (λ (x : Place). x.map.krate.0) g.1 in
+          omega arith
+    ]
+
     longer_world : IsWorldOf (ps ++ place_below o q ∷ []) ds es inside n
     longer_world =
         let more : length (ps ++ place_below o q ∷ []) ≡ length ps + 1 = length-append ps (place_below o q ∷ []) in record {
@@ -150,6 +159,7 @@ module _ (ps : List Place) (cs bs : List Outline) (inside : List (Option ModuleI
           stands = stands;
           crates = crate_maps;
           blocks = block_maps;
+          in_crates = in_crates;
           externs = w.externs ∙ sym crate_count;
           crate_count = let k = w.crate_count in omega arith;
           block_count = let k = w.block_count in omega arith;

@@ -46,7 +46,7 @@ IsFree-blocks w is k = IsFree-maps is_block_id w.places w.block_maps k is.blocks
 
 -- ---- A module more.
 
-numbered-outlines : (w : World) (id : MapId) → numbered_outline (outlines w.crate_maps) (outlines w.block_maps) id ≡ option_map outline (numbered_map w id)
+pub numbered-outlines : (w : World) (id : MapId) → numbered_outline (outlines w.crate_maps) (outlines w.block_maps) id ≡ option_map outline (numbered_map w id)
 numbered-outlines w id = elim id.block as (λ block. elim block [ None ↦ slice_get (outlines w.crate_maps) id.krate.0 | Some b ↦ slice_get (outlines w.block_maps) b.0 ] ≡ option_map outline (elim block [ None ↦ slice_get w.crate_maps id.krate.0 | Some b ↦ slice_get w.block_maps b.0 ])) [
   | None ↦ slice_get-map outline w.crate_maps id.krate.0
   | Some b ↦ slice_get-map outline w.block_maps b.0

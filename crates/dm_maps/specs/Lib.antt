@@ -1,8 +1,12 @@
 pub mod Origins
 pub mod Maps
 pub mod World
+pub mod Asked
 pub mod Build
 pub mod Faults
+pub mod First
+pub mod Held
+pub mod Holds
 pub mod Known
 pub mod LendingMap
 pub mod LendingModule

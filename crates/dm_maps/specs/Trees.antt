@@ -92,14 +92,15 @@ is_block_id b id = id.block ≡ Some (record { 0 = b })
 abbrev pub AreMaps : (ℕ → MapId → Type 0) → List Place → List Outline → Type 0
 AreMaps own ps os = (k : ℕ) (o : Outline) → slice_get os k ≡ Some o → own k o.id × IsMap ps o
 
--- What holds of every world, whatever its scopes bind: its modules make a tree, each stands at its place, the maps have
--- no others, each crate has an extern prelude, there are no more maps than modules, and each module has a number.
+-- What holds of every world, whatever its scopes bind: its modules make a tree, each stands at its place in a map of one of
+-- the crates, the maps have no others, each crate has an extern prelude, there are no more maps than modules, and each module has a number.
 pub record IsWorldOf (ps : List Place) (cs bs : List Outline) (inside : List (Option ModuleId)) (locals : ℕ) : Type 0 where
   pub tree : IsTree (tree_by ps inside)
   pub placed : (m : ModuleId) (p : Place) → slice_get ps m.0 ≡ Some p → IsPlaced ps inside m.0 p
   pub stands : (m : ModuleId) (p : Place) → slice_get ps m.0 ≡ Some p → Stands cs bs m p
   pub crates : AreMaps is_crate_id ps cs
   pub blocks : AreMaps is_block_id ps bs
+  pub in_crates : (m : ModuleId) (p : Place) → slice_get ps m.0 ≡ Some p → p.map.krate.0 < length cs
   pub externs : locals ≡ length cs
   pub crate_count : length cs ≤ length ps
   pub block_count : length bs ≤ length ps

@@ -169,4 +169,11 @@ impl DefMap {
     {
         self.modules.scope_mut(i)
     }
+
+    /// The macros that `#[macro_use]` brings.
+    pub(crate) fn macro_uses(&self) -> &IndexMap<Name, (MacroId, Option<ExternCrateId>)>
+        ensures { result.now.entries ≡ self.now.macro_use }
+    {
+        &self.macro_use_prelude
+    }
 }

@@ -1,4 +1,5 @@
 //! The ids that a world's tables hold.
+use crate::fault::WorldFaultKind;
 use dm_base::ids::{Crate, EnumVariantId, ModuleId, UseId};
 use dm_base::item_ids::{ItemKind, MacroId};
 
@@ -11,4 +12,11 @@ pub enum HeldId {
     Item(ItemKind, u32),
     Variant(EnumVariantId),
     Macro(MacroId),
+}
+
+/// What is wrong with an id that is not the world's.
+#[derive(Clone, Copy, PartialEq, Eq, Debug)]
+pub struct HeldFault {
+    pub kind: WorldFaultKind,
+    pub id: u32,
 }

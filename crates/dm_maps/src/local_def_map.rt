@@ -38,4 +38,11 @@ impl LocalDefMap {
     {
         self.extern_prelude.get(name).copied()
     }
+
+    /// The entries of the extern prelude.
+    pub(crate) fn entries(&self) -> &IndexMap<Name, (ModuleId, Option<ExternCrateId>)>
+        ensures { result.now.entries ≡ self.now }
+    {
+        &self.extern_prelude
+    }
 }

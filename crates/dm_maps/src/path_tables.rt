@@ -5,11 +5,11 @@ ghost use Rattle.dm_base.specs.Names.{find_name};
 ghost use Rattle.dm_maps.specs.Known.{macro_number};
 ghost use Rattle.dm_maps.specs.Readings.{root_of, block_root_of, macro_uses_of, styles_by, styles_in, no_style};
 ghost use Rattle.dm_maps.specs.World.{crate_map, scope_of};
-ghost use Rattle.dm_scope.specs.Scope.{legacy_in};
+ghost use Rattle.dm_scope.specs.Scope.{legacy_in, last_of};
 
-use bitflags::Flags;
 use crate::builder::WorldBuilder;
 use crate::def_map::DefMap;
+use bitflags::Flags;
 use dm_base::ids::{BlockId, Crate, ExternCrateId, MapId, ModuleId};
 use dm_base::item_ids::MacroId;
 use dm_base::macros::{MacroCallStyles, MacroLoc};
@@ -63,7 +63,10 @@ impl WorldBuilder {
     {
         match self.module_of(m) {
             None => None,
-            Some(data) => data.scope().last_legacy_macro(name),
+            Some(data) => match data.scope().get_legacy_macro(name) {
+                None => None,
+                Some(macros) => last_of(macros),
+            },
         }
     }
 
@@ -76,6 +79,13 @@ impl WorldBuilder {
             Some(entry) => styles_by(m, entry.1),
         }
     }
+}
+
+/// The last of a list of macros.
+fn last_of(macros: &[MacroId]) -> Option<MacroId>
+    ensures { result ≡ last_of macros.now }
+{
+    macros.last().copied()
 }
 
 /// The number of a macro in the list of all macros.

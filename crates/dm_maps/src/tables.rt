@@ -55,7 +55,7 @@ impl WorldBuilder {
         }
     }
 
-    fn module_in(&self, place: Place) -> Option<&ModuleData>
+    pub(crate) fn module_in(&self, place: Place) -> Option<&ModuleData>
         ensures { option_copied result ≡ module_in self.now place }
     {
         match self.numbered_map(place.map) {

@@ -1,9 +1,14 @@
 //! A checked world, whose ids never dangle.
-ghost use Rattle.std.specs.Prelude.{◌≡◌, ◌↔◌, IsTrue, IfSome, Some, slice_get, nat_lt, length};
+ghost use Rattle.std.specs.Prelude.{◌≡◌, ◌↔◌, IsTrue, IsSome, IfSome, Some, slice_get, nat_lt, length};
 ghost use Rattle.std.specs.Option.{option_copied, option_map};
 ghost use Rattle.dm_scope.specs.Scope.{bound_in};
 ghost use Rattle.dm_maps.specs.World.{place_of, numbered_map, map_of, module_of, scope_of};
-ghost use Rattle.dm_maps.specs.Known.{KnowsAll, res_holds};
+ghost use Rattle.dm_maps.specs.First.{IsChecked};
+ghost use Rattle.dm_maps.specs.declared.held.HeldId.TheVariants as held;
+ghost use Rattle.dm_maps.specs.Known.{knows, KnowsAll, res_holds};
+ghost use Rattle.dm_maps.specs.Maps.{module_at};
+ghost use Rattle.dm_maps.specs.Sound.{IsCheckedWorld};
+ghost use Rattle.dm_maps.specs.Trees.{IsWorld};
 
 use crate::builder::WorldBuilder;
 use crate::def_map::DefMap;
@@ -21,28 +26,63 @@ pub struct World {
 
 impl Model for World {
     ghost use Rattle.dm_maps.specs.World.{World};
-    ghost use Rattle.dm_maps.specs.Sound.{IsSound};
+    ghost use Rattle.dm_maps.specs.Sound.{IsCheckedWorld};
 
     ghost Value = { World };
 
     ghost view = { λ w. w.tables };
 
-    ghost invariant = { λ w. IsSound w.tables };
+    ghost invariant = { λ w. IsCheckedWorld w.tables };
 }
 
 impl World {
+    /// The world of these tables.
+    pub(crate) fn of_checked(tables: WorldBuilder) -> World
+        requires checked { IsChecked tables }
+        requires lawful { IsWorld tables }
+        ensures { result ≡ tables }
+    {
+        World { tables }
+    }
+
+    /// The tables of the world.
+    pub(crate) fn tables(&self) -> &WorldBuilder
+        ensures value { result.now ≡ self.now }
+        ensures world { IsCheckedWorld self.now }
+    {
+        &self.tables
+    }
+
+    /// The tables of the world.
+    pub(crate) fn into_tables(self) -> WorldBuilder
+        ensures { result ≡ self }
+    {
+        self.tables
+    }
+
     /// The map that a module lies in.
     pub fn map_of(&self, m: ModuleId) -> Option<&DefMap>
-        ensures { option_copied result ≡ map_of self.now m }
+        ensures value { option_copied result ≡ map_of self.now m }
+
+        // It is the world's of its id, and has the module. Each module of the world lies in one.
+        ensures own { IfSome result (λ map. numbered_map self.now map.now.id ≡ Some map.now) }
+        ensures lies { IfSome result (λ map. IsSome (module_at map.now.modules m)) }
+        ensures there { IsTrue (knows self.now (held.Module m)) → IsSome result }
+
+        // What holds of the modules and maps of every world.
+        ensures lawful { IsWorld self.now }
     {
-        self.tables.map_of(m)
+        self.tables().map_of(m)
     }
 
     /// The map of that id, by its number.
     pub fn numbered_map(&self, id: MapId) -> Option<&DefMap>
-        ensures { option_copied result ≡ numbered_map self.now id }
+        ensures value { option_copied result ≡ numbered_map self.now id }
+
+        // It is the world's of its own id.
+        ensures own { IfSome result (λ map. numbered_map self.now map.now.id ≡ Some map.now) }
     {
-        self.tables.numbered_map(id)
+        self.tables().numbered_map(id)
     }
 
     /// What a module's scope binds under a name; nothing where there is no such module.

@@ -1,5 +1,7 @@
+pub mod DeriveLemmas
 pub mod EntryLemmas
 pub mod BindingLemmas
+pub mod ChangeLemmas
 pub mod ClosedLemmas
 pub mod FlagLemmas
 pub mod HasFlagLemmas
@@ -9,4 +11,6 @@ pub mod PushLemmas
 pub mod ReadingLemmas
 pub mod RunLemmas
 pub mod SamenessLemmas
+pub mod SortLemmas
+pub mod TableListLemmas
 pub mod ShowLemmas

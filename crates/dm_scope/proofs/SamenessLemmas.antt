@@ -142,3 +142,9 @@ ast_is x y = λ k. file_is x.file_id y.file_id k && nat_eq x.value.0 y.value.0
 
 pub ast_test_is : ast_eq.ghosts.eq ≡ same_ast
 ast_test_is = λ k. λ x y. ast_is x y k
+
+pub def_test_is : def_eq.ghosts.eq ≡ same_def
+def_test_is = λ k. λ x y. def_is x y k
+
+pub macro_test_is : macro_eq.ghosts.eq ≡ same_macro
+macro_test_is = λ k. λ x y. macro_is x y k

@@ -1,4 +1,5 @@
 pub mod Bindings
+pub mod Changes
 pub mod Derives
 pub mod Entries
 pub mod Flags
@@ -10,3 +11,5 @@ pub mod Rows
 pub mod Sameness
 pub mod Scope
 pub mod Shows
+pub mod Sorted
+pub mod TableLists

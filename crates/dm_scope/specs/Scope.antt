@@ -1,5 +1,5 @@
 -- Scopes, as contracts see them.
-use Rattle.std.specs.Prelude.{Bool, List, [], ◌∷◌, Option, Some, None, map}
+use Rattle.std.specs.Prelude.{Bool, List, [], ◌∷◌, Option, Some, None}
 use Rattle.dm_base.specs.declared.ids.ImplId.{ImplId}
 use Rattle.dm_base.specs.declared.ids.BuiltinDeriveImplId.{BuiltinDeriveImplId}
 use Rattle.dm_base.specs.declared.ids.ExternBlockId.{ExternBlockId}
@@ -16,7 +16,6 @@ use Rattle.dm_base.specs.declared.item_ids.MacroId.{MacroId}
 use Rattle.dm_base.specs.declared.per_ns.PerNs.{PerNs}
 use Rattle.dm_base.specs.declared.visibility.Visibility.{Visibility}
 use Rattle.dm_base.specs.Names.{Name, find_name}
-use Rattle.smallvec.specs.SmallVec.{SmallVec}
 use Rattle.dm_scope.specs.Bindings.{Bound}
 use Rattle.dm_scope.specs.Derives.{Derive}
 
@@ -72,7 +71,3 @@ last_of (x ∷ xs) = elim xs [ [] ↦ Some x | ◌∷◌ y ys ↦ last_of xs ]
 -- the last legacy macro of a scope under a name
 abbrev pub legacy_in : Scope → Name → Option MacroId
 legacy_in s n = elim (find_name n s.legacy_macros) [ None ↦ None | Some ms ↦ last_of ms ]
-
--- the legacy macros of each name, of the entries of a table
-abbrev pub legacy_of : List (Name × SmallVec MacroId) → List (Name × List MacroId)
-legacy_of es = map (λ e. (e.0, e.1.items)) es

@@ -14,6 +14,8 @@ ghost use Rattle.dm_scope.specs.Entries.{is_new};
 ghost use Rattle.dm_scope.specs.Flags.{has_flag, without_flag};
 ghost use Rattle.dm_scope.specs.Bindings.{reading, import_of, is_glob_by, writes, stored, recorded, target_of, bound_after, flags_after, is_effective_at, with_keys, without_keys, is_new_record, written, is_new_import, add_import, set_import, finished, flags_done};
 
+mod changes;
+
 use crate::glob_imports::GlobFlags;
 use crate::keys::{add_key, add_name, take_off, write_at};
 use crate::steps::{NewFlag, NewKeys};
@@ -147,6 +149,20 @@ impl<D: Definition, I: ImportSource> Bindings<D, I> {
         ensures { result.now ≡ map (λ e. e.1) self.now.items }
     {
         self.items.values().as_slice()
+    }
+
+    /// The names that are bound, in order of first binding.
+    pub(crate) fn names(&self) -> &[Name]
+        ensures { result.now ≡ map (λ e. e.0) self.now.items }
+    {
+        self.items.keys().as_slice()
+    }
+
+    /// The imports that have a record.
+    pub(crate) fn imports(&self) -> &[I]
+        ensures { result.now ≡ map (λ e. e.0) self.now.records }
+    {
+        self.records.keys().as_slice()
     }
 
     /// The first step of a push: new keys go last. The second step cannot fail.

@@ -2,6 +2,8 @@
 use dm_base::ids::{AttrId, BuiltinDeriveImplId, MacroCallId};
 use either::Either;
 use smallvec::SmallVec;
+use std::alloc::Global;
+use std::default::MadeWith;
 
 /// A derive attribute, with the calls of the derives that it names.
 #[derive(Drop)]
@@ -11,4 +13,15 @@ pub struct DeriveMacroInvocation {
     pub attr_call_id: MacroCallId,
     /// A slot for each derive, filled once its call is known.
     pub derive_call_ids: SmallVec<Option<Either<MacroCallId, BuiltinDeriveImplId>>, 4>,
+}
+
+/// The blank that an unused inline place of a list of attributes holds.
+impl MadeWith<Global> for DeriveMacroInvocation {
+    fn made_with(alloc: Global) -> DeriveMacroInvocation {
+        DeriveMacroInvocation {
+            attr_id: AttrId(0),
+            attr_call_id: MacroCallId(0),
+            derive_call_ids: SmallVec::new(alloc),
+        }
+    }
 }

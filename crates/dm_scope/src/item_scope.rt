@@ -5,10 +5,13 @@ ghost use Rattle.dm_scope.specs.Flags.{no_globs};
 ghost use Rattle.dm_scope.specs.Scope.{no_scope, bound_in};
 ghost use Rattle.dm_scope.specs.Shows.{Shows};
 
+mod changes;
+mod derive_attributes;
 mod lists;
 mod lookups;
 mod mutators;
 mod push;
+mod sorted;
 
 use crate::bindings::Bindings;
 use crate::derives::DeriveMacroInvocation;
@@ -51,7 +54,8 @@ pub struct ItemScope {
 
 impl Model for ItemScope {
     ghost use Rattle.dm_scope.specs.Derives.{derives_of};
-    ghost use Rattle.dm_scope.specs.Scope.{Scope, legacy_of};
+    ghost use Rattle.dm_scope.specs.Scope.{Scope};
+    ghost use Rattle.dm_scope.specs.TableLists.{lists_of};
 
     ghost Value = { Scope };
 
@@ -60,7 +64,7 @@ impl Model for ItemScope {
       values = s.values;
       macros = s.macros;
       unresolved = s.unresolved.keys;
-      legacy_macros = legacy_of s.legacy_macros.entries;
+      legacy_macros = lists_of s.legacy_macros.entries;
       declarations = s.declarations.items;
       impls = s.impls.items;
       builtin_derive_impls = s.builtin_derive_impls.items;

@@ -3,9 +3,11 @@ ghost use Rattle.std.specs.Prelude.{◌≡◌, ◌++◌, length, map};
 ghost use Rattle.std.specs.Iterator.{at_most};
 ghost use Rattle.std.specs.List.{filter_map};
 ghost use Rattle.std.specs.Map.Iter.{TakesFirst, deref_pair};
+ghost use Rattle.dm_scope.specs.Derives.{derives_of, deref_derives};
 ghost use Rattle.dm_scope.specs.Iterators.{any_impl, trait_impl, inherent_impl, module_of, trait_of, deref_legacy};
-ghost use Rattle.dm_scope.specs.Scope.{legacy_of};
+ghost use Rattle.dm_scope.specs.TableLists.{lists_of};
 
+use crate::derives::DeriveMacroInvocation;
 use crate::picked::{Pick, Picked};
 use dm_base::ids::{ImplId, MacroCallId, ModuleId, TraitId};
 use dm_base::imports::ImportId;
@@ -204,16 +206,16 @@ impl<'a> Model for LegacyMacros<'a> {
     ghost use Rattle.std.specs.Prelude.{List};
     ghost use Rattle.dm_base.specs.declared.item_ids.MacroId.{MacroId};
     ghost use Rattle.dm_base.specs.Names.{Name};
-    ghost use Rattle.dm_scope.specs.Scope.{legacy_of};
+    ghost use Rattle.dm_scope.specs.TableLists.{lists_of};
 
     ghost Value = { List (Name × List MacroId) };
 
-    ghost view = { λ a. legacy_of a.rest };
+    ghost view = { λ a. lists_of a.rest };
 }
 
 impl<'a> LegacyMacros<'a> {
     pub(crate) fn new(table: &'a IndexMap<Name, SmallVec<MacroId, 1>>) -> Self
-        ensures { result ≡ legacy_of table.now.entries }
+        ensures { result ≡ lists_of table.now.entries }
     {
         LegacyMacros { rest: table.iter() }
     }
@@ -303,5 +305,42 @@ impl<'a> Iterator for AttrMacroInvocations<'a> {
     fn next(&mut self) -> Option<(AstId, MacroCallId)> {
         let (ast, call) = self.rest.next()?;
         Some((*ast, *call))
+    }
+}
+
+/// The derive attributes of each item of a scope.
+#[derive(Drop)]
+pub struct DeriveMacroInvocations<'a> {
+    rest: map::Iter<'a, AstId, SmallVec<DeriveMacroInvocation, 1>>,
+}
+
+impl<'a> Model for DeriveMacroInvocations<'a> {
+    ghost use Rattle.std.specs.Prelude.{List};
+    ghost use Rattle.dm_base.specs.declared.source.AstId.{AstId};
+    ghost use Rattle.dm_scope.specs.Derives.{Derive, derives_of};
+
+    ghost Value = { List (AstId × List Derive) };
+
+    ghost view = { λ a. derives_of a.rest };
+}
+
+impl<'a> DeriveMacroInvocations<'a> {
+    pub(crate) fn new(table: &'a IndexMap<AstId, SmallVec<DeriveMacroInvocation, 1>>) -> Self
+        ensures { result ≡ derives_of table.now.entries }
+    {
+        DeriveMacroInvocations { rest: table.iter() }
+    }
+}
+
+impl<'a> Iterator for DeriveMacroInvocations<'a> {
+    type Item = (AstId, &'a [DeriveMacroInvocation]);
+
+    ghost next_gives = { TakesFirst deref_derives };
+
+    ghost remaining = { λ s. at_most (length s) };
+
+    fn next(&mut self) -> Option<(AstId, &'a [DeriveMacroInvocation])> {
+        let (adt, derives) = self.rest.next()?;
+        Some((*adt, derives.as_slice()))
     }
 }

@@ -9,3 +9,4 @@ pub mod iterators;
 mod keys;
 pub mod picked;
 mod steps;
+mod table_lists;

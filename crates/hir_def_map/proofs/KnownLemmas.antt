@@ -1,5 +1,5 @@
 -- What is known of the parts of known items.
-use Rattle.std.proofs.Common.{◌≡◌, Bool, true, false, cond, List, [], ◌∷◌, ◌++◌, Option, Some, None, refl, subst, ap}
+use Rattle.std.proofs.Common.{◌≡◌, Bool, true, false, cond, List, [], ◌∷◌, ◌++◌, Option, Some, None, subst}
 use Rattle.std.specs.Option.{option_map_or}
 use Rattle.dm_base.specs.declared.imports.ImportOrExternCrate.{ImportOrExternCrate}
 use Rattle.dm_base.specs.declared.imports.ImportOrGlob.{ImportOrGlob}
@@ -18,7 +18,7 @@ use Rattle.dm_base.specs.Tree.{IsKnown}
 use Rattle.dm_base.specs.Visibility.{NamesKnown}
 use Rattle.dm_maps.specs.declared.held.HeldId.{HeldId}
 use Rattle.dm_maps.specs.declared.held.HeldId.TheVariants as held
-use Rattle.dm_maps.specs.Known.{KnowsAll, knows, def_holds, vis_holds, import_holds, value_import_holds, type_holds, value_holds, macro_holds, res_holds, local_holds}
+use Rattle.dm_maps.specs.Known.{KnowsAll, def_holds, vis_holds, import_holds, value_import_holds, type_holds, value_holds, macro_holds, res_holds, local_holds}
 use Rattle.dm_maps.specs.Maps.{LocalMap}
 use Rattle.dm_maps.specs.Trees.{tree_of}
 use Rattle.dm_maps.specs.World.{World}

@@ -1,19 +1,19 @@
 -- The places of a question, one after another.
-use Rattle.std.proofs.Common.{◌≡◌, ◌++◌, Bool, true, false, cond, List, [], ◌∷◌, refl, sym, ap, ◌∙◌, map, subst, inl, inr, nat_eq}
+use Rattle.std.proofs.Common.{◌≡◌, ◌++◌, true, false, cond, List, [], ◌∷◌, refl, sym, ap, ◌∙◌, map, inl, inr}
 use Rattle.std.proofs.lemmas.Bool.Decides.{eqb_tells}
 use Rattle.std.proofs.lemmas.Bool.{false≢true}
 use Rattle.dm_base.specs.declared.ids.ModuleId.{ModuleId}
 use Rattle.dm_base.specs.Tree.{Tree, chain, is_block_root, same_module}
 use Rattle.dm_maps.specs.Readings.{Setting}
-use Rattle.hir_def_map.specs.Paths.{Place, In, up_to, prelude_place, places_along}
+use Rattle.hir_def_map.specs.Paths.{In, up_to, prelude_place, places_along}
 use Rattle.hir_def_map.proofs.OuterLemmas.{chain-head}
 
 -- a block's root is not the module h that is none
 apart : (t : Tree) (m h : ModuleId) → is_block_root t m ≡ true → is_block_root t h ≡ false → same_module m h ≡ false
 apart t m h is not_root =
     elim (eqb_tells m.0 h.0) [
-    | inl e ↦ (let same : m ≡ h = (λ i. record { 0 = e.1 i }) in absurd (false≢true (sym not_root ∙ sym (ap (is_block_root t) same) ∙ is)))
-    | inr e ↦ e.0
+      | inl e ↦ (let same : m ≡ h = (λ i. record { 0 = e.1 i }) in absurd (false≢true (sym not_root ∙ sym (ap (is_block_root t) same) ∙ is)))
+      | inr e ↦ e.0
     ]
 
 -- a block's root is asked, and then what contains it

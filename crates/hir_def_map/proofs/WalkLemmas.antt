@@ -1,6 +1,6 @@
 -- The walk gives the answer at the stop.
-use Rattle.std.proofs.Common.{◌≡◌, ℕ, zero, suc, ◌+◌, ◌≤◌, ◌<◌, Bool, true, false, cond, List, [], ◌∷◌, length, Option, None, Some, refl, sym, ◌∙◌, ap, arith, nat_eq, map, inl, inr}
-use Rattle.std.specs.Option.{option_map_or, option_map}
+use Rattle.std.proofs.Common.{◌≡◌, ℕ, suc, ◌+◌, ◌<◌, Bool, true, false, cond, List, [], ◌∷◌, length, Option, None, Some, refl, sym, ◌∙◌, ap, arith, nat_eq, map, inl, inr}
+use Rattle.std.specs.Option.{option_map}
 use Rattle.std.proofs.lemmas.Bool.{cond-true, cond-false}
 use Rattle.std.proofs.lemmas.Bool.Decides.{eqb_tells}
 use Rattle.dm_base.specs.declared.fields_shape.FieldsShape.{FieldsShape}
@@ -24,7 +24,7 @@ use Rattle.hir_def_map.specs.declared.result.ResolvePathResult.{ResolvePathResul
 use Rattle.hir_def_map.specs.declared.segments.Stand.{Stand}
 use Rattle.hir_def_map.specs.Answers.{from_other_crate}
 use Rattle.hir_def_map.specs.Paths.{Entering, is_empty, at_variant, stop, seen_in, root_item, enter, enter_within}
-use Rattle.hir_def_map.specs.Walk.{marked, through, move, move_at, walk}
+use Rattle.hir_def_map.specs.Walk.{marked, move, move_at, walk}
 use Rattle.hir_def_map.proofs.StopLemmas.{stop-through, stop-here, own_crate, stop-enters}
 
 add_twice : (k p : ℕ) (o : Option ℕ) → option_map (λ i. i + p) (option_map (λ i. i + k) o) ≡ option_map (λ i. i + (k + p)) o

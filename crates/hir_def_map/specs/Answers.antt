@@ -38,10 +38,10 @@ stopped i j = record (reached (types_alone i)) { segment_index = Some j }
 -- a variant: a type, and also a value where it has a constructor; it has the visibility of the enum's binding
 abbrev pub variant_answer : Item ModuleDefId ImportOrExternCrate → EnumVariantId × FieldsShape → ResolvePathResult
 variant_answer i v = record (reached (record {
-      types = Some (record { def = def.EnumVariantId v.0; vis = i.vis; import = None });
-      values = if has_constructor v.1 then Some (record { def = def.EnumVariantId v.0; vis = i.vis; import = None }) else None;
-      macros = None;
-    })) { prefix_info = record { differing_crate = false; enum_variant = true } }
+  types = Some (record { def = def.EnumVariantId v.0; vis = i.vis; import = None });
+  values = if has_constructor v.1 then Some (record { def = def.EnumVariantId v.0; vis = i.vis; import = None }) else None;
+  macros = None;
+})) { prefix_info = record { differing_crate = false; enum_variant = true } }
 
 -- the answer that another crate gave to the segments from j on
 abbrev pub from_other_crate : ℕ → ResolvePathResult → ResolvePathResult

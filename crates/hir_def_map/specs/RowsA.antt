@@ -11,7 +11,7 @@ use Rattle.dm_maps.specs.declared.modes.MacroSubNs.TheVariants.{Bang, Attr}
 use Rattle.hir_def_map.specs.declared.result.ResolveMode.TheVariants as mode
 use Rattle.hir_def_map.specs.declared.result.ReachedFixedPoint.TheVariants.{Yes, No}
 use Rattle.hir_def_map.specs.Paths.{answer}
-use Rattle.hir_def_map.specs.Written.{asked, said, an_item, a_module, a_struct, a_function, an_enum, a_variant, a_builtin, by_rules, within, named, named_value}
+use Rattle.hir_def_map.specs.Written.{asked, said, an_item, a_module, a_struct, a_function, an_enum, a_variant, a_builtin, by_rules, within}
 use Rattle.hir_def_map.specs.WorldA.{world_a, externs}
 
 -- p 0 plain

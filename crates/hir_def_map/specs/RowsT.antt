@@ -1,5 +1,5 @@
 -- Worked rows: what each path answers, as equations that compute.
-use Rattle.std.specs.Prelude.{◌≡◌, [], ◌∷◌, Some, None, true, false, codes, refl}
+use Rattle.std.specs.Prelude.{◌≡◌, [], ◌∷◌, Some, None, false, codes, refl}
 use Rattle.dm_base.specs.declared.builtin_type.BuiltinType.TheVariants as builtin
 use Rattle.dm_base.specs.declared.builtin_type.BuiltinUint.TheVariants as uint
 use Rattle.dm_base.specs.declared.mod_path.PathKind.TheVariants.{DollarCrate, Super}
@@ -7,11 +7,10 @@ use Rattle.dm_base.specs.declared.mod_path.PathKind.TheVariants as kind
 use Rattle.dm_base.specs.declared.visibility.Visibility.TheVariants.{Public}
 use Rattle.dm_base.specs.declared.visibility.VisibilityExplicitness.TheVariants.{Implicit}
 use Rattle.dm_maps.specs.declared.modes.BuiltinShadowMode.TheVariants as shadow
-use Rattle.dm_maps.specs.declared.modes.MacroSubNs.TheVariants.{Bang, Attr}
 use Rattle.hir_def_map.specs.declared.result.ResolveMode.TheVariants as mode
 use Rattle.hir_def_map.specs.declared.result.ReachedFixedPoint.TheVariants.{Yes, No}
 use Rattle.hir_def_map.specs.Paths.{answer}
-use Rattle.hir_def_map.specs.Written.{asked, said, an_item, a_module, a_struct, a_function, an_enum, a_variant, a_builtin, by_rules, within, named, named_value}
+use Rattle.hir_def_map.specs.Written.{asked, said, an_item, a_module, a_struct, a_function, a_builtin, within}
 use Rattle.hir_def_map.specs.WorldT.{world_t}
 
 -- p 0 crate a S

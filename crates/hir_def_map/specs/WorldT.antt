@@ -17,10 +17,10 @@ scope_of_a = record no_scope {
 abbrev pub world_t : World
 world_t = record {
   crate_maps = a_map (crate_id 0) Edition2021 0 None
-    (module_with 0 None (binds_types ((codes "a", an_item (a_module 1) Public None) ∷ (codes "u8", an_item (a_module 2) Public None) ∷ []))
-    ∷ module_with 1 (Some (number 0)) scope_of_a
-    ∷ module_with 2 (Some (number 0)) (binds_types ((codes "x", an_item (a_struct 0) Public None) ∷ []))
-    ∷ []) ∷ [];
+      (module_with 0 None (binds_types ((codes "a", an_item (a_module 1) Public None) ∷ (codes "u8", an_item (a_module 2) Public None) ∷ []))
+      ∷ module_with 1 (Some (number 0)) scope_of_a
+      ∷ module_with 2 (Some (number 0)) (binds_types ((codes "x", an_item (a_struct 0) Public None) ∷ []))
+      ∷ []) ∷ [];
   block_maps = [];
   places = place (crate_id 0) 0 None ∷ place (crate_id 0) 1 (Some (number 0)) ∷ place (crate_id 0) 2 (Some (number 0)) ∷ [];
   local_maps = [] ∷ [];

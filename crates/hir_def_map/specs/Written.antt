@@ -1,11 +1,10 @@
 -- Short forms for worked worlds and rows, after the words of the script.
-use Rattle.std.specs.Prelude.{ℕ, Bool, List, [], ◌∷◌, Option, Some, None}
+use Rattle.std.specs.Prelude.{ℕ, Bool, List, [], Option, Some, None}
 use Rattle.dm_base.specs.declared.ids.ModuleId.{ModuleId}
 use Rattle.dm_base.specs.declared.ids.MapId.{MapId}
 use Rattle.dm_base.specs.declared.builtin_type.BuiltinType.{BuiltinType}
 use Rattle.dm_base.specs.declared.imports.ImportId.{ImportId}
 use Rattle.dm_base.specs.declared.imports.ImportOrDef.{ImportOrDef}
-use Rattle.dm_base.specs.declared.imports.ImportOrDef.TheVariants as record_of
 use Rattle.dm_base.specs.declared.imports.ImportOrExternCrate.{ImportOrExternCrate}
 use Rattle.dm_base.specs.declared.imports.ImportOrExternCrate.TheVariants as wide
 use Rattle.dm_base.specs.declared.imports.ImportOrGlob.{ImportOrGlob}
@@ -17,7 +16,6 @@ use Rattle.dm_base.specs.declared.item_ids.MacroId.{MacroId}
 use Rattle.dm_base.specs.declared.item_ids.MacroId.TheVariants.{MacroRulesId, Macro2Id, ProcMacroId}
 use Rattle.dm_base.specs.declared.mod_path.PathKind.{PathKind}
 use Rattle.dm_base.specs.declared.per_ns.Item.{Item}
-use Rattle.dm_base.specs.declared.per_ns.PerNs.{PerNs}
 use Rattle.dm_base.specs.declared.source.Edition.{Edition}
 use Rattle.dm_base.specs.declared.source.Edition.TheVariants.{Edition2021}
 use Rattle.dm_base.specs.declared.source.HirFileId.TheVariants.{File}
@@ -144,13 +142,16 @@ binds_types items = record no_scope { types = bindings items [] }
 
 -- a module with a scope, written where it is declared
 abbrev pub module_with : ℕ → Option ModuleId → Scope → ModuleId × maps.Module
-module_with m parent scope = (number m, record {
-      origin = Inline (record { file = File (record { file = record { 0 = 0 }; edition = Edition2021 }); block = None }) (record { 0 = 0 });
-      visibility = Public;
-      parent = parent;
-      children = [];
-      scope = scope;
-    })
+module_with m parent scope = (
+  number m,
+  record {
+    origin = Inline (record { file = File (record { file = record { 0 = 0 }; edition = Edition2021 }); block = None }) (record { 0 = 0 });
+    visibility = Public;
+    parent = parent;
+    children = [];
+    scope = scope;
+  },
+)
 
 abbrev pub a_map : MapId → Edition → ℕ → Option ModuleId → Modules → Map
 a_map id edition root inside modules = record { id = id; edition = edition; root = number root; parent = inside; modules = modules; prelude = None; macro_use = [] }

@@ -12,7 +12,9 @@ ghost use Rattle.dm_base.specs.declared.ids.ModuleId.{ModuleId};
 ghost use Rattle.hir_def_map.specs.declared.question.Ask.{Ask};
 ghost use Rattle.hir_def_map.specs.Paths.{asks_root, are_builtins_first, builtins_of, builtins_or_scope, unless_block_root, layers_by_2015_rule, extern_prelude, prelude, plain_layers, layers, In, Preludes};
 
-use crate::layers::{builtin, extern_prelude, fitting, legacy, macro_use_prelude, prelude, root_scope};
+use crate::layers::{
+    builtin, extern_prelude, fitting, legacy, macro_use_prelude, prelude, root_scope,
+};
 use crate::question::Ask;
 use crate::result::ResolveMode;
 use dm_base::ids::{Crate, MapId, ModuleId};

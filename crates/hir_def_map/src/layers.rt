@@ -40,12 +40,20 @@ fn fits(world: &World, expected: Option<MacroSubNs>, m: MacroId) -> bool
     }
 }
 
-fn fitting_macro(world: &World, expected: Option<MacroSubNs>, item: Option<MacrosItem>) -> Option<MacrosItem>
+fn fitting_macro(
+    world: &World,
+    expected: Option<MacroSubNs>,
+    item: Option<MacrosItem>,
+) -> Option<MacrosItem>
     ensures { result ≡ keep (λ i. fits (setting_of world.now) expected i.def) item }
 {
     match item {
         None => None,
-        Some(i) => if fits(world, expected, i.def) { Some(i) } else { None },
+        Some(i) => if fits(world, expected, i.def) {
+            Some(i)
+        } else {
+            None
+        },
     }
 }
 
@@ -79,7 +87,11 @@ pub(crate) fn extern_prelude(world: &World, local: &LocalDefMap, segment: &Name)
 {
     match local.get(segment) {
         None => PerNs::none(),
-        Some((m, krate)) => PerNs::types(ModuleDefId::ModuleId(m), Visibility::Public, by_crate(krate)),
+        Some((m, krate)) => PerNs::types(
+            ModuleDefId::ModuleId(m),
+            Visibility::Public,
+            by_crate(krate),
+        ),
     }
 }
 

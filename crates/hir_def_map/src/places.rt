@@ -40,7 +40,10 @@ fn preludes_of(
     };
     match world.block_root_of(block) {
         None => nothing_no(),
-        Some(root) => merge(single_in_preludes(world, local, ask, id, root, segments), nothing_no()),
+        Some(root) => merge(
+            single_in_preludes(world, local, ask, id, root, segments),
+            nothing_no(),
+        ),
     }
 }
 
@@ -67,5 +70,8 @@ pub(crate) fn answer_outwards(
         }
     }
     let own = single_at(world, local, ask, inside, segments);
-    merge(answer, merge(own, preludes_of(world, local, ask, inside, segments)))
+    merge(
+        answer,
+        merge(own, preludes_of(world, local, ask, inside, segments)),
+    )
 }

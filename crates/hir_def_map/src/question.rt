@@ -1,9 +1,8 @@
 //! Questions.
+use crate::result::ResolveMode;
 use dm_base::ids::ModuleId;
 use dm_base::mod_path::PathKind;
 use dm_maps::modes::{BuiltinShadowMode, MacroSubNs};
-
-use crate::result::ResolveMode;
 
 /// A question but for its segments: from where it is asked, for an import or not, whether builtin types may go before
 /// modules, what macro is expected, and where its path begins.

@@ -13,8 +13,8 @@ ghost use Rattle.dm_maps.specs.Trees.{tree_of};
 ghost use Rattle.hir_def_map.specs.Paths.{at_adt};
 ghost use Rattle.hir_def_map.specs.Walk.{through, move, walk, GoesKnown};
 
-use crate::home::home;
 use crate::answers::{marked, nothing_no, reached, stopped, variant_answer};
+use crate::home::home;
 use crate::result::ResolvePathResult;
 use dm_base::ids::{EnumId, ModuleId};
 use dm_base::item_ids::{AdtId, ModuleDefId};
@@ -50,7 +50,11 @@ fn seen_item<D: Copy, I: Copy>(
 {
     match item {
         None => None,
-        Some(i) => if i.vis.is_visible_from(world, from) { Some(i) } else { None },
+        Some(i) => if i.vis.is_visible_from(world, from) {
+            Some(i)
+        } else {
+            None
+        },
     }
 }
 
@@ -118,13 +122,7 @@ fn at_adt(
 
 /// What a walk does at a segment.
 #[tactic(auto, unfolding(dm_maps::specs::Readings::read))]
-fn move_on(
-    world: &World,
-    at: Stand,
-    position: usize,
-    segment: &Name,
-    is_last: bool,
-) -> Move
+fn move_on(world: &World, at: Stand, position: usize, segment: &Name, is_last: bool) -> Move
     requires origin { IsKnown (tree_of world.now) at.origin }
     requires known { KnowsAll world.now (res_holds at.here) }
     ensures value { (L : LocalMap) → result ≡ move (tree_of world.now) at position (read world.now L segment.now) is_last }
@@ -142,7 +140,12 @@ fn move_on(
 
 /// The answer of a walk along the segments, where `position` segments are behind it.
 #[tactic(auto, unfolding(dm_maps::specs::Readings::read))]
-pub(crate) fn walk(world: &World, from: Stand, position: usize, segments: &[Name]) -> ResolvePathResult
+pub(crate) fn walk(
+    world: &World,
+    from: Stand,
+    position: usize,
+    segments: &[Name],
+) -> ResolvePathResult
     requires origin { IsKnown (tree_of world.now) from.origin }
     requires known { KnowsAll world.now (res_holds from.here) }
     requires position { position ≤ 1 }

@@ -83,7 +83,9 @@ fn from_super(world: &World, m: ModuleId, k: u8, segments: &[Name]) -> ResolvePa
 {
     match outer_member(world, m, k) {
         None => nothing_yes(),
-        Some(outer) => if world.krate(outer) == world.krate(m) && world.block(outer) == world.block(m) {
+        Some(outer) => if world.krate(outer) == world.krate(m)
+            && world.block(outer) == world.block(m)
+        {
             answer_from(world, m, root_item(world, outer), 0, segments)
         } else {
             enter(world, outer, segments)

@@ -1,14 +1,18 @@
 //! What collectors put into a scope beside pushes.
 ghost use Rattle.std.specs.Prelude.{◌≡◌, [], ◌∷◌, ◌++◌, OnOk, OnErr};
 ghost use Rattle.indexmap.specs.IndexMap.{insert_entry};
+ghost use Rattle.dm_base.specs.Names.{same_name};
+ghost use Rattle.dm_scope.specs.TableLists.{add_to_list};
 ghost use Rattle.dm_scope.specs.Sameness.{same_ast};
 
 use super::ItemScope;
+use crate::table_lists::add_to_list;
 use dm_base::ids::{
     BuiltinDeriveImplId, ConstId, ExternBlockId, ExternCrateId, ImplId, MacroCallId, TraitId,
 };
 use dm_base::imports::ImportId;
-use dm_base::item_ids::ModuleDefId;
+use dm_base::item_ids::{MacroId, ModuleDefId};
+use dm_base::name::Name;
 use dm_base::source::AstId;
 use dm_base::visibility::Visibility;
 use std::alloc::AllocError;
@@ -103,6 +107,15 @@ impl ItemScope {
         ensures err { OnErr result (self.new ≡ self.old) }
     {
         self.macro_invocations.insert(call, call_id)?;
+        Ok(())
+    }
+
+    /// Defines a legacy macro, after those of its name. Where memory is short, nothing changes.
+    pub fn define_legacy_macro(&mut self, name: Name, mac: MacroId) -> Result<(), AllocError>
+        ensures ok { OnOk result (self.new ≡ record self.old { legacy_macros = add_to_list same_name self.old.legacy_macros name mac }) }
+        ensures err { OnErr result (self.new ≡ self.old) }
+    {
+        add_to_list(&mut self.legacy_macros, name, mac, self.alloc)?;
         Ok(())
     }
 }

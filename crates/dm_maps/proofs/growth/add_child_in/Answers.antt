@@ -1,4 +1,5 @@
 use Rattle.std.proofs.Common.{◌≡◌, ◌≤◌, ◌<◌, ◌∙◌, ap, sym, refl, rules, length, Option, Some, slice_get, set}
+use Rattle.std.proofs.lemmas.Bool.{ltb-false}
 use Rattle.std.proofs.lemmas.Option.{slice_get_past, slice_get_read}
 use Rattle.dm_maps.specs.Maps.{Map}
 use Rattle.dm_maps.specs.Build.{put_child_in}
@@ -8,7 +9,7 @@ use Rattle.dm_maps.proofs.growth.add_child_in.Goals as goal
 pub returns-in-None-clause-ok : goal.returns-in-None-clause-ok
 returns-in-None-clause-ok c =
     let ms = c.args.maps.now.items in
-    let past : length ms ≤ c.args.k = search rules in
+    let past : length ms ≤ c.args.k = ltb-false c.args.k (length ms) (sym c.in-None.ensures.item.0) in
     sym (ap (λ (o : Option Map). put_child_in ms c.args.k o c.args.i c.args.name c.args.m c.args.added) (slice_get_past ms c.args.k past))
 
 pub returns-in-Some-clause-ok : goal.returns-in-Some-clause-ok

@@ -1,4 +1,4 @@
-use Rattle.std.proofs.Common.{◌∙◌, ap, sym, cond, Bool}
+use Rattle.std.proofs.Common.{◌∙◌, ap, sym}
 use Rattle.dm_maps.specs.Readings.{read, setting_of}
 use Rattle.hir_def_map.specs.Paths.{builtins_or_scope}
 use Rattle.hir_def_map.proofs.first_segment.builtins_or_scope.Goals as goal

@@ -1,4 +1,4 @@
-use Rattle.std.proofs.Common.{◌≡◌, ◌∙◌, ap, [], ◌∷◌, not}
+use Rattle.std.proofs.Common.{◌∙◌, ap, [], ◌∷◌, not}
 use Rattle.dm_base.specs.Items.{overlay}
 use Rattle.dm_maps.specs.Readings.{read, setting_of}
 use Rattle.hir_def_map.specs.Paths.{builtins_or_scope, are_builtins_first, macro_use_prelude, prelude, unless_block_root}

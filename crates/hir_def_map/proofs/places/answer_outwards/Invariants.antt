@@ -1,5 +1,5 @@
 use Rattle.std.proofs.Common.{◌≡◌, map}
-use Rattle.dm_base.specs.Tree.{IsKnown, outer, home, chain}
+use Rattle.dm_base.specs.Tree.{IsKnown, outer, chain}
 use Rattle.dm_maps.specs.Readings.{setting_of, read}
 use Rattle.dm_maps.specs.Trees.{tree_of}
 use Rattle.hir_def_map.specs.Answers.{over_answer, merged}

@@ -1,4 +1,4 @@
-use Rattle.std.proofs.Common.{◌≡◌, ◌+◌, ap, sym, subst, ◌∙◌, map, arith, length}
+use Rattle.std.proofs.Common.{ap, sym, subst, ◌∙◌, map, arith}
 use Rattle.dm_maps.specs.Readings.{read}
 use Rattle.dm_maps.specs.Trees.{tree_of}
 use Rattle.hir_def_map.specs.declared.segments.Move.{Move}

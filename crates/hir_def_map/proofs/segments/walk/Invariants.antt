@@ -1,4 +1,4 @@
-use Rattle.std.proofs.Common.{◌≡◌, ◌+◌, ◌≤◌, map, length}
+use Rattle.std.proofs.Common.{◌≡◌, ◌+◌, map, length}
 use Rattle.dm_base.specs.Tree.{IsKnown}
 use Rattle.dm_maps.specs.Known.{KnowsAll, res_holds}
 use Rattle.dm_maps.specs.Maps.{LocalMap}

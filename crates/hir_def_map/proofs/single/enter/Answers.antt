@@ -1,5 +1,5 @@
 use Rattle.std.proofs.Common.{◌∙◌, ap, sym, map, is_some}
-use Rattle.dm_base.specs.Tree.{in_block_map, home}
+use Rattle.dm_base.specs.Tree.{in_block_map}
 use Rattle.dm_maps.specs.Readings.{read}
 use Rattle.dm_maps.specs.Trees.{tree_of}
 use Rattle.hir_def_map.specs.Answers.{settled}

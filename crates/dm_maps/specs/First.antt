@@ -1,0 +1,73 @@
+-- Which holders a world has, in order; when it is checked; and what its first fault is.
+use Rattle.std.specs.Prelude.{◌≡◌, ℕ, ◌+◌, ◌++◌, Option, Some, None, List, [], ◌∷◌, MatchOption, slice_get, take, map}
+use Rattle.std.specs.List.{AllByRecursion, fold}
+use Rattle.std.specs.Option.{option_map, option_map_or, option_or}
+use Rattle.dm_maps.specs.declared.fault.Holder.{Holder}
+use Rattle.dm_maps.specs.declared.fault.Holder.TheVariants as holder
+use Rattle.dm_maps.specs.declared.fault.WorldFault.{WorldFault}
+use Rattle.dm_maps.specs.declared.held.HeldId.{HeldId}
+use Rattle.dm_maps.specs.declared.held.HeldFault.{HeldFault}
+use Rattle.dm_maps.specs.declared.place.Place.{Place}
+use Rattle.dm_maps.specs.Maps.{Map, LocalMap}
+use Rattle.dm_maps.specs.World.{World, module_in}
+use Rattle.dm_maps.specs.Known.{KnowsAll, local_holds}
+use Rattle.dm_maps.specs.Holds.{map_holds, module_holds}
+use Rattle.dm_maps.specs.Held.{IsLeast, noted}
+
+-- a holder with the ids that it holds
+abbrev pub Held : Type 0
+Held = Holder × List HeldId
+
+-- what f says of each of a list, by number from i
+abbrev pub each_from : {X : Type 0} → (ℕ → X → Held) → ℕ → List X → List Held
+each_from f i [] = []
+each_from f i (x ∷ xs) = f i x ∷ each_from f (i + 1) xs
+
+-- the extern prelude of a crate
+abbrev pub local_at : List LocalMap → ℕ → LocalMap
+local_at Ls k = option_map_or (λ L. L) (slice_get Ls k) []
+
+-- a crate's map, with its extern prelude
+abbrev pub crate_holder : List LocalMap → ℕ → Map → Held
+crate_holder Ls k m = (holder.Map m.id, map_holds m ++ local_holds (local_at Ls k))
+
+-- a block's map
+abbrev pub block_holder : Map → Held
+block_holder m = (holder.Map m.id, map_holds m)
+
+-- a module, by number and place
+abbrev pub module_holder : World → ℕ → Place → Held
+module_holder w i p = (holder.Module (record { 0 = i }), option_map_or module_holds (module_in w p) [])
+
+-- all of them: the maps of crates, the maps of blocks, the modules, each by number, and the tables
+abbrev pub holders : World → List Held
+holders w =
+    each_from (crate_holder w.local_maps) 0 w.crate_maps
+    ++ (map block_holder w.block_maps ++ (each_from (module_holder w) 0 w.places ++ (holder.Tables, []) ∷ []))
+
+-- A world is checked where each id that a holder holds is one of its own, with its kind.
+abbrev pub IsChecked : World → Type 0
+IsChecked w = AllByRecursion (λ h. KnowsAll w h.1) (holders w)
+
+abbrev pub fault_of : Holder → HeldFault → WorldFault
+fault_of h f = record { kind = f.kind; holder = h; id = f.id }
+
+-- the rule: the least fault of a holder before which no holder has one
+pub record IsFirstFault (w : World) (hs : List Held) (f : WorldFault) : Type 0 where
+  pub place : ℕ
+  pub holder : Holder
+  pub ids : List HeldId
+  pub fault : HeldFault
+  pub there : slice_get hs place ≡ Some (holder, ids)
+  pub before : AllByRecursion (λ h. KnowsAll w h.1) (take place hs)
+  pub least : IsLeast w ids fault
+  pub is : f ≡ fault_of holder fault
+
+-- none where no holder has a fault, else the first
+abbrev pub IsAnswer : World → List Held → Option WorldFault → Type 0
+IsAnswer w hs r = MatchOption r (AllByRecursion (λ h. KnowsAll w h.1) hs) (IsFirstFault w hs)
+
+-- the same, as a computation
+abbrev pub first_in : World → List Held → Option WorldFault
+first_in w [] = None
+first_in w (h ∷ hs) = option_or (option_map (fault_of h.0) (fold (noted w) None h.1)) (first_in w hs)

@@ -1,0 +1,31 @@
+//! What a check of a world can find.
+use dm_base::ids::{MapId, ModuleId};
+
+/// What is wrong with an id that something holds, in the order in which faults of one holder are told.
+#[derive(Clone, Copy, PartialEq, Eq, Debug)]
+pub enum WorldFaultKind {
+    UnknownModule,
+    UnknownCrate,
+    UnknownUse,
+    /// The world has no such item or variant, or one of another kind.
+    UnknownItem,
+    /// The world has no such macro, or one of another kind.
+    UnknownMacro,
+}
+
+/// What holds ids.
+#[derive(Clone, Copy, PartialEq, Eq, Debug)]
+pub enum Holder {
+    Map(MapId),
+    Module(ModuleId),
+    /// The tables that belong to no map and no module.
+    Tables,
+}
+
+/// An id that is not the world's, with what holds it.
+#[derive(Clone, Copy, PartialEq, Eq, Debug)]
+pub struct WorldFault {
+    pub kind: WorldFaultKind,
+    pub holder: Holder,
+    pub id: u32,
+}

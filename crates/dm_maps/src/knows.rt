@@ -1,0 +1,117 @@
+//! Tests whether what is handed in is the world's. None of them takes memory.
+ghost use Rattle.std.specs.Prelude.{◌≡◌, ◌↔◌, IsTrue, nat_lt, length};
+ghost use Rattle.std.specs.List.{fold};
+ghost use Rattle.dm_maps.specs.declared.held.HeldId.TheVariants as held;
+ghost use Rattle.dm_maps.specs.Asked.{push_holds};
+ghost use Rattle.dm_maps.specs.Held.{noted};
+ghost use Rattle.dm_maps.specs.Known.{knows, KnowsAll, def_holds, res_holds, local_holds, path_holds};
+
+use crate::builder::WorldBuilder;
+use crate::held::{HeldFault, HeldId};
+use crate::local_def_map::LocalDefMap;
+use crate::note_maps::note_local_map;
+use crate::note_modules::{note_macro, note_type, note_value};
+use crate::notes::{note, note_def, note_import};
+use crate::world::World;
+use dm_base::ids::{BlockId, Crate, ModuleId};
+use dm_base::imports::ImportOrExternCrate;
+use dm_base::item_ids::ModuleDefId;
+use dm_base::mod_path::{ModPath, PathKind};
+use dm_base::per_ns::PerNs;
+
+impl World {
+    /// Whether the world has a crate of that number.
+    pub fn has_crate(&self, krate: Crate) -> bool
+        ensures { result ≡ knows self.now (held.Crate krate) }
+    {
+        self.tables().knows(HeldId::Crate(krate))
+    }
+
+    /// Whether the world has a block of that number.
+    pub fn has_block(&self, block: BlockId) -> bool
+        ensures { result ≡ nat_lt block.0 (length self.now.block_maps) }
+    {
+        self.tables().has_block(block)
+    }
+
+    /// Whether a definition is the world's, with its kind; builtin types are everyone's.
+    pub fn knows_def(&self, def: ModuleDefId) -> bool
+        ensures { IsTrue result ↔ KnowsAll self.now (def_holds def) }
+    {
+        let least = note_def(self.tables(), None, def);
+        least.is_none()
+    }
+
+    /// Whether the crate of a path's `$crate` is the world's, if the path has one. Names are everyone's.
+    pub fn knows_path(&self, path: &ModPath) -> bool
+        ensures { IsTrue result ↔ KnowsAll self.now (path_holds path.now.kind) }
+    {
+        match path.kind() {
+            PathKind::DollarCrate(krate) => self.has_crate(krate),
+            _ => true,
+        }
+    }
+
+    /// Whether each module of an extern prelude is the world's.
+    pub fn knows_local(&self, local: &LocalDefMap) -> bool
+        ensures { IsTrue result ↔ KnowsAll self.now (local_holds local.now) }
+    {
+        let least = note_local_map(self.tables(), None, local);
+        least.is_none()
+    }
+
+    /// Whether all that a push holds is the world's: the module that it goes to, the definitions, visibilities and uses of
+    /// what it resolves to, and the use of its import.
+    pub fn knows_res(&self, m: ModuleId, res: &PerNs, import: Option<ImportOrExternCrate>) -> bool
+        ensures { IsTrue result ↔ KnowsAll self.now (push_holds m res.now import) }
+    {
+        let least = note_push(self.tables(), m, res, import);
+        least.is_none()
+    }
+}
+
+impl WorldBuilder {
+    /// Whether there is a block of that number.
+    fn has_block(&self, block: BlockId) -> bool
+        ensures { result ≡ nat_lt block.0 (length self.now.block_maps) }
+    {
+        (block.0 as usize) < self.block_maps.len()
+    }
+}
+
+/// The least fault of what a push holds.
+#[tactic(auto, using(crate::proofs::Sets::parts))]
+fn note_push(
+    world: &WorldBuilder,
+    m: ModuleId,
+    res: &PerNs,
+    import: Option<ImportOrExternCrate>,
+) -> Option<HeldFault>
+    ensures { result ≡ fold (noted world.now) None (push_holds m res.now import) }
+{
+    let least = note(world, None, HeldId::Module(m));
+    let least = note_res(world, least, res);
+    match import {
+        None => least,
+        Some(import) => note_import(world, least, import),
+    }
+}
+
+/// With what a set of items holds.
+#[tactic(auto, using(crate::proofs::Sets::parts))]
+fn note_res(world: &WorldBuilder, least: Option<HeldFault>, res: &PerNs) -> Option<HeldFault>
+    ensures { result ≡ fold (noted world.now) least (res_holds res.now) }
+{
+    let least = match res.types {
+        None => least,
+        Some(item) => note_type(world, least, item),
+    };
+    let least = match res.values {
+        None => least,
+        Some(item) => note_value(world, least, item),
+    };
+    match res.macros {
+        None => least,
+        Some(item) => note_macro(world, least, item),
+    }
+}

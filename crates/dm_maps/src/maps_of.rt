@@ -1,0 +1,96 @@
+//! The maps of a world, by crate and by block.
+ghost use Rattle.std.specs.Prelude.{◌≡◌, IsTrue, Some, None, nat_lt, length, slice_get};
+ghost use Rattle.dm_maps.specs.declared.held.HeldId.TheVariants as held;
+ghost use Rattle.dm_maps.specs.Known.{knows, KnowsAll, def_holds, local_holds};
+ghost use Rattle.dm_maps.specs.Readings.{root_of, styles_in};
+ghost use Rattle.dm_maps.specs.World.{crate_map, numbered_map};
+ghost use Rattle.dm_base.specs.declared.item_ids.ModuleDefId.TheVariants as def;
+
+use crate::builder::WorldBuilder;
+use crate::def_map::DefMap;
+use crate::local_def_map::LocalDefMap;
+use crate::world::World;
+use dm_base::ids::{BlockId, Crate, ModuleId};
+use dm_base::item_ids::MacroId;
+use dm_base::macros::MacroCallStyles;
+
+/// The map of a crate.
+pub fn crate_def_map(world: &World, krate: Crate) -> &DefMap
+    requires { IsTrue (knows world.now (held.Crate krate)) }
+    ensures map { crate_map world.now krate ≡ Some result.now }
+    ensures id { result.now.id ≡ record { krate = krate; block = None } }
+    ensures own { numbered_map world.now result.now.id ≡ Some result.now }
+{
+    world.tables().crate_map_at(krate)
+}
+
+/// The map of a block.
+pub fn block_def_map(world: &World, block: BlockId) -> &DefMap
+    requires { IsTrue (nat_lt block.0 (length world.now.block_maps)) }
+    ensures map { slice_get world.now.block_maps block.0 ≡ Some result.now }
+    ensures id { result.now.id.block ≡ Some block }
+    ensures own { numbered_map world.now result.now.id ≡ Some result.now }
+{
+    world.tables().block_map_at(block)
+}
+
+/// The extern prelude of a crate.
+pub fn local_def_map(world: &World, krate: Crate) -> &LocalDefMap
+    requires { IsTrue (knows world.now (held.Crate krate)) }
+    ensures map { slice_get world.now.local_maps krate.0 ≡ Some result.now }
+    ensures known { KnowsAll world.now (local_holds result.now) }
+{
+    world.tables().local_map_at(krate)
+}
+
+/// The ways in which a macro of the world may be called.
+pub fn macro_styles_from_id(world: &World, m: MacroId) -> MacroCallStyles
+    requires { KnowsAll world.now (def_holds (def.MacroId m)) }
+    ensures { result ≡ styles_in world.now m }
+{
+    world.styles_of(m)
+}
+
+impl DefMap {
+    /// The root of the crate that the map belongs to. The map has to be the world's of its id.
+    pub fn crate_root(&self, world: &World) -> ModuleId
+        requires { numbered_map world.now self.now.id ≡ Some self.now }
+        ensures { root_of world.now self.now.id.krate ≡ Some result }
+    {
+        world.crate_root_of(self)
+    }
+}
+
+impl World {
+    fn crate_root_of(&self, map: &DefMap) -> ModuleId
+        requires { numbered_map self.now map.now.id ≡ Some map.now }
+        ensures { root_of self.now map.now.id.krate ≡ Some result }
+    {
+        let _world = self.tables();
+        let own = crate_def_map(self, map.krate());
+        own.root_module_id()
+    }
+}
+
+impl WorldBuilder {
+    fn crate_map_at(&self, krate: Crate) -> &DefMap
+        requires { IsTrue (nat_lt krate.0 (length self.now.crate_maps)) }
+        ensures { crate_map self.now krate ≡ Some result.now }
+    {
+        &self.crate_maps[krate.0 as usize]
+    }
+
+    fn block_map_at(&self, block: BlockId) -> &DefMap
+        requires { IsTrue (nat_lt block.0 (length self.now.block_maps)) }
+        ensures { slice_get self.now.block_maps block.0 ≡ Some result.now }
+    {
+        &self.block_maps[block.0 as usize]
+    }
+
+    fn local_map_at(&self, krate: Crate) -> &LocalDefMap
+        requires { IsTrue (nat_lt krate.0 (length self.now.crate_maps)) }
+        ensures { slice_get self.now.local_maps krate.0 ≡ Some result.now }
+    {
+        &self.local_maps[krate.0 as usize]
+    }
+}

@@ -1,0 +1,86 @@
+//! The ids that maps hold.
+ghost use Rattle.std.specs.Prelude.{◌≡◌, None, []};
+ghost use Rattle.std.specs.List.{fold};
+ghost use Rattle.std.specs.Option.{option_map_or};
+ghost use Rattle.dm_maps.specs.Held.{noted};
+ghost use Rattle.dm_maps.specs.Holds.{prelude_holds, map_holds, macro_uses_hold};
+ghost use Rattle.dm_maps.specs.Known.{local_holds};
+
+use crate::builder::WorldBuilder;
+use crate::def_map::DefMap;
+use crate::held::{HeldFault, HeldId};
+use crate::local_def_map::LocalDefMap;
+use crate::notes::note;
+use dm_base::ids::{ExternCrateId, ModuleId, UseId};
+use dm_base::item_ids::MacroId;
+use dm_base::name::Name;
+use indexmap::IndexMap;
+
+/// With the module of a prelude, and the use that named it.
+#[tactic(auto, using(crate::proofs::Sets::parts))]
+fn note_prelude(
+    world: &WorldBuilder,
+    least: Option<HeldFault>,
+    prelude: (ModuleId, Option<UseId>),
+) -> Option<HeldFault>
+    ensures { result ≡ fold (noted world.now) least (prelude_holds prelude) }
+{
+    let least = note(world, least, HeldId::Module(prelude.0));
+    match prelude.1 {
+        None => least,
+        Some(named_by) => note(world, least, HeldId::Use(named_by)),
+    }
+}
+
+/// With the macros that `#[macro_use]` brings.
+#[tactic(auto, using(crate::proofs::Sets::parts))]
+fn note_macro_uses(
+    world: &WorldBuilder,
+    least: Option<HeldFault>,
+    table: &IndexMap<Name, (MacroId, Option<ExternCrateId>)>,
+) -> Option<HeldFault>
+    ensures { result ≡ fold (noted world.now) least (macro_uses_hold table.now.entries) }
+{
+    table.values().fold(
+        least,
+        |least, entry| note(world, least, HeldId::Macro(entry.0)),
+    )
+}
+
+/// With the modules of an extern prelude.
+#[tactic(auto, using(crate::proofs::Sets::parts))]
+fn note_externs(
+    world: &WorldBuilder,
+    least: Option<HeldFault>,
+    table: &IndexMap<Name, (ModuleId, Option<ExternCrateId>)>,
+) -> Option<HeldFault>
+    ensures { result ≡ fold (noted world.now) least (local_holds table.now.entries) }
+{
+    table.values().fold(
+        least,
+        |least, entry| note(world, least, HeldId::Module(entry.0)),
+    )
+}
+
+/// The least fault of a map.
+#[tactic(auto, using(crate::proofs::Sets::parts))]
+pub(crate) fn note_map(world: &WorldBuilder, map: &DefMap) -> Option<HeldFault>
+    ensures { result ≡ fold (noted world.now) None (map_holds map.now) }
+{
+    let least = match map.prelude() {
+        None => None,
+        Some(prelude) => note_prelude(world, None, prelude),
+    };
+    note_macro_uses(world, least, map.macro_uses())
+}
+
+/// With the modules of an extern prelude.
+pub(crate) fn note_local_map(
+    world: &WorldBuilder,
+    least: Option<HeldFault>,
+    local: &LocalDefMap,
+) -> Option<HeldFault>
+    ensures { result ≡ fold (noted world.now) least (local_holds local.now) }
+{
+    note_externs(world, least, local.entries())
+}

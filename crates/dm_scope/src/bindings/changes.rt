@@ -1,0 +1,94 @@
+//! What changes the bindings of a namespace beside pushes. Nothing here takes memory.
+ghost use Rattle.std.specs.Prelude.{◌≡◌};
+ghost use Rattle.dm_base.specs.Names.{find_name};
+ghost use Rattle.dm_scope.specs.Changes.{is_of, without_binding, with_vis, with_def, change_all, censored, censored_macro, is_own_proc_macro};
+
+use super::Bindings;
+use dm_base::definition::Definition;
+use dm_base::ids::Crate;
+use dm_base::import_source::ImportSource;
+use dm_base::imports::ImportOrExternCrate;
+use dm_base::item_ids::MacroId;
+use dm_base::name::Name;
+use dm_base::per_ns::MacrosItem;
+use dm_base::visibility::Visibility;
+
+impl<D: Definition, I: ImportSource> Bindings<D, I> {
+    /// Takes a binding out, where it is of the definition. The others close up, and the records stay.
+    pub(crate) fn remove(&mut self, name: &Name, def: D)
+        ensures { self.new ≡ without_binding D.eq name.now def self.old }
+    {
+        if self.is_of(name, def) {
+            self.items.shift_remove(name);
+        }
+    }
+
+    /// Whether a name is bound to the definition.
+    fn is_of(&self, name: &Name, def: D) -> bool
+        ensures { result ≡ is_of D.eq def (find_name name.now self.now.items) }
+    {
+        match self.get(name) {
+            None => false,
+            Some(item) => item.def == def,
+        }
+    }
+
+    /// Changes who sees a binding.
+    pub(crate) fn update_visibility(&mut self, name: &Name, vis: Visibility)
+        ensures { self.new ≡ with_vis name.now vis self.old }
+    {
+        if let Some(item) = self.items.get_mut(name) {
+            item.vis = vis;
+        }
+    }
+
+    /// Changes what a name is bound to, and who sees it.
+    pub(crate) fn update_def(&mut self, name: &Name, def: D, vis: Visibility)
+        ensures { self.new ≡ with_def name.now def vis self.old }
+    {
+        if let Some(item) = self.items.get_mut(name) {
+            item.def = def;
+            item.vis = vis;
+        }
+    }
+
+    /// Lets the crate alone see each binding.
+    pub(crate) fn censor(&mut self, krate: Crate)
+        ensures { self.new ≡ change_all (censored krate) self.old }
+    {
+        // Nothing is taken out: of the loops over a table, `retain` is the one that says what it writes.
+        self.items.retain(|_, item| {
+            item.vis = Visibility::PubCrate(krate);
+            true
+        });
+    }
+
+    /// Gives back memory that is not needed.
+    pub(crate) fn shrink_to_fit(&mut self)
+        ensures { self.new ≡ self.old }
+    {
+        self.items.shrink_to_fit();
+        self.records.shrink_to_fit();
+    }
+}
+
+impl Bindings<MacroId, ImportOrExternCrate> {
+    /// Lets the crate alone see each macro but the procedural ones that are no import.
+    pub(crate) fn censor_non_proc(&mut self, krate: Crate)
+        ensures { self.new ≡ change_all (censored_macro krate) self.old }
+    {
+        self.items.retain(|_, item| {
+            if !is_own_proc_macro(item) {
+                item.vis = Visibility::PubCrate(krate);
+            }
+            true
+        });
+    }
+}
+
+/// Whether a macro is a procedural one, and no import.
+fn is_own_proc_macro(item: &MacrosItem) -> bool
+    ensures { result ≡ is_own_proc_macro item.now }
+{
+    matches!(item.def, MacroId::ProcMacroId(_)) && item.import.is_none()
+}

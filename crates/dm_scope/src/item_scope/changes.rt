@@ -1,0 +1,115 @@
+//! What changes a scope in place. Nothing here takes memory.
+ghost use Rattle.std.specs.Prelude.{◌≡◌, IsSome, map};
+ghost use Rattle.dm_base.specs.Names.{find_name};
+ghost use Rattle.dm_scope.specs.Changes.{without_binding, with_vis, with_def, change_all, censored, censored_macro, censored_trait};
+ghost use Rattle.dm_scope.specs.Sameness.{same_def};
+
+use super::ItemScope;
+use dm_base::ids::{Crate, TraitId};
+use dm_base::imports::ImportId;
+use dm_base::item_ids::{MacroId, ModuleDefId};
+use dm_base::name::Name;
+use dm_base::visibility::Visibility;
+
+impl ItemScope {
+    /// Takes a value out, where the name is bound to that definition. The others close up; records and glob flags stay.
+    #[tactic(auto, using(crate::proofs::SamenessLemmas::def_test_is))]
+    pub fn remove_from_value_ns(&mut self, name: &Name, def: ModuleDefId)
+        ensures { self.new ≡ record self.old { values = without_binding same_def name.now def self.old.values } }
+    {
+        self.values.remove(name, def);
+    }
+
+    /// Lets the crate alone see all types, values, unnamed traits and macros, but the procedural macros that are no import.
+    pub fn censor_non_proc_macros(&mut self, krate: Crate)
+        ensures { self.new ≡ record self.old {
+          types = change_all (censored krate) self.old.types;
+          values = change_all (censored krate) self.old.values;
+          macros = change_all (censored_macro krate) self.old.macros;
+          unnamed_traits = map (censored_trait krate) self.old.unnamed_traits;
+        } }
+    {
+        self.types.censor(krate);
+        self.values.censor(krate);
+        self.macros.censor_non_proc(krate);
+        censor_traits(&mut self.unnamed_traits, krate);
+    }
+
+    /// Changes who sees a type. `type_` tells whether the name is bound.
+    pub fn update_visibility_types(&mut self, name: &Name, vis: Visibility)
+        requires { IsSome (find_name name.now self.old.types.items) }
+        ensures { self.new ≡ record self.old { types = with_vis name.now vis self.old.types } }
+    {
+        self.types.update_visibility(name, vis);
+    }
+
+    /// Changes who sees a value. `get` tells whether the name is bound.
+    pub fn update_visibility_values(&mut self, name: &Name, vis: Visibility)
+        requires { IsSome (find_name name.now self.old.values.items) }
+        ensures { self.new ≡ record self.old { values = with_vis name.now vis self.old.values } }
+    {
+        self.values.update_visibility(name, vis);
+    }
+
+    /// Changes who sees a macro. `makro` tells whether the name is bound.
+    pub fn update_visibility_macros(&mut self, name: &Name, vis: Visibility)
+        requires { IsSome (find_name name.now self.old.macros.items) }
+        ensures { self.new ≡ record self.old { macros = with_vis name.now vis self.old.macros } }
+    {
+        self.macros.update_visibility(name, vis);
+    }
+
+    /// Changes what a name is bound to as a type, and who sees it. `type_` tells whether the name is bound.
+    pub fn update_def_types(&mut self, name: &Name, def: ModuleDefId, vis: Visibility)
+        requires { IsSome (find_name name.now self.old.types.items) }
+        ensures { self.new ≡ record self.old { types = with_def name.now def vis self.old.types } }
+    {
+        self.types.update_def(name, def, vis);
+    }
+
+    /// Changes what a name is bound to as a value, and who sees it. `get` tells whether the name is bound.
+    pub fn update_def_values(&mut self, name: &Name, def: ModuleDefId, vis: Visibility)
+        requires { IsSome (find_name name.now self.old.values.items) }
+        ensures { self.new ≡ record self.old { values = with_def name.now def vis self.old.values } }
+    {
+        self.values.update_def(name, def, vis);
+    }
+
+    /// Changes what a name is bound to as a macro, and who sees it. `makro` tells whether the name is bound.
+    pub fn update_def_macros(&mut self, name: &Name, def: MacroId, vis: Visibility)
+        requires { IsSome (find_name name.now self.old.macros.items) }
+        ensures { self.new ≡ record self.old { macros = with_def name.now def vis self.old.macros } }
+    {
+        self.macros.update_def(name, def, vis);
+    }
+
+    /// Gives back memory that is not needed. The contents stay.
+    pub fn shrink_to_fit(&mut self)
+        ensures { self.new ≡ self.old }
+    {
+        self.types.shrink_to_fit();
+        self.values.shrink_to_fit();
+        self.macros.shrink_to_fit();
+        self.unresolved.shrink_to_fit();
+        self.declarations.shrink_to_fit();
+        self.impls.shrink_to_fit();
+        self.builtin_derive_impls.shrink_to_fit();
+        self.extern_blocks.shrink_to_fit();
+        self.extern_crate_decls.shrink_to_fit();
+        self.unnamed_consts.shrink_to_fit();
+        self.unnamed_traits.shrink_to_fit();
+        self.legacy_macros.shrink_to_fit();
+        self.attr_macros.shrink_to_fit();
+        self.macro_invocations.shrink_to_fit();
+        self.derive_macros.shrink_to_fit();
+    }
+}
+
+/// Lets the crate alone see each unnamed trait.
+fn censor_traits(traits: &mut [(TraitId, Visibility, Option<ImportId>)], krate: Crate)
+    ensures { traits.new ≡ map (censored_trait krate) traits.old }
+{
+    for unnamed in traits.iter_mut() {
+        unnamed.1 = Visibility::PubCrate(krate);
+    }
+}

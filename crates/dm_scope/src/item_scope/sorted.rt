@@ -1,0 +1,187 @@
+//! The sorted lists of a scope, which take memory.
+ghost use Rattle.std.specs.Prelude.{◌≡◌, ◌↔◌, ◌++◌, ◌∷◌, [], true, None, IfOk, OnOk, map, Contains};
+ghost use Rattle.std.specs.Cmp.Lexicographic.{slice_cmp};
+ghost use Rattle.std.specs.List.{filter_map};
+ghost use Rattle.std.specs.List.Sorted.{IsSorted, IsStrictlySortedBy, IsPermutation};
+ghost use Rattle.std.specs.Ordering.{nat_cmp};
+ghost use Rattle.dm_base.specs.Names.{Name};
+ghost use Rattle.dm_scope.specs.Scope.{bound_in};
+ghost use Rattle.dm_scope.specs.Sorted.{names_of, seen, deref_entry, AreEntries, named_import, imports_of, AreImports, deref_resolution, named_resolution, AreResolutions, unnamed_resolution, unnamed_type};
+
+use super::ItemScope;
+use dm_base::ids::TraitId;
+use dm_base::import_source::ImportSource;
+use dm_base::imports::{ImportId, ImportOrExternCrate};
+use dm_base::item_ids::ModuleDefId;
+use dm_base::name::Name;
+use dm_base::per_ns::PerNs;
+use dm_base::visibility::Visibility;
+use itertools::Itertools;
+use std::alloc::{AllocError, Global};
+
+impl ItemScope {
+    /// The names that are bound or unresolved, in order of their bytes, each with what it is bound to.
+    pub fn entries(&self) -> Result<Vec<(&Name, PerNs)>, AllocError>
+        ensures { IfOk result (λ v. AreEntries (map deref_entry v.items) self.now) }
+    {
+        let names = self.all_names()?;
+        let sorted = sorted_names(self.alloc, names)?;
+        let entries = self.paired(sorted.as_slice())?;
+        Ok(entries)
+    }
+
+    /// The names that are bound or unresolved, each as often as it is.
+    fn all_names(&self) -> Result<Vec<&Name>, AllocError>
+        ensures { IfOk result (λ v. seen v.items ≡ names_of self.now) }
+    {
+        let mut names = Vec::new(self.alloc);
+        add_names(&mut names, self.types.names())?;
+        add_names(&mut names, self.values.names())?;
+        add_names(&mut names, self.macros.names())?;
+        add_names(&mut names, self.unresolved.as_slice())?;
+        Ok(names)
+    }
+
+    /// Each name with what it is bound to.
+    fn paired<'a>(&'a self, names: &[&'a Name]) -> Result<Vec<(&'a Name, PerNs)>, AllocError>
+        ensures { IfOk result (λ v. map deref_entry v.items ≡ map (λ n. (n, bound_in self.now n)) (seen names.now)) }
+    {
+        let mut entries = Vec::new(self.alloc);
+        for name in names {
+            entries.push((*name, self.get(*name)))?;
+        }
+        Ok(entries)
+    }
+
+    /// The named imports that have a record in any namespace, in order of their uses, then of their places there.
+    pub fn imports(&self) -> Result<Vec<ImportId>, AllocError>
+        ensures { IfOk result (λ v. AreImports ⟦<ImportId as Ord>⟧.cmp v.items self.now) }
+    {
+        let imports = self.all_imports()?;
+        let sorted = sorted_once(self.alloc, imports)?;
+        Ok(sorted)
+    }
+
+    /// The named imports that have a record, each as often as it has one.
+    fn all_imports(&self) -> Result<Vec<ImportId>, AllocError>
+        ensures { IfOk result (λ v. v.items ≡ imports_of self.now) }
+    {
+        let mut imports = Vec::new(self.alloc);
+        add_imports(&mut imports, self.types.imports())?;
+        add_imports(&mut imports, self.values.imports())?;
+        add_imports(&mut imports, self.macros.imports())?;
+        Ok(imports)
+    }
+
+    /// The entries, in order of their names, and then the unnamed traits, in order of import, each as a type.
+    pub fn resolutions(&self) -> Result<Vec<(Option<&Name>, PerNs)>, AllocError>
+        ensures { IfOk result (λ v. AreResolutions (map deref_resolution v.items) self.now) }
+    {
+        let entries = self.entries()?;
+        let mut resolutions = Vec::new(self.alloc);
+        add_entries(&mut resolutions, entries.as_slice())?;
+        add_unnamed(&mut resolutions, self.unnamed_traits.as_slice())?;
+        Ok(resolutions)
+    }
+}
+
+/// Adds references to names.
+fn add_names<'a>(names: &mut Vec<&'a Name>, more: &'a [Name]) -> Result<(), AllocError>
+    ensures { OnOk result (seen names.new.items ≡ seen names.old.items ++ more.now) }
+{
+    for name in more {
+        names.push(name)?;
+    }
+    Ok(())
+}
+
+/// Adds entries.
+fn add_entries<'a>(
+    resolutions: &mut Vec<(Option<&'a Name>, PerNs)>,
+    entries: &[(&'a Name, PerNs)],
+) -> Result<(), AllocError>
+    ensures { OnOk result (map deref_resolution resolutions.new.items ≡ map deref_resolution resolutions.old.items ++ map named_resolution (map deref_entry entries.now)) }
+{
+    for (name, res) in entries {
+        resolutions.push((Some(*name), *res))?;
+    }
+    Ok(())
+}
+
+/// Adds unnamed traits.
+fn add_unnamed(
+    resolutions: &mut Vec<(Option<&Name>, PerNs)>,
+    traits: &[(TraitId, Visibility, Option<ImportId>)],
+) -> Result<(), AllocError>
+    ensures { OnOk result (map deref_resolution resolutions.new.items ≡ map deref_resolution resolutions.old.items ++ map unnamed_resolution traits.now) }
+{
+    for unnamed in traits {
+        add_without_name(resolutions, resolution_of(unnamed))?;
+    }
+    Ok(())
+}
+
+/// Adds what something without a name resolves to.
+fn add_without_name(
+    resolutions: &mut Vec<(Option<&Name>, PerNs)>,
+    res: PerNs,
+) -> Result<(), AllocError>
+    ensures { OnOk result (map deref_resolution resolutions.new.items ≡ map deref_resolution resolutions.old.items ++ (None, res) ∷ []) }
+{
+    resolutions.push((None, res))?;
+    Ok(())
+}
+
+/// What an unnamed trait resolves to.
+fn resolution_of(unnamed: &(TraitId, Visibility, Option<ImportId>)) -> PerNs
+    ensures { result ≡ unnamed_type unnamed.now }
+{
+    let import = match unnamed.2 {
+        None => None,
+        Some(id) => Some(ImportOrExternCrate::Import(id)),
+    };
+    PerNs::types(ModuleDefId::TraitId(unnamed.0), unnamed.1, import)
+}
+
+/// Adds the named imports among the imports of a namespace.
+fn add_imports<I: ImportSource>(imports: &mut Vec<ImportId>, more: &[I]) -> Result<(), AllocError>
+    ensures { OnOk result (imports.new.items ≡ imports.old.items ++ filter_map (λ i. named_import (I.widened i)) more.now) }
+{
+    for import in more {
+        if let ImportOrExternCrate::Import(id) = import.widen() {
+            imports.push(id)?;
+        }
+    }
+    Ok(())
+}
+
+/// The names in order of their bytes, without repeats.
+fn sorted_names(alloc: Global, names: Vec<&Name>) -> Result<Vec<&Name>, AllocError>
+    ensures sorted { IfOk result (λ v. IsStrictlySortedBy (slice_cmp nat_cmp) (seen v.items)) }
+    ensures same { (n : Name) → IfOk result (λ v. Contains (seen v.items) n ↔ Contains (seen names.entry.items) n) }
+{
+    let mut sorted = in_order(alloc, names)?;
+    sorted.dedup();
+    Ok(sorted)
+}
+
+/// The elements in order, without repeats.
+fn sorted_once<T: Ord + Drop>(alloc: Global, xs: Vec<T>) -> Result<Vec<T>, AllocError>
+    requires { (x y : T) → T.eq x y ≡ true → x ≡ y }
+    ensures sorted { IfOk result (λ v. IsStrictlySortedBy T.cmp v.items) }
+    ensures same { (x : T) → IfOk result (λ v. Contains v.items x ↔ Contains xs.items x) }
+{
+    let mut sorted = in_order(alloc, xs)?;
+    sorted.dedup();
+    Ok(sorted)
+}
+
+/// The elements in order.
+fn in_order<T: Ord + Drop>(alloc: Global, xs: Vec<T>) -> Result<Vec<T>, AllocError>
+    ensures sorted { IfOk result (λ v. IsSorted T.cmp v.items) }
+    ensures same { IfOk result (λ v. IsPermutation xs.items v.items) }
+{
+    let sorted = xs.into_iter().sorted(alloc)?;
+    let list = sorted.collect(alloc)?;
+    Ok(list)
+}
