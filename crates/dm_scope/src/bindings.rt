@@ -117,7 +117,7 @@ impl<D: Definition, I: ImportSource> Bindings<D, I> {
         self.records.get(import).copied()
     }
 
-    /// One push of a name of a module, with the glob flags of its namespace (docs/RULES.md, "What a push does").
+    /// One push of a name of a module, with the glob flags of its namespace (docs/RULES.md, "Pushes").
     ///
     /// Answers whether the push is effective. Where memory is short, bindings and flags are as they were.
     pub fn push(

@@ -16,7 +16,7 @@ use dm_base::per_ns::PerNs;
 use std::alloc::AllocError;
 
 impl ItemScope {
-    /// Pushes what an import, or a declaration, resolves a name of a module to (docs/RULES.md, "What a push does").
+    /// Pushes what an import, or a declaration, resolves a name of a module to (docs/RULES.md, "Pushes").
     ///
     /// Answers whether a namespace was written, or the name went among the unresolved ones. Where memory is short,
     /// scope and glob table are as they were.
