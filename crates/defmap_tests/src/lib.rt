@@ -1,0 +1,6 @@
+//! Tests that call the crates below it, and the callers that docs/USING.md shows.
+#![tactic(auto)]
+
+#[cfg(test)]
+mod tests;
+pub mod using;

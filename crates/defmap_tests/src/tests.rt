@@ -1,0 +1,5 @@
+//! Calls at concrete types, with ample memory.
+mod builtins;
+mod items;
+mod names;
+mod traits;
