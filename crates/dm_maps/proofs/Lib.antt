@@ -5,6 +5,7 @@ pub mod ModuleGrowth
 pub mod CrateGrowth
 pub mod WorldGrowth
 pub mod FaultLemmas
+pub mod VariantLemmas
 pub mod ScopeLemmas
 pub mod AllLemmas
 pub mod Sets

@@ -3,6 +3,8 @@
 
 mod add_items;
 mod add_modules;
+mod add_uses;
+mod add_variants;
 pub mod build_fault;
 pub mod builder;
 mod check;
