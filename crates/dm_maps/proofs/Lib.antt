@@ -3,6 +3,8 @@ pub mod ResultLemmas
 pub mod GrowthLemmas
 pub mod ModuleGrowth
 pub mod CrateGrowth
+pub mod BlockGrowth
+pub mod BlockMade
 pub mod WorldGrowth
 pub mod FaultLemmas
 pub mod VariantLemmas

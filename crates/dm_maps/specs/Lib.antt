@@ -4,6 +4,7 @@ pub mod World
 pub mod Asked
 pub mod Build
 pub mod BuildItems
+pub mod BuildBlocks
 pub mod Faults
 pub mod ItemFaults
 pub mod First

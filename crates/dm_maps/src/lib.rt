@@ -1,6 +1,7 @@
 //! The maps of crates and blocks, and checked worlds of them.
 #![tactic(auto)]
 
+mod add_blocks;
 mod add_items;
 mod add_modules;
 mod add_uses;
