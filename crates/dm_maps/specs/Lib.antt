@@ -3,7 +3,10 @@ pub mod Maps
 pub mod World
 pub mod Asked
 pub mod Build
+pub mod BuildItems
+pub mod BuildBlocks
 pub mod Faults
+pub mod ItemFaults
 pub mod First
 pub mod Held
 pub mod Holds

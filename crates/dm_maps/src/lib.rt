@@ -1,8 +1,11 @@
 //! The maps of crates and blocks, and checked worlds of them.
 #![tactic(auto)]
 
+mod add_blocks;
 mod add_items;
 mod add_modules;
+mod add_uses;
+mod add_variants;
 pub mod build_fault;
 pub mod builder;
 mod check;
