@@ -75,3 +75,8 @@ module _ (t : Tree) (tree : IsTree t) where
   pub outward-alone : (m : ModuleId) → IsKnown t m → outside t m ≡ None → outward t m ≡ m ∷ []
   outward-alone m known e =
       outward_within-enough m.0 (suc m.0) m known (omega arith) (omega arith) ∙ ap (λ o. m ∷ option_map_or (outward_within m.0 t) o []) e
+
+  -- both in one
+  pub outward-step : (m : ModuleId) (o : Option ModuleId) → IsKnown t m → o ≡ outside t m → outward t m ≡ m ∷ option_map_or (outward t) o []
+  outward-step m None known e = outward-alone m known (sym e)
+  outward-step m (Some c) known e = outward-outside m c known (sym e)

@@ -14,3 +14,4 @@ pub mod ItemHomes
 pub mod ItemList
 pub mod Reresolved
 pub mod Files
+pub mod VisibilityRows

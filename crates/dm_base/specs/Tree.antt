@@ -68,6 +68,10 @@ chain t m = chain_within m.0 t m
 abbrev pub is_among : ModuleId → List ModuleId → Bool
 is_among a ms = list_any (same_module a) ms
 
+-- whether a contains m, and is not m itself
+abbrev pub is_ancestor : Tree → ModuleId → ModuleId → Bool
+is_ancestor t a m = option_map_or (λ c. is_among a (chain t c)) (containing t m) false
+
 -- the modules that m is lifted through, as far as n blocks
 abbrev pub outward_within : ℕ → Tree → ModuleId → List ModuleId
 outward_within zero t m = m ∷ []
@@ -77,13 +81,21 @@ outward_within (suc n) t m = m ∷ option_map_or (outward_within n t) (outside t
 abbrev pub outward : Tree → ModuleId → List ModuleId
 outward t m = outward_within m.0 t m
 
--- whether o lies in no block or in f's map
-abbrev pub is_lifted : Tree → ModuleId → ModuleId → Bool
-is_lifted t f o = is_none (block_of t o) || same_map (t.map_of o) (t.map_of f)
+-- whether m is one of the map's modules
+abbrev pub lies_in : Tree → MapId → ModuleId → Bool
+lies_in t map m = same_map (t.map_of m) map
+
+-- whether o lies in no block or in the map
+abbrev pub is_lifted : Tree → MapId → ModuleId → Bool
+is_lifted t map o = is_none (block_of t o) || lies_in t map o
 
 -- the first of them that does
+abbrev pub lift_to : Tree → ModuleId → MapId → ModuleId
+lift_to t m map = unwrap_or (find (is_lifted t map) (outward t m)) m
+
+-- the same in f's map
 abbrev pub lift : Tree → ModuleId → ModuleId → ModuleId
-lift t m f = unwrap_or (find (is_lifted t f) (outward t m)) m
+lift t m f = lift_to t m (t.map_of f)
 
 -- Whether f is one of the modules that see v: all of them for a public item, those of the crate for a crate's; for a
 -- module's item the module itself, and each module of its crate in whose chain it stands when lifted.

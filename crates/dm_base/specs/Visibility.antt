@@ -1,8 +1,12 @@
--- Visibilities, alone and over a tree of modules.
-use Rattle.std.specs.Prelude.{Bool, true, false}
+-- Visibilities, alone and over a tree of modules: the most and the least of two, and what that says of who sees.
+use Rattle.std.specs.Prelude.{◌≡◌, ◌&&◌, ◌||◌, not, if◌then◌else◌, Bool, true, false, Option, Some, None}
+use Rattle.dm_base.specs.declared.ids.ModuleId.{ModuleId}
+use Rattle.dm_base.specs.declared.ids.MapId.{MapId}
+use Rattle.dm_base.specs.declared.visibility.VisibilityExplicitness.{VisibilityExplicitness}
+use Rattle.dm_base.specs.declared.visibility.VisibilityExplicitness.TheVariants.{Explicit, Implicit}
 use Rattle.dm_base.specs.declared.visibility.Visibility.{Visibility}
 use Rattle.dm_base.specs.declared.visibility.Visibility.TheVariants.{Module, PubCrate, Public}
-use Rattle.dm_base.specs.Tree.{Tree, IsKnown}
+use Rattle.dm_base.specs.Tree.{Tree, IsKnown, same_module, same_crate, crate_of, lies_in, is_ancestor, sees}
 
 -- the module that a visibility names, if it names one, is the tree's
 abbrev pub NamesKnown : Tree → Visibility → Type 0
@@ -14,3 +18,74 @@ abbrev pub is_public : Visibility → Bool
 is_public (Module m e) = false
 is_public (PubCrate k) = false
 is_public Public = true
+
+-- explicit if either is
+abbrev pub either_explicit : VisibilityExplicitness → VisibilityExplicitness → VisibilityExplicitness
+either_explicit Explicit y = Explicit
+either_explicit Implicit y = y
+
+-- whether both are modules of the map
+abbrev pub both_lie_in : Tree → MapId → ModuleId → ModuleId → Bool
+both_lie_in t map a b = lies_in t map a && lies_in t map b
+
+-- The most of what modules a and b see: of one module twice, that module; of two of the map's, the one that contains the other.
+abbrev pub max_of_modules : Tree → MapId → ModuleId → VisibilityExplicitness → ModuleId → VisibilityExplicitness → Option Visibility
+max_of_modules t map a x b y =
+    if same_module a b then Some (Module a (either_explicit x y))
+    else if not (both_lie_in t map a b) then None
+    else if is_ancestor t b a then Some (Module b y)
+    else if is_ancestor t a b then Some (Module a x)
+    else None
+
+-- The most of two visibilities, where one of them is it; the map is that whose modules are compared.
+abbrev pub max_of : Tree → MapId → Visibility → Visibility → Option Visibility
+max_of t map Public v = Some Public
+max_of t map (PubCrate k) Public = Some Public
+max_of t map (PubCrate k) (PubCrate l) = if same_crate k l then Some (PubCrate k) else None
+max_of t map (PubCrate k) (Module m e) = if same_crate (crate_of t m) k then Some (PubCrate k) else None
+max_of t map (Module m e) Public = Some Public
+max_of t map (Module m e) (PubCrate k) = if same_crate (crate_of t m) k then Some (PubCrate k) else None
+max_of t map (Module a x) (Module b y) = max_of_modules t map a x b y
+
+-- The least of what modules a and b see: of one module twice, that module; of two of the map's, the one that lies in the other.
+abbrev pub min_of_modules : Tree → MapId → ModuleId → VisibilityExplicitness → ModuleId → VisibilityExplicitness → Option Visibility
+min_of_modules t map a x b y =
+    if same_module a b then Some (Module a (either_explicit x y))
+    else if not (both_lie_in t map a b) then None
+    else if is_ancestor t b a then Some (Module a x)
+    else if is_ancestor t a b then Some (Module b y)
+    else None
+
+-- The least of two visibilities, where one of them is it.
+abbrev pub min_of : Tree → MapId → Visibility → Visibility → Option Visibility
+min_of t map Public v = Some v
+min_of t map (PubCrate k) Public = Some (PubCrate k)
+min_of t map (PubCrate k) (PubCrate l) = if same_crate k l then Some (PubCrate k) else None
+min_of t map (PubCrate k) (Module m e) = if same_crate (crate_of t m) k then Some (Module m e) else None
+min_of t map (Module m e) Public = Some (Module m e)
+min_of t map (Module m e) (PubCrate k) = if same_crate (crate_of t m) k then Some (Module m e) else None
+min_of t map (Module a x) (Module b y) = min_of_modules t map a x b y
+
+-- those who see v are those who see one or the other
+abbrev pub IsUnion : Tree → Visibility → Visibility → Visibility → Type 0
+IsUnion t a b v = (f : ModuleId) → IsKnown t f → sees t v f ≡ (sees t a f || sees t b f)
+
+-- those who see v are those who see both
+abbrev pub IsIntersection : Tree → Visibility → Visibility → Visibility → Type 0
+IsIntersection t a b v = (f : ModuleId) → IsKnown t f → sees t v f ≡ (sees t a f && sees t b f)
+
+-- whether both are visibilities in modules of the map
+abbrev pub are_of_map : Tree → MapId → Visibility → Visibility → Bool
+are_of_map t map (Module a x) (Module b y) = both_lie_in t map a b
+are_of_map t map (Module a x) (PubCrate l) = false
+are_of_map t map (Module a x) Public = false
+are_of_map t map (PubCrate k) v = false
+are_of_map t map Public v = false
+
+-- whether neither module is the other or its ancestor
+abbrev pub are_apart : Tree → Visibility → Visibility → Bool
+are_apart t (Module a x) (Module b y) = not (same_module a b || is_ancestor t a b || is_ancestor t b a)
+are_apart t (Module a x) (PubCrate l) = false
+are_apart t (Module a x) Public = false
+are_apart t (PubCrate k) v = false
+are_apart t Public v = false

@@ -1,11 +1,12 @@
 //! Who sees an item.
-ghost use Rattle.std.specs.Prelude.{◌≡◌, Some};
+ghost use Rattle.std.specs.Prelude.{◌≡◌, IsTrue, is_none, true};
+ghost use Rattle.std.specs.Option.{ForSome};
 ghost use Rattle.dm_base.specs.declared.visibility.Visibility.TheVariants.{Module};
 ghost use Rattle.dm_base.specs.declared.visibility.VisibilityExplicitness.TheVariants as explicitness;
-ghost use Rattle.dm_base.specs.Tree.{Tree, IsKnown, is_lifted, lift, sees};
-ghost use Rattle.dm_base.specs.Visibility.{NamesKnown, is_public};
+ghost use Rattle.dm_base.specs.Tree.{Tree, IsKnown, IsTree, lies_in, is_ancestor, is_lifted, lift_to, sees};
+ghost use Rattle.dm_base.specs.Visibility.{NamesKnown, is_public, either_explicit, both_lie_in, max_of_modules, max_of, min_of_modules, min_of, IsUnion, IsIntersection, are_of_map, are_apart};
 
-use crate::ids::{Crate, ModuleId};
+use crate::ids::{Crate, MapId, ModuleId};
 use crate::mod_path::ModPath;
 use crate::module_tree::ModuleTree;
 
@@ -58,38 +59,228 @@ impl Visibility {
         requires known { IsKnown (T.tree tree.now) from }
         ensures { result ≡ sees (T.tree tree.now) self from }
     {
+        let map = MapId {
+            krate: tree.krate(from),
+            block: tree.block(from),
+        };
+        self.is_visible_from_def_map(tree, map, from)
+    }
+
+    /// The same, where the map that `from` lies in is at hand.
+    pub fn is_visible_from_def_map<T: ModuleTree>(
+        self,
+        tree: &T,
+        map: MapId,
+        from: ModuleId,
+    ) -> bool
+        requires named { NamesKnown (T.tree tree.now) self }
+        requires known { IsKnown (T.tree tree.now) from }
+        requires lies { (T.tree tree.now).map_of from ≡ map }
+        ensures { result ≡ sees (T.tree tree.now) self from }
+    {
         match self {
             Visibility::Public => true,
-            Visibility::PubCrate(krate) => tree.krate(from) == krate,
-            Visibility::Module(to, _) => is_seen_in(tree, to, from),
+            Visibility::PubCrate(krate) => map.krate == krate,
+            Visibility::Module(to, _) => is_seen_in(tree, to, map, from),
+        }
+    }
+
+    /// The most of two visibilities: one of them, which sees all that either sees. `None` where there is none such.
+    ///
+    /// Two different modules are compared where both lie in `map`. One module twice is explicit if either is. Takes no memory.
+    pub fn max<T: ModuleTree>(self, tree: &T, other: Visibility, map: MapId) -> Option<Visibility>
+        requires one { NamesKnown (T.tree tree.now) self }
+        requires two { NamesKnown (T.tree tree.now) other }
+        ensures table { result ≡ max_of (T.tree tree.now) map self other }
+        ensures either_order { result ≡ max_of (T.tree tree.now) map other self }
+        ensures union { ForSome result (IsUnion (T.tree tree.now) self other) }
+        ensures none { IsTrue (are_of_map (T.tree tree.now) map self other) → is_none result ≡ are_apart (T.tree tree.now) self other }
+    {
+        match (self, other) {
+            (Visibility::Public, _) | (_, Visibility::Public) => Some(Visibility::Public),
+            (Visibility::PubCrate(one), Visibility::PubCrate(two)) => {
+                if one == two { Some(self) } else { None }
+            }
+            (Visibility::Module(m, _), Visibility::PubCrate(krate)) => {
+                if tree.krate(m) == krate {
+                    Some(other)
+                } else {
+                    None
+                }
+            }
+            (Visibility::PubCrate(krate), Visibility::Module(m, _)) => {
+                if tree.krate(m) == krate {
+                    Some(self)
+                } else {
+                    None
+                }
+            }
+            (Visibility::Module(a, x), Visibility::Module(b, y)) => {
+                max_of_modules(tree, map, (a, x), (b, y))
+            }
+        }
+    }
+
+    /// The least of two visibilities: one of them, which sees what both see. `None` where there is none such.
+    ///
+    /// Two different modules are compared where both lie in `map`. One module twice is explicit if either is. Takes no memory.
+    pub fn min<T: ModuleTree>(self, tree: &T, other: Visibility, map: MapId) -> Option<Visibility>
+        requires one { NamesKnown (T.tree tree.now) self }
+        requires two { NamesKnown (T.tree tree.now) other }
+        ensures table { result ≡ min_of (T.tree tree.now) map self other }
+        ensures either_order { result ≡ min_of (T.tree tree.now) map other self }
+        ensures intersection { ForSome result (IsIntersection (T.tree tree.now) self other) }
+        ensures none { IsTrue (are_of_map (T.tree tree.now) map self other) → is_none result ≡ are_apart (T.tree tree.now) self other }
+    {
+        match (self, other) {
+            (Visibility::Public, least) | (least, Visibility::Public) => Some(least),
+            (Visibility::PubCrate(one), Visibility::PubCrate(two)) => {
+                if one == two { Some(self) } else { None }
+            }
+            (Visibility::Module(m, _), Visibility::PubCrate(krate)) => {
+                if tree.krate(m) == krate {
+                    Some(self)
+                } else {
+                    None
+                }
+            }
+            (Visibility::PubCrate(krate), Visibility::Module(m, _)) => {
+                if tree.krate(m) == krate {
+                    Some(other)
+                } else {
+                    None
+                }
+            }
+            (Visibility::Module(a, x), Visibility::Module(b, y)) => {
+                min_of_modules(tree, map, (a, x), (b, y))
+            }
         }
     }
 }
 
-/// Whether the module `from` sees what the module `to` sees.
-fn is_seen_in<T: ModuleTree>(tree: &T, to: ModuleId, from: ModuleId) -> bool
+/// The most of what two modules see.
+fn max_of_modules<T: ModuleTree>(
+    tree: &T,
+    map: MapId,
+    one: (ModuleId, VisibilityExplicitness),
+    two: (ModuleId, VisibilityExplicitness),
+) -> Option<Visibility>
+    requires one { IsKnown (T.tree tree.now) one.0 }
+    requires two { IsKnown (T.tree tree.now) two.0 }
+    ensures table { result ≡ max_of_modules (T.tree tree.now) map one.0 one.1 two.0 two.1 }
+    ensures either_order { result ≡ max_of_modules (T.tree tree.now) map two.0 two.1 one.0 one.1 }
+    ensures union { ForSome result (IsUnion (T.tree tree.now) (Module one.0 one.1) (Module two.0 two.1)) }
+{
+    let (a, x) = one;
+    let (b, y) = two;
+    if a == b {
+        return Some(Visibility::Module(a, either_explicit(x, y)));
+    }
+    if !both_lie_in(tree, map, a, b) {
+        return None;
+    }
+    if is_ancestor(tree, b, a) {
+        return Some(Visibility::Module(b, y));
+    }
+    if is_ancestor(tree, a, b) {
+        return Some(Visibility::Module(a, x));
+    }
+    None
+}
+
+/// The least of what two modules see.
+fn min_of_modules<T: ModuleTree>(
+    tree: &T,
+    map: MapId,
+    one: (ModuleId, VisibilityExplicitness),
+    two: (ModuleId, VisibilityExplicitness),
+) -> Option<Visibility>
+    requires one { IsKnown (T.tree tree.now) one.0 }
+    requires two { IsKnown (T.tree tree.now) two.0 }
+    ensures table { result ≡ min_of_modules (T.tree tree.now) map one.0 one.1 two.0 two.1 }
+    ensures either_order { result ≡ min_of_modules (T.tree tree.now) map two.0 two.1 one.0 one.1 }
+    ensures intersection { ForSome result (IsIntersection (T.tree tree.now) (Module one.0 one.1) (Module two.0 two.1)) }
+{
+    let (a, x) = one;
+    let (b, y) = two;
+    if a == b {
+        return Some(Visibility::Module(a, either_explicit(x, y)));
+    }
+    if !both_lie_in(tree, map, a, b) {
+        return None;
+    }
+    if is_ancestor(tree, b, a) {
+        return Some(Visibility::Module(a, x));
+    }
+    if is_ancestor(tree, a, b) {
+        return Some(Visibility::Module(b, y));
+    }
+    None
+}
+
+/// Explicit if either is.
+fn either_explicit(x: VisibilityExplicitness, y: VisibilityExplicitness) -> VisibilityExplicitness
+    ensures { result ≡ either_explicit x y }
+{
+    match x {
+        VisibilityExplicitness::Explicit => x,
+        VisibilityExplicitness::Implicit => y,
+    }
+}
+
+/// Whether two modules both lie in a map.
+fn both_lie_in<T: ModuleTree>(tree: &T, map: MapId, a: ModuleId, b: ModuleId) -> bool
+    requires one { IsKnown (T.tree tree.now) a }
+    requires two { IsKnown (T.tree tree.now) b }
+    ensures { result ≡ both_lie_in (T.tree tree.now) map a b }
+{
+    lies_in(tree, map, a) && lies_in(tree, map, b)
+}
+
+/// Whether a module lies in a map.
+fn lies_in<T: ModuleTree>(tree: &T, map: MapId, m: ModuleId) -> bool
+    requires { IsKnown (T.tree tree.now) m }
+    ensures { result ≡ lies_in (T.tree tree.now) map m }
+{
+    tree.krate(m) == map.krate && tree.block(m) == map.block
+}
+
+/// Whether `a` contains `m`, and is not `m` itself.
+fn is_ancestor<T: ModuleTree>(tree: &T, a: ModuleId, m: ModuleId) -> bool
+    requires { IsKnown (T.tree tree.now) m }
+    ensures value { result ≡ is_ancestor (T.tree tree.now) a m }
+    ensures lawful { IsTree (T.tree tree.now) }
+{
+    match tree.containing(m) {
+        None => false,
+        Some(outer) => tree.contains(a, outer),
+    }
+}
+
+/// Whether the module `from` of a map sees what the module `to` sees.
+fn is_seen_in<T: ModuleTree>(tree: &T, to: ModuleId, map: MapId, from: ModuleId) -> bool
     requires to { IsKnown (T.tree tree.now) to }
     requires from { IsKnown (T.tree tree.now) from }
+    requires lies { (T.tree tree.now).map_of from ≡ map }
     ensures { result ≡ sees (T.tree tree.now) (Module to explicitness.Implicit) from }
 {
     if from == to {
         return true;
     }
-    if tree.krate(from) != tree.krate(to) {
+    if map.krate != tree.krate(to) {
         return false;
     }
-    tree.contains(lifted(tree, to, from), from)
+    tree.contains(lifted(tree, to, map), from)
 }
 
-/// The first of `to`, the module that contains its block, and so on, that lies in no block or in the map of `from`.
-fn lifted<T: ModuleTree>(tree: &T, to: ModuleId, from: ModuleId) -> ModuleId
-    requires to { IsKnown (T.tree tree.now) to }
-    requires from { IsKnown (T.tree tree.now) from }
-    ensures { result ≡ lift (T.tree tree.now) to from }
+/// The first of `to`, the module that contains its block, and so on, that lies in no block or in the map.
+fn lifted<T: ModuleTree>(tree: &T, to: ModuleId, map: MapId) -> ModuleId
+    requires { IsKnown (T.tree tree.now) to }
+    ensures { result ≡ lift_to (T.tree tree.now) to map }
 {
     let mut at = to;
-    loop {
-        if is_lifted(tree, at, from) {
+    'lift: loop {
+        if is_lifted(tree, at, map) {
             return at;
         }
         match tree.outside(at) {
@@ -99,12 +290,10 @@ fn lifted<T: ModuleTree>(tree: &T, to: ModuleId, from: ModuleId) -> ModuleId
     }
 }
 
-/// Whether `at` lies in no block or in the map of `from`.
-fn is_lifted<T: ModuleTree>(tree: &T, at: ModuleId, from: ModuleId) -> bool
-    requires at { IsKnown (T.tree tree.now) at }
-    requires from { IsKnown (T.tree tree.now) from }
-    ensures { result ≡ is_lifted (T.tree tree.now) from at }
+/// Whether `at` lies in no block or in the map.
+fn is_lifted<T: ModuleTree>(tree: &T, at: ModuleId, map: MapId) -> bool
+    requires { IsKnown (T.tree tree.now) at }
+    ensures { result ≡ is_lifted (T.tree tree.now) map at }
 {
-    tree.block(at).is_none()
-        || tree.krate(at) == tree.krate(from) && tree.block(at) == tree.block(from)
+    tree.block(at).is_none() || lies_in(tree, map, at)
 }
