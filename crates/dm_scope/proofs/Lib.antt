@@ -1,6 +1,7 @@
 pub mod DeriveLemmas
 pub mod EntryLemmas
 pub mod BindingLemmas
+pub mod CallLemmas
 pub mod ChangeLemmas
 pub mod ClosedLemmas
 pub mod FlagLemmas
@@ -9,6 +10,7 @@ pub mod LookupLemmas
 pub mod Outcomes
 pub mod PushLemmas
 pub mod ReadingLemmas
+pub mod RecordLemmas
 pub mod RunLemmas
 pub mod SamenessLemmas
 pub mod SortLemmas

@@ -17,6 +17,7 @@ ghost use Rattle.dm_scope.specs.Bindings.{reading, import_of, is_glob_by, writes
 mod changes;
 
 use crate::glob_imports::GlobFlags;
+use crate::import_records::Records;
 use crate::keys::{add_key, add_name, take_off, write_at};
 use crate::steps::{NewFlag, NewKeys};
 use dm_base::definition::Definition;
@@ -163,6 +164,13 @@ impl<D: Definition, I: ImportSource> Bindings<D, I> {
         ensures { result.now ≡ map (λ e. e.0) self.now.records }
     {
         self.records.keys().as_slice()
+    }
+
+    /// What each import that brought a binding stands for, each import seen as any import.
+    pub(crate) fn records(&self) -> Records<'_, I>
+        ensures { result ≡ map (λ e. (I.widened e.0, e.1)) self.now.records }
+    {
+        Records::new(&self.records)
     }
 
     /// The first step of a push: new keys go last. The second step cannot fail.
