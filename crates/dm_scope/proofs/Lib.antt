@@ -1,5 +1,6 @@
 pub mod DeriveLemmas
 pub mod EntryLemmas
+pub mod AskLemmas
 pub mod BindingLemmas
 pub mod CallLemmas
 pub mod ChangeLemmas

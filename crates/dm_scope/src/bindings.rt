@@ -15,6 +15,7 @@ ghost use Rattle.dm_scope.specs.Flags.{has_flag, without_flag};
 ghost use Rattle.dm_scope.specs.Bindings.{reading, import_of, is_glob_by, writes, stored, recorded, target_of, bound_after, flags_after, is_effective_at, with_keys, without_keys, is_new_record, written, is_new_import, add_import, set_import, finished, flags_done};
 
 mod changes;
+mod names;
 
 use crate::glob_imports::GlobFlags;
 use crate::import_records::Records;

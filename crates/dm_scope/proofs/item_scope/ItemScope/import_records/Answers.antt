@@ -1,4 +1,4 @@
-use Rattle.std.proofs.Common.{◌≡◌, ◌∙◌, sym, ap}
+use Rattle.std.proofs.Common.{◌∙◌, sym, ap}
 use Rattle.dm_base.specs.declared.per_ns.Namespace.TheVariants.{Types, Macros}
 use Rattle.dm_scope.specs.Records.{records_in}
 use Rattle.dm_scope.proofs.RecordLemmas.{records_are}
