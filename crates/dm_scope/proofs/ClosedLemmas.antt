@@ -1,5 +1,5 @@
 -- A push makes a namespace, and a scope, show one push more.
-use Rattle.std.proofs.Common.{◌≡◌, Bool, true, false, cond, not, ◌&&◌, ◌||◌, List, [], ◌∷◌, ◌++◌, append-nil, Option, None, Some, refl, sym, ap, subst, ◌∙◌, true≢false}
+use Rattle.std.proofs.Common.{◌≡◌, Bool, true, false, cond, not, ◌&&◌, ◌||◌, List, [], ◌∷◌, ◌++◌, append-nil, Option, None, Some, refl, sym, ap, subst, ◌∙◌}
 use Rattle.std.specs.Option.{option_map, option_map_or}
 use Rattle.std.specs.List.{list_any, filter_map}
 use Rattle.std.specs.Cmp.Lexicographic.{nat_list_eq_equiv}
@@ -14,7 +14,7 @@ use Rattle.dm_base.specs.declared.per_ns.PerNs.{PerNs}
 use Rattle.dm_base.specs.declared.imports.ImportOrExternCrate.{ImportOrExternCrate}
 use Rattle.dm_scope.specs.Bindings.{Bound, Reading, import_of, is_effective_at, bound_after, flags_after}
 use Rattle.dm_scope.specs.Flags.{Flags, Globs, has_flag, no_globs}
-use Rattle.dm_scope.specs.Push.{types_reading, values_reading, macros_reading, is_empty, unresolved_after, is_new_unresolved, scope_after, globs_after, push_answer}
+use Rattle.dm_scope.specs.Push.{types_reading, values_reading, macros_reading, is_empty, unresolved_after, scope_after, globs_after, push_answer}
 use Rattle.dm_scope.specs.Pushes.{Push, is_effective, ShowsIn}
 use Rattle.dm_scope.specs.Scope.{Scope, no_scope}
 use Rattle.dm_scope.specs.Shows.{ScopePush, push_in, pushes_in, is_effective_in, has_empty_push, is_answered, Shows}

@@ -1,17 +1,16 @@
 -- Derive attributes found and filled.
-use Rattle.std.proofs.Common.{◌≡◌, ◌<◌, ◌≤◌, ◌+◌, ℕ, suc, zero, Bool, true, false, cond, List, [], ◌∷◌, length, map, position, nat_lt, slice_set, slice_index_or, Option, None, Some, refl, sym, ap, ◌∙◌, arith, ltb-true, not}
+use Rattle.std.proofs.Common.{◌≡◌, ◌<◌, ◌≤◌, ◌+◌, ℕ, suc, Bool, true, false, cond, List, [], ◌∷◌, length, map, position, nat_lt, slice_set, slice_index_or, None, Some, refl, sym, ap, ◌∙◌, arith, ltb-true, not}
 use Rattle.std.specs.List.{position_or_len}
 use Rattle.std.proofs.lemmas.Bool.{ltb-false}
 use Rattle.std.specs.Option.{option_map}
 use Rattle.std.specs.Map.{lookup, set_value}
-use Rattle.std.proofs.lemmas.Map.Made.{lookup-map_values}
 use Rattle.either.specs.declared.Either.{Either}
 use Rattle.smallvec.specs.SmallVec.{SmallVec}
 use Rattle.dm_base.specs.declared.ids.AttrId.{AttrId}
 use Rattle.dm_base.specs.declared.ids.MacroCallId.{MacroCallId}
 use Rattle.dm_base.specs.declared.ids.BuiltinDeriveImplId.{BuiltinDeriveImplId}
 use Rattle.dm_base.specs.declared.source.AstId.{AstId}
-use Rattle.dm_scope.specs.Derives.{Derive, derive_of, derives_of, has_id, find_derive, with_slot, fill_first, fill_slot}
+use Rattle.dm_scope.specs.Derives.{derive_of, derives_of, has_id, find_derive, with_slot, fill_first, fill_slot}
 use Rattle.dm_scope.specs.Sameness.{same_ast}
 use Rattle.dm_scope.specs.declared.derives.DeriveMacroInvocation.{DeriveMacroInvocation}
 

@@ -5,13 +5,11 @@ use Rattle.std.specs.List.{list_any}
 use Rattle.std.specs.Map.{lookup, set_value}
 use Rattle.std.specs.Set.{remove_key}
 use Rattle.std.specs.HashSet.{HashSet}
-use Rattle.indexmap.specs.IndexMap.{insert_entry}
 use Rattle.indexmap.specs.IndexSet.{insert_key}
 use Rattle.dm_base.specs.declared.ids.ModuleId.{ModuleId}
 use Rattle.dm_base.specs.Names.{Name, same_name}
 use Rattle.dm_base.specs.Tree.{same_module}
-use Rattle.dm_scope.specs.declared.steps.NewFlag.{NewFlag}
-use Rattle.dm_scope.specs.Flags.{Flags, flags_of, has_flag, change_names, add_flag, all_but_last, without_flag, without_name, added}
+use Rattle.dm_scope.specs.Flags.{Flags, flags_of, has_flag, change_names, add_flag, all_but_last, without_flag, added}
 
 -- the last element taken off
 pub all_but_last-push : {X : Type 0} (xs : List X) (x : X) → all_but_last (xs ++ x ∷ []) ≡ xs

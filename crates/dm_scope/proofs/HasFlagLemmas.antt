@@ -1,5 +1,5 @@
 -- Which flags stand after one is set or cleared.
-use Rattle.std.proofs.Common.{◌≡◌, ℕ, Bool, true, false, cond, not, ◌||◌, ◌++◌, ◌&&◌, List, [], ◌∷◌, filter, refl, sym, ap, ◌∙◌, if◌then◌else◌, Option, true≢false, eqb-true, eq-eqb}
+use Rattle.std.proofs.Common.{◌≡◌, ℕ, Bool, true, false, cond, not, ◌||◌, ◌++◌, ◌&&◌, List, [], ◌∷◌, refl, sym, ap, ◌∙◌, if◌then◌else◌, Option, true≢false, eqb-true, eq-eqb}
 use Rattle.std.specs.List.{list_any}
 use Rattle.std.specs.Str.{bytes_eq}
 use Rattle.std.specs.Cmp.Lexicographic.{nat_list_eq_equiv}
@@ -10,7 +10,7 @@ use Rattle.indexmap.specs.IndexSet.{insert_key}
 use Rattle.dm_base.specs.declared.ids.ModuleId.{ModuleId}
 use Rattle.dm_base.specs.Tree.{same_module}
 use Rattle.dm_scope.specs.Bindings.{Reading, is_glob, flagged}
-use Rattle.dm_scope.specs.Flags.{Flags, has_flag, add_flag, change_names, clear_flag, without_name}
+use Rattle.dm_scope.specs.Flags.{Flags, has_flag, add_flag, clear_flag, without_name}
 
 same_module-is : (m k : ModuleId) → same_module m k ≡ true → m ≡ k
 same_module-is m k h = λ i. record { 0 = eqb-true m.0 k.0 h i }

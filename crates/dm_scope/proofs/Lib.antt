@@ -1,6 +1,8 @@
 pub mod DeriveLemmas
 pub mod EntryLemmas
+pub mod AskLemmas
 pub mod BindingLemmas
+pub mod CallLemmas
 pub mod ChangeLemmas
 pub mod ClosedLemmas
 pub mod FlagLemmas
@@ -9,6 +11,7 @@ pub mod LookupLemmas
 pub mod Outcomes
 pub mod PushLemmas
 pub mod ReadingLemmas
+pub mod RecordLemmas
 pub mod RunLemmas
 pub mod SamenessLemmas
 pub mod SortLemmas

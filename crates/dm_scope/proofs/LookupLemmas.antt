@@ -1,7 +1,6 @@
 -- Look-ups in tables that are seen by what their values show.
 use Rattle.std.proofs.Common.{◌≡◌, List}
 use Rattle.std.specs.Option.{option_map}
-use Rattle.std.specs.Map.{lookup}
 use Rattle.std.proofs.lemmas.Map.Made.{lookup-map_values}
 use Rattle.smallvec.specs.SmallVec.{SmallVec}
 use Rattle.dm_base.specs.Names.{Name, same_name, find_name}

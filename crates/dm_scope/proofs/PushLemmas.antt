@@ -1,13 +1,10 @@
 -- What one more push does to what a whole list of pushes names.
-use Rattle.std.proofs.Common.{◌≡◌, ℕ, ◌+◌, ◌<◌, Bool, true, false, cond, not, ◌&&◌, ◌||◌, List, [], ◌∷◌, ◌++◌, length, filter, append-nil, Option, None, Some, IfSome, refl, sym, ap, subst, ◌∙◌, true≢false}
-use Rattle.std.specs.List.{list_all, enumerate_from}
-use Rattle.std.specs.Str.{bytes_eq}
-use Rattle.std.specs.Map.{lookup}
+use Rattle.std.proofs.Common.{◌≡◌, ℕ, Bool, true, false, cond, not, ◌&&◌, ◌||◌, List, [], ◌∷◌, ◌++◌, filter, append-nil, Option, None, Some, IfSome, refl, sym, ap, subst, ◌∙◌, true≢false}
+use Rattle.std.specs.List.{list_all}
 use Rattle.std.proofs.lemmas.List.Elements.{filter-append}
 use Rattle.std.proofs.lemmas.List.Folds.{list_all-append}
-use Rattle.dm_base.specs.declared.per_ns.Item.{Item}
-use Rattle.dm_scope.specs.Bindings.{Bound, Reading, is_glob, is_same, writes, stored, recorded}
-use Rattle.dm_scope.specs.Pushes.{Push, first, last, is_explicit, is_by, has_same_def, last_run, named_explicit, named_of, named, named_push, item_of, is_glob_push, is_at, is_effective, effective}
+use Rattle.dm_scope.specs.Bindings.{Reading, is_glob, is_same, writes}
+use Rattle.dm_scope.specs.Pushes.{Push, first, last, is_explicit, is_by, has_same_def, last_run, named_explicit, named_of, named, item_of, is_glob_push}
 
 -- that the tests of a namespace find equal values
 pub record IsReading {D I : Type 0} (r : Reading D I) : Type 0 where

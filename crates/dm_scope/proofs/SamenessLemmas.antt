@@ -1,5 +1,5 @@
 -- The `==` of imports and definitions is the test of their sameness.
-use Rattle.std.proofs.Common.{◌≡◌, ◌&&◌, Bool, true, false, refl, Some, nat_eq}
+use Rattle.std.proofs.Common.{◌≡◌, ◌&&◌, refl, Some, nat_eq}
 use Rattle.dm_base.specs.declared.builtin_type.BuiltinInt.{BuiltinInt}
 use Rattle.dm_base.specs.declared.builtin_type.BuiltinInt.TheVariants as int
 use Rattle.dm_base.specs.declared.builtin_type.BuiltinUint.{BuiltinUint}
@@ -38,7 +38,7 @@ use Rattle.dm_base.specs.contracts.source.HirFileIdPartialEq.TheImpl as file_eq
 use Rattle.dm_base.specs.Imports.{is_glob, is_glob_or_import, narrowed, widened}
 use Rattle.dm_base.specs.Definitions.{widened_macro}
 use Rattle.dm_scope.specs.Sameness.{same_import, same_value_import, same_int, same_uint, same_float, same_builtin, same_adt, same_macro, same_def, same_edition, same_file, same_ast}
-use Rattle.dm_scope.specs.Bindings.{Reading, reading}
+use Rattle.dm_scope.specs.Bindings.{reading}
 use Rattle.dm_scope.specs.Push.{types_reading, values_reading, macros_reading}
 
 import_is : (x y : ImportOrExternCrate) → import_eq.ghosts.eq x y ≡ same_import x y

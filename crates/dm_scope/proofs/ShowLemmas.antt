@@ -1,5 +1,5 @@
 -- What a namespace shows of a list of pushes, and of one push more.
-use Rattle.std.proofs.Common.{◌≡◌, ℕ, ◌+◌, ◌<◌, ◌≤◌, Bool, true, false, cond, not, ◌&&◌, ◌||◌, List, [], ◌∷◌, ◌++◌, length, filter, append-nil, append_assoc, Option, None, Some, IfSome, refl, sym, ap, subst, ◌∙◌, true≢false, nat_eq, eqb, ne_eqb, eq-eqb, arith, eqb-true}
+use Rattle.std.proofs.Common.{◌≡◌, ℕ, ◌+◌, ◌≤◌, Bool, true, false, cond, not, ◌&&◌, List, [], ◌∷◌, ◌++◌, length, filter, append-nil, append_assoc, Option, None, Some, IfSome, refl, sym, ap, subst, ◌∙◌, true≢false, nat_eq, ne_eqb, eq-eqb, arith}
 use Rattle.std.specs.List.{list_all, enumerate_from}
 use Rattle.std.specs.Option.{option_map}
 use Rattle.std.specs.Str.{bytes_eq}
@@ -8,10 +8,9 @@ use Rattle.std.specs.Cmp.Lexicographic.{nat_list_eq_equiv}
 use Rattle.std.proofs.lemmas.Slice.Eq.{bytes_eq-Decides}
 use Rattle.std.proofs.lemmas.List.Elements.{filter-append}
 use Rattle.indexmap.specs.IndexMap.{insert_entry}
-use Rattle.dm_base.specs.declared.per_ns.Item.{Item}
 use Rattle.dm_base.specs.declared.imports.ImportOrDef.{ImportOrDef}
 use Rattle.dm_scope.specs.Bindings.{Bound, Reading, is_glob, is_same, writes, stored, recorded, with_record, bound, pushed}
-use Rattle.dm_scope.specs.Pushes.{Push, first, last, is_explicit, is_by, last_run, named_explicit, named_of, named, named_push, item_of, binding, is_glob_push, is_at, is_effective, effective, record_of, ShowsIn}
+use Rattle.dm_scope.specs.Pushes.{Push, first, last, is_explicit, is_by, named_explicit, named_of, named, named_push, item_of, binding, is_glob_push, is_at, is_effective, effective, record_of, ShowsIn}
 use Rattle.dm_scope.proofs.PushLemmas.{IsReading, after, named-push, last_run-all, last-push, and_left, and_right}
 
 enumerate_from-push : {X : Type 0} (n : ℕ) (xs : List X) (x : X) → enumerate_from n (xs ++ x ∷ []) ≡ enumerate_from n xs ++ (n + length xs, x) ∷ []

@@ -1,5 +1,5 @@
 -- The glob flags of a namespace: which names of which modules a glob bound.
-use Rattle.std.specs.Prelude.{◌-◌, Bool, false, not, List, [], ◌∷◌, map, filter, length, take, if◌then◌else◌}
+use Rattle.std.specs.Prelude.{◌-◌, Bool, false, not, List, [], ◌∷◌, filter, length, take, if◌then◌else◌}
 use Rattle.std.specs.List.{list_any}
 use Rattle.std.specs.HashSet.{HashSet}
 use Rattle.indexmap.specs.IndexSet.{insert_key}

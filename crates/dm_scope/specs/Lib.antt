@@ -5,8 +5,10 @@ pub mod Entries
 pub mod Flags
 pub mod Iterators
 pub mod Lookups
+pub mod MacroCalls
 pub mod Push
 pub mod Pushes
+pub mod Records
 pub mod Rows
 pub mod Sameness
 pub mod Scope

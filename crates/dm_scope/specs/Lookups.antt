@@ -1,11 +1,15 @@
 -- What a scope says of one definition.
-use Rattle.std.specs.Prelude.{◌∷◌, [], Bool, List, Option, Some, None, if◌then◌else◌, is_none, nat_eq, option_map, find}
+use Rattle.std.specs.Prelude.{◌≡◌, ◌∷◌, [], Bool, List, Option, Some, None, if◌then◌else◌, is_none, nat_eq}
 use Rattle.std.specs.Borrow.{Bor}
 use Rattle.dm_base.specs.declared.ids.TraitId.{TraitId}
 use Rattle.dm_base.specs.declared.imports.ImportId.{ImportId}
+use Rattle.dm_base.specs.declared.item_in_ns.ItemInNs.{ItemInNs}
+use Rattle.dm_base.specs.declared.item_in_ns.ItemInNs.TheVariants.{Types, Values, Macros}
 use Rattle.dm_base.specs.declared.per_ns.Item.{Item}
 use Rattle.dm_base.specs.declared.visibility.Visibility.{Visibility}
 use Rattle.dm_base.specs.Names.{Name}
+use Rattle.dm_scope.specs.Sameness.{same_def, same_macro}
+use Rattle.dm_scope.specs.Scope.{Scope}
 
 abbrev pub def_and_vis : {D I : Type 0} → Item D I → D × Visibility
 def_and_vis x = (x.def, x.vis)
@@ -14,9 +18,34 @@ def_and_vis x = (x.def, x.vis)
 abbrev pub shown_name : {D I : Type 0} → Name × Item D I → Name × Visibility × Bool
 shown_name e = (e.0, e.1.vis, is_none e.1.import)
 
--- the first name of a definition in a namespace
-abbrev pub name_in : {D I : Type 0} → (D → D → Bool) → D → List (Name × Item D I) → Option (Name × Visibility × Bool)
-name_in same d es = option_map shown_name (find (λ e. same e.1.def d) es)
+-- The names of a definition in a namespace, in order of first binding.
+abbrev pub names_in : {D I : Type 0} → (D → D → Bool) → D → List (Name × Item D I) → List (Name × Visibility × Bool)
+names_in same d [] = []
+names_in same d (e ∷ es) = if same e.1.def d then shown_name e ∷ names_in same d es else names_in same d es
+
+-- the names of an item of a scope, in its namespace
+abbrev pub names_for : ItemInNs → Scope → List (Name × Visibility × Bool)
+names_for (Types d) s = names_in same_def d s.types.items
+names_for (Values d) s = names_in same_def d s.values.items
+names_for (Macros m) s = names_in same_macro m s.macros.items
+
+-- the first of a list
+abbrev pub first_of : {A : Type 0} → List A → Option A
+first_of [] = None
+first_of (x ∷ xs) = Some x
+
+-- a name as it is shown, behind a reference
+abbrev pub deref_named : Bor Name × Visibility × Bool → Name × Visibility × Bool
+deref_named e = (e.0.now, e.1, e.2)
+
+-- One call of an asker about a name: a is its answer, and g its state after it.
+abbrev pub AsksName : {F T : Type 0} → (F → Bor Name → Visibility → Bool → Option T → F → Type 0) → F → Name × Visibility × Bool → Option T → F → Type 0
+AsksName step f x a g = (n : Bor Name) × (n.now ≡ x.0) × step f n x.1 x.2 a g
+
+-- An asker is asked about names in order until it answers Some: r is that answer, or None where it never does.
+abbrev pub AsksNames : {F T : Type 0} → (F → Bor Name → Visibility → Bool → Option T → F → Type 0) → List (Name × Visibility × Bool) → F → Option T → F → Type 0
+AsksNames step [] f r g = (r ≡ None) × (g ≡ f)
+AsksNames {F} {T} step (x ∷ xs) f r g = (a : Option T) × (h : F) × AsksName step f x a h × elim a [ None ↦ AsksNames step xs h r g | Some y ↦ (r ≡ Some y) × (g ≡ h) ]
 
 -- who sees an unnamed trait, by its first import
 abbrev pub trait_vis : TraitId → List (TraitId × Visibility × Option ImportId) → Option Visibility

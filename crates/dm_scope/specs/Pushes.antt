@@ -1,5 +1,5 @@
 -- What a whole list of pushes binds and records in one namespace.
-use Rattle.std.specs.Prelude.{◌≡◌, ℕ, Bool, true, false, not, nat_eq, ◌&&◌, List, [], ◌∷◌, ◌++◌, Option, None, Some, if◌then◌else◌, length}
+use Rattle.std.specs.Prelude.{◌≡◌, ℕ, Bool, false, not, nat_eq, List, [], ◌∷◌, ◌++◌, Option, None, Some, if◌then◌else◌, length}
 use Rattle.std.specs.Option.{option_map}
 use Rattle.std.specs.List.{filter, list_all, enumerate_from}
 use Rattle.std.specs.Map.{lookup}

@@ -1,7 +1,6 @@
 -- Lists of pushes, and what they bind, record and answer: equations that compute.
 use Rattle.std.specs.Prelude.{◌≡◌, ℕ, Bool, true, false, List, [], ◌∷◌, ◌++◌, Option, None, Some, refl}
-use Rattle.std.specs.Map.{lookup}
-use Rattle.dm_base.specs.Names.{Name, find_name}
+use Rattle.dm_base.specs.Names.{Name}
 use Rattle.dm_base.specs.declared.per_ns.Item.{Item}
 use Rattle.dm_base.specs.declared.per_ns.PerNs.{PerNs}
 use Rattle.dm_base.specs.declared.visibility.Visibility.{Visibility}
@@ -16,10 +15,10 @@ use Rattle.dm_base.specs.declared.item_ids.AdtId.TheVariants as adt
 use Rattle.dm_base.specs.declared.item_ids.ModuleDefId.{ModuleDefId}
 use Rattle.dm_base.specs.declared.item_ids.ModuleDefId.TheVariants as def
 use Rattle.dm_base.specs.declared.ids.ModuleId.{ModuleId}
-use Rattle.dm_scope.specs.Flags.{Globs, no_globs, has_flag}
+use Rattle.dm_scope.specs.Flags.{Globs, no_globs}
 use Rattle.dm_scope.specs.Push.{types_reading, values_reading, scope_after, globs_after, push_answer}
 use Rattle.dm_scope.specs.Pushes.{binding, record_of}
-use Rattle.dm_scope.specs.Sameness.{same_import, same_value_import, same_def, same_macro}
+use Rattle.dm_scope.specs.Sameness.{same_import, same_value_import, same_def}
 use Rattle.dm_scope.specs.Scope.{Scope, no_scope, bound_in}
 use Rattle.dm_scope.specs.Shows.{ScopePush, pushes_in, is_answered}
 

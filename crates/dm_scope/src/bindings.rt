@@ -15,8 +15,10 @@ ghost use Rattle.dm_scope.specs.Flags.{has_flag, without_flag};
 ghost use Rattle.dm_scope.specs.Bindings.{reading, import_of, is_glob_by, writes, stored, recorded, target_of, bound_after, flags_after, is_effective_at, with_keys, without_keys, is_new_record, written, is_new_import, add_import, set_import, finished, flags_done};
 
 mod changes;
+mod names;
 
 use crate::glob_imports::GlobFlags;
+use crate::import_records::Records;
 use crate::keys::{add_key, add_name, take_off, write_at};
 use crate::steps::{NewFlag, NewKeys};
 use dm_base::definition::Definition;
@@ -163,6 +165,13 @@ impl<D: Definition, I: ImportSource> Bindings<D, I> {
         ensures { result.now ≡ map (λ e. e.0) self.now.records }
     {
         self.records.keys().as_slice()
+    }
+
+    /// What each import that brought a binding stands for, each import seen as any import.
+    pub(crate) fn records(&self) -> Records<'_, I>
+        ensures { result ≡ map (λ e. (I.widened e.0, e.1)) self.now.records }
+    {
+        Records::new(&self.records)
     }
 
     /// The first step of a push: new keys go last. The second step cannot fail.

@@ -4,9 +4,11 @@
 pub mod bindings;
 pub mod derives;
 pub mod glob_imports;
+pub mod import_records;
 pub mod item_scope;
 pub mod iterators;
 mod keys;
+pub mod macro_calls;
 pub mod picked;
 mod steps;
 mod table_lists;

@@ -7,18 +7,23 @@ ghost use Rattle.dm_base.specs.declared.imports.ImportOrGlob.{ImportOrGlob};
 ghost use Rattle.dm_base.specs.declared.item_ids.MacroId.{MacroId};
 ghost use Rattle.dm_base.specs.declared.item_ids.ModuleDefId.{ModuleDefId};
 ghost use Rattle.dm_base.specs.declared.per_ns.Item.{Item};
+ghost use Rattle.dm_scope.specs.MacroCalls.{all_calls};
+ghost use Rattle.dm_scope.specs.Records.{records_in};
 ghost use Rattle.dm_scope.specs.Iterators.{any_impl, trait_impl, inherent_impl, module_of, trait_of, deref_name};
 
 use super::ItemScope;
 use crate::bindings::Iter;
+use crate::import_records::ImportRecords;
 use crate::iterators::{
     AnyImpl, AttrMacroInvocations, Impls, InherentImpl, InherentImpls, LegacyMacros, Listed,
     MacroInvocations, ModuleType, ModulesInScope, TraitImpl, TraitImpls, Traits,
 };
+use crate::macro_calls::AllMacroCalls;
 use crate::picked::Picked;
 use dm_base::ids::{BuiltinDeriveImplId, ConstId, ExternBlockId, ExternCrateId, TraitId, UseId};
 use dm_base::imports::{ImportId, ImportOrExternCrate, ImportOrGlob};
 use dm_base::item_ids::{MacroId, ModuleDefId};
+use dm_base::per_ns::Namespace;
 use dm_base::visibility::Visibility;
 
 impl ItemScope {
@@ -149,5 +154,29 @@ impl ItemScope {
         ensures { result ≡ self.now.attr_macros }
     {
         AttrMacroInvocations::new(&self.attr_macros)
+    }
+
+    /// All macro calls: of function-like macros, of attribute macros, and in the slots of derive attributes. Neither the
+    /// derive attributes' own calls, nor builtin derives. Takes no memory.
+    pub fn all_macro_calls(&self) -> AllMacroCalls<'_>
+        ensures { result ≡ all_calls self.now }
+    {
+        AllMacroCalls::new(
+            self.macro_invocations.values().as_slice(),
+            self.attr_macros.values().as_slice(),
+            self.derive_macros.values().as_slice(),
+        )
+    }
+
+    /// What each import that brought a binding of a namespace stands for, an import of values seen as any import. Takes
+    /// no memory.
+    pub fn import_records(&self, namespace: Namespace) -> ImportRecords<'_>
+        ensures { result ≡ records_in namespace self.now }
+    {
+        match namespace {
+            Namespace::Types => ImportRecords::wide(self.types.records()),
+            Namespace::Values => ImportRecords::of_values(self.values.records()),
+            Namespace::Macros => ImportRecords::wide(self.macros.records()),
+        }
     }
 }

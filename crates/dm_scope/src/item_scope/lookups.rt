@@ -2,7 +2,7 @@
 ghost use Rattle.std.specs.Prelude.{◌≡◌, option_map, option_copied, find};
 ghost use Rattle.std.specs.Map.{lookup};
 ghost use Rattle.dm_base.specs.Names.{find_name};
-ghost use Rattle.dm_scope.specs.Lookups.{def_and_vis, shown_name, name_in, trait_vis};
+ghost use Rattle.dm_scope.specs.Lookups.{def_and_vis, deref_named, first_of, names_for, AsksNames, trait_vis};
 ghost use Rattle.dm_scope.specs.Sameness.{same_ast};
 
 use super::ItemScope;
@@ -57,5 +57,35 @@ impl ItemScope {
             }
         }
         None
+    }
+
+    /// The first name of an item in its namespace, in order of first binding, with who sees it, and whether no import
+    /// brought it. Takes no memory: it goes over the namespace.
+    #[tactic(auto, using(crate::proofs::SamenessLemmas::def_test_is, crate::proofs::SamenessLemmas::macro_test_is))]
+    pub fn name_of(&self, item: ItemInNs) -> Option<(&Name, Visibility, bool)>
+        ensures { option_map deref_named result ≡ first_of (names_for item self.now) }
+    {
+        match item {
+            ItemInNs::Types(def) => self.types.name_of(def),
+            ItemInNs::Values(def) => self.values.name_of(def),
+            ItemInNs::Macros(def) => self.macros.name_of(def),
+        }
+    }
+
+    /// What `f` answers about the first name of an item for which it answers anything. It is asked about the names of
+    /// `name_of`, in the same order, and about none after it has answered.
+    pub fn names_of<T, F: FnMut(&Name, Visibility, bool) -> Option<T> + Drop>(
+        &self,
+        item: ItemInNs,
+        f: F,
+    ) -> Option<T>
+        requires { F.IsAlwaysCallable f }
+        ensures { (last : F) × AsksNames F.step (names_for item self.now) f result last }
+    {
+        match item {
+            ItemInNs::Types(def) => self.types.names_of(def, f),
+            ItemInNs::Values(def) => self.values.names_of(def, f),
+            ItemInNs::Macros(def) => self.macros.names_of(def, f),
+        }
     }
 }

@@ -1,4 +1,4 @@
-use Rattle.std.proofs.Common.{◌≡◌, ◌∙◌, sym, ap}
+use Rattle.std.proofs.Common.{◌∙◌, sym, ap}
 use Rattle.std.specs.List.{list_any}
 use Rattle.dm_base.specs.Names.{same_name}
 use Rattle.dm_scope.proofs.FlagLemmas.{remove_key-all}

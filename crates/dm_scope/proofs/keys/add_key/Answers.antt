@@ -1,4 +1,4 @@
-use Rattle.std.proofs.Common.{◌≡◌, ◌∙◌, Option, None, Some, is_some, true, false, refl, sym, ap, not}
+use Rattle.std.proofs.Common.{◌∙◌, sym, ap, not}
 use Rattle.indexmap.proofs.CallerLemmas.{insert_entry-new}
 use Rattle.dm_scope.proofs.EntryLemmas.{add_entry-new, add_entry-present, absent}
 use Rattle.dm_scope.proofs.keys.add_key.Goals as goal

@@ -1,4 +1,4 @@
-use Rattle.std.proofs.Common.{◌≡◌, ◌∙◌, sym, ap}
+use Rattle.std.proofs.Common.{◌∙◌, sym, ap}
 use Rattle.std.specs.Option.{option_copied_mut}
 use Rattle.dm_scope.proofs.EntryLemmas.{set_value-absent}
 use Rattle.dm_scope.proofs.keys.write_at.Goals as goal

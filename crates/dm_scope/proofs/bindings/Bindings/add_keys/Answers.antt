@@ -1,4 +1,4 @@
-use Rattle.std.proofs.Common.{◌≡◌, ◌∙◌, ap}
+use Rattle.std.proofs.Common.{◌≡◌, ◌∙◌}
 use Rattle.std.specs.Str.{bytes_eq}
 use Rattle.dm_scope.specs.Entries.{without_new}
 use Rattle.dm_scope.proofs.EntryLemmas.{without_new-add_entry}

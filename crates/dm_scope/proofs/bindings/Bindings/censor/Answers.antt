@@ -1,4 +1,4 @@
-use Rattle.std.proofs.Common.{◌≡◌, ◌∙◌, rules, ap}
+use Rattle.std.proofs.Common.{◌∙◌, rules, ap}
 use Rattle.std.proofs.lemmas.Map.Made.{map_same_pairs}
 use Rattle.dm_scope.specs.Changes.{censored, change_all}
 use Rattle.dm_scope.proofs.bindings.Bindings.censor.Goals as goal

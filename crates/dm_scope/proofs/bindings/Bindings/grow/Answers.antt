@@ -1,7 +1,5 @@
-use Rattle.std.proofs.Common.{◌≡◌, ◌∙◌, Some, cond, sym, ap}
-use Rattle.dm_base.specs.Names.{same_name, find_name}
-use Rattle.dm_scope.specs.Flags.{has_flag}
-use Rattle.dm_scope.specs.Bindings.{reading, writes, written, with_keys, without_keys, finished, pushed, bound_after}
+use Rattle.std.proofs.Common.{◌∙◌, sym}
+use Rattle.dm_scope.specs.Bindings.{reading, written, with_keys, without_keys, finished, pushed, bound_after}
 use Rattle.dm_scope.proofs.BindingLemmas.{written-with_keys, without_keys-with_keys}
 use Rattle.dm_scope.proofs.bindings.Bindings.grow.Goals as goal
 

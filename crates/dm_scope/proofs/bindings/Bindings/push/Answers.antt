@@ -1,4 +1,4 @@
-use Rattle.std.proofs.Common.{◌≡◌, ◌∙◌, ◌++◌, ◌∷◌, [], Some, sym, ap, subst₂}
+use Rattle.std.proofs.Common.{◌∙◌, ◌++◌, ◌∷◌, [], Some, sym, ap, subst₂}
 use Rattle.dm_scope.specs.Bindings.{reading, import_of, is_effective_at}
 use Rattle.dm_scope.specs.Flags.{has_flag}
 use Rattle.dm_scope.specs.Pushes.{ShowsIn}

@@ -1,4 +1,4 @@
-use Rattle.std.proofs.Common.{◌≡◌, ◌∙◌, sym, ap, refl}
+use Rattle.std.proofs.Common.{◌∙◌, sym, ap}
 use Rattle.dm_scope.specs.Changes.{with_vis}
 use Rattle.dm_scope.proofs.ChangeLemmas.{change_item-present, change_item-absent}
 use Rattle.dm_scope.proofs.bindings.Bindings.update_visibility.Goals as goal

@@ -1,4 +1,4 @@
-use Rattle.std.proofs.Common.{◌≡◌, ◌∙◌, sym, ap}
+use Rattle.std.proofs.Common.{◌∙◌, sym, ap}
 use Rattle.indexmap.specs.IndexSet.{insert_key}
 use Rattle.dm_base.specs.Names.{same_name}
 use Rattle.dm_scope.specs.Flags.{flags_of, add_flag, without_flag}

@@ -1,4 +1,4 @@
-use Rattle.std.proofs.Common.{◌≡◌, ◌∙◌, sym, ap}
+use Rattle.std.proofs.Common.{◌∙◌, sym, ap}
 use Rattle.dm_scope.specs.Flags.{flags_of, clear_flag, without_name}
 use Rattle.dm_scope.proofs.FlagLemmas.{change_names-present, change_names-absent}
 use Rattle.dm_scope.proofs.glob_imports.GlobFlags.clear.Goals as goal

@@ -1,4 +1,4 @@
-use Rattle.std.proofs.Common.{◌≡◌, ◌∙◌, sym, ap}
+use Rattle.std.proofs.Common.{◌∙◌, sym, ap}
 use Rattle.dm_scope.specs.Flags.{has_flag}
 use Rattle.dm_scope.proofs.FlagLemmas.{in_set, has_flag-flags_of}
 use Rattle.dm_scope.proofs.glob_imports.GlobFlags.contains.Goals as goal

@@ -1,4 +1,4 @@
-use Rattle.std.proofs.Common.{◌≡◌, ◌∙◌, sym, ap}
+use Rattle.std.proofs.Common.{◌∙◌, sym, ap}
 use Rattle.dm_scope.specs.Flags.{flags_of, change_names, all_but_last}
 use Rattle.dm_scope.proofs.FlagLemmas.{change_names-present, change_names-absent}
 use Rattle.dm_scope.proofs.glob_imports.GlobFlags.drop_last_name.Goals as goal

@@ -1,5 +1,5 @@
-use Rattle.std.proofs.Common.{◌≡◌, ◌∙◌, sym, ap, cond, true}
-use Rattle.dm_scope.specs.Flags.{flags_grown, add_flag}
+use Rattle.std.proofs.Common.{◌∙◌, sym, ap}
+use Rattle.dm_scope.specs.Flags.{flags_grown}
 use Rattle.dm_scope.proofs.FlagLemmas.{add_flag-stood}
 use Rattle.dm_scope.proofs.glob_imports.GlobFlags.grow.Goals as goal
 

@@ -1,4 +1,4 @@
-use Rattle.std.proofs.Common.{◌≡◌, ◌∙◌, sym, ap}
+use Rattle.std.proofs.Common.{◌∙◌, sym, ap}
 use Rattle.dm_scope.specs.Flags.{flags_of, all_but_last, without_flag}
 use Rattle.dm_scope.proofs.FlagLemmas.{flags_of-all_but_last}
 use Rattle.dm_scope.proofs.glob_imports.GlobFlags.undo.Goals as goal

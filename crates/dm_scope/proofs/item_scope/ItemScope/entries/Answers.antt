@@ -1,4 +1,4 @@
-use Rattle.std.proofs.Common.{◌≡◌, subst, sym, ◌∙◌, ap, map}
+use Rattle.std.proofs.Common.{◌≡◌, subst, ◌∙◌, ap, map}
 use Rattle.std.specs.List.{Contains}
 use Rattle.dm_scope.specs.Scope.{bound_in}
 use Rattle.dm_scope.specs.Sorted.{names_of, seen, deref_entry}

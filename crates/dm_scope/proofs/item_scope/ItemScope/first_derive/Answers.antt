@@ -1,10 +1,9 @@
-use Rattle.std.proofs.Common.{◌≡◌, ◌∙◌, sym, ap, map, Some, None, refl}
+use Rattle.std.proofs.Common.{◌∙◌, sym, ap, map}
 use Rattle.std.specs.Option.{option_map, option_copied, option_and_then}
 use Rattle.std.specs.Map.{lookup}
 use Rattle.smallvec.specs.SmallVec.{SmallVec}
 use Rattle.dm_scope.specs.declared.derives.DeriveMacroInvocation.{DeriveMacroInvocation}
-use Rattle.dm_scope.specs.Derives.{derive_of, find_derive, derive_at, derives_of}
-use Rattle.dm_scope.specs.Sameness.{same_ast}
+use Rattle.dm_scope.specs.Derives.{derive_of, find_derive, derive_at}
 use Rattle.dm_scope.proofs.DeriveLemmas.{lookup-derives_of}
 use Rattle.dm_scope.proofs.SamenessLemmas.{ast_test_is}
 use Rattle.dm_scope.proofs.item_scope.ItemScope.first_derive.Goals as goal

@@ -1,6 +1,5 @@
-use Rattle.std.proofs.Common.{◌≡◌, subst}
+use Rattle.std.proofs.Common.{subst}
 use Rattle.std.specs.List.{Contains}
-use Rattle.dm_scope.specs.Sorted.{AreImports, imports_of}
 use Rattle.dm_scope.proofs.item_scope.ItemScope.imports.Goals as goal
 
 pub returns : goal.returns

@@ -1,6 +1,6 @@
-use Rattle.std.proofs.Common.{rules, ◌≡◌, ◌∙◌, List, Some, None, replicate, refl, ap, map}
+use Rattle.std.proofs.Common.{rules, ◌≡◌, ◌∙◌, List, None, replicate, ap, map}
 use Rattle.dm_base.specs.declared.source.AstId.{AstId}
-use Rattle.dm_scope.specs.Derives.{Derive, Slot, derive_of, derives_of, fresh_derive}
+use Rattle.dm_scope.specs.Derives.{derive_of, derives_of, fresh_derive}
 use Rattle.dm_scope.specs.Sameness.{same_ast}
 use Rattle.dm_scope.specs.Scope.{Scope}
 use Rattle.dm_scope.specs.TableLists.{lists_of, add_to_list}

@@ -1,4 +1,4 @@
-use Rattle.std.proofs.Common.{rules, ◌≡◌, [], sym, subst}
+use Rattle.std.proofs.Common.{rules, [], sym, subst}
 use Rattle.dm_scope.specs.Flags.{no_globs}
 use Rattle.dm_scope.specs.Shows.{Shows}
 use Rattle.dm_scope.proofs.ClosedLemmas.{Shows-none}

@@ -1,4 +1,4 @@
-use Rattle.std.proofs.Common.{◌≡◌, ◌∙◌, ◌++◌, ◌∷◌, [], sym, subst, subst₂}
+use Rattle.std.proofs.Common.{◌∙◌, ◌++◌, ◌∷◌, [], sym, subst, subst₂}
 use Rattle.dm_scope.specs.Shows.{ScopePush, Shows}
 use Rattle.dm_scope.proofs.ClosedLemmas.{Shows-after, push_answer-is_answered, Shows-elsewhere}
 use Rattle.dm_scope.proofs.item_scope.ItemScope.push_res_with_import.Goals as goal

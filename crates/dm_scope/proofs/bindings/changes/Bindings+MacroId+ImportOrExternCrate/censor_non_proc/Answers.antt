@@ -1,4 +1,4 @@
-use Rattle.std.proofs.Common.{◌≡◌, ◌∙◌, rules, ap}
+use Rattle.std.proofs.Common.{◌∙◌, rules, ap}
 use Rattle.std.proofs.lemmas.Map.Made.{map_same_pairs}
 use Rattle.dm_scope.specs.Changes.{censored_macro, change_all}
 use Rattle.dm_scope.proofs.bindings.changes.Bindings+MacroId+ImportOrExternCrate.censor_non_proc.Goals as goal

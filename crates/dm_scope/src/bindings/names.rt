@@ -1,0 +1,46 @@
+//! The names of a definition in a namespace. Nothing here takes memory.
+ghost use Rattle.std.specs.Prelude.{◌≡◌};
+ghost use Rattle.std.specs.Option.{option_map};
+ghost use Rattle.dm_scope.specs.Lookups.{names_in, first_of, deref_named, AsksNames};
+
+use super::Bindings;
+use dm_base::definition::Definition;
+use dm_base::import_source::ImportSource;
+use dm_base::name::Name;
+use dm_base::visibility::Visibility;
+
+impl<D: Definition, I: ImportSource> Bindings<D, I> {
+    /// The first name of a definition, with who sees it, and whether no import brought it.
+    pub(crate) fn name_of(&self, def: D) -> Option<(&Name, Visibility, bool)>
+        ensures { option_map deref_named result ≡ first_of (names_in D.eq def self.now.items) }
+    {
+        let mut entries = self.items.iter();
+        while let Some((name, item)) = entries.next() {
+            if item.def == def {
+                return Some((name, item.vis, item.import.is_none()));
+            }
+        }
+        None
+    }
+
+    /// What `f` answers about the first name of a definition for which it answers anything.
+    pub(crate) fn names_of<T, F: FnMut(&Name, Visibility, bool) -> Option<T> + Drop>(
+        &self,
+        def: D,
+        mut f: F,
+    ) -> Option<T>
+        requires { F.IsAlwaysCallable f }
+        ensures { (last : F) × AsksNames F.step (names_in D.eq def self.now.items) f result last }
+    {
+        let mut entries = self.items.iter();
+        while let Some((name, item)) = entries.next() {
+            if item.def == def {
+                match f(name, item.vis, item.import.is_none()) {
+                    Some(answer) => return Some(answer),
+                    None => {}
+                }
+            }
+        }
+        None
+    }
+}

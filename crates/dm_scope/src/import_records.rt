@@ -1,0 +1,103 @@
+//! The records of a scope: what each import that brought a binding stands for.
+ghost use Rattle.std.specs.Prelude.{◌≡◌, length, map};
+ghost use Rattle.std.specs.Iterator.{at_most};
+ghost use Rattle.std.specs.Map.Iter.{TakesFirst};
+
+use dm_base::import_source::ImportSource;
+use dm_base::imports::{ImportOrDef, ImportOrExternCrate, ImportOrGlob};
+use indexmap::{IndexMap, map};
+use std::marker::Model;
+
+/// The records of a namespace, each import seen as any import.
+#[derive(Drop)]
+pub struct Records<'a, I: ImportSource> {
+    rest: map::Iter<'a, I, ImportOrDef>,
+}
+
+impl<'a, I: ImportSource> Model for Records<'a, I> {
+    ghost use Rattle.std.specs.Prelude.{List, map};
+    ghost use Rattle.dm_base.specs.declared.imports.ImportOrDef.{ImportOrDef};
+    ghost use Rattle.dm_base.specs.declared.imports.ImportOrExternCrate.{ImportOrExternCrate};
+
+    ghost Value = { List (ImportOrExternCrate × ImportOrDef) };
+
+    ghost view = { λ a. map (λ e. (I.widened e.0, e.1)) a.rest };
+}
+
+impl<'a, I: ImportSource> Records<'a, I> {
+    pub(crate) fn new(table: &'a IndexMap<I, ImportOrDef>) -> Self
+        ensures { result ≡ map (λ e. (I.widened e.0, e.1)) table.now.entries }
+    {
+        Records { rest: table.iter() }
+    }
+}
+
+impl<'a, I: ImportSource> Iterator for Records<'a, I> {
+    type Item = (ImportOrExternCrate, ImportOrDef);
+
+    ghost next_gives = { TakesFirst (λ x. x) };
+
+    ghost remaining = { λ s. at_most (length s) };
+
+    fn next(&mut self) -> Option<(ImportOrExternCrate, ImportOrDef)> {
+        let (import, target) = self.rest.next()?;
+        Some((import.widen(), *target))
+    }
+}
+
+/// The records of a namespace, whose imports are of two types.
+#[derive(Drop)]
+enum OfNamespace<'a> {
+    Wide(Records<'a, ImportOrExternCrate>),
+    Values(Records<'a, ImportOrGlob>),
+}
+
+/// The records of a namespace of a scope.
+#[derive(Drop)]
+pub struct ImportRecords<'a> {
+    records: OfNamespace<'a>,
+}
+
+impl<'a> Model for ImportRecords<'a> {
+    ghost use Rattle.std.specs.Prelude.{List};
+    ghost use Rattle.dm_base.specs.declared.imports.ImportOrDef.{ImportOrDef};
+    ghost use Rattle.dm_base.specs.declared.imports.ImportOrExternCrate.{ImportOrExternCrate};
+    ghost use Rattle.dm_scope.specs.declared.import_records.OfNamespace.TheVariants.{Wide, Values};
+
+    ghost Value = { List (ImportOrExternCrate × ImportOrDef) };
+
+    ghost view = { λ a. elim a.records [ Wide r ↦ r | Values r ↦ r ] };
+}
+
+impl<'a> ImportRecords<'a> {
+    pub(crate) fn wide(records: Records<'a, ImportOrExternCrate>) -> Self
+        ensures { result ≡ records.entry }
+    {
+        ImportRecords {
+            records: OfNamespace::Wide(records),
+        }
+    }
+
+    pub(crate) fn of_values(records: Records<'a, ImportOrGlob>) -> Self
+        ensures { result ≡ records.entry }
+    {
+        ImportRecords {
+            records: OfNamespace::Values(records),
+        }
+    }
+}
+
+impl<'a> Iterator for ImportRecords<'a> {
+    type Item = (ImportOrExternCrate, ImportOrDef);
+
+    ghost next_gives = { TakesFirst (λ x. x) };
+
+    ghost remaining = { λ s. at_most (length s) };
+
+    fn next(&mut self) -> Option<(ImportOrExternCrate, ImportOrDef)> {
+        match &mut self.records {
+            OfNamespace::Wide(records) => records.next(),
+            OfNamespace::Values(records) => records.next(),
+        }
+    }
+}
