@@ -5,6 +5,7 @@ pub mod ModuleGrowth
 pub mod CrateGrowth
 pub mod BlockGrowth
 pub mod BlockMade
+pub mod MapsKept
 pub mod WorldGrowth
 pub mod FaultLemmas
 pub mod VariantLemmas

@@ -5,6 +5,9 @@ pub mod Asked
 pub mod Build
 pub mod BuildItems
 pub mod BuildBlocks
+pub mod BuildMaps
+pub mod Locals
+pub mod MapChanges
 pub mod Faults
 pub mod ItemFaults
 pub mod First

@@ -1,11 +1,12 @@
 //! The extern prelude of a crate.
-ghost use Rattle.std.specs.Prelude.{◌≡◌, []};
+ghost use Rattle.std.specs.Prelude.{◌≡◌, [], OnOk, OnErr};
 ghost use Rattle.dm_base.specs.Names.{find_name};
+ghost use Rattle.dm_maps.specs.Locals.{with_extern};
 
 use dm_base::ids::{ExternCrateId, ModuleId};
 use dm_base::name::Name;
 use indexmap::IndexMap;
-use std::alloc::Global;
+use std::alloc::{AllocError, Global};
 use std::marker::Model;
 
 /// The roots of other crates that paths of a crate can begin with, by name, each with the item that named it.
@@ -37,6 +38,22 @@ impl LocalDefMap {
         ensures { result ≡ find_name name.now self.now }
     {
         self.extern_prelude.get(name).copied()
+    }
+
+    /// Puts a module under a name, with the item that names it.
+    ///
+    /// A name that is there keeps its place and takes the new entry. Where memory is short, nothing changes.
+    pub fn insert(
+        &mut self,
+        name: Name,
+        m: ModuleId,
+        named_by: Option<ExternCrateId>,
+    ) -> Result<(), AllocError>
+        ensures ok { OnOk result (self.new ≡ with_extern self.old name m named_by) }
+        ensures err { OnErr result (self.new ≡ self.old) }
+    {
+        self.extern_prelude.insert(name, (m, named_by))?;
+        Ok(())
     }
 
     /// The entries of the extern prelude.
