@@ -2,25 +2,19 @@
 use Rattle.std.specs.Prelude.{◌≡◌, ◌⊎◌, ◌&&◌, not, if◌then◌else◌, ℕ, List, [], ◌++◌, Bool, true, false, IsTrue, IsSome, Option, Some, None, Result, Ok, Err, MatchResult, MatchOption, slice_get, codes}
 use Rattle.std.specs.Borrow.{Bor}
 use Rattle.dm_base.specs.Names.{Name}
-use Rattle.dm_base.specs.declared.ids.FileId.{FileId}
 use Rattle.dm_base.specs.declared.ids.ModuleId.{ModuleId}
 use Rattle.dm_base.specs.declared.mod_path.PathKind.{PathKind}
 use Rattle.dm_base.specs.declared.mod_path.PathKind.TheVariants as kind
+use Rattle.dm_base.specs.declared.imports.ImportOrExternCrate.{ImportOrExternCrate}
 use Rattle.dm_base.specs.declared.per_ns.PerNs.{PerNs}
 use Rattle.dm_base.specs.declared.source.Edition.{Edition}
 use Rattle.dm_base.specs.declared.source.Edition.TheVariants as edition
-use Rattle.dm_base.specs.declared.source.EditionedFileId.{EditionedFileId}
-use Rattle.dm_base.specs.declared.source.HirFileId.TheVariants as tree_file
 use Rattle.dm_scope.specs.Flags.{Globs, no_globs}
 use Rattle.dm_scope.specs.Push.{scope_after, globs_after, push_answer}
 use Rattle.dm_scope.specs.Scope.{Scope}
-use Rattle.dm_maps.specs.declared.build_fault.BuildFault.{BuildFault}
 use Rattle.dm_maps.specs.declared.fault.WorldFault.{WorldFault}
 use Rattle.dm_maps.specs.declared.held.HeldId.TheVariants as held
-use Rattle.dm_maps.specs.declared.module_origin.ModuleOrigin.{ModuleOrigin}
-use Rattle.dm_maps.specs.declared.module_origin.ModuleOrigin.TheVariants.{Inline}
-use Rattle.dm_maps.specs.Build.{no_world, with_crate, with_module, with_item}
-use Rattle.dm_maps.specs.Faults.{crate_fault, child_fault, item_fault}
+use Rattle.dm_maps.specs.Build.{no_world}
 use Rattle.dm_maps.specs.First.{holders, IsChecked, IsFirstFault}
 use Rattle.dm_maps.specs.Known.{knows, KnowsAll, local_holds, path_holds}
 use Rattle.dm_maps.specs.Maps.{Map, LocalMap, module_at}
@@ -32,8 +26,9 @@ use Rattle.defmap_script.specs.declared.engine.Stage.{Stage}
 use Rattle.defmap_script.specs.declared.engine.Stage.TheVariants.{Building, Checked}
 use Rattle.defmap_script.specs.declared.fault.Fault.{Fault}
 use Rattle.defmap_script.specs.declared.fault.Fault.TheVariants as faults
-use Rattle.defmap_script.specs.Faults.{build_fault}
-use Rattle.defmap_script.specs.Lines.{Asked, Asking, Said, said, NewCrate, NewModule, NewItem, Pushes, Checks, Asks, Silence, Sense, Nonsense}
+use Rattle.defmap_script.specs.declared.lines.Pushing.{Pushing}
+use Rattle.defmap_script.specs.Building.{added_to}
+use Rattle.defmap_script.specs.Lines.{Asked, Asking, Said, said, Adds, Pushes, Checks, Reopens, Asks, Silence, Sense, Nonsense}
 use Rattle.defmap_script.specs.Texts.{answer_text}
 
 -- what the tool holds: the tables of a builder or of a checked world, and which names globs bound
@@ -56,22 +51,15 @@ reply_text (Answered a) = answer_text a ++ codes "\n"
 
 -- ---- With the builder
 
-abbrev pub file_of : FileId → Edition → EditionedFileId
-file_of f e = record { file = f; edition = e }
-
--- the modules of a script are written out in file 0, of edition 2021
-abbrev pub inline : ModuleOrigin
-inline = Inline (record { file = tree_file.File (file_of (record { 0 = 0 }) edition.Edition2021); block = None }) (record { 0 = 0 })
-
--- a line of the builder is refused for its fault, or leaves the tables v and prints nothing
-abbrev pub built : Option BuildFault → World → Globs → Result (Tool × Reply) Fault
-built None v g = Ok (building v g, Nothing)
-built (Some f) v g = Err (build_fault f)
+-- what a line that adds leaves is held, and nothing is printed
+abbrev pub added_on : Globs → Result World Fault → Result (Tool × Reply) Fault
+added_on g (Ok v) = Ok (building v g, Nothing)
+added_on g (Err f) = Err f
 
 -- a push goes into the scope of a module that there is
-abbrev pub pushed : World → Globs → ModuleId → Name → PerNs → Option Scope → Result (Tool × Reply) Fault
-pushed w g m n x None = Err faults.Unknown
-pushed w g m n x (Some s) = Ok (building (with_scope w m (scope_after s g m n x None)) (globs_after s g m n x None), Pushed (push_answer s g m n x None))
+abbrev pub pushed : World → Globs → ModuleId → Name → PerNs → Option ImportOrExternCrate → Option Scope → Result (Tool × Reply) Fault
+pushed w g m n x i None = Err faults.Unknown
+pushed w g m n x i (Some s) = Ok (building (with_scope w m (scope_after s g m n x i)) (globs_after s g m n x i), Pushed (push_answer s g m n x i))
 
 -- a world that is checked is held from here on, unchanged; else the first fault
 abbrev pub IsCheck : World → Globs → Result (Tool × Reply) Fault → Type 0
@@ -121,15 +109,15 @@ held_on s g (Err f) = Err f
 
 -- what a line that asks for something makes of the tool, and what it prints; or its fault
 abbrev pub IsBuildStep : World → Globs → Asked → Result (Tool × Reply) Fault → Type 0
-IsBuildStep w g (NewCrate e f) r = r ≡ built (crate_fault w) (with_crate w e (file_of f e)) g
-IsBuildStep w g (NewModule m n v) r = r ≡ built (child_fault w m n) (with_module w m n inline v) g
-IsBuildStep w g (NewItem k m) r = r ≡ built (item_fault w m) (with_item w k m) g
-IsBuildStep w g (Pushes m n x) r = r ≡ pushed w g m n x (own_scope w m)
+IsBuildStep w g (Adds a) r = r ≡ added_on g (added_to w a)
+IsBuildStep w g (Pushes m n x i) r = r ≡ pushed w g m n x i (own_scope w m)
 IsBuildStep w g Checks r = IsCheck w g r
+IsBuildStep w g Reopens r = r ≡ Err faults.NeedsWorld
 IsBuildStep w g (Asks q) r = r ≡ Err faults.NeedsWorld
 
 abbrev pub IsWorldStep : World → Globs → Asked → Result (Tool × Reply) Fault → Type 0
 IsWorldStep w g (Asks q) r = (answered : Result Reply Fault) × IsAnswered w q answered × (r ≡ held_on (Checked w) g answered)
+IsWorldStep w g Reopens r = r ≡ Ok (building w g, Nothing)
 IsWorldStep w g _ r = r ≡ Err faults.NeedsBuilder
 
 abbrev pub IsStepAt : Stage → Globs → Asked → Result (Tool × Reply) Fault → Type 0
@@ -167,17 +155,14 @@ LineSteps t line out r u new = MatchResult r
 
 -- ---- Calls with the builder
 
--- a call that answers by a fault of the builder, or leaves the tables v and prints nothing
-abbrev pub Builds : Option BuildFault → World → Result Reply Fault → World → Type 0
-Builds fault v r new = MatchResult r
-    (λ reply. (fault ≡ None) × (reply ≡ Nothing) × (new ≡ v))
-    (λ f. (f ≡ faults.OutOfMemory) ⊎ ((b : BuildFault) × (fault ≡ Some b) × (f ≡ build_fault b)))
+-- a push of x under the name n of m by i, from the scope that m has
+abbrev pub PushesBy : World → Globs → ModuleId → Name → PerNs → Option ImportOrExternCrate → Result Reply Fault → World → Globs → Type 0
+PushesBy w g m n x i r v h = MatchResult r
+    (λ reply. pushed w g m n x i (own_scope w m) ≡ Ok (building v h, reply))
+    (λ f. (f ≡ faults.OutOfMemory) ⊎ (pushed w g m n x i (own_scope w m) ≡ Err f))
 
--- a push of x under the name n of m, from the scope that m has
-abbrev pub PushesInto : World → Globs → ModuleId → Name → PerNs → Result Reply Fault → World → Globs → Type 0
-PushesInto w g m n x r v h = MatchResult r
-    (λ reply. pushed w g m n x (own_scope w m) ≡ Ok (building v h, reply))
-    (λ f. (f ≡ faults.OutOfMemory) ⊎ (pushed w g m n x (own_scope w m) ≡ Err f))
+abbrev pub PushesInto : World → Globs → Pushing → Result Reply Fault → World → Globs → Type 0
+PushesInto w g p r v h = PushesBy w g p.module p.name.now p.res p.import r v h
 
 -- ---- Calls with the world
 

@@ -1,3 +1,6 @@
+pub mod BuildLines
+pub mod BuildWords
+pub mod Building
 pub mod Engine
 pub mod Faults
 pub mod Lines

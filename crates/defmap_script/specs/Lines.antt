@@ -5,9 +5,7 @@ use Rattle.std.specs.Str.{is_utf8}
 use Rattle.std.specs.Option.{option_map, option_map_or, option_and_then}
 use Rattle.dm_base.specs.Names.{Name, find_name}
 use Rattle.dm_base.specs.Path.{Path}
-use Rattle.dm_base.specs.declared.ids.FileId.{FileId}
 use Rattle.dm_base.specs.declared.ids.ModuleId.{ModuleId}
-use Rattle.dm_base.specs.declared.item_ids.ItemKind.{ItemKind}
 use Rattle.dm_base.specs.declared.item_ids.MacroId.{MacroId}
 use Rattle.dm_base.specs.declared.item_ids.ModuleDefId.{ModuleDefId}
 use Rattle.dm_base.specs.declared.imports.ImportOrExternCrate.{ImportOrExternCrate}
@@ -15,8 +13,6 @@ use Rattle.dm_base.specs.declared.imports.ImportOrGlob.{ImportOrGlob}
 use Rattle.dm_base.specs.declared.per_ns.Item.{Item}
 use Rattle.dm_base.specs.declared.mod_path.PathKind.{PathKind}
 use Rattle.dm_base.specs.declared.per_ns.PerNs.{PerNs}
-use Rattle.dm_base.specs.declared.source.Edition.{Edition}
-use Rattle.dm_base.specs.declared.visibility.Visibility.{Visibility}
 use Rattle.dm_maps.specs.declared.modes.BuiltinShadowMode.{BuiltinShadowMode}
 use Rattle.dm_maps.specs.declared.modes.MacroSubNs.{MacroSubNs}
 use Rattle.hir_def_map.specs.declared.result.ResolveMode.{ResolveMode}
@@ -25,7 +21,8 @@ use Rattle.defmap_script.specs.declared.lines.Command.{Command}
 use Rattle.defmap_script.specs.declared.lines.Command.TheVariants as commands
 use Rattle.defmap_script.specs.declared.lines.Question.{Question}
 use Rattle.defmap_script.specs.declared.lines.Words.{Words}
-use Rattle.defmap_script.specs.Words.{number, editions, expectations, import_word, item_kinds, macros_word, modes, path_kind, shadow_modes, types_word, values_word, visibility}
+use Rattle.defmap_script.specs.BuildLines.{Added, added, addition}
+use Rattle.defmap_script.specs.Words.{number, expectations, import_word, macros_word, modes, path_kind, shadow_modes, types_word, values_word}
 
 -- the parts of a line between spaces that are not empty
 abbrev pub words : List ℕ → List Name
@@ -44,11 +41,10 @@ pub record Asking : Type 0 where
 
 -- what a line asks for
 pub data Asked : Type 0 where
-  NewCrate : Edition → FileId → Asked
-  NewModule : ModuleId → Name → Visibility → Asked
-  NewItem : ItemKind → ModuleId → Asked
-  Pushes : ModuleId → Name → PerNs → Asked
+  Adds : Added → Asked
+  Pushes : ModuleId → Name → PerNs → Option ImportOrExternCrate → Asked
   Checks : Asked
+  Reopens : Asked
   Asks : Asking → Asked
 
 abbrev pub asking : Question → Asking
@@ -62,25 +58,11 @@ asking q = record {
 
 -- what a command asks for
 abbrev pub asked : Command → Asked
-asked (commands.Crate e f) = NewCrate e f
-asked (commands.Module m n v) = NewModule m n.now v
-asked (commands.Item k m) = NewItem k m
-asked (commands.Push m n r) = Pushes m n.now r
+asked (commands.Add a) = Adds (added a)
+asked (commands.Push p) = Pushes p.module p.name.now p.res p.import
 asked commands.Check = Checks
+asked commands.Build = Reopens
 asked (commands.Path q) = Asks (asking q)
-
--- the words behind the first of each kind of line
-abbrev pub crate_line : List Name → Option Asked
-crate_line (e ∷ f ∷ []) = option_and_then (λ edition. option_map (λ n. NewCrate edition (record { 0 = n })) (number f)) (find_name e editions)
-crate_line _ = None
-
-abbrev pub module_line : List Name → Option Asked
-module_line (m ∷ name ∷ v ∷ []) = option_and_then (λ n. option_map (λ vis. NewModule (record { 0 = n }) name vis) (visibility v)) (number m)
-module_line _ = None
-
-abbrev pub item_line : List Name → Option Asked
-item_line (k ∷ m ∷ []) = option_and_then (λ kind. option_map (λ n. NewItem kind (record { 0 = n })) (number m)) (find_name k item_kinds)
-item_line _ = None
 
 -- three items and an import
 abbrev pub pushed_parts : Option (Option (Item ModuleDefId ImportOrExternCrate)) → Option (Option (Item ModuleDefId ImportOrGlob)) → Option (Option (Item MacroId ImportOrExternCrate)) → Option (Option ImportOrExternCrate) → Option (PerNs × Option ImportOrExternCrate)
@@ -91,17 +73,18 @@ abbrev pub pushed : List Name → Option (PerNs × Option ImportOrExternCrate)
 pushed (t ∷ v ∷ m ∷ i ∷ []) = pushed_parts (types_word t) (values_word v) (macros_word m) (import_word i)
 pushed _ = None
 
--- for now no push has an import
-abbrev pub push_of : Name → ℕ → PerNs × Option ImportOrExternCrate → Option Asked
-push_of name m p = option_map_or (λ i. None) p.1 (Some (Pushes (record { 0 = m }) name p.0))
-
+-- the words behind the first of each kind of line
 abbrev pub push_line : List Name → Option Asked
-push_line (m ∷ name ∷ ws) = option_and_then (λ n. option_and_then (push_of name n) (pushed ws)) (number m)
+push_line (m ∷ name ∷ ws) = option_and_then (λ n. option_map (λ p. Pushes (record { 0 = n }) name p.0 p.1) (pushed ws)) (number m)
 push_line _ = None
 
 abbrev pub check_line : List Name → Option Asked
 check_line [] = Some Checks
 check_line _ = None
+
+abbrev pub build_line : List Name → Option Asked
+build_line [] = Some Reopens
+build_line _ = None
 
 -- any words may be segments
 abbrev pub path_parts : Option ℕ → Option ResolveMode → Option BuiltinShadowMode → Option (Option MacroSubNs) → Option PathKind → List Name → Option Asked
@@ -113,15 +96,14 @@ abbrev pub path_line : List Name → Option Asked
 path_line (m ∷ mode ∷ shadow ∷ expected ∷ kind ∷ segments) = path_parts (number m) (find_name mode modes) (find_name shadow shadow_modes) (find_name expected expectations) (path_kind kind) segments
 path_line _ = None
 
--- what reads the words behind each first word
+-- what reads the words behind each first word; behind every other, the line adds
 abbrev pub line_forms : List (Name × (List Name → Option Asked))
 line_forms =
-    (codes "crate", crate_line) ∷ (codes "module", module_line) ∷ (codes "item", item_line) ∷ (codes "push", push_line)
-    ∷ (codes "check", check_line) ∷ (codes "path", path_line) ∷ []
+    (codes "push", push_line) ∷ (codes "check", check_line) ∷ (codes "build", build_line) ∷ (codes "path", path_line) ∷ []
 
 abbrev pub command : List Name → Option Asked
 command [] = None
-command (w ∷ ws) = option_and_then (λ form. form ws) (find_name w line_forms)
+command (w ∷ ws) = option_map_or (λ form. form ws) (find_name w line_forms) (option_map (λ a. Adds a) (addition (w ∷ ws)))
 
 -- what a line says: nothing, something that is asked for, or nonsense
 pub data Said : Type 0 where

@@ -1,25 +1,20 @@
 //! What the tool holds, and what a command does to it.
 ghost use Rattle.std.specs.Prelude.{◌≡◌, Some, IfOk};
-ghost use Rattle.dm_maps.specs.Build.{with_crate, with_module, with_item};
-ghost use Rattle.dm_maps.specs.Faults.{crate_fault, child_fault, item_fault};
-ghost use Rattle.defmap_script.specs.Engine.{Builds, file_of, fresh, inline, is_thin, Answers, Finds, PushesInto, reply_text, Steps};
-ghost use Rattle.defmap_script.specs.Lines.{asked, asking, Checks, words_left};
+ghost use Rattle.defmap_script.specs.Engine.{fresh, is_thin, Answers, Finds, PushesInto, reply_text, Steps};
+ghost use Rattle.defmap_script.specs.Lines.{asked, asking, Checks, Reopens, words_left};
 
+use crate::building::add;
 use crate::fault::Fault;
-use crate::lines::{Command, Question, Words};
+use crate::lines::{Command, Pushing, Question, Words};
 use crate::print::AnswerWords;
-use dm_base::ids::{Crate, FileAstId, FileId, ModuleId};
-use dm_base::item_ids::ItemKind;
+use dm_base::ids::Crate;
 use dm_base::mod_path::{ModPath, PathKind};
 use dm_base::name::Name;
-use dm_base::per_ns::PerNs;
-use dm_base::source::{Edition, EditionedFileId, HirFileId, TreeId};
-use dm_base::visibility::Visibility;
+use dm_base::source::Edition;
 use dm_maps::builder::WorldBuilder;
 use dm_maps::def_map::DefMap;
 use dm_maps::local_def_map::LocalDefMap;
 use dm_maps::maps_of::local_def_map;
-use dm_maps::module_origin::ModuleOrigin;
 use dm_maps::world::World;
 use dm_scope::glob_imports::PerNsGlobImports;
 use hir_def_map::path_resolution::ResolvePath;
@@ -90,22 +85,18 @@ impl Engine {
     {
         match &mut self.stage {
             Stage::Building(builder) => match command {
-                Command::Crate { edition, file } => add_crate(builder, edition, file),
-                Command::Module {
-                    parent,
-                    name,
-                    visibility,
-                } => add_module(builder, self.alloc, parent, name, visibility),
-                Command::Item { kind, module } => add_item(builder, kind, module),
-                Command::Push { module, name, res } => {
-                    push(builder, &mut self.globs, self.alloc, module, name, res)
+                Command::Add(addition) => {
+                    add(builder, self.alloc, addition)?;
+                    Ok(Reply::Nothing)
                 }
+                Command::Push(pushing) => push(builder, &mut self.globs, self.alloc, pushing),
                 Command::Check => self.check(),
-                Command::Path(_) => Err(Fault::NeedsWorld),
+                Command::Build | Command::Path(_) => Err(Fault::NeedsWorld),
             },
             Stage::Checked(world) => match command {
                 Command::Path(question) => answer(world, self.alloc, question),
-                _ => Err(Fault::NeedsBuilder),
+                Command::Build => self.build(),
+                Command::Add(_) | Command::Push(_) | Command::Check => Err(Fault::NeedsBuilder),
             },
         }
     }
@@ -126,50 +117,20 @@ impl Engine {
             Stage::Checked(_) => Err(Fault::NeedsBuilder),
         }
     }
-}
 
-fn add_crate(builder: &mut WorldBuilder, edition: Edition, file: FileId) -> Result<Reply, Fault>
-    ensures { Builds (crate_fault builder.old) (with_crate builder.old edition (file_of file edition)) result builder.new }
-{
-    builder.add_crate(edition, EditionedFileId { file, edition })?;
-    Ok(Reply::Nothing)
-}
-
-fn add_module(
-    builder: &mut WorldBuilder,
-    alloc: Global,
-    parent: ModuleId,
-    name: &str,
-    visibility: Visibility,
-) -> Result<Reply, Fault>
-    ensures { Builds (child_fault builder.old parent name.now) (with_module builder.old parent name.now inline visibility) result builder.new }
-{
-    let name = Name::new(alloc, name)?;
-    builder.add_module(parent, name, inline(), visibility)?;
-    Ok(Reply::Nothing)
-}
-
-/// Where the modules of a script come from: they are written out in a file of the newest edition that scripts knew first.
-fn inline() -> ModuleOrigin
-    ensures { result ≡ inline }
-{
-    ModuleOrigin::Inline {
-        definition_tree_id: TreeId {
-            file: HirFileId::File(EditionedFileId {
-                file: FileId(0),
-                edition: Edition::Edition2021,
-            }),
-            block: None,
-        },
-        definition: FileAstId(0),
+    /// From the checked world back to its builder.
+    fn build(&mut self) -> Result<Reply, Fault>
+        ensures { Steps self.old Reopens result self.new }
+    {
+        let empty = Stage::Building(WorldBuilder::new(self.alloc));
+        match mem::replace(&mut self.stage, empty) {
+            Stage::Building(_) => Err(Fault::NeedsWorld),
+            Stage::Checked(world) => {
+                self.stage = Stage::Building(world.into_builder());
+                Ok(Reply::Nothing)
+            }
+        }
     }
-}
-
-fn add_item(builder: &mut WorldBuilder, kind: ItemKind, m: ModuleId) -> Result<Reply, Fault>
-    ensures { Builds (item_fault builder.old m) (with_item builder.old kind m) result builder.new }
-{
-    builder.add_item(kind, m)?;
-    Ok(Reply::Nothing)
 }
 
 /// Pushes into the scope of a module of the builder.
@@ -177,17 +138,16 @@ fn push(
     builder: &mut WorldBuilder,
     globs: &mut PerNsGlobImports,
     alloc: Global,
-    m: ModuleId,
-    name: &str,
-    res: PerNs,
+    pushing: Pushing<'_>,
 ) -> Result<Reply, Fault>
-    ensures { PushesInto builder.old globs.old m name.now res result builder.new globs.new }
+    ensures { PushesInto builder.old globs.old pushing.entry result builder.new globs.new }
 {
+    let m = pushing.module;
     let Some(scope) = builder.scope_mut(m) else {
         return Err(Fault::Unknown);
     };
-    let name = Name::new(alloc, name)?;
-    let changed = scope.push_res_with_import(globs, (m, name), res, None)?;
+    let name = Name::new(alloc, pushing.name)?;
+    let changed = scope.push_res_with_import(globs, (m, name), pushing.res, pushing.import)?;
     Ok(Reply::Pushed(changed))
 }
 

@@ -1,6 +1,9 @@
 //! The script language of the tool: its words and lines, what they do, and the texts of answers.
 #![tactic(auto)]
 
+mod build_lines;
+mod build_words;
+mod building;
 mod engine;
 mod fault;
 mod lines;

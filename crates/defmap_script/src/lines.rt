@@ -3,46 +3,38 @@ ghost use Rattle.std.specs.Prelude.{◌≡◌, ◌≢◌, [], ◌∷◌, Some, N
 ghost use Rattle.std.specs.Iterator.{YieldsFirstRef, item_count};
 ghost use Rattle.std.specs.Option.{option_map};
 ghost use Rattle.std.specs.Str.{is_utf8};
-ghost use Rattle.defmap_script.specs.Lines.{words, words_left, asked, said, said_in, said_of, command, crate_line, module_line, item_line, push_line, pushed, check_line, path_line};
+ghost use Rattle.defmap_script.specs.Lines.{words, words_left, asked, said, said_in, said_of, command, push_line, pushed, check_line, build_line, path_line};
 ghost use Rattle.defmap_script.specs.Words.{cut};
 
+use crate::build_lines::{Addition, addition_of};
 use crate::words::{
-    edition, expected_macro, import, item_kind, macros_item, number, path_kind, resolve_mode,
-    shadow_mode, types_item, values_item, visibility,
+    expected_macro, import, macros_item, number, path_kind, resolve_mode, shadow_mode, types_item,
+    values_item,
 };
-use dm_base::ids::{FileId, ModuleId};
+use dm_base::ids::ModuleId;
 use dm_base::imports::ImportOrExternCrate;
-use dm_base::item_ids::ItemKind;
 use dm_base::mod_path::PathKind;
 use dm_base::per_ns::PerNs;
-use dm_base::source::Edition;
-use dm_base::visibility::Visibility;
 use dm_maps::modes::{BuiltinShadowMode, MacroSubNs};
 use hir_def_map::result::ResolveMode;
 
 /// What a line asks for.
 #[derive(Clone, Copy)]
 pub(crate) enum Command<'a> {
-    Crate {
-        edition: Edition,
-        file: FileId,
-    },
-    Module {
-        parent: ModuleId,
-        name: &'a str,
-        visibility: Visibility,
-    },
-    Item {
-        kind: ItemKind,
-        module: ModuleId,
-    },
-    Push {
-        module: ModuleId,
-        name: &'a str,
-        res: PerNs,
-    },
+    Add(Addition<'a>),
+    Push(Pushing<'a>),
     Check,
+    Build,
     Path(Question<'a>),
+}
+
+/// What a name resolved to, and by which import.
+#[derive(Clone, Copy)]
+pub(crate) struct Pushing<'a> {
+    pub(crate) module: ModuleId,
+    pub(crate) name: &'a str,
+    pub(crate) res: PerNs,
+    pub(crate) import: Option<ImportOrExternCrate>,
 }
 
 /// A path, and how it is asked for.
@@ -70,7 +62,7 @@ impl<'a> Words<'a> {
     }
 
     /// Something where no word is left.
-    fn end(mut self) -> Option<()>
+    pub(crate) fn end(mut self) -> Option<()>
         ensures { MatchOption result (words_left self.entry ≢ []) (λ _. words_left self.entry ≡ []) }
     {
         match self.next() {
@@ -153,61 +145,27 @@ fn command_of<'a>(first: &str, words: Words<'a>) -> Option<Command<'a>>
     ensures { option_map asked result ≡ command (first.now ∷ words_left words.entry) }
 {
     match first {
-        "crate" => crate_line(words),
-        "module" => module_line(words),
-        "item" => item_line(words),
         "push" => push_line(words),
         "check" => check_line(words),
+        "build" => build_line(words),
         "path" => path_line(words),
-        _ => None,
+        _ => Some(Command::Add(addition_of(first, words)?)),
     }
 }
 
-/// `crate EDITION FILE`, behind its first word.
-fn crate_line(mut words: Words<'_>) -> Option<Command<'_>>
-    ensures { option_map asked result ≡ crate_line (words_left words.entry) }
-{
-    let edition = edition(words.next()?)?;
-    let file = FileId(number(words.next()?)?);
-    words.end()?;
-    Some(Command::Crate { edition, file })
-}
-
-/// `module MODULE NAME VIS`, behind its first word.
-fn module_line(mut words: Words<'_>) -> Option<Command<'_>>
-    ensures { option_map asked result ≡ module_line (words_left words.entry) }
-{
-    let parent = ModuleId(number(words.next()?)?);
-    let name = words.next()?;
-    let visibility = visibility(words.next()?)?;
-    words.end()?;
-    Some(Command::Module {
-        parent,
-        name,
-        visibility,
-    })
-}
-
-/// `item KIND MODULE`, behind its first word.
-fn item_line(mut words: Words<'_>) -> Option<Command<'_>>
-    ensures { option_map asked result ≡ item_line (words_left words.entry) }
-{
-    let kind = item_kind(words.next()?)?;
-    let module = ModuleId(number(words.next()?)?);
-    words.end()?;
-    Some(Command::Item { kind, module })
-}
-
-/// `push MODULE NAME ITEM ITEM ITEM IMPORT`, behind its first word. For now no push has an import.
+/// `push MODULE NAME ITEM ITEM ITEM IMPORT`, behind its first word.
 fn push_line(mut words: Words<'_>) -> Option<Command<'_>>
     ensures { option_map asked result ≡ push_line (words_left words.entry) }
 {
     let module = ModuleId(number(words.next()?)?);
     let name = words.next()?;
-    match pushed(words)? {
-        (res, None) => Some(Command::Push { module, name, res }),
-        (_, Some(_)) => None,
-    }
+    let (res, import) = pushed(words)?;
+    Some(Command::Push(Pushing {
+        module,
+        name,
+        res,
+        import,
+    }))
 }
 
 /// Three items and an import.
@@ -235,6 +193,14 @@ fn check_line(words: Words<'_>) -> Option<Command<'_>>
 {
     words.end()?;
     Some(Command::Check)
+}
+
+/// `build`, behind which there is no word.
+fn build_line(words: Words<'_>) -> Option<Command<'_>>
+    ensures { option_map asked result ≡ build_line (words_left words.entry) }
+{
+    words.end()?;
+    Some(Command::Build)
 }
 
 /// `path MODULE MODE SHADOW EXPECT PATH`, behind its first word. Any words may be segments.

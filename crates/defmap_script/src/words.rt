@@ -38,7 +38,7 @@ fn is_digits(word: &str) -> bool
 }
 
 /// The parts before and behind the first `:`.
-fn cut_at_colon(word: &str) -> Option<(&str, &str)>
+pub(crate) fn cut_at_colon(word: &str) -> Option<(&str, &str)>
     ensures { option_map (λ p. (p.0.now, p.1.now)) result ≡ at_colon word.now }
 {
     word.split_once(':')

@@ -25,8 +25,8 @@ impl WorldBuilder {
         self.places.get(m.0 as usize).copied()
     }
 
-    /// The map of that id.
-    pub(crate) fn numbered_map(&self, id: MapId) -> Option<&DefMap>
+    /// The map of that id, by its number: a block's is found by the block alone, whatever crate the id names.
+    pub fn numbered_map(&self, id: MapId) -> Option<&DefMap>
         ensures { option_copied result ≡ numbered_map self.now id }
     {
         match id.block {
