@@ -130,7 +130,7 @@ module _ (w : World) where
         by (Some ms) e = last-known ms (found (λ (x : List MacroId). KnowsAll w (map held.Macro x)) n s.legacy_macros ms (all-flat_map Known (map held.Macro) (map (λ e. e.1) s.legacy_macros) legacies) e)
 
     -- what is said of a module's scope, where that of no module is fine
-    of_scope : (Q : Scope → Type 0) → Q no_scope → ((s : Scope) → KnowsAll w (scope_holds s) → Q s) → (m : ModuleId) → Q (scope_of w m)
+    pub of_scope : (Q : Scope → Type 0) → Q no_scope → ((s : Scope) → KnowsAll w (scope_holds s) → Q s) → (m : ModuleId) → Q (scope_of w m)
     of_scope Q none some m = by (slice_get w.places m.0) refl
       where
         at : (p : Place) → slice_get w.places m.0 ≡ Some p → (o : Option Module) → module_in w p ≡ o → Q (option_map_or (λ (d : Module). d.scope) o no_scope)

@@ -12,6 +12,12 @@ pub mod LendingMap
 pub mod LendingModule
 pub mod LendingModules
 pub mod LendingWorld
+pub mod Locals
+pub mod LocalHash
+pub mod LocalOrder
+pub mod LocalLaws
+pub mod Queries
 pub mod Readings
 pub mod Sound
+pub mod Thin
 pub mod Trees
