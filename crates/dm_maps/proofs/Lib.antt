@@ -20,3 +20,4 @@ pub mod PushedScope
 pub mod ScopeWrites
 pub mod WorldFacts
 pub mod Refusals
+pub mod InOrder

@@ -196,7 +196,7 @@ listed-there (e ∷ es) m h = by (nat_eq m.0 e.0.0) refl h (listed-there es m)
     by true t g rest = let same : e.0.0 ≡ m.0 = sym (eqb-true m.0 e.0.0 t) in (0, e.1.parent, λ i. Some (record { 0 = same i }, e.1.parent))
     by false t g rest = let r = rest g in (suc r.0, r.1, r.2)
 
-map-lawful : (w : World) → IsWorld w → (id : MapId) (m : Map) → numbered_map w id ≡ Some m → IsMap w.places (outline m)
+pub map-lawful : (w : World) → IsWorld w → (id : MapId) (m : Map) → numbered_map w id ≡ Some m → IsMap w.places (outline m)
 map-lawful w is id m e = by id.block e
   where
     by : (block : Option BlockId) → elim block [ None ↦ slice_get w.crate_maps id.krate.0 | Some b ↦ slice_get w.block_maps b.0 ] ≡ Some m → IsMap w.places (outline m)

@@ -3,6 +3,7 @@ pub mod Maps
 pub mod World
 pub mod Asked
 pub mod Build
+pub mod Facts
 pub mod Faults
 pub mod First
 pub mod Held

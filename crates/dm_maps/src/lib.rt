@@ -11,6 +11,7 @@ pub mod fault;
 mod first_fault;
 mod growth;
 pub mod held;
+mod in_order;
 mod knows;
 pub mod local_def_map;
 mod local_hash;
