@@ -18,3 +18,10 @@ pub mod Least
 pub mod SoundLemmas
 pub mod LastLemmas
 pub mod MapLemmas
+pub mod LocalSteps
+pub mod RunLemmas
+pub mod PushedScope
+pub mod ScopeWrites
+pub mod WorldFacts
+pub mod Refusals
+pub mod InOrder

@@ -130,7 +130,7 @@ module _ (w : World) where
         by (Some ms) e = last-known ms (found (λ (x : List MacroId). KnowsAll w (map held.Macro x)) n s.legacy_macros ms (all-flat_map Known (map held.Macro) (map (λ e. e.1) s.legacy_macros) legacies) e)
 
     -- what is said of a module's scope, where that of no module is fine
-    of_scope : (Q : Scope → Type 0) → Q no_scope → ((s : Scope) → KnowsAll w (scope_holds s) → Q s) → (m : ModuleId) → Q (scope_of w m)
+    pub of_scope : (Q : Scope → Type 0) → Q no_scope → ((s : Scope) → KnowsAll w (scope_holds s) → Q s) → (m : ModuleId) → Q (scope_of w m)
     of_scope Q none some m = by (slice_get w.places m.0) refl
       where
         at : (p : Place) → slice_get w.places m.0 ≡ Some p → (o : Option Module) → module_in w p ≡ o → Q (option_map_or (λ (d : Module). d.scope) o no_scope)
@@ -196,7 +196,7 @@ listed-there (e ∷ es) m h = by (nat_eq m.0 e.0.0) refl h (listed-there es m)
     by true t g rest = let same : e.0.0 ≡ m.0 = sym (eqb-true m.0 e.0.0 t) in (0, e.1.parent, λ i. Some (record { 0 = same i }, e.1.parent))
     by false t g rest = let r = rest g in (suc r.0, r.1, r.2)
 
-map-lawful : (w : World) → IsWorld w → (id : MapId) (m : Map) → numbered_map w id ≡ Some m → IsMap w.places (outline m)
+pub map-lawful : (w : World) → IsWorld w → (id : MapId) (m : Map) → numbered_map w id ≡ Some m → IsMap w.places (outline m)
 map-lawful w is id m e = by id.block e
   where
     by : (block : Option BlockId) → elim block [ None ↦ slice_get w.crate_maps id.krate.0 | Some b ↦ slice_get w.block_maps b.0 ] ≡ Some m → IsMap w.places (outline m)

@@ -8,6 +8,7 @@ pub mod BuildBlocks
 pub mod BuildMaps
 pub mod Locals
 pub mod MapChanges
+pub mod Facts
 pub mod Faults
 pub mod ItemFaults
 pub mod First
@@ -18,6 +19,11 @@ pub mod LendingMap
 pub mod LendingModule
 pub mod LendingModules
 pub mod LendingWorld
+pub mod LocalHash
+pub mod LocalOrder
+pub mod LocalLaws
+pub mod Queries
 pub mod Readings
 pub mod Sound
+pub mod Thin
 pub mod Trees

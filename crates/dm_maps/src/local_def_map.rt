@@ -1,11 +1,14 @@
 //! The extern prelude of a crate.
-ghost use Rattle.std.specs.Prelude.{◌≡◌, [], OnOk, OnErr};
+ghost use Rattle.std.specs.Prelude.{◌≡◌, [], length, OnOk, OnErr};
+ghost use Rattle.std.specs.Iterator.{at_most};
+ghost use Rattle.std.specs.Map.Iter.{TakesFirst, ShowsInOrder};
 ghost use Rattle.dm_base.specs.Names.{find_name};
 ghost use Rattle.dm_maps.specs.Locals.{with_extern};
+ghost use Rattle.dm_maps.specs.LocalHash.{deref_extern};
 
 use dm_base::ids::{ExternCrateId, ModuleId};
 use dm_base::name::Name;
-use indexmap::IndexMap;
+use indexmap::{IndexMap, map};
 use std::alloc::{AllocError, Global};
 use std::marker::Model;
 
@@ -23,13 +26,61 @@ impl Model for LocalDefMap {
     ghost view = { λ m. m.extern_prelude.entries };
 }
 
+/// The entries of an extern prelude, in order of insertion.
+#[derive(Drop)]
+pub struct ExternPrelude<'a> {
+    rest: map::Iter<'a, Name, (ModuleId, Option<ExternCrateId>)>,
+}
+
+impl<'a> Model for ExternPrelude<'a> {
+    ghost use Rattle.dm_maps.specs.Maps.{LocalMap};
+
+    ghost Value = { LocalMap };
+
+    ghost view = { λ a. a.rest };
+}
+
+impl<'a> Iterator for ExternPrelude<'a> {
+    type Item = (&'a Name, (ModuleId, Option<ExternCrateId>));
+
+    ghost next_gives = { TakesFirst deref_extern };
+
+    ghost remaining = { λ s. at_most (length s) };
+
+    fn next(&mut self) -> Option<(&'a Name, (ModuleId, Option<ExternCrateId>))> {
+        let (name, entry) = self.rest.next()?;
+        Some((name, *entry))
+    }
+
+    fn size_hint(&self) -> (usize, Option<usize>) {
+        self.rest.size_hint()
+    }
+}
+
 impl LocalDefMap {
-    /// An extern prelude with no entry.
+    /// An extern prelude with no entry, which takes its memory from `alloc`. It takes none yet.
     pub fn new(alloc: Global) -> LocalDefMap
         ensures { result ≡ [] }
     {
         LocalDefMap {
             extern_prelude: IndexMap::new(alloc),
+        }
+    }
+
+    /// An extern prelude with no entry, for questions that have none. It takes no memory.
+    pub fn empty(alloc: Global) -> LocalDefMap
+        ensures { result ≡ [] }
+    {
+        LocalDefMap::new(alloc)
+    }
+
+    /// The entries, in order of insertion. Takes no memory.
+    pub fn extern_prelude(&self) -> ExternPrelude<'_>
+        ensures rest { result ≡ self.now }
+        ensures runs { ShowsInOrder deref_extern }
+    {
+        ExternPrelude {
+            rest: self.extern_prelude.iter(),
         }
     }
 

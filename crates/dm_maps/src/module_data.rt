@@ -4,10 +4,12 @@ ghost use Rattle.std.specs.Borrow.{sem};
 ghost use Rattle.dm_base.specs.Names.{find_name};
 ghost use Rattle.dm_maps.specs.Maps.{fresh_module, with_child};
 ghost use Rattle.dm_maps.specs.LendingModule.{LendsModuleScope};
+ghost use Rattle.dm_maps.specs.Origins.{source_file};
 
 use crate::module_origin::ModuleOrigin;
 use dm_base::ids::ModuleId;
 use dm_base::name::Name;
+use dm_base::source::HirFileId;
 use dm_base::visibility::Visibility;
 use dm_scope::item_scope::ItemScope;
 use indexmap::IndexMap;
@@ -70,6 +72,20 @@ impl ModuleData {
         ensures { result ≡ self.now.parent }
     {
         self.parent
+    }
+
+    /// The children, by name, in order of number.
+    pub fn children(&self) -> &IndexMap<Name, ModuleId>
+        ensures { result.now.entries ≡ self.now.children }
+    {
+        &self.children
+    }
+
+    /// The file, or the expansion of a macro, that has the module's items.
+    pub fn definition_source_file_id(&self) -> HirFileId
+        ensures { result ≡ source_file self.now.origin }
+    {
+        self.origin.source_file()
     }
 
     /// What the module binds.

@@ -56,6 +56,13 @@ impl ModulesMap {
         self.entries.get(&m)
     }
 
+    /// The modules, each under its number.
+    pub(crate) fn entries(&self) -> &IndexMap<ModuleId, ModuleData>
+        ensures { result.now.entries ≡ self.now }
+    {
+        &self.entries
+    }
+
     /// The module at place `i`, counted from the root.
     pub(crate) fn nth(&self, i: usize) -> Option<&ModuleData>
         ensures { option_copied result ≡ nth_module self.now i }

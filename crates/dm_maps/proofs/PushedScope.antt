@@ -1,0 +1,116 @@
+-- What a scope holds after a push is what it held, or what the push holds.
+use Rattle.std.proofs.Common.{◌≡◌, Bool, true, false, cond, List, [], ◌∷◌, ◌++◌, Option, None, Some, map, refl, subst}
+use Rattle.std.specs.List.{AllByRecursion, flat_map}
+use Rattle.std.specs.Option.{option_map_or, option_and_then}
+use Rattle.indexmap.specs.IndexMap.{insert_entry}
+use Rattle.dm_base.specs.declared.ids.ModuleId.{ModuleId}
+use Rattle.dm_base.specs.declared.imports.ImportOrExternCrate.{ImportOrExternCrate}
+use Rattle.dm_base.specs.declared.imports.ImportOrExternCrate.TheVariants as wide
+use Rattle.dm_base.specs.declared.per_ns.Item.{Item}
+use Rattle.dm_base.specs.declared.per_ns.PerNs.{PerNs}
+use Rattle.dm_base.specs.Imports.{narrowed}
+use Rattle.dm_base.specs.Names.{Name, same_name, find_name}
+use Rattle.dm_scope.specs.Bindings.{Bound, Reading, stored, import_of, writes, bound, bound_after}
+use Rattle.dm_scope.specs.Flags.{Flags, Globs, has_flag}
+use Rattle.dm_scope.specs.Push.{types_reading, values_reading, macros_reading, scope_after}
+use Rattle.dm_scope.specs.Scope.{Scope}
+use Rattle.dm_maps.specs.declared.held.HeldId.{HeldId}
+use Rattle.dm_maps.specs.declared.held.HeldId.TheVariants as held
+use Rattle.dm_maps.specs.Asked.{push_holds}
+use Rattle.dm_maps.specs.Holds.{scope_holds, bindings_hold, types_hold, values_hold, macros_hold, legacies_hold, lists_hold}
+use Rattle.dm_maps.specs.Known.{def_holds, vis_holds, import_holds, value_import_holds, type_holds, value_holds, macro_holds, res_holds}
+use Rattle.dm_maps.proofs.AllLemmas.{all-left, all-right, all-append}
+
+module _ (P : HeldId → Type 0) where
+  abbrev All : List HeldId → Type 0
+  All hs = AllByRecursion P hs
+
+  -- ---- One namespace, of which each item holds some ids.
+
+  module _ {D I : Type 0} (holds : Item D I → List HeldId) where
+    abbrev items_hold : List (Name × Item D I) → List HeldId
+    items_hold es = flat_map holds (map (λ e. e.1) es)
+
+    put-holds : (es : List (Name × Item D I)) (n : Name) (x : Item D I) → All (items_hold es) → All (holds x) → All (items_hold (insert_entry same_name es n x))
+    put-holds [] n x h p = all-append P (holds x) [] p tt
+    put-holds (e ∷ es) n x h p = by (same_name n e.0) (put-holds es n x (all-right P (holds e.1) (items_hold es) h) p)
+      where
+        by : (b : Bool) → All (items_hold (insert_entry same_name es n x)) → All (items_hold (cond b ((e.0, x) ∷ es) (e ∷ insert_entry same_name es n x)))
+        by true rest = all-append P (holds x) (items_hold es) p (all-right P (holds e.1) (items_hold es) h)
+        by false rest = all-append P (holds e.1) (items_hold (insert_entry same_name es n x)) (all-left P (holds e.1) (items_hold es) h) rest
+
+    after-holds : (r : Reading D I) (s : Bound D I) (fs : Flags) (m : ModuleId) (n : Name) (x : Option (Item D I)) (by : Option ImportOrExternCrate)
+        → All (items_hold s.items) → ((y : Item D I) → x ≡ Some y → All (holds (stored r y (import_of r by)))) → All (items_hold (bound_after r s fs m n x by).items)
+    after-holds r s fs m n None by h fine = h
+    after-holds r s fs m n (Some y) by h fine = on (writes r (find_name n s.items) (has_flag fs m n) y (import_of r by))
+      where
+        on : (b : Bool) → All (items_hold (cond b (bound r s n y (import_of r by)) s).items)
+        on true = put-holds s.items n (stored r y (import_of r by)) h (fine y refl)
+        on false = h
+
+  -- ---- An item with the import of the push.
+
+  other-import : (a b c d : List HeldId) → All ((a ++ b) ++ c) → All d → All ((a ++ b) ++ d)
+  other-import a b c d h i = all-append P (a ++ b) d (all-left P (a ++ b) c h) i
+
+  same-import : (by : Option ImportOrExternCrate) → All (option_map_or import_holds by []) → All (option_map_or import_holds (option_and_then (λ i. Some i) by) [])
+  same-import None h = h
+  same-import (Some i) h = h
+
+  value-import : (by : Option ImportOrExternCrate) → All (option_map_or import_holds by []) → All (option_map_or value_import_holds (option_and_then narrowed by) [])
+  value-import None h = h
+  value-import (Some (wide.Glob i)) h = h
+  value-import (Some (wide.Import i)) h = h
+  value-import (Some (wide.ExternCrate k)) h = tt
+
+  item-holds : {D I : Type 0} (holds : Item D I → List HeldId) (x : Option (Item D I)) (y : Item D I) → All (option_map_or holds x []) → x ≡ Some y → All (holds y)
+  item-holds holds x y h e = subst (λ o. All (option_map_or holds o [])) e h
+
+  -- ---- The scope.
+
+  module _ (s : Scope) (g : Globs) (m : ModuleId) (n : Name) (x : PerNs) (by : Option ImportOrExternCrate) (held_before : All (scope_holds s)) (pushed : All (push_holds m x by)) where
+    asked : All (res_holds x ++ option_map_or import_holds by [])
+    asked = all-right P (held.Module m ∷ []) (res_holds x ++ option_map_or import_holds by []) pushed
+
+    res : All (res_holds x)
+    res = all-left P (res_holds x) (option_map_or import_holds by []) asked
+
+    import_fine : All (option_map_or import_holds by [])
+    import_fine = all-right P (res_holds x) (option_map_or import_holds by []) asked
+
+    firsts : All (option_map_or type_holds x.types [] ++ option_map_or value_holds x.values [])
+    firsts = all-left P (option_map_or type_holds x.types [] ++ option_map_or value_holds x.values []) (option_map_or macro_holds x.macros []) res
+
+    bindings : All (bindings_hold s)
+    bindings = all-left P (bindings_hold s) (legacies_hold s.legacy_macros ++ lists_hold s) held_before
+
+    others : All (values_hold s.values.items ++ macros_hold s.macros.items)
+    others = all-right P (types_hold s.types.items) (values_hold s.values.items ++ macros_hold s.macros.items) bindings
+
+    types : All (types_hold (bound_after types_reading s.types g.types m n x.types by).items)
+    types =
+        after-holds type_holds types_reading s.types g.types m n x.types by (all-left P (types_hold s.types.items) (values_hold s.values.items ++ macros_hold s.macros.items) bindings)
+        (λ y e. other-import (def_holds y.def) (vis_holds y.vis) (option_map_or import_holds y.import []) (option_map_or import_holds (import_of types_reading by) [])
+        (item-holds type_holds x.types y (all-left P (option_map_or type_holds x.types []) (option_map_or value_holds x.values []) firsts) e)
+        (same-import by import_fine))
+
+    values : All (values_hold (bound_after values_reading s.values g.values m n x.values by).items)
+    values =
+        after-holds value_holds values_reading s.values g.values m n x.values by (all-left P (values_hold s.values.items) (macros_hold s.macros.items) others)
+        (λ y e. other-import (def_holds y.def) (vis_holds y.vis) (option_map_or value_import_holds y.import []) (option_map_or value_import_holds (import_of values_reading by) [])
+        (item-holds value_holds x.values y (all-right P (option_map_or type_holds x.types []) (option_map_or value_holds x.values []) firsts) e)
+        (value-import by import_fine))
+
+    macros : All (macros_hold (bound_after macros_reading s.macros g.macros m n x.macros by).items)
+    macros =
+        after-holds macro_holds macros_reading s.macros g.macros m n x.macros by (all-right P (values_hold s.values.items) (macros_hold s.macros.items) others)
+        (λ y e. other-import (held.Macro y.def ∷ []) (vis_holds y.vis) (option_map_or import_holds y.import []) (option_map_or import_holds (import_of macros_reading by) [])
+        (item-holds macro_holds x.macros y (all-right P (option_map_or type_holds x.types [] ++ option_map_or value_holds x.values []) (option_map_or macro_holds x.macros []) res) e)
+        (same-import by import_fine))
+
+    pub scope_after-holds : All (scope_holds (scope_after s g m n x by))
+    scope_after-holds =
+        let v = scope_after s g m n x by in
+        all-append P (bindings_hold v) (legacies_hold s.legacy_macros ++ lists_hold s)
+        (all-append P (types_hold v.types.items) (values_hold v.values.items ++ macros_hold v.macros.items) types (all-append P (values_hold v.values.items) (macros_hold v.macros.items) values macros))
+        (all-right P (bindings_hold s) (legacies_hold s.legacy_macros ++ lists_hold s) held_before)

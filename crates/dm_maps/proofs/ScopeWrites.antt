@@ -1,0 +1,338 @@
+-- What a world is with another scope for one of its modules.
+use Rattle.std.proofs.Common.{◌≡◌, ◌⊎◌, inl, inr, ℕ, zero, suc, ◌+◌, true, false, List, [], ◌∷◌, ◌++◌, Option, None, Some, length, map, set, slice_get, refl, sym, ap, subst, ◌∙◌, IsTrue, IsSome, nat_lt, eq-eqb, true≢false}
+use Rattle.std.proofs.Math.ListN.{length-set}
+use Rattle.std.specs.List.{AllByRecursion}
+use Rattle.std.specs.Option.{option_map, option_map_or, option_and_then}
+use Rattle.indexmap.specs.IndexMap.{set_value_at}
+use Rattle.dm_base.specs.declared.ids.BlockId.{BlockId}
+use Rattle.dm_base.specs.declared.ids.ModuleId.{ModuleId}
+use Rattle.dm_base.specs.Tree.{same_module}
+use Rattle.dm_scope.specs.Scope.{Scope, no_scope}
+use Rattle.dm_maps.specs.declared.held.HeldId.{HeldId}
+use Rattle.dm_maps.specs.declared.held.HeldId.TheVariants as held
+use Rattle.dm_maps.specs.declared.fault.Holder.TheVariants as holder
+use Rattle.dm_maps.specs.declared.place.Place.{Place}
+use Rattle.dm_maps.specs.Maps.{Map, Module, Modules, nth_module, put_scope, with_scope_at, map_with_scope}
+use Rattle.dm_maps.specs.World.{World, place_of, module_in, module_of, scope_of, own_scope, numbered_map, put_map, maps_with_scope, with_scope_in, with_scope}
+use Rattle.dm_maps.specs.Known.{knows, KnowsAll, vis_holds}
+use Rattle.dm_maps.specs.Holds.{module_holds, scope_holds}
+use Rattle.dm_maps.specs.First.{Held, each_from, crate_holder, block_holder, module_holder, IsChecked}
+use Rattle.dm_maps.specs.LendingWorld.{crate_with_scope, block_with_scope}
+use Rattle.dm_maps.specs.Sound.{IsCheckedWorld}
+use Rattle.dm_maps.specs.Trees.{outline, IsWorld}
+use Rattle.dm_maps.proofs.AllLemmas.{all-left, all-right, all-append, all-weaker}
+use Rattle.dm_maps.proofs.EntryLemmas.{get-set_same, set-own, set_value_at-own}
+use Rattle.dm_maps.proofs.ModuleGrowth.{map-set_own}
+use Rattle.dm_maps.proofs.SoundLemmas.{IsSound-checked, of_scope}
+use Rattle.dm_maps.proofs.WorldGrowth.{numbered-outlines}
+
+-- ---- What stands at a place after a write.
+
+-- an element after a write is the one that was there, or at the place of the write the one that was written
+at-set : {X : Type 0} (xs : List X) (i j : ℕ) (x y : X) → slice_get xs i ≡ Some x
+    → (slice_get (set xs i y) j ≡ slice_get xs j) ⊎ ((j ≡ i) × (slice_get xs j ≡ Some x) × (slice_get (set xs i y) j ≡ Some y))
+at-set [] i j x y h = cc
+at-set (z ∷ zs) zero zero x y h = inr (refl, h, refl)
+at-set (z ∷ zs) zero (suc j) x y h = inl refl
+at-set (z ∷ zs) (suc i) zero x y h = inl refl
+at-set (z ∷ zs) (suc i) (suc j) x y h = elim (at-set zs i j x y h) [ inl e ↦ inl e | inr e ↦ inr (ap suc e.0, e.1, e.2) ]
+
+values-set : (es : Modules) (i : ℕ) (d : Module) → map (λ e. e.1) (set_value_at es i d) ≡ set (map (λ e. e.1) es) i d
+values-set [] i d = refl
+values-set (e ∷ es) zero d = refl
+values-set (e ∷ es) (suc i) d = ap (λ l. e.1 ∷ l) (values-set es i d)
+
+abbrev nth_of : Option Map → ℕ → Option Module
+nth_of o j = option_and_then (λ (x : Map). nth_module x.modules j) o
+
+abbrev module_by : World → Option Place → Option Module
+module_by w o = option_and_then (module_in w) o
+
+abbrev scope_by : Option Module → Scope
+scope_by o = option_map_or (λ (d : Module). d.scope) o no_scope
+
+-- the world with s as the scope at the place q, in the map of a crate or of a block
+abbrev made : World → Place → Scope → Option BlockId → World
+made w q s b = elim b [ None ↦ crate_with_scope w q.map.krate.0 q.index s | Some x ↦ block_with_scope w x.0 q.index s ]
+
+module _ (s : Scope) where
+  abbrev scoped : Module → Module
+  scoped d = record d { scope = s }
+
+  -- what was there, or the module with the scope in its place
+  abbrev Kept : Type 0 → Option Module → Option Module → Type 0
+  Kept Slot o p = (p ≡ o) ⊎ (Slot × (d : Module) × (o ≡ Some d) × (p ≡ Some (scoped d)))
+
+  kept-nth : (es : Modules) (i j : ℕ) → Kept (j ≡ i) (nth_module es j) (nth_module (with_scope_at es i s) j)
+  kept-nth es i j = by (nth_module es i) refl
+    where
+      by : (o : Option Module) → nth_module es i ≡ o → Kept (j ≡ i) (nth_module es j) (nth_module (put_scope es i o s) j)
+      by None e = inl refl
+      by (Some d) e =
+          let put = ap (λ l. slice_get l j) (values-set es i (scoped d)) in
+          elim (at-set (map (λ x. x.1) es) i j d (scoped d) e) [ inl h ↦ inl (put ∙ h) | inr h ↦ inr (h.0, d, h.1, put ∙ h.2) ]
+
+  kept-map : (ms : List Map) (k i a j : ℕ) → Kept ((a ≡ k) × (j ≡ i)) (nth_of (slice_get ms a) j) (nth_of (slice_get (maps_with_scope ms k i s) a) j)
+  kept-map ms k i a j = by (slice_get ms k) refl
+    where
+      by : (o : Option Map) → slice_get ms k ≡ o → Kept ((a ≡ k) × (j ≡ i)) (nth_of (slice_get ms a) j) (nth_of (slice_get (put_map ms k i o s) a) j)
+      by None e = inl refl
+      by (Some x) e = elim (at-set ms k a x (map_with_scope x i s) e) [
+        | inl h ↦ inl (ap (λ o. nth_of o j) h)
+        | inr h ↦
+            let before = ap (λ o. nth_of o j) h.1 in
+            let after = ap (λ o. nth_of o j) h.2 in
+            elim (kept-nth x.modules i j) [ inl g ↦ inl (after ∙ g ∙ sym before) | inr g ↦ inr ((h.0, g.0), g.1, before ∙ g.2, after ∙ g.3) ]
+      ]
+
+  -- two places are one
+  abbrev Slot : World → Place → Place → Type 0
+  Slot w q p = (numbered_map w p.map ≡ numbered_map w q.map) × (p.index ≡ q.index)
+
+  kept-in : (w : World) (q p : Place) → Kept (Slot w q p) (module_in w p) (module_in (with_scope_in w (Some q) s) p)
+  kept-in w q p = by q.map.block p.map.block
+    where
+      by : (b c : Option BlockId) → Kept ((elim c [ None ↦ slice_get w.crate_maps p.map.krate.0 | Some x ↦ slice_get w.block_maps x.0 ] ≡ elim b [ None ↦ slice_get w.crate_maps q.map.krate.0 | Some x ↦ slice_get w.block_maps x.0 ]) × (p.index ≡ q.index))
+          (nth_of (elim c [ None ↦ slice_get w.crate_maps p.map.krate.0 | Some x ↦ slice_get w.block_maps x.0 ]) p.index)
+          (nth_of (elim c [ None ↦ slice_get (made w q s b).crate_maps p.map.krate.0 | Some x ↦ slice_get (made w q s b).block_maps x.0 ]) p.index)
+      by None None = elim (kept-map w.crate_maps q.map.krate.0 q.index p.map.krate.0 p.index) [ inl h ↦ inl h | inr h ↦ inr ((ap (slice_get w.crate_maps) h.0.0, h.0.1), h.1, h.2, h.3) ]
+      by None (Some x) = inl refl
+      by (Some y) None = inl refl
+      by (Some y) (Some x) = elim (kept-map w.block_maps y.0 q.index x.0 p.index) [ inl h ↦ inl h | inr h ↦ inr ((ap (slice_get w.block_maps) h.0.0, h.0.1), h.1, h.2, h.3) ]
+
+  -- ---- The scopes of modules.
+
+  nth-own : (es : Modules) (i : ℕ) (d : Module) → nth_module es i ≡ Some d → nth_module (with_scope_at es i s) i ≡ Some (scoped d)
+  nth-own es i d e =
+      ap (λ o. nth_module (put_scope es i o s) i) e
+      ∙ ap (λ l. slice_get l i) (values-set es i (scoped d))
+      ∙ get-set_same (map (λ x. x.1) es) i d (scoped d) e
+
+  map-own : (ms : List Map) (k i : ℕ) (d : Module) → nth_of (slice_get ms k) i ≡ Some d → nth_of (slice_get (maps_with_scope ms k i s) k) i ≡ Some (scoped d)
+  map-own ms k i d h = by (slice_get ms k) refl h
+    where
+      by : (o : Option Map) → slice_get ms k ≡ o → nth_of o i ≡ Some d → nth_of (slice_get (put_map ms k i o s) k) i ≡ Some (scoped d)
+      by None e g = cc
+      by (Some x) e g = ap (λ o. nth_of o i) (get-set_same ms k x (map_with_scope x i s) e) ∙ nth-own x.modules i d g
+
+  in-own : (w : World) (q : Place) (d : Module) → module_in w q ≡ Some d → module_in (with_scope_in w (Some q) s) q ≡ Some (scoped d)
+  in-own w q d h = by q.map.block (with_scope_in w (Some q) s) refl h
+    where
+      by : (b : Option BlockId) (v : World) → v ≡ made w q s b → nth_of (elim b [ None ↦ slice_get w.crate_maps q.map.krate.0 | Some x ↦ slice_get w.block_maps x.0 ]) q.index ≡ Some d
+          → nth_of (elim b [ None ↦ slice_get v.crate_maps q.map.krate.0 | Some x ↦ slice_get v.block_maps x.0 ]) q.index ≡ Some (scoped d)
+      by None v e g = ap (λ (u : World). nth_of (slice_get u.crate_maps q.map.krate.0) q.index) e ∙ map-own w.crate_maps q.map.krate.0 q.index d g
+      by (Some x) v e g = ap (λ (u : World). nth_of (slice_get u.block_maps x.0) q.index) e ∙ map-own w.block_maps x.0 q.index d g
+
+  places-kept : (w : World) (o : Option Place) → (with_scope_in w o s).places ≡ w.places
+  places-kept w None = refl
+  places-kept w (Some q) = by q.map.block
+    where
+      by : (b : Option BlockId) → (made w q s b).places ≡ w.places
+      by None = refl
+      by (Some x) = refl
+
+  scope_of-known : (w : World) (m : ModuleId) (d : Module) → module_of w m ≡ Some d → scope_of (with_scope w m s) m ≡ s
+  scope_of-known w m d h = by (place_of w m) refl h
+    where
+      by : (o : Option Place) → place_of w m ≡ o → module_by w o ≡ Some d → scope_by (module_by (with_scope_in w o s) (slice_get (with_scope_in w o s).places m.0)) ≡ s
+      by None e g = cc
+      by (Some q) e g =
+          ap (λ ps. scope_by (module_by (with_scope_in w (Some q) s) (slice_get ps m.0))) (places-kept w (Some q))
+          ∙ ap (λ o. scope_by (module_by (with_scope_in w (Some q) s) o)) e
+          ∙ ap scope_by (in-own w q d g)
+
+  -- the module's own
+  pub scope_of-own : (w : World) (m : ModuleId) → IsSome (own_scope w m) → scope_of (with_scope w m s) m ≡ s
+  scope_of-own w m h = of (module_of w m) refl h
+    where
+      of : (o : Option Module) → module_of w m ≡ o → IsSome (option_map (λ (d : Module). d.scope) o) → scope_of (with_scope w m s) m ≡ s
+      of None e g = absurd (true≢false (sym g))
+      of (Some d) e g = scope_of-known w m d e
+
+  -- those of all others, since no two modules stand at one place
+  pub scope_of-other : (w : World) → IsWorld w → (m k : ModuleId) → same_module m k ≡ false → scope_of (with_scope w m s) k ≡ scope_of w k
+  scope_of-other w is m k other = by (place_of w m) refl
+    where
+      one : (q p : Place) → slice_get w.places m.0 ≡ Some q → slice_get w.places k.0 ≡ Some p → Slot w q p → same_module m k ≡ true
+      one q p e f slot =
+          let a = is.stands m q e in
+          let b = is.stands k p f in
+          let outlines_are : Some b.there ≡ Some a.there =
+          sym b.is_map ∙ numbered-outlines w p.map ∙ ap (option_map outline) slot.0 ∙ sym (numbered-outlines w q.map) ∙ a.is_map in
+          let same : b.there ≡ a.there = cc in
+          let entries : Some (k, p.parent) ≡ Some (m, q.parent) =
+          sym b.is_module ∙ (λ i. slice_get (same i).modules (slot.1 i)) ∙ a.is_module in
+          let pair : (k, p.parent) ≡ (m, q.parent) = cc in
+          eq-eqb m.0 k.0 (sym (ap (λ (x : ModuleId × Option ModuleId). x.0.0) pair))
+
+      at : (q p : Place) → slice_get w.places m.0 ≡ Some q → slice_get w.places k.0 ≡ Some p → module_in (with_scope_in w (Some q) s) p ≡ module_in w p
+      at q p e f = elim (kept-in w q p) [ inl h ↦ h | inr h ↦ absurd (true≢false (sym (one q p e f h.0) ∙ other)) ]
+
+      others : (q : Place) → slice_get w.places m.0 ≡ Some q → (o : Option Place) → slice_get w.places k.0 ≡ o → scope_by (module_by (with_scope_in w (Some q) s) o) ≡ scope_by (module_by w o)
+      others q e None f = refl
+      others q e (Some p) f = ap scope_by (at q p e f)
+
+      by : (o : Option Place) → place_of w m ≡ o → scope_by (module_by (with_scope_in w o s) (slice_get (with_scope_in w o s).places k.0)) ≡ scope_by (module_by w (slice_get w.places k.0))
+      by None e = refl
+      by (Some q) e = ap (λ ps. scope_by (module_by (with_scope_in w (Some q) s) (slice_get ps k.0))) (places-kept w (Some q)) ∙ others q e (slice_get w.places k.0) refl
+
+-- ---- The module's own scope, written again, changes nothing.
+
+module _ (s : Scope) where
+  nth-again : (es : Modules) (i : ℕ) (d : Module) → nth_module es i ≡ Some d → d.scope ≡ s → with_scope_at es i s ≡ es
+  nth-again es i d e same = ap (λ o. put_scope es i o s) e ∙ ap (λ x. set_value_at es i (record d { scope = x })) (sym same) ∙ set_value_at-own es i d e
+
+  map-again : (ms : List Map) (k i : ℕ) (d : Module) → nth_of (slice_get ms k) i ≡ Some d → d.scope ≡ s → maps_with_scope ms k i s ≡ ms
+  map-again ms k i d h same = by (slice_get ms k) refl h
+    where
+      by : (o : Option Map) → slice_get ms k ≡ o → nth_of o i ≡ Some d → put_map ms k i o s ≡ ms
+      by None e g = refl
+      by (Some x) e g = ap (λ es. set ms k (record x { modules = es })) (nth-again x.modules i d g same) ∙ set-own ms k x e
+
+  in-again : (w : World) (q : Place) (d : Module) → module_in w q ≡ Some d → d.scope ≡ s → with_scope_in w (Some q) s ≡ w
+  in-again w q d h same = by q.map.block h
+    where
+      by : (b : Option BlockId) → nth_of (elim b [ None ↦ slice_get w.crate_maps q.map.krate.0 | Some x ↦ slice_get w.block_maps x.0 ]) q.index ≡ Some d
+          → made w q s b ≡ w
+      by None g = ap (λ l. record w { crate_maps = l }) (map-again w.crate_maps q.map.krate.0 q.index d g same)
+      by (Some x) g = ap (λ l. record w { block_maps = l }) (map-again w.block_maps x.0 q.index d g same)
+
+  pub with_scope-own : (w : World) (m : ModuleId) → own_scope w m ≡ Some s → with_scope w m s ≡ w
+  with_scope-own w m h = by (place_of w m) h
+    where
+      at : (q : Place) (o : Option Module) → module_in w q ≡ o → option_map (λ (d : Module). d.scope) o ≡ Some s → with_scope_in w (Some q) s ≡ w
+      at q None e g = cc
+      at q (Some d) e g = let same : d.scope ≡ s = cc in in-again w q d e same
+
+      by : (o : Option Place) → option_map (λ (d : Module). d.scope) (option_and_then (module_in w) o) ≡ Some s → with_scope_in w o s ≡ w
+      by None g = refl
+      by (Some q) g = at q (module_in w q) refl g
+
+-- ---- A checked world with a scope of which each id is the world's is checked.
+
+abbrev Known : World → HeldId → Type 0
+Known w h = IsTrue (knows w h)
+
+abbrev Fine : World → Held → Type 0
+Fine w h = KnowsAll w h.1
+
+each-weaker : {X : Type 0} (P Q : Held → Type 0) (f g : ℕ → X → Held) → ((i : ℕ) (x : X) → P (f i x) → Q (g i x)) → (i : ℕ) (xs : List X) → AllByRecursion P (each_from f i xs) → AllByRecursion Q (each_from g i xs)
+each-weaker P Q f g step i [] h = tt
+each-weaker P Q f g step i (x ∷ xs) h = (step i x h.0, each-weaker P Q f g step (i + 1) xs h.1)
+
+each-set : {X : Type 0} (f : ℕ → X → Held) (i k : ℕ) (xs : List X) (x y : X) → slice_get xs k ≡ Some x → ((j : ℕ) → f j y ≡ f j x) → each_from f i (set xs k y) ≡ each_from f i xs
+each-set f i k [] x y h same = refl
+each-set f i zero (z ∷ zs) x y h same = let is : x ≡ z = cc in ap (λ a. a ∷ each_from f (i + 1) zs) (same i ∙ ap (f i) is)
+each-set f i (suc k) (z ∷ zs) x y h same = ap (λ l. f i z ∷ l) (each-set f (i + 1) k zs x y h same)
+
+module _ (w : World) (checked : IsChecked w) (s : Scope) (fine : KnowsAll w (scope_holds s)) where
+  -- with what the world and another, v, both know
+  module _ (v : World) (same : (h : HeldId) → knows v h ≡ knows w h) where
+    knows-all : (hs : List HeldId) → KnowsAll w hs → KnowsAll v hs
+    knows-all hs h = all-weaker (Known w) (Known v) (λ x e. same x ∙ e) hs h
+
+    module-fine : (o p : Option Module) (Slot : Type 0) → Kept s Slot o p → KnowsAll w (option_map_or module_holds o []) → KnowsAll v (option_map_or module_holds p [])
+    module-fine o p Slot (inl e) h = subst (λ x. KnowsAll v (option_map_or module_holds x [])) (sym e) (knows-all (option_map_or module_holds o []) h)
+    module-fine o p Slot (inr e) h =
+        let d = e.1 in
+        let old : KnowsAll w (vis_holds d.visibility ++ scope_holds d.scope) = subst (λ x. KnowsAll w (option_map_or module_holds x [])) e.2 h in
+        let new : KnowsAll w (vis_holds d.visibility ++ scope_holds s) = all-append (Known w) (vis_holds d.visibility) (scope_holds s) (all-left (Known w) (vis_holds d.visibility) (scope_holds d.scope) old) fine in
+        subst (λ x. KnowsAll v (option_map_or module_holds x [])) (sym e.3) (knows-all (vis_holds d.visibility ++ scope_holds s) new)
+
+    fine-list : (hs : List Held) → AllByRecursion (Fine w) hs → AllByRecursion (Fine v) hs
+    fine-list hs h = all-weaker (Fine w) (Fine v) (λ x g. knows-all x.1 g) hs h
+
+    module _ (crates : each_from (crate_holder v.local_maps) 0 v.crate_maps ≡ each_from (crate_holder w.local_maps) 0 w.crate_maps)
+        (blocks : map block_holder v.block_maps ≡ map block_holder w.block_maps) (places : v.places ≡ w.places)
+        (Slot_of : Place → Type 0) (kept : (p : Place) → Kept s (Slot_of p) (module_in w p) (module_in v p)) where
+      abbrev old_crates : List Held
+      old_crates = each_from (crate_holder w.local_maps) 0 w.crate_maps
+
+      abbrev old_blocks : List Held
+      old_blocks = map block_holder w.block_maps
+
+      abbrev old_modules : List Held
+      old_modules = each_from (module_holder w) 0 w.places
+
+      abbrev tables : List Held
+      tables = (holder.Tables, []) ∷ []
+
+      after_crates : AllByRecursion (Fine w) (old_blocks ++ (old_modules ++ tables))
+      after_crates = all-right (Fine w) old_crates (old_blocks ++ (old_modules ++ tables)) checked
+
+      after_blocks : AllByRecursion (Fine w) (old_modules ++ tables)
+      after_blocks = all-right (Fine w) old_blocks (old_modules ++ tables) after_crates
+
+      new_crates : AllByRecursion (Fine v) (each_from (crate_holder v.local_maps) 0 v.crate_maps)
+      new_crates = subst (λ l. AllByRecursion (Fine v) l) (sym crates) (fine-list old_crates (all-left (Fine w) old_crates (old_blocks ++ (old_modules ++ tables)) checked))
+
+      new_blocks : AllByRecursion (Fine v) (map block_holder v.block_maps)
+      new_blocks = subst (λ l. AllByRecursion (Fine v) l) (sym blocks) (fine-list old_blocks (all-left (Fine w) old_blocks (old_modules ++ tables) after_crates))
+
+      new_modules : AllByRecursion (Fine v) (each_from (module_holder v) 0 v.places)
+      new_modules =
+          subst (λ ps. AllByRecursion (Fine v) (each_from (module_holder v) 0 ps)) (sym places)
+          (each-weaker (Fine w) (Fine v) (module_holder w) (module_holder v) (λ i p h. module-fine (module_in w p) (module_in v p) (Slot_of p) (kept p) h) 0 w.places (all-left (Fine w) old_modules tables after_blocks))
+
+      IsChecked-like : IsChecked v
+      IsChecked-like =
+          all-append (Fine v) (each_from (crate_holder v.local_maps) 0 v.crate_maps) (map block_holder v.block_maps ++ (each_from (module_holder v) 0 v.places ++ tables)) new_crates
+          (all-append (Fine v) (map block_holder v.block_maps) (each_from (module_holder v) 0 v.places ++ tables) new_blocks
+          (all-append (Fine v) (each_from (module_holder v) 0 v.places) tables new_modules
+          (fine-list tables (all-right (Fine w) old_modules tables after_blocks))))
+
+length-scoped : (ms : List Map) (k i : ℕ) (s : Scope) → length (maps_with_scope ms k i s) ≡ length ms
+length-scoped ms k i s = by (slice_get ms k)
+  where
+    by : (o : Option Map) → length (put_map ms k i o s) ≡ length ms
+    by None = refl
+    by (Some x) = length-set ms k (map_with_scope x i s)
+
+module _ (w : World) (q : Place) (s : Scope) where
+  knows-kept : (b : Option BlockId) (h : HeldId) → knows (made w q s b) h ≡ knows w h
+  knows-kept None (held.Module m) = refl
+  knows-kept None (held.Crate k) = ap (nat_lt k.0) (length-scoped w.crate_maps q.map.krate.0 q.index s)
+  knows-kept None (held.Use u) = refl
+  knows-kept None (held.Item k n) = refl
+  knows-kept None (held.Variant v) = refl
+  knows-kept None (held.Macro m) = refl
+  knows-kept (Some b) (held.Module m) = refl
+  knows-kept (Some b) (held.Crate k) = refl
+  knows-kept (Some b) (held.Use u) = refl
+  knows-kept (Some b) (held.Item k n) = refl
+  knows-kept (Some b) (held.Variant v) = refl
+  knows-kept (Some b) (held.Macro m) = refl
+
+  crates-kept : (b : Option BlockId) → each_from (crate_holder (made w q s b).local_maps) 0 (made w q s b).crate_maps ≡ each_from (crate_holder w.local_maps) 0 w.crate_maps
+  crates-kept None = by (slice_get w.crate_maps q.map.krate.0) refl
+    where
+      by : (o : Option Map) → slice_get w.crate_maps q.map.krate.0 ≡ o → each_from (crate_holder w.local_maps) 0 (put_map w.crate_maps q.map.krate.0 q.index o s) ≡ each_from (crate_holder w.local_maps) 0 w.crate_maps
+      by None e = refl
+      by (Some x) e = each-set (crate_holder w.local_maps) 0 q.map.krate.0 w.crate_maps x (map_with_scope x q.index s) e (λ j. refl)
+  crates-kept (Some b) = refl
+
+  blocks-kept : (b : Option BlockId) → map block_holder (made w q s b).block_maps ≡ map block_holder w.block_maps
+  blocks-kept None = refl
+  blocks-kept (Some b) = by (slice_get w.block_maps b.0) refl
+    where
+      by : (o : Option Map) → slice_get w.block_maps b.0 ≡ o → map block_holder (put_map w.block_maps b.0 q.index o s) ≡ map block_holder w.block_maps
+      by None e = refl
+      by (Some x) e = map-set_own block_holder w.block_maps b.0 x (map_with_scope x q.index s) e refl
+
+IsChecked-scoped : (w : World) (m : ModuleId) (s : Scope) → IsChecked w → KnowsAll w (scope_holds s) → IsChecked (with_scope w m s)
+IsChecked-scoped w m s checked fine = by (place_of w m)
+  where
+    by : (o : Option Place) → IsChecked (with_scope_in w o s)
+    by None = checked
+    by (Some q) =
+        IsChecked-like w checked s fine (with_scope_in w (Some q) s) (knows-kept w q s q.map.block) (crates-kept w q s q.map.block) (blocks-kept w q s q.map.block) (places-kept s w (Some q)) (Slot s w q) (kept-in s w q)
+
+-- and so it still is a checked world
+pub IsCheckedWorld-scoped : (w v : World) (m : ModuleId) (s : Scope) → IsCheckedWorld w → IsWorld v → v ≡ with_scope w m s → KnowsAll w (scope_holds s) → IsCheckedWorld v
+IsCheckedWorld-scoped w v m s is lawful same fine =
+    let checked : IsChecked v = subst IsChecked (sym same) (IsChecked-scoped w m s is.checked fine) in
+    record { lawful = lawful; checked = checked; sound = IsSound-checked v checked lawful }
+
+-- what a checked world's scope holds is the world's
+pub scope-known : (w : World) (m : ModuleId) → IsCheckedWorld w → KnowsAll w (scope_holds (scope_of w m))
+scope-known w m is = of_scope w is.checked (λ s. KnowsAll w (scope_holds s)) tt (λ s h. h) m

@@ -1,0 +1,42 @@
+-- What holds of the modules and maps of every world.
+use Rattle.std.proofs.Common.{◌≡◌, ℕ, zero, suc, [], ◌∷◌, Option, None, Some, length, map, slice_get, refl, sym, ap, ◌∙◌, IsTrue, IsSome, is_some}
+use Rattle.std.proofs.lemmas.Bool.{ltb-true}
+use Rattle.std.specs.Option.{option_map, option_and_then}
+use Rattle.dm_base.specs.declared.ids.ModuleId.{ModuleId}
+use Rattle.dm_maps.specs.declared.held.HeldId.TheVariants as held
+use Rattle.dm_maps.specs.declared.place.Place.{Place}
+use Rattle.dm_maps.specs.Known.{knows}
+use Rattle.dm_maps.specs.Maps.{Map, Module, Modules, nth_module}
+use Rattle.dm_maps.specs.World.{World, module_in, own_scope, numbered_map}
+use Rattle.dm_maps.specs.Trees.{Outline, outline, IsWorld}
+use Rattle.dm_maps.proofs.GrowthLemmas.{get-within}
+use Rattle.dm_maps.proofs.ModuleGrowth.{entry}
+use Rattle.dm_maps.proofs.WorldGrowth.{numbered-outlines}
+
+-- a module that an outline has is there, with that parent
+entry-there : (es : Modules) (i : ℕ) (m : ModuleId) (q : Option ModuleId) → slice_get (map entry es) i ≡ Some (m, q) → (d : Module) × (nth_module es i ≡ Some d) × (d.parent ≡ q)
+entry-there [] i m q h = cc
+entry-there (e ∷ es) zero m q h = let same : entry e ≡ (m, q) = cc in (e.1, refl, ap (λ (x : ModuleId × Option ModuleId). x.1) same)
+entry-there (e ∷ es) (suc i) m q h = entry-there es i m q h
+
+module _ (w : World) (is : IsWorld w) where
+  -- a module stands at its place, with the parent that the place says
+  pub module-there : (m : ModuleId) (p : Place) → slice_get w.places m.0 ≡ Some p → (d : Module) × (module_in w p ≡ Some d) × (d.parent ≡ p.parent)
+  module-there m p e =
+      let s = is.stands m p e in
+      by (numbered_map w p.map) (sym (numbered-outlines w p.map) ∙ s.is_map) s.is_module
+    where
+      by : (o : Option Map) → option_map outline o ≡ Some (is.stands m p e).there → slice_get (is.stands m p e).there.modules p.index ≡ Some (m, p.parent)
+          → (d : Module) × (option_and_then (λ (x : Map). nth_module x.modules p.index) o ≡ Some d) × (d.parent ≡ p.parent)
+      by None g h = cc
+      by (Some x) g h =
+          let same : outline x ≡ (is.stands m p e).there = cc in
+          entry-there x.modules p.index m p.parent (ap (λ (o : Outline). slice_get o.modules p.index) same ∙ h)
+
+  -- so a module of the world has a scope
+  pub scope-there : (m : ModuleId) → IsTrue (knows w (held.Module m)) → IsSome (own_scope w m)
+  scope-there m known =
+      let at = get-within w.places m.0 (ltb-true m.0 (length w.places) known) in
+      let d = module-there m at.0 at.1 in
+      ap (λ o. is_some (option_map (λ (x : Module). x.scope) (option_and_then (module_in w) o))) at.1
+      ∙ ap (λ o. is_some (option_map (λ (x : Module). x.scope) o)) d.1

@@ -1,0 +1,61 @@
+use Rattle.std.proofs.Common.{◌≡◌, ◌∙◌, ◌++◌, ◌∷◌, [], ap, sym, subst, false, IsTrue}
+use Rattle.dm_base.specs.declared.ids.ModuleId.{ModuleId}
+use Rattle.dm_base.specs.Tree.{same_module}
+use Rattle.dm_scope.specs.Push.{scope_after}
+use Rattle.dm_scope.specs.Scope.{Scope}
+use Rattle.dm_scope.specs.Shows.{Shows}
+use Rattle.dm_maps.specs.declared.held.HeldId.TheVariants as held
+use Rattle.dm_maps.specs.Asked.{with_push}
+use Rattle.dm_maps.specs.Known.{knows}
+use Rattle.dm_maps.specs.Sound.{IsCheckedWorld}
+use Rattle.dm_maps.specs.World.{World, scope_of, with_scope}
+use Rattle.dm_maps.proofs.PushedScope.{scope_after-holds}
+use Rattle.dm_maps.proofs.ScopeWrites.{scope_of-own, scope_of-other, scope-known, IsCheckedWorld-scoped}
+use Rattle.dm_maps.proofs.WorldFacts.{scope-there}
+use Rattle.dm_maps.proofs.world.World.push_res.Goals as goal
+
+pub push_res-requires : goal.push_res-requires
+push_res-requires c = record {
+  there = scope-there c.self.inside.tables c.self.invariant.lawful c.args.lookup.0 (subst (λ (w : World). IsTrue (knows w (held.Module c.args.lookup.0))) (sym c.self.view_is) c.requires.known.0);
+}
+
+-- the scope that the push leaves, and the world with it
+abbrev left : goal.After-lawful → Scope
+left c = scope_after (scope_of c.args.self.now c.args.lookup.0) c.args.glob_imports.now c.args.lookup.0 c.args.lookup.1 c.args.res c.args.import
+
+world_is : (c : goal.After-lawful) → c.push_res.new.self ≡ with_scope c.args.self.now c.args.lookup.0 (left c)
+world_is c = c.in_ok-answer.ensures.world ∙ ap (λ w. with_push w c.args.glob_imports.now c.args.lookup.0 c.args.lookup.1 c.args.res c.args.import) c.self.view_is
+
+was_checked : (c : goal.After-lawful) → IsCheckedWorld c.args.self.now
+was_checked c = subst IsCheckedWorld c.self.view_is c.self.invariant
+
+scope_is : (c : goal.After-lawful) → scope_of c.push_res.new.self c.args.lookup.0 ≡ left c
+scope_is c =
+    ap (λ w. scope_of w c.args.lookup.0) (world_is c)
+    ∙ scope_of-own (left c) c.args.self.now c.args.lookup.0 (scope-there c.args.self.now (was_checked c).lawful c.args.lookup.0 c.requires.known.0)
+
+other_is : (c : goal.After-lawful) (k : ModuleId) → same_module c.args.lookup.0 k ≡ false → scope_of c.push_res.new.self k ≡ scope_of c.args.self.now k
+other_is c k other = ap (λ w. scope_of w k) (world_is c) ∙ scope_of-other (left c) c.args.self.now (was_checked c).lawful c.args.lookup.0 k other
+
+pub invariant_of-self-2 : goal.invariant_of-self-2
+invariant_of-self-2 c =
+    let w = c.args.self.now in
+    IsCheckedWorld-scoped w c.push_res.new.self c.args.lookup.0 (left c) (was_checked c) c.lawful.ensures (world_is c)
+    (scope_after-holds (λ h. IsTrue (knows w h)) (scope_of w c.args.lookup.0) c.args.glob_imports.now c.args.lookup.0 c.args.lookup.1 c.args.res c.args.import (scope-known w c.args.lookup.0 (was_checked c)) c.requires.known)
+
+pub returns-clause-scope : goal.returns-clause-scope
+returns-clause-scope c = scope_is c
+
+pub returns-clause-others : goal.returns-clause-others
+returns-clause-others c k other = other_is c k other
+
+pub returns-clause-shown : goal.returns-clause-shown
+returns-clause-shown c ps shown =
+    let more = ps ++ record { name = c.args.lookup.1; res = c.args.res; by = c.args.import } ∷ [] in
+    let at : (w : World) → Type 0 = λ w. Shows (scope_after (scope_of w c.args.lookup.0) c.args.glob_imports.now c.args.lookup.0 c.args.lookup.1 c.args.res c.args.import) c.push_res.new.glob_imports c.args.lookup.0 more in
+    let before = subst (λ w. Shows (scope_of w c.args.lookup.0) c.args.glob_imports.now c.args.lookup.0 ps) (sym c.self.view_is) shown in
+    subst (λ s. Shows s c.push_res.new.glob_imports c.args.lookup.0 more) (sym (scope_is c)) (subst at c.self.view_is (c.in_ok-answer.ensures.shown ps before))
+
+pub returns-clause-elsewhere : goal.returns-clause-elsewhere
+returns-clause-elsewhere c k ps other shown =
+    subst (λ s. Shows s c.push_res.new.glob_imports k ps) (sym (other_is c k other)) (c.in_ok-answer.ensures.elsewhere (scope_of c.args.self.now k) k ps other shown)

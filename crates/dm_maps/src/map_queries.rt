@@ -1,0 +1,46 @@
+//! What a map says of its modules. None of these calls takes memory.
+ghost use Rattle.std.specs.Prelude.{◌≡◌, IsSome, Some};
+ghost use Rattle.dm_maps.specs.Maps.{module_at};
+ghost use Rattle.dm_maps.specs.Queries.{containing_in, fills, is_inline_in, modules_with};
+
+use crate::def_map::DefMap;
+use crate::module_data::ModuleData;
+use crate::modules_iter::{FilledBy, InlineIn, ModulesWith};
+use dm_base::ids::{FileId, MacroCallId, ModuleId};
+
+impl DefMap {
+    /// The module of that number, which has to lie in this map: `has` tests it.
+    pub fn module(&self, m: ModuleId) -> &ModuleData
+        requires { IsSome (module_at self.now.modules m) }
+        ensures { module_at self.now.modules m ≡ Some result.now }
+    {
+        self.get(m).unwrap()
+    }
+
+    /// The module that contains a module of this map, which has to lie in it: `has` tests it.
+    ///
+    /// That is its parent, or for the root of a block's map the module that contains the block. None for a crate's root.
+    pub fn containing_module(&self, m: ModuleId) -> Option<ModuleId>
+        requires { IsSome (module_at self.now.modules m) }
+        ensures { result ≡ containing_in self.now m }
+    {
+        match self.module(m).parent() {
+            Some(parent) => Some(parent),
+            None => self.parent(),
+        }
+    }
+
+    /// The modules of this map that fill the file, under whatever edition, in order of number.
+    pub fn modules_for_file(&self, file: FileId) -> ModulesWith<'_, FilledBy>
+        ensures { result ≡ modules_with (fills file) self.now.modules }
+    {
+        ModulesWith::new(self.modules(), FilledBy(file))
+    }
+
+    /// The modules of this map that are written out in what the macro call expands to, in order of number.
+    pub fn inline_modules_for_macro_file(&self, call: MacroCallId) -> ModulesWith<'_, InlineIn>
+        ensures { result ≡ modules_with (is_inline_in call) self.now.modules }
+    {
+        ModulesWith::new(self.modules(), InlineIn(call))
+    }
+}

@@ -1,0 +1,88 @@
+//! Pushes into the scopes of a world.
+ghost use Rattle.std.specs.Prelude.{◌≡◌, false, List, [], ◌∷◌, ◌++◌, IsSome, IfOk, OnOk, OnErr};
+ghost use Rattle.dm_base.specs.declared.ids.ModuleId.{ModuleId};
+ghost use Rattle.dm_base.specs.Tree.{same_module};
+ghost use Rattle.dm_scope.specs.Push.{scope_after, globs_after, push_answer};
+ghost use Rattle.dm_scope.specs.Scope.{Scope};
+ghost use Rattle.dm_scope.specs.Shows.{ScopePush, Shows, is_answered};
+ghost use Rattle.dm_maps.specs.Asked.{push_holds, with_push};
+ghost use Rattle.dm_maps.specs.Known.{KnowsAll};
+ghost use Rattle.dm_maps.specs.Trees.{IsWorld};
+ghost use Rattle.dm_maps.specs.World.{own_scope, scope_of};
+
+use crate::builder::WorldBuilder;
+use crate::world::World;
+use dm_base::ids::ModuleId;
+use dm_base::imports::ImportOrExternCrate;
+use dm_base::name::Name;
+use dm_base::per_ns::PerNs;
+use dm_scope::glob_imports::PerNsGlobImports;
+use std::alloc::AllocError;
+
+impl World {
+    /// Pushes what an import, or a declaration, resolves a name of a module to (docs/RULES.md, "Pushes").
+    ///
+    /// All that the push holds has to be the world's: `knows_res` tests it. Answers whether a namespace was written, or the
+    /// name went among the unresolved ones. Other scopes and all tables stay. Where memory is short, nothing changes.
+    pub fn push_res(
+        &mut self,
+        glob_imports: &mut PerNsGlobImports,
+        lookup: (ModuleId, Name),
+        res: PerNs,
+        import: Option<ImportOrExternCrate>,
+    ) -> Result<bool, AllocError>
+        requires known { KnowsAll self.old (push_holds lookup.0 res import) }
+        ensures answer { IfOk result (λ answer. answer ≡ push_answer (scope_of self.old lookup.0) glob_imports.old lookup.0 lookup.1 res import) }
+        ensures world { OnOk result (self.new ≡ with_push self.old glob_imports.old lookup.0 lookup.1 res import) }
+        ensures globs { OnOk result (glob_imports.new ≡ globs_after (scope_of self.old lookup.0) glob_imports.old lookup.0 lookup.1 res import) }
+        ensures err { OnErr result (self.new ≡ self.old) }
+        ensures err_globs { OnErr result (glob_imports.new ≡ glob_imports.old) }
+
+        // The module's scope is as after the push, and that of each other module as before.
+        ensures scope { OnOk result (scope_of self.new lookup.0 ≡ scope_after (scope_of self.old lookup.0) glob_imports.old lookup.0 lookup.1 res import) }
+        ensures others { (k : ModuleId) → same_module lookup.0 k ≡ false → scope_of self.new k ≡ scope_of self.old k }
+
+        // Where the module's scope and the table show a list of pushes, they show it with this push after it, and the answer
+        // is as that list says. After want of memory, and in another module, what was shown is shown.
+        ensures shown { (ps : List ScopePush) → Shows (scope_of self.old lookup.0) glob_imports.old lookup.0 ps → OnOk result (Shows (scope_of self.new lookup.0) glob_imports.new lookup.0 (ps ++ record { name = lookup.1; res = res; by = import } ∷ [])) }
+        ensures shown_answer { (ps : List ScopePush) → Shows (scope_of self.old lookup.0) glob_imports.old lookup.0 ps → IfOk result (λ answer. answer ≡ is_answered ps (record { name = lookup.1; res = res; by = import })) }
+        ensures refused { (k : ModuleId) (ps : List ScopePush) → Shows (scope_of self.old k) glob_imports.old k ps → OnErr result (Shows (scope_of self.new k) glob_imports.new k ps) }
+        ensures elsewhere { (k : ModuleId) (ps : List ScopePush) → same_module lookup.0 k ≡ false → Shows (scope_of self.old k) glob_imports.old k ps → Shows (scope_of self.new k) glob_imports.new k ps }
+    {
+        let answer = self.tables.push_res(glob_imports, lookup, res, import)?;
+        self.tables.lawful();
+        Ok(answer)
+    }
+}
+
+impl WorldBuilder {
+    /// Pushes into the scope of a module of the builder's.
+    fn push_res(
+        &mut self,
+        glob_imports: &mut PerNsGlobImports,
+        lookup: (ModuleId, Name),
+        res: PerNs,
+        import: Option<ImportOrExternCrate>,
+    ) -> Result<bool, AllocError>
+        requires there { IsSome (own_scope self.old lookup.0) }
+        ensures answer { IfOk result (λ answer. answer ≡ push_answer (scope_of self.old lookup.0) glob_imports.old lookup.0 lookup.1 res import) }
+        ensures world { OnOk result (self.new ≡ with_push self.old glob_imports.old lookup.0 lookup.1 res import) }
+        ensures globs { OnOk result (glob_imports.new ≡ globs_after (scope_of self.old lookup.0) glob_imports.old lookup.0 lookup.1 res import) }
+        ensures err { OnErr result (self.new ≡ self.old) }
+        ensures err_globs { OnErr result (glob_imports.new ≡ glob_imports.old) }
+        ensures shown { (ps : List ScopePush) → Shows (scope_of self.old lookup.0) glob_imports.old lookup.0 ps → OnOk result (Shows (scope_after (scope_of self.old lookup.0) glob_imports.old lookup.0 lookup.1 res import) glob_imports.new lookup.0 (ps ++ record { name = lookup.1; res = res; by = import } ∷ [])) }
+        ensures shown_answer { (ps : List ScopePush) → Shows (scope_of self.old lookup.0) glob_imports.old lookup.0 ps → IfOk result (λ answer. answer ≡ is_answered ps (record { name = lookup.1; res = res; by = import })) }
+        ensures elsewhere { (other : Scope) (k : ModuleId) (ps : List ScopePush) → same_module lookup.0 k ≡ false → Shows other glob_imports.old k ps → Shows other glob_imports.new k ps }
+    {
+        let scope = self.scope_mut(lookup.0).unwrap();
+        let answer = scope.push_res_with_import(glob_imports, lookup, res, import)?;
+        Ok(answer)
+    }
+
+    /// What holds of the modules and maps of every world, checked or not.
+    pub(crate) fn lawful(&self)
+        ensures { IsWorld self.now }
+    {
+        let _places = &self.places;
+    }
+}
