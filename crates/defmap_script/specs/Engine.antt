@@ -1,14 +1,10 @@
 -- What the tool holds, and what a line does to it.
-use Rattle.std.specs.Prelude.{◌≡◌, ◌⊎◌, ◌&&◌, not, if◌then◌else◌, ℕ, List, [], ◌++◌, Bool, true, false, IsTrue, IsSome, Option, Some, None, Result, Ok, Err, MatchResult, MatchOption, slice_get, codes}
+use Rattle.std.specs.Prelude.{◌≡◌, ◌⊎◌, if◌then◌else◌, ℕ, List, [], ◌++◌, Bool, true, false, IsTrue, IsSome, Option, Some, None, Result, Ok, Err, MatchResult, MatchOption, slice_get, codes}
 use Rattle.std.specs.Borrow.{Bor}
 use Rattle.dm_base.specs.Names.{Name}
 use Rattle.dm_base.specs.declared.ids.ModuleId.{ModuleId}
-use Rattle.dm_base.specs.declared.mod_path.PathKind.{PathKind}
-use Rattle.dm_base.specs.declared.mod_path.PathKind.TheVariants as kind
 use Rattle.dm_base.specs.declared.imports.ImportOrExternCrate.{ImportOrExternCrate}
 use Rattle.dm_base.specs.declared.per_ns.PerNs.{PerNs}
-use Rattle.dm_base.specs.declared.source.Edition.{Edition}
-use Rattle.dm_base.specs.declared.source.Edition.TheVariants as edition
 use Rattle.dm_scope.specs.Flags.{Globs, no_globs}
 use Rattle.dm_scope.specs.Push.{scope_after, globs_after, push_answer}
 use Rattle.dm_scope.specs.Scope.{Scope}
@@ -18,7 +14,9 @@ use Rattle.dm_maps.specs.Build.{no_world}
 use Rattle.dm_maps.specs.First.{holders, IsChecked, IsFirstFault}
 use Rattle.dm_maps.specs.Known.{knows, KnowsAll, local_holds, path_holds}
 use Rattle.dm_maps.specs.Maps.{Map, LocalMap, module_at}
-use Rattle.dm_maps.specs.World.{World, map_of, numbered_map, own_scope, with_scope}
+use Rattle.dm_maps.specs.Asked.{push_holds, with_push}
+use Rattle.dm_maps.specs.Thin.{is_thin}
+use Rattle.dm_maps.specs.World.{World, map_of, numbered_map, own_scope, scope_of, with_scope}
 use Rattle.hir_def_map.specs.Paths.{answer}
 use Rattle.defmap_script.specs.declared.engine.Reply.{Reply}
 use Rattle.defmap_script.specs.declared.engine.Reply.TheVariants.{Nothing, Pushed, Answered}
@@ -69,6 +67,16 @@ IsCheck w g r =
 
 -- ---- With the world
 
+-- a push goes into the scope of its module
+abbrev pub pushed_within : World → Globs → ModuleId → Name → PerNs → Option ImportOrExternCrate → Tool × Reply
+pushed_within w g m n x i = (record { stage = Checked (with_push w g m n x i); globs = globs_after (scope_of w m) g m n x i }, Pushed (push_answer (scope_of w m) g m n x i))
+
+-- where all that it holds is the world's
+abbrev pub IsWorldPush : World → Globs → ModuleId → Name → PerNs → Option ImportOrExternCrate → Result (Tool × Reply) Fault → Type 0
+IsWorldPush w g m n x i r =
+    (KnowsAll w (push_holds m x i) × (r ≡ Ok (pushed_within w g m n x i)))
+    ⊎ ((¬ (KnowsAll w (push_holds m x i))) × (r ≡ Err faults.Unknown))
+
 -- the module, the crate of its map and that of the path are the world's
 pub record IsKnownQuestion (w : World) (q : Asking) (map : Map) (local : LocalMap) : Type 0 where
   pub lies : map_of w q.from ≡ Some map
@@ -81,25 +89,11 @@ abbrev pub answer_of : World → Asking → LocalMap → Reply
 answer_of w q local =
     Answered (answer w local (record { origin = q.from; mode = q.mode; shadow = q.shadow; expected = q.expected; kind = q.path.kind }) q.path.segments)
 
--- Which questions are answered so far: those of a world of one crate, not of edition 2015, by a path that begins with a name or with
--- `crate`. A script can't make blocks, variants, macros or preludes yet.
-abbrev pub is_later_edition : Edition → Bool
-is_later_edition edition.Edition2015 = false
-is_later_edition _ = true
-
-abbrev pub is_plain_or_crate : PathKind → Bool
-is_plain_or_crate kind.Plain = true
-is_plain_or_crate kind.Crate = true
-is_plain_or_crate _ = false
-
-abbrev pub is_thin : World → Map → PathKind → Bool
-is_thin w map kind = not (knows w (held.Crate (record { 0 = 1 }))) && (is_later_edition map.edition && is_plain_or_crate kind)
-
--- a question that is not known, or not answered so far, is refused for it
+-- a question that is not known is refused for it, and so far one that is not thin
 abbrev pub IsAnswered : World → Asking → Result Reply Fault → Type 0
 IsAnswered w q r =
     ((r ≡ Err faults.Unknown) × ((map : Map) (local : LocalMap) → ¬ (IsKnownQuestion w q map local)))
-    ⊎ ((map : Map) × (local : LocalMap) × IsKnownQuestion w q map local × (r ≡ (if is_thin w map q.path.kind then Ok (answer_of w q local) else Err faults.BadLine)))
+    ⊎ ((map : Map) × (local : LocalMap) × IsKnownQuestion w q map local × (r ≡ (if is_thin w local q.path.kind then Ok (answer_of w q local) else Err faults.BadLine)))
 
 abbrev pub held_on : Stage → Globs → Result Reply Fault → Result (Tool × Reply) Fault
 held_on s g (Ok reply) = Ok (record { stage = s; globs = g }, reply)
@@ -117,6 +111,7 @@ IsBuildStep w g (Asks q) r = r ≡ Err faults.NeedsWorld
 
 abbrev pub IsWorldStep : World → Globs → Asked → Result (Tool × Reply) Fault → Type 0
 IsWorldStep w g (Asks q) r = (answered : Result Reply Fault) × IsAnswered w q answered × (r ≡ held_on (Checked w) g answered)
+IsWorldStep w g (Pushes m n x i) r = IsWorldPush w g m n x i r
 IsWorldStep w g Reopens r = r ≡ Ok (building w g, Nothing)
 IsWorldStep w g _ r = r ≡ Err faults.NeedsBuilder
 
@@ -165,6 +160,15 @@ abbrev pub PushesInto : World → Globs → Pushing → Result Reply Fault → W
 PushesInto w g p r v h = PushesBy w g p.module p.name.now p.res p.import r v h
 
 -- ---- Calls with the world
+
+-- a push of x under the name n of m by i
+abbrev pub PushesWithinBy : World → Globs → ModuleId → Name → PerNs → Option ImportOrExternCrate → Result Reply Fault → World → Globs → Type 0
+PushesWithinBy w g m n x i r v h = MatchResult r
+    (λ reply. IsWorldPush w g m n x i (Ok (record { stage = Checked v; globs = h }, reply)))
+    (λ f. (f ≡ faults.OutOfMemory) ⊎ IsWorldPush w g m n x i (Err f))
+
+abbrev pub PushesWithin : World → Globs → Pushing → Result Reply Fault → World → Globs → Type 0
+PushesWithin w g p r v h = PushesWithinBy w g p.module p.name.now p.res p.import r v h
 
 -- a look-up of what a question is about: none exactly where the question is not known
 abbrev pub Finds : World → Asking → Option (Bor Map × Bor LocalMap) → Type 0

@@ -1,16 +1,14 @@
 //! What the tool holds, and what a command does to it.
 ghost use Rattle.std.specs.Prelude.{◌≡◌, Some, IfOk};
-ghost use Rattle.defmap_script.specs.Engine.{fresh, is_thin, Answers, Finds, PushesInto, reply_text, Steps};
+ghost use Rattle.defmap_script.specs.Engine.{fresh, Answers, Finds, PushesInto, PushesWithin, reply_text, Steps};
 ghost use Rattle.defmap_script.specs.Lines.{asked, asking, Checks, Reopens, words_left};
 
 use crate::building::add;
 use crate::fault::Fault;
 use crate::lines::{Command, Pushing, Question, Words};
 use crate::print::AnswerWords;
-use dm_base::ids::Crate;
-use dm_base::mod_path::{ModPath, PathKind};
+use dm_base::mod_path::ModPath;
 use dm_base::name::Name;
-use dm_base::source::Edition;
 use dm_maps::builder::WorldBuilder;
 use dm_maps::def_map::DefMap;
 use dm_maps::local_def_map::LocalDefMap;
@@ -94,9 +92,10 @@ impl Engine {
                 Command::Build | Command::Path(_) => Err(Fault::NeedsWorld),
             },
             Stage::Checked(world) => match command {
+                Command::Push(pushing) => push_within(world, &mut self.globs, self.alloc, pushing),
                 Command::Path(question) => answer(world, self.alloc, question),
                 Command::Build => self.build(),
-                Command::Add(_) | Command::Push(_) | Command::Check => Err(Fault::NeedsBuilder),
+                Command::Add(_) | Command::Check => Err(Fault::NeedsBuilder),
             },
         }
     }
@@ -151,6 +150,24 @@ fn push(
     Ok(Reply::Pushed(changed))
 }
 
+/// Pushes into the scope of a module of the world, where all that the push names is the world's.
+fn push_within(
+    world: &mut World,
+    globs: &mut PerNsGlobImports,
+    alloc: Global,
+    pushing: Pushing<'_>,
+) -> Result<Reply, Fault>
+    ensures { PushesWithin world.old globs.old pushing.entry result world.new globs.new }
+{
+    let m = pushing.module;
+    if !world.knows_res(m, &pushing.res, pushing.import) {
+        return Err(Fault::Unknown);
+    }
+    let name = Name::new(alloc, pushing.name)?;
+    let written = world.push_res(globs, (m, name), pushing.res, pushing.import)?;
+    Ok(Reply::Pushed(written))
+}
+
 /// What a path means in a world.
 fn answer(world: &World, alloc: Global, question: Question<'_>) -> Result<Reply, Fault>
     ensures { Answers world.now (asking question.entry) result }
@@ -158,7 +175,8 @@ fn answer(world: &World, alloc: Global, question: Question<'_>) -> Result<Reply,
     let Some((map, local)) = known(world, alloc, question) else {
         return Err(Fault::Unknown);
     };
-    if !is_thin(world, map, question.kind) {
+    let beginning = ModPath::from_segments(question.kind, Vec::new(alloc));
+    if !world.is_thin(local, &beginning) {
         return Err(Fault::BadLine);
     }
     let path = ModPath::from_segments(question.kind, names(alloc, question.segments)?);
@@ -187,16 +205,6 @@ fn known<'a>(
         return None;
     }
     Some((map, local_def_map(world, map.krate())))
-}
-
-/// Whether a question is answered so far: of a world of one crate, not of edition 2015, by a path that begins with a name or
-/// with `crate`.
-fn is_thin(world: &World, map: &DefMap, kind: PathKind) -> bool
-    ensures { result ≡ is_thin world.now map.now kind }
-{
-    !world.has_crate(Crate(1))
-        && map.edition() != Edition::Edition2015
-        && matches!(kind, PathKind::Plain | PathKind::Crate)
 }
 
 /// The words as names.
