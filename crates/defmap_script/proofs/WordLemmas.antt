@@ -14,6 +14,7 @@ use Rattle.std.proofs.lemmas.Bool.Decides.{nat_tests}
 use Rattle.std.proofs.lemmas.Str.Parse.{IsNumeralModel, numerals_by_value, tells_all_ascii_digits, parse_digits}
 use Rattle.std.proofs.lemmas.Str.Pattern.{IsSplitOnceResult, split_parts}
 use denote.Ref.{Bor}
+use Rattle.defmap_script.specs.BuildWords.{behind}
 use Rattle.defmap_script.specs.Words.{number, cut}
 
 own : IsNumeralModel (λ ds. all_ascii_digits ds ≡ true) (digits_value 10)
@@ -88,3 +89,20 @@ cut-found c bs i e =
     absent k l before e2 =
         let below : k < i = omega (arith, length-take i bs)
         in eqb-false (get_or bs k 0) c (before k below) (sym (get_or-take i bs k 0 below) ∙ e2)
+
+-- where a text does not begin with the byte, nothing is behind it
+behind-none : (c : ℕ) (bs : List ℕ) → ((rest : List ℕ) → bs ≢ c ∷ rest) → behind c bs ≡ None
+behind-none c [] h = refl
+behind-none c (x ∷ xs) h =
+    let here : eqb x c ≡ false = ne_eqb x c (λ e. h xs (ap (λ y. y ∷ xs) e))
+    in rw here
+
+behind-some : (c : ℕ) (rest : List ℕ) → behind c (c ∷ rest) ≡ Some rest
+behind-some c rest =
+    let here : eqb c c ≡ true = eq-eqb c c refl
+    in rw here
+
+-- what `strip_prefix` gives at a character
+pub behind-stripped : (c : ℕ) (bs : List ℕ) (r : Option (Bor (List ℕ))) → MatchOption r ((rest : List ℕ) → bs ≢ c ∷ rest) (λ x. bs ≡ c ∷ x.now) → option_map (λ x. x.now) r ≡ behind c bs
+behind-stripped c bs None h = sym (behind-none c bs h)
+behind-stripped c bs (Some x) h = sym (ap (behind c) h ∙ behind-some c x.now)

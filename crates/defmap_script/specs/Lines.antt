@@ -25,6 +25,8 @@ use Rattle.defmap_script.specs.declared.lines.Command.{Command}
 use Rattle.defmap_script.specs.declared.lines.Command.TheVariants as commands
 use Rattle.defmap_script.specs.declared.lines.Question.{Question}
 use Rattle.defmap_script.specs.declared.lines.Words.{Words}
+use Rattle.defmap_script.specs.declared.seeing_lines.Sight.{Sight}
+use Rattle.defmap_script.specs.SeeingLines.{max_line, min_line, sees_line}
 use Rattle.defmap_script.specs.Words.{number, editions, expectations, import_word, item_kinds, macros_word, modes, path_kind, shadow_modes, types_word, values_word, visibility}
 
 -- the parts of a line between spaces that are not empty
@@ -50,6 +52,7 @@ pub data Asked : Type 0 where
   Pushes : ModuleId → Name → PerNs → Asked
   Checks : Asked
   Asks : Asking → Asked
+  Looks : Sight → Asked
 
 abbrev pub asking : Question → Asking
 asking q = record {
@@ -68,6 +71,7 @@ asked (commands.Item k m) = NewItem k m
 asked (commands.Push m n r) = Pushes m n.now r
 asked commands.Check = Checks
 asked (commands.Path q) = Asks (asking q)
+asked (commands.See s) = Looks s
 
 -- the words behind the first of each kind of line
 abbrev pub crate_line : List Name → Option Asked
@@ -117,7 +121,9 @@ path_line _ = None
 abbrev pub line_forms : List (Name × (List Name → Option Asked))
 line_forms =
     (codes "crate", crate_line) ∷ (codes "module", module_line) ∷ (codes "item", item_line) ∷ (codes "push", push_line)
-    ∷ (codes "check", check_line) ∷ (codes "path", path_line) ∷ []
+    ∷ (codes "check", check_line) ∷ (codes "path", path_line)
+    ∷ (codes "max", λ ws. option_map (λ s. Looks s) (max_line ws)) ∷ (codes "min", λ ws. option_map (λ s. Looks s) (min_line ws))
+    ∷ (codes "sees", λ ws. option_map (λ s. Looks s) (sees_line ws)) ∷ []
 
 abbrev pub command : List Name → Option Asked
 command [] = None

@@ -7,7 +7,8 @@ ghost use Rattle.defmap_script.specs.Lines.{asked, asking, Checks, words_left};
 
 use crate::fault::Fault;
 use crate::lines::{Command, Question, Words};
-use crate::print::AnswerWords;
+use crate::print::{AnswerWords, VisibilityWord};
+use crate::seeing::sight;
 use dm_base::ids::{Crate, FileAstId, FileId, ModuleId};
 use dm_base::item_ids::ItemKind;
 use dm_base::mod_path::{ModPath, PathKind};
@@ -41,6 +42,8 @@ pub(crate) enum Reply {
     Nothing,
     Pushed(bool),
     Answered(ResolvePathResult),
+    Sees(bool),
+    Compared(Option<Visibility>),
 }
 
 impl fmt::Display for Reply {
@@ -49,9 +52,11 @@ impl fmt::Display for Reply {
     fn fmt<W: fmt::Write>(&self, f: &mut fmt::Formatter<W>) -> fmt::Result {
         match *self {
             Reply::Nothing => Ok(()),
-            Reply::Pushed(true) => f.write_str("true\n"),
-            Reply::Pushed(false) => f.write_str("false\n"),
+            Reply::Pushed(true) | Reply::Sees(true) => f.write_str("true\n"),
+            Reply::Pushed(false) | Reply::Sees(false) => f.write_str("false\n"),
             Reply::Answered(answer) => write!(f, "{}\n", AnswerWords(answer)),
+            Reply::Compared(None) => f.write_str("none\n"),
+            Reply::Compared(Some(visibility)) => write!(f, "{}\n", VisibilityWord(visibility)),
         }
     }
 }
@@ -102,9 +107,11 @@ impl Engine {
                 }
                 Command::Check => self.check(),
                 Command::Path(_) => Err(Fault::NeedsWorld),
+                Command::See(_) => Err(Fault::NeedsWorld),
             },
             Stage::Checked(world) => match command {
                 Command::Path(question) => answer(world, self.alloc, question),
+                Command::See(question) => sight(world, question),
                 _ => Err(Fault::NeedsBuilder),
             },
         }

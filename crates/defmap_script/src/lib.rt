@@ -1,12 +1,15 @@
 //! The script language of the tool: its words and lines, what they do, and the texts of answers.
 #![tactic(auto)]
 
+mod build_words;
 mod engine;
 mod fault;
 mod lines;
 pub mod print;
 pub mod read;
 pub mod script;
+mod seeing;
+mod seeing_lines;
 #[cfg(test)]
 mod tests;
 mod words;

@@ -6,6 +6,7 @@ ghost use Rattle.std.specs.Str.{is_utf8};
 ghost use Rattle.defmap_script.specs.Lines.{words, words_left, asked, said, said_in, said_of, command, crate_line, module_line, item_line, push_line, pushed, check_line, path_line};
 ghost use Rattle.defmap_script.specs.Words.{cut};
 
+use crate::seeing_lines::{Sight, max_line, min_line, sees_line};
 use crate::words::{
     edition, expected_macro, import, item_kind, macros_item, number, path_kind, resolve_mode,
     shadow_mode, types_item, values_item, visibility,
@@ -43,6 +44,7 @@ pub(crate) enum Command<'a> {
     },
     Check,
     Path(Question<'a>),
+    See(Sight),
 }
 
 /// A path, and how it is asked for.
@@ -70,7 +72,7 @@ impl<'a> Words<'a> {
     }
 
     /// Something where no word is left.
-    fn end(mut self) -> Option<()>
+    pub(crate) fn end(mut self) -> Option<()>
         ensures { MatchOption result (words_left self.entry ≢ []) (λ _. words_left self.entry ≡ []) }
     {
         match self.next() {
@@ -159,6 +161,9 @@ fn command_of<'a>(first: &str, words: Words<'a>) -> Option<Command<'a>>
         "push" => push_line(words),
         "check" => check_line(words),
         "path" => path_line(words),
+        "max" => Some(Command::See(max_line(words)?)),
+        "min" => Some(Command::See(min_line(words)?)),
+        "sees" => Some(Command::See(sees_line(words)?)),
         _ => None,
     }
 }

@@ -2,6 +2,7 @@
 mod forms;
 mod paths;
 mod refusals;
+mod seeing;
 
 use crate::script::{RunEnd, run_script};
 use std::alloc::{AllocError, Global};
