@@ -5,5 +5,7 @@ pub mod Engine
 pub mod Faults
 pub mod Lines
 pub mod Runs
+pub mod Seeing
+pub mod SeeingLines
 pub mod Texts
 pub mod Words

@@ -21,7 +21,9 @@ use Rattle.defmap_script.specs.declared.lines.Command.{Command}
 use Rattle.defmap_script.specs.declared.lines.Command.TheVariants as commands
 use Rattle.defmap_script.specs.declared.lines.Question.{Question}
 use Rattle.defmap_script.specs.declared.lines.Words.{Words}
+use Rattle.defmap_script.specs.declared.seeing_lines.Sight.{Sight}
 use Rattle.defmap_script.specs.BuildLines.{Added, added, addition}
+use Rattle.defmap_script.specs.SeeingLines.{max_line, min_line, sees_line}
 use Rattle.defmap_script.specs.Words.{number, expectations, import_word, macros_word, modes, path_kind, shadow_modes, types_word, values_word}
 
 -- the parts of a line between spaces that are not empty
@@ -46,6 +48,7 @@ pub data Asked : Type 0 where
   Checks : Asked
   Reopens : Asked
   Asks : Asking → Asked
+  Looks : Sight → Asked
 
 abbrev pub asking : Question → Asking
 asking q = record {
@@ -63,6 +66,7 @@ asked (commands.Push p) = Pushes p.module p.name.now p.res p.import
 asked commands.Check = Checks
 asked commands.Build = Reopens
 asked (commands.Path q) = Asks (asking q)
+asked (commands.See s) = Looks s
 
 -- three items and an import
 abbrev pub pushed_parts : Option (Option (Item ModuleDefId ImportOrExternCrate)) → Option (Option (Item ModuleDefId ImportOrGlob)) → Option (Option (Item MacroId ImportOrExternCrate)) → Option (Option ImportOrExternCrate) → Option (PerNs × Option ImportOrExternCrate)
@@ -99,7 +103,9 @@ path_line _ = None
 -- what reads the words behind each first word; behind every other, the line adds
 abbrev pub line_forms : List (Name × (List Name → Option Asked))
 line_forms =
-    (codes "push", push_line) ∷ (codes "check", check_line) ∷ (codes "build", build_line) ∷ (codes "path", path_line) ∷ []
+    (codes "push", push_line) ∷ (codes "check", check_line) ∷ (codes "build", build_line) ∷ (codes "path", path_line)
+    ∷ (codes "max", λ ws. option_map (λ s. Looks s) (max_line ws)) ∷ (codes "min", λ ws. option_map (λ s. Looks s) (min_line ws))
+    ∷ (codes "sees", λ ws. option_map (λ s. Looks s) (sees_line ws)) ∷ []
 
 abbrev pub command : List Name → Option Asked
 command [] = None

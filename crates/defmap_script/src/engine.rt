@@ -6,9 +6,11 @@ ghost use Rattle.defmap_script.specs.Lines.{asked, asking, Checks, Reopens, word
 use crate::building::add;
 use crate::fault::Fault;
 use crate::lines::{Command, Pushing, Question, Words};
-use crate::print::AnswerWords;
+use crate::print::{AnswerWords, VisibilityWord};
+use crate::seeing::sight;
 use dm_base::mod_path::ModPath;
 use dm_base::name::Name;
+use dm_base::visibility::Visibility;
 use dm_maps::builder::WorldBuilder;
 use dm_maps::def_map::DefMap;
 use dm_maps::local_def_map::LocalDefMap;
@@ -34,6 +36,8 @@ pub(crate) enum Reply {
     Nothing,
     Pushed(bool),
     Answered(ResolvePathResult),
+    Sees(bool),
+    Compared(Option<Visibility>),
 }
 
 impl fmt::Display for Reply {
@@ -42,9 +46,11 @@ impl fmt::Display for Reply {
     fn fmt<W: fmt::Write>(&self, f: &mut fmt::Formatter<W>) -> fmt::Result {
         match *self {
             Reply::Nothing => Ok(()),
-            Reply::Pushed(true) => f.write_str("true\n"),
-            Reply::Pushed(false) => f.write_str("false\n"),
+            Reply::Pushed(true) | Reply::Sees(true) => f.write_str("true\n"),
+            Reply::Pushed(false) | Reply::Sees(false) => f.write_str("false\n"),
             Reply::Answered(answer) => write!(f, "{}\n", AnswerWords(answer)),
+            Reply::Compared(None) => f.write_str("none\n"),
+            Reply::Compared(Some(visibility)) => write!(f, "{}\n", VisibilityWord(visibility)),
         }
     }
 }
@@ -89,11 +95,12 @@ impl Engine {
                 }
                 Command::Push(pushing) => push(builder, &mut self.globs, self.alloc, pushing),
                 Command::Check => self.check(),
-                Command::Build | Command::Path(_) => Err(Fault::NeedsWorld),
+                Command::Build | Command::Path(_) | Command::See(_) => Err(Fault::NeedsWorld),
             },
             Stage::Checked(world) => match command {
                 Command::Push(pushing) => push_within(world, &mut self.globs, self.alloc, pushing),
                 Command::Path(question) => answer(world, self.alloc, question),
+                Command::See(question) => sight(world, question),
                 Command::Build => self.build(),
                 Command::Add(_) | Command::Check => Err(Fault::NeedsBuilder),
             },

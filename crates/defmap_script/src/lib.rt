@@ -10,6 +10,8 @@ mod lines;
 pub mod print;
 pub mod read;
 pub mod script;
+mod seeing;
+mod seeing_lines;
 #[cfg(test)]
 mod tests;
 mod words;

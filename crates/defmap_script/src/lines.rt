@@ -7,6 +7,7 @@ ghost use Rattle.defmap_script.specs.Lines.{words, words_left, asked, said, said
 ghost use Rattle.defmap_script.specs.Words.{cut};
 
 use crate::build_lines::{Addition, addition_of};
+use crate::seeing_lines::{Sight, max_line, min_line, sees_line};
 use crate::words::{
     expected_macro, import, macros_item, number, path_kind, resolve_mode, shadow_mode, types_item,
     values_item,
@@ -26,6 +27,7 @@ pub(crate) enum Command<'a> {
     Check,
     Build,
     Path(Question<'a>),
+    See(Sight),
 }
 
 /// What a name resolved to, and by which import.
@@ -149,6 +151,9 @@ fn command_of<'a>(first: &str, words: Words<'a>) -> Option<Command<'a>>
         "check" => check_line(words),
         "build" => build_line(words),
         "path" => path_line(words),
+        "max" => Some(Command::See(max_line(words)?)),
+        "min" => Some(Command::See(min_line(words)?)),
+        "sees" => Some(Command::See(sees_line(words)?)),
         _ => Some(Command::Add(addition_of(first, words)?)),
     }
 }

@@ -2,6 +2,7 @@
 mod forms;
 mod paths;
 mod refusals;
+mod seeing;
 mod worlds;
 
 use crate::script::{RunEnd, run_script};

@@ -3,3 +3,4 @@ mod builtins;
 mod items;
 mod names;
 mod traits;
+mod visibility;
