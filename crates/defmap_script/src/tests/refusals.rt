@@ -108,7 +108,7 @@ fn each_refusal_names_its_line_and_fault(rt: HostRuntime) -> Result<(), Fail> {
         ("check\ncrate 2021 0", "refused 2 NeedsBuilder\n"),
         ("check\nmodule 9 a pub", "refused 2 NeedsBuilder\n"),
         ("check\nitem fn 9", "refused 2 NeedsBuilder\n"),
-        ("check\npush 9 S - - - none", "refused 2 NeedsBuilder\n"),
+        ("check\npush 9 S - - - none", "refused 2 Unknown\n"),
         ("check\ncheck", "refused 2 NeedsBuilder\n"),
         ("build", "refused 1 NeedsWorld\n"),
         (
@@ -164,6 +164,10 @@ fn each_refusal_names_its_line_and_fault(rt: HostRuntime) -> Result<(), Fail> {
             "refused 3 BadLine\n",
         ),
         ("module 0 a pub", "refused 1 NoSuchModule\n"),
+        (
+            "crate 2021 0\nmodule 0 a pub\nmodule 0 b pub\npush 1 z mod:9/pub/none - - none\ncheck",
+            "true\nrefused 5 UnknownModule m1 9\n",
+        ),
         ("crate 2021 0\nmodule 1 a pub", "refused 2 NoSuchModule\n"),
         ("item struct 0", "refused 1 NoSuchModule\n"),
         (

@@ -297,3 +297,91 @@ fn tables_that_name_what_is_not_there_fail_the_check(rt: HostRuntime) -> Result<
     }
     Ok(())
 }
+
+#[test]
+fn pushes_into_a_world_name_what_it_has(rt: HostRuntime) -> Result<(), Fail> {
+    let world = "crate 2021 0
+use 0
+item fn 0
+item enum 0
+variant 1 V tuple
+macro rules 0 builtin
+check
+";
+    let refused = [
+        "push 1 z - - - none",
+        "push 1 z mod:0/pub/none - - none",
+        "push 0 z mod:1/pub/none - - none",
+        "push 0 z fn:1/pub/none - - none",
+        "push 0 z - struct:0/pub/none - none",
+        "push 0 z type:2/pub/none - - none",
+        "push 0 z variant:1/pub/none - - none",
+        "push 0 z - - rules:1/pub/none none",
+        "push 0 z - - macro2:0/pub/none none",
+        "push 0 z proc:0/pub/none - - none",
+        "push 0 z fn:0/in:1:implicit/none - - none",
+        "push 0 z fn:0/crate:1/none - - none",
+        "push 0 z fn:0/pub/import:1:0 - - none",
+        "push 0 z - fn:0/pub/glob:1:0 - none",
+        "push 0 z - - - import:1:0",
+        "push 0 z - - - glob:1:0",
+    ];
+    for line in refused {
+        let (out, end) = ran(rt.alloc(), world.as_bytes(), line.as_bytes())?;
+        assert_eq!(rt; end, RunEnd::Refused, "{line}");
+        assert_eq!(rt; out.as_slice(), b"refused 8 Unknown\n".as_slice(), "{line}");
+    }
+    let answered = [
+        "push 0 z mod:0/pub/none fn:0/in:0:explicit/none rules:0/crate:0/none none",
+        "push 0 z variant:0/pub/import:0:9 variant:0/pub/glob:0:9 - import:0:7",
+        "push 0 z enum:1/pub/extern:9 - rules:0/pub/extern:9 extern:9",
+        "push 0 z builtin:u8/pub/none - - none",
+        "push 0 z - - - glob:0:4294967295",
+    ];
+    for line in answered {
+        let (out, end) = ran(rt.alloc(), world.as_bytes(), line.as_bytes())?;
+        assert_eq!(rt; end, RunEnd::Done, "{line}");
+        assert_eq!(rt; out.as_slice(), b"true\n".as_slice(), "{line}");
+    }
+    Ok(())
+}
+
+#[test]
+fn paths_of_greater_worlds_are_refused(rt: HostRuntime) -> Result<(), Fail> {
+    let greater = [
+        "use 0\ncrate 2021 0",
+        "use 0\nblock 0 0",
+        "item enum 0\nvariant 0 V unit",
+        "use 0\nmacro rules 0 builtin",
+        "use 0\nprelude c0 0",
+        "use 0\nextern 0 d 0 none",
+    ];
+    for lines in greater {
+        let world = format!(in rt.alloc(); "crate 2021 0\n{lines}\ncheck\n")?;
+        let (out, _) = ran(
+            rt.alloc(),
+            world.as_bytes(),
+            b"path 0 other module any crate",
+        )?;
+        assert_eq!(rt;
+            out.as_slice(),
+            b"refused 5 BadLine\n".as_slice(),
+            "{lines}"
+        );
+        let (out, _) = ran(
+            rt.alloc(),
+            world.as_bytes(),
+            b"path 9 other module any crate",
+        )?;
+        assert_eq!(rt;
+            out.as_slice(),
+            b"refused 5 Unknown\n".as_slice(),
+            "{lines}"
+        );
+    }
+    let world = "crate 2024 0\nuse 0\nitem trait 0\ncheck\n";
+    let line = b"path 0 other module any crate\n";
+    let (out, _) = ran(rt.alloc(), world.as_bytes(), line.as_slice())?;
+    assert_eq!(rt; out.as_slice(), b"mod:0/pub/none - - yes - -\n".as_slice());
+    Ok(())
+}
