@@ -3,6 +3,8 @@ pub mod Paths
 pub mod Walk
 pub mod Written
 pub mod WorldA
+pub mod WorldS
 pub mod WorldT
 pub mod RowsA
+pub mod RowsS
 pub mod RowsT
