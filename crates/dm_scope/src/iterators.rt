@@ -71,7 +71,8 @@ impl Pick<(ImplId, bool)> for AnyImpl {
     ghost shown = { any_impl };
 
     fn pick(&self, x: &(ImplId, bool)) -> Option<ImplId> {
-        Some(x.0)
+        let (id, _) = *x;
+        Some(id)
     }
 }
 

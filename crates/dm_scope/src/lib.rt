@@ -3,6 +3,7 @@
 
 pub mod bindings;
 pub mod derives;
+pub mod diagnostics;
 pub mod glob_imports;
 pub mod import_records;
 pub mod item_scope;

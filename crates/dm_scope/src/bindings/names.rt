@@ -15,9 +15,9 @@ impl<D: Definition, I: ImportSource> Bindings<D, I> {
         ensures { option_map deref_named result ≡ first_of (names_in D.eq def self.now.items) }
     {
         let mut entries = self.items.iter();
-        while let Some((name, item)) = entries.next() {
-            if item.def == def {
-                return Some((name, item.vis, item.import.is_none()));
+        while let Some((name, bound)) = entries.next() {
+            if bound.def == def {
+                return Some((name, bound.vis, bound.import.is_none()));
             }
         }
         None
