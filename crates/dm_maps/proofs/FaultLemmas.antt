@@ -10,11 +10,11 @@ use Rattle.dm_maps.specs.World.{World}
 use Rattle.dm_maps.specs.Faults.{first_fault, child_fault, lacks_module, has_child, is_full}
 
 -- there is no fault only where no test is true
-skipped : (b : Bool) (x : BuildFault) (r : Option BuildFault) → cond b (Some x) r ≡ None → (b ≡ false) × (r ≡ None)
+pub skipped : (b : Bool) (x : BuildFault) (r : Option BuildFault) → cond b (Some x) r ≡ None → (b ≡ false) × (r ≡ None)
 skipped true x r h = cc
 skipped false x r h = (refl, h)
 
-below : (a b : ℕ) → not (nat_lt a b) ≡ false → a < b
+pub below : (a b : ℕ) → not (nat_lt a b) ≡ false → a < b
 below a b h = ltb-true a b (by (nat_lt a b) h)
   where
     by : (t : Bool) → not t ≡ false → t ≡ true

@@ -8,7 +8,7 @@ use Rattle.dm_base.specs.declared.ids.MapId.{MapId}
 use Rattle.dm_base.specs.declared.ids.ModuleId.{ModuleId}
 use Rattle.dm_maps.specs.declared.held.HeldId.TheVariants as held
 use Rattle.dm_maps.specs.declared.place.Place.{Place}
-use Rattle.dm_maps.specs.Facts.{HasContainer, Standing, IsInOrder}
+use Rattle.dm_maps.specs.Facts.{IsAscending, HasContainer, Standing, IsInOrder}
 use Rattle.dm_maps.specs.Known.{knows}
 use Rattle.dm_maps.specs.Maps.{Map, Module, Modules, module_at, nth_module}
 use Rattle.dm_maps.specs.Trees.{no_map, Outline, outline, containers_of, map_id_in, IsMap, IsWorld}
@@ -91,6 +91,12 @@ module _ (w : World) (is : IsWorld w) where
             let place : p ≡ record { map = own_map.id; index = f.0; parent = d.parent } = cc in
             sym f.1 ∙ ap (λ (y : Place). nth_module own_map.modules y.index) (sym place) ∙ nth
 
+    ascending : IsAscending own_map.modules
+    ascending i j a b less g h = lawful.ascending i j (entry a) (entry b) less (as_entry i a g) (as_entry j b h)
+      where
+        as_entry : (k : ℕ) (x : ModuleId × Module) → slice_get own_map.modules k ≡ Some x → slice_get (map entry own_map.modules) k ≡ Some (entry x)
+        as_entry k x f = slice_get-map entry own_map.modules k ∙ ap (option_map entry) f
+
     parent-stands : (q : ModuleId) → found.0.parent ≡ Some q → (q.0 < m.0) × (map_of w q ≡ Some own_map)
     parent-stands q g =
         let up = (is.placed m p e).parent q (sym found.2 ∙ g) in
@@ -141,6 +147,7 @@ module _ (w : World) (is : IsWorld w) where
       own = map-own w is m own_map lies;
       is = ap (option_and_then (module_in w)) e ∙ found.1;
       listed = listed;
+      ascending = ascending;
       parent = parent-stands;
       root = (root-first, root-alone);
       block = block-stands;

@@ -3,8 +3,12 @@ pub mod ResultLemmas
 pub mod GrowthLemmas
 pub mod ModuleGrowth
 pub mod CrateGrowth
+pub mod BlockGrowth
+pub mod BlockMade
+pub mod MapsKept
 pub mod WorldGrowth
 pub mod FaultLemmas
+pub mod VariantLemmas
 pub mod ScopeLemmas
 pub mod AllLemmas
 pub mod Sets

@@ -1,11 +1,11 @@
 -- What holds of the modules and maps of every world, whatever its scopes bind.
-use Rattle.std.specs.Prelude.{◌≡◌, ◌↔◌, ◌<◌, IsTrue, Some, None}
+use Rattle.std.specs.Prelude.{◌≡◌, ◌↔◌, ◌<◌, ℕ, IsTrue, Some, None, slice_get}
 use Rattle.dm_base.specs.declared.ids.BlockId.{BlockId}
 use Rattle.dm_base.specs.declared.ids.Crate.{Crate}
 use Rattle.dm_base.specs.declared.ids.ModuleId.{ModuleId}
 use Rattle.dm_maps.specs.declared.held.HeldId.TheVariants as held
 use Rattle.dm_maps.specs.Known.{knows}
-use Rattle.dm_maps.specs.Maps.{Map, Module, module_at}
+use Rattle.dm_maps.specs.Maps.{Map, Module, Modules, module_at}
 use Rattle.dm_maps.specs.World.{World, map_of, module_of, numbered_map}
 
 -- a module of smaller number than m contains the block of m's map, and lies in a map of the crate k
@@ -17,6 +17,10 @@ pub record HasContainer (w : World) (m : ModuleId) (map : Map) (k : Crate) : Typ
   pub lies : map_of w container ≡ Some its_map
   pub same_crate : its_map.id.krate ≡ k
 
+-- a map lists its modules in order of number
+abbrev pub IsAscending : Modules → Type 0
+IsAscending es = (i j : ℕ) (a b : ModuleId × Module) → i < j → slice_get es i ≡ Some a → slice_get es j ≡ Some b → a.0.0 < b.0.0
+
 -- how a module m stands in its world
 pub record Standing (w : World) (m : ModuleId) : Type 0 where
   -- it lies in a map of the world, which has it under its number
@@ -26,6 +30,8 @@ pub record Standing (w : World) (m : ModuleId) : Type 0 where
   pub own : numbered_map w map.id ≡ Some map
   pub is : module_of w m ≡ Some there
   pub listed : module_at map.modules m ≡ Some there
+  -- which lists its modules in order of number
+  pub ascending : IsAscending map.modules
   -- a parent has a smaller number, and lies in the same map
   pub parent : (q : ModuleId) → there.parent ≡ Some q → (q.0 < m.0) × (map_of w q ≡ Some map)
   -- a map has one module without a parent, its root

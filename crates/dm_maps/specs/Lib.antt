@@ -3,8 +3,13 @@ pub mod Maps
 pub mod World
 pub mod Asked
 pub mod Build
+pub mod BuildItems
+pub mod BuildBlocks
+pub mod BuildMaps
 pub mod Facts
+pub mod MapChanges
 pub mod Faults
+pub mod ItemFaults
 pub mod First
 pub mod Held
 pub mod Holds

@@ -130,14 +130,14 @@ impl WorldBuilder {
     }
 
     /// Whether there is no number for another module.
-    fn is_full(&self) -> bool
+    pub(crate) fn is_full(&self) -> bool
         ensures { result ≡ is_full self.now.places }
     {
         !(self.places.len() < LAST_NUMBER)
     }
 
     /// The number of the next module.
-    fn next_module(&self) -> ModuleId
+    pub(crate) fn next_module(&self) -> ModuleId
         requires { length self.now.places < 4294967295 }
         ensures { result ≡ next_module self.now }
     {

@@ -1,11 +1,13 @@
 //! The map of a crate or of a block.
-ghost use Rattle.std.specs.Prelude.{◌≡◌, ◌↔◌, IsTrue, IsSome, Some, None, IfOk, OnOk, OnErr};
+ghost use Rattle.std.specs.Prelude.{◌≡◌, ◌↔◌, false, IsTrue, IsSome, Some, None, IsOk, IfOk, OnOk, OnErr};
 ghost use Rattle.std.specs.Option.{option_copied, option_copied_mut};
 ghost use Rattle.std.specs.Borrow.{sem};
 ghost use Rattle.dm_base.specs.Names.{find_name};
 ghost use Rattle.dm_maps.specs.Maps.{module_at, nth_module, scope_at, fresh_map, map_with_child};
 ghost use Rattle.dm_maps.specs.LendingMap.{LendsMapScope};
+ghost use Rattle.dm_maps.specs.MapChanges.{changed, grows};
 
+use crate::map_change::MapChange;
 use crate::module_data::ModuleData;
 use crate::modules_map::ModulesMap;
 use dm_base::ids::{BlockId, Crate, ExternCrateId, MapId, ModuleId, UseId};
@@ -159,6 +161,21 @@ impl DefMap {
         ensures err { OnErr result (self.new ≡ self.old) }
     {
         self.modules.add_child(i, name, m, added)?;
+        Ok(())
+    }
+
+    /// Makes a change.
+    pub(crate) fn change(&mut self, change: MapChange) -> Result<(), AllocError>
+        ensures ok { OnOk result (self.new ≡ changed change self.old) }
+        ensures err { OnErr result (self.new ≡ self.old) }
+        ensures free { grows change ≡ false → IsOk result }
+    {
+        match change {
+            MapChange::Prelude(named) => self.prelude = named,
+            MapChange::MacroUse(name, entry) => {
+                self.macro_use_prelude.insert(name, entry)?;
+            }
+        }
         Ok(())
     }
 

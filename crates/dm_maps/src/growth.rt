@@ -141,7 +141,7 @@ pub(crate) fn add_child(
 }
 
 /// Adds a map, with the place of its root.
-fn add_map(
+pub(crate) fn add_map(
     places: &mut Vec<Place>,
     place: Place,
     maps: &mut Vec<DefMap>,

@@ -1,10 +1,14 @@
 //! The maps of crates and blocks, and checked worlds of them.
 #![tactic(auto)]
 
+mod add_blocks;
 mod add_items;
 mod add_modules;
+mod add_uses;
+mod add_variants;
 pub mod build_fault;
 pub mod builder;
+mod change_maps;
 mod check;
 pub mod def_map;
 pub mod fault;
@@ -15,6 +19,7 @@ mod in_order;
 mod knows;
 pub mod local_def_map;
 mod local_hash;
+pub(crate) mod map_change;
 mod map_queries;
 pub mod maps_of;
 pub mod modes;

@@ -1,0 +1,56 @@
+-- A block more keeps what holds of every world.
+use Rattle.std.proofs.Common.{◌≡◌, ◌<◌, ℕ, List, [], ◌∷◌, ◌++◌, Option, Some, None, length, map, slice_get, sym, ap, ◌∙◌, subst, refl}
+use Rattle.std.specs.Option.{option_map_or}
+use Rattle.std.proofs.lemmas.List.{length-map}
+use Rattle.dm_base.specs.declared.ids.ModuleId.{ModuleId}
+use Rattle.dm_base.specs.declared.ids.BlockId.{BlockId}
+use Rattle.dm_base.specs.declared.ids.Crate.{Crate}
+use Rattle.dm_base.specs.declared.ids.MapId.{MapId}
+use Rattle.dm_base.specs.declared.source.AstId.{AstId}
+use Rattle.dm_maps.specs.declared.place.Place.{Place}
+use Rattle.dm_maps.specs.Maps.{Map}
+use Rattle.dm_maps.specs.World.{World, crate_map}
+use Rattle.dm_maps.specs.Build.{next_module}
+use Rattle.dm_maps.specs.BuildBlocks.{next_block, crate_in, fresh_block, with_block_of, with_block}
+use Rattle.dm_maps.specs.Trees.{Outline, outline, outlines, containers_of, IsWorldOf, IsWorld}
+use Rattle.dm_maps.proofs.ModuleGrowth.{map-push}
+use Rattle.dm_maps.proofs.BlockGrowth.{IsWorldOf-block}
+
+-- the world of a block more is lawful
+pub IsWorld-block_of : (w : World) (m : ModuleId) (a : AstId) (c : Map) → IsWorld w → m.0 < length w.places → length w.places < 4294967295 → IsWorld (with_block_of w (crate_in w m) m a c)
+IsWorld-block_of w m a c is known room =
+    let b = w.block_maps in
+    let new = fresh_block c (crate_in w m) (next_block w) m a (next_module w) in
+    let count : length (outlines b) ≡ length b = length-map b outline in
+    let inside : length (containers_of b) ≡ length b = length-map b (λ (x : Map). x.parent) in
+    let grown = IsWorldOf-block w.places (outlines w.crate_maps) (outlines b) (containers_of b) (length w.local_maps) is room m known (crate_in w m) refl (inside ∙ sym count) in
+    let maps : outlines b ++ outline new ∷ [] ≡ outlines (b ++ new ∷ []) = sym (map-push outline b new) in
+    let containers : containers_of b ++ Some m ∷ [] ≡ containers_of (b ++ new ∷ []) = sym (map-push (λ (x : Map). x.parent) b new) in
+    let P : ℕ → List Outline → List (Option ModuleId) → Type 0 = λ n bs cs. IsWorldOf (w.places ++ (record { map = record { krate = crate_in w m; block = Some (record { 0 = n }) }; index = 0; parent = None }) ∷ []) (outlines w.crate_maps) bs cs (length w.local_maps) in
+    let Q : ℕ → Type 0 = λ n. P n (outlines b ++ (record { id = record { krate = crate_in w m; block = Some (record { 0 = n }) }; root = next_module w; modules = (next_module w, None) ∷ [] }) ∷ []) (containers_of b ++ Some m ∷ []) in
+    subst (P (length b) (outlines (b ++ new ∷ []))) containers
+    (subst (λ bs. P (length b) bs (containers_of b ++ Some m ∷ [])) maps
+    (subst Q count grown))
+
+-- the tables with a block more, one by one
+pub block-made : (w old : World) → w ≡ old → (m : ModuleId) (a : AstId) (c : Map) (k : Crate) (b : BlockId) (root : ModuleId) (map : Map) (blocks : List Map) (places : List Place)
+    → k ≡ crate_in old m → b ≡ next_block old → root ≡ next_module old → map ≡ fresh_block c k b m a root → crate_map w k ≡ Some c
+    → places ≡ w.places ++ (record { map = record { krate = k; block = Some b }; index = 0; parent = None }) ∷ [] → blocks ≡ w.block_maps ++ map ∷ []
+    → record w { block_maps = blocks; places = places } ≡ with_block old m a
+block-made w old view m a c k b root map blocks places crate number first is there p q =
+    let kk : k ≡ crate_in w m = crate ∙ ap (λ (x : World). crate_in x m) (sym view) in
+    let bb : b ≡ next_block w = number ∙ ap next_block (sym view) in
+    let rr : root ≡ next_module w = first ∙ ap next_module (sym view) in
+    (λ i. record w { block_maps = q i; places = p i })
+    ∙ (λ i. record w { block_maps = w.block_maps ++ is i ∷ []; places = w.places ++ (record { map = record { krate = k; block = Some b }; index = 0; parent = None }) ∷ [] })
+    ∙ (λ i. record w { block_maps = w.block_maps ++ fresh_block c (kk i) (bb i) m a (rr i) ∷ []; places = w.places ++ (record { map = record { krate = kk i; block = Some (bb i) }; index = 0; parent = None }) ∷ [] })
+    ∙ sym (ap (λ o. option_map_or (with_block_of w (crate_in w m) m a) o w) (ap (crate_map w) (sym kk) ∙ there))
+    ∙ ap (λ (x : World). with_block x m a) view
+
+-- where the crate has a map
+pub IsWorld-block : (w : World) (m : ModuleId) (a : AstId) → IsWorld w → m.0 < length w.places → length w.places < 4294967295 → IsWorld (with_block w m a)
+IsWorld-block w m a is known room = by (crate_map w (crate_in w m))
+  where
+    by : (o : Option Map) → IsWorld (option_map_or (with_block_of w (crate_in w m) m a) o w)
+    by None = is
+    by (Some c) = IsWorld-block_of w m a c is known room

@@ -1,0 +1,57 @@
+-- What is set in maps, beside their modules, keeps what holds of every world.
+use Rattle.std.proofs.Common.{◌≡◌, ℕ, List, Option, Some, None, length, set, slice_get, refl, subst, sym, ap, ◌∙◌}
+use Rattle.std.proofs.Math.ListN.{length-set}
+use Rattle.std.specs.Option.{option_map_or}
+use Rattle.dm_base.specs.declared.ids.BlockId.{BlockId}
+use Rattle.dm_base.specs.declared.ids.MapId.{MapId}
+use Rattle.dm_base.specs.declared.ids.ModuleId.{ModuleId}
+use Rattle.dm_maps.specs.declared.map_change.MapChange.{MapChange}
+use Rattle.dm_maps.specs.declared.map_change.MapChange.TheVariants.{Prelude, MacroUse}
+use Rattle.dm_maps.specs.Maps.{Map, LocalMap}
+use Rattle.dm_maps.specs.World.{World}
+use Rattle.dm_maps.specs.BuildMaps.{maps_with, crate_maps_with, block_maps_with, with_map, locals_with}
+use Rattle.dm_maps.specs.MapChanges.{changed}
+use Rattle.dm_maps.specs.Trees.{Outline, outline, outlines, containers_of, IsWorldOf, IsWorld}
+use Rattle.dm_maps.proofs.ModuleGrowth.{map-set_own}
+
+-- what leaves a map's id, root and modules, and the module that contains its block
+pub record Keeps (f : Map → Map) : Type 0 where
+  pub shape : (m : Map) → outline (f m) ≡ outline m
+  pub around : (m : Map) → (f m).parent ≡ m.parent
+
+outlines-with : (f : Map → Map) → Keeps f → (ms : List Map) (k : ℕ) → outlines (maps_with ms k f) ≡ outlines ms
+outlines-with f keeps ms k = by (slice_get ms k) refl
+  where
+    by : (o : Option Map) → slice_get ms k ≡ o → outlines (option_map_or (λ m. set ms k (f m)) o ms) ≡ outlines ms
+    by None e = refl
+    by (Some x) e = map-set_own outline ms k x (f x) e (keeps.shape x)
+
+containers-with : (f : Map → Map) → Keeps f → (ms : List Map) (k : ℕ) → containers_of (maps_with ms k f) ≡ containers_of ms
+containers-with f keeps ms k = by (slice_get ms k) refl
+  where
+    by : (o : Option Map) → slice_get ms k ≡ o → containers_of (option_map_or (λ m. set ms k (f m)) o ms) ≡ containers_of ms
+    by None e = refl
+    by (Some x) e = map-set_own (λ (y : Map). y.parent) ms k x (f x) e (keeps.around x)
+
+pub IsWorld-with_map : (w : World) (id : MapId) (f : Map → Map) → Keeps f → IsWorld w → IsWorld (with_map w id f)
+IsWorld-with_map w id f keeps is = by id.block
+  where
+    P : List Outline → List Outline → List (Option ModuleId) → Type 0
+    P cs bs inside = IsWorldOf w.places cs bs inside (length w.local_maps)
+
+    by : (block : Option BlockId) → P (outlines (elim block [ None ↦ maps_with w.crate_maps id.krate.0 f | Some b ↦ w.crate_maps ])) (outlines (elim block [ None ↦ w.block_maps | Some b ↦ maps_with w.block_maps b.0 f ])) (containers_of (elim block [ None ↦ w.block_maps | Some b ↦ maps_with w.block_maps b.0 f ]))
+    by None = subst (λ cs. P cs (outlines w.block_maps) (containers_of w.block_maps)) (sym (outlines-with f keeps w.crate_maps id.krate.0)) is
+    by (Some b) =
+        subst (P (outlines w.crate_maps) (outlines (maps_with w.block_maps b.0 f))) (sym (containers-with f keeps w.block_maps b.0))
+        (subst (λ bs. P (outlines w.crate_maps) bs (containers_of w.block_maps)) (sym (outlines-with f keeps w.block_maps b.0)) is)
+
+pub Keeps-changed : (change : MapChange) → Keeps (changed change)
+Keeps-changed (Prelude p) = record { shape = λ m. refl; around = λ m. refl }
+Keeps-changed (MacroUse n e) = record { shape = λ m. refl; around = λ m. refl }
+
+pub length-locals_with : (Ls : List LocalMap) (k : ℕ) (f : LocalMap → LocalMap) → length (locals_with Ls k f) ≡ length Ls
+length-locals_with Ls k f = by (slice_get Ls k)
+  where
+    by : (o : Option LocalMap) → length (option_map_or (λ L. set Ls k (f L)) o Ls) ≡ length Ls
+    by None = refl
+    by (Some L) = length-set Ls k (f L)

@@ -1,0 +1,65 @@
+-- What is set in the maps of a builder, and in its extern preludes.
+use Rattle.std.specs.Prelude.{◌≡◌, ℕ, Bool, not, true, nat_eq, List, [], ◌∷◌, Option, Some, None, Result, Err, IsOk, slice_get, slice_set}
+use Rattle.std.specs.Option.{option_map_or}
+use Rattle.indexmap.specs.IndexMap.{insert_entry}
+use Rattle.dm_base.specs.declared.ids.Crate.{Crate}
+use Rattle.dm_base.specs.declared.ids.ExternCrateId.{ExternCrateId}
+use Rattle.dm_base.specs.declared.ids.MapId.{MapId}
+use Rattle.dm_base.specs.declared.ids.ModuleId.{ModuleId}
+use Rattle.dm_base.specs.declared.ids.UseId.{UseId}
+use Rattle.dm_base.specs.declared.item_ids.MacroId.{MacroId}
+use Rattle.dm_base.specs.Names.{Name, same_name}
+use Rattle.dm_maps.specs.declared.build_fault.BuildFault.{BuildFault}
+use Rattle.dm_maps.specs.declared.build_fault.BuildFault.TheVariants.{NoSuchCrate}
+use Rattle.dm_maps.specs.declared.held.HeldId.TheVariants as held
+use Rattle.dm_maps.specs.Maps.{Map, LocalMap}
+use Rattle.dm_maps.specs.World.{World, numbered_map}
+use Rattle.dm_maps.specs.Known.{knows}
+use Rattle.dm_maps.specs.Faults.{first_fault}
+use Rattle.dm_maps.specs.Locals.{with_extern}
+
+-- the maps, with f of the one of number k
+abbrev pub maps_with : List Map → ℕ → (Map → Map) → List Map
+maps_with ms k f = option_map_or (λ m. slice_set ms k (f m)) (slice_get ms k) ms
+
+abbrev pub crate_maps_with : List Map → MapId → (Map → Map) → List Map
+crate_maps_with ms id f = elim id.block [ None ↦ maps_with ms id.krate.0 f | Some b ↦ ms ]
+
+abbrev pub block_maps_with : List Map → MapId → (Map → Map) → List Map
+block_maps_with ms id f = elim id.block [ None ↦ ms | Some b ↦ maps_with ms b.0 f ]
+
+-- the world, with f of the map of that id
+abbrev pub with_map : World → MapId → (Map → Map) → World
+with_map w id f = record w { crate_maps = crate_maps_with w.crate_maps id f; block_maps = block_maps_with w.block_maps id f }
+
+-- with that prelude module, or none
+abbrev pub with_prelude : World → MapId → Option (ModuleId × Option UseId) → World
+with_prelude w id p = with_map w id (λ m. record m { prelude = p })
+
+-- with a macro that `#[macro_use]` brings: a name that is there keeps its place and takes the new macro
+abbrev pub with_macro_use : World → MapId → Name → MacroId → Option ExternCrateId → World
+with_macro_use w id n m x = with_map w id (λ map. record map { macro_use = insert_entry same_name map.macro_use n (m, x) })
+
+abbrev pub locals_with : List LocalMap → ℕ → (LocalMap → LocalMap) → List LocalMap
+locals_with Ls k f = option_map_or (λ L. slice_set Ls k (f L)) (slice_get Ls k) Ls
+
+-- with an entry of a crate's extern prelude
+abbrev pub with_extern_of : World → Crate → Name → ModuleId → Option ExternCrateId → World
+with_extern_of w k n m x = record w { local_maps = locals_with w.local_maps k.0 (λ L. with_extern L n m x) }
+
+-- there is no map of that number, or it is another crate's
+abbrev pub lacks_map : World → MapId → Bool
+lacks_map w id = option_map_or (λ m. not (nat_eq m.id.krate.0 id.krate.0)) (numbered_map w id) true
+
+-- of what is set in a map
+abbrev pub map_fault : World → MapId → Option BuildFault
+map_fault w id = first_fault ((lacks_map w id, NoSuchCrate) ∷ [])
+
+-- of what is set for a crate
+abbrev pub krate_fault : World → Crate → Option BuildFault
+krate_fault w k = first_fault ((not (knows w (held.Crate k)), NoSuchCrate) ∷ [])
+
+-- the fault that there is, and none else, since no memory is taken
+abbrev pub AnswersFree : {A : Type 0} → Option BuildFault → Result A BuildFault → Type 0
+AnswersFree None r = IsOk r
+AnswersFree (Some fault) r = r ≡ Err fault

@@ -1,0 +1,17 @@
+-- What is set in one map.
+use Rattle.std.specs.Prelude.{Bool, true, false}
+use Rattle.indexmap.specs.IndexMap.{insert_entry}
+use Rattle.dm_base.specs.Names.{same_name}
+use Rattle.dm_maps.specs.declared.map_change.MapChange.{MapChange}
+use Rattle.dm_maps.specs.declared.map_change.MapChange.TheVariants.{Prelude, MacroUse}
+use Rattle.dm_maps.specs.Maps.{Map}
+
+-- the map after it: an entry of a table that is set again keeps its place and is replaced
+abbrev pub changed : MapChange → Map → Map
+changed (Prelude p) m = record m { prelude = p }
+changed (MacroUse n e) m = record m { macro_use = insert_entry same_name m.macro_use n e }
+
+-- whether it takes memory
+abbrev pub grows : MapChange → Bool
+grows (Prelude p) = false
+grows (MacroUse n e) = true
