@@ -1,15 +1,13 @@
 -- How each module of a world stands.
-use Rattle.std.proofs.Common.{◌≡◌, ◌<◌, ℕ, zero, suc, Bool, true, false, cond, [], ◌∷◌, Option, None, Some, length, map, slice_get, nat_eq, refl, sym, ap, ◌∙◌, IsTrue, IsSome, true≢false, arith}
+use Rattle.std.proofs.Common.{◌≡◌, ◌<◌, ℕ, suc, Bool, true, false, cond, [], ◌∷◌, Option, None, Some, length, map, slice_get, nat_eq, refl, sym, ap, ◌∙◌, IsSome, true≢false, arith}
 use Rattle.std.proofs.lemmas.Bool.{ltb-true, eqb-true}
 use Rattle.std.proofs.lemmas.Option.{slice_get-map, slice_get_within}
 use Rattle.std.specs.Option.{option_map, option_map_or, option_and_then}
 use Rattle.dm_base.specs.declared.ids.BlockId.{BlockId}
 use Rattle.dm_base.specs.declared.ids.MapId.{MapId}
 use Rattle.dm_base.specs.declared.ids.ModuleId.{ModuleId}
-use Rattle.dm_maps.specs.declared.held.HeldId.TheVariants as held
 use Rattle.dm_maps.specs.declared.place.Place.{Place}
 use Rattle.dm_maps.specs.Facts.{IsAscending, HasContainer, Standing, IsInOrder}
-use Rattle.dm_maps.specs.Known.{knows}
 use Rattle.dm_maps.specs.Maps.{Map, Module, Modules, module_at, nth_module}
 use Rattle.dm_maps.specs.Trees.{no_map, Outline, outline, containers_of, map_id_in, IsMap, IsWorld}
 use Rattle.dm_maps.specs.World.{World, map_of, module_in, numbered_map}
