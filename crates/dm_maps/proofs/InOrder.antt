@@ -117,7 +117,7 @@ module _ (w : World) (is : IsWorld w) where
         let place : p ≡ record { map = own_map.id; index = 0; parent = None } = cc in
         found.2 ∙ ap (λ (y : Place). y.parent) place
 
-    block-stands : (b : BlockId) → own_map.id.block ≡ Some b → HasContainer w m own_map own_map.id.krate
+    block-stands : (b : BlockId) → own_map.id.block ≡ Some b → HasContainer w m own_map
     block-stands b g =
         let in_block : p.map.block ≡ Some b = ap (λ (id : MapId). id.block) (sym at.2) ∙ g in
         let within_is = (is.placed m p e).block b in_block in
