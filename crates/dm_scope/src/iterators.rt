@@ -1,6 +1,7 @@
 //! The iterators of a scope. Each is seen as the list of what it has left.
-ghost use Rattle.std.specs.Prelude.{◌≡◌, ◌++◌, length, map};
-ghost use Rattle.std.specs.Iterator.{at_most};
+ghost use Rattle.std.specs.Prelude.{◌≡◌, ◌++◌, Some, IfSome, length, map};
+ghost use Rattle.std.specs.Iterator.{at_most, UpTo};
+ghost use Rattle.std.specs.Iterator.SizeHint.{IsWithinCount};
 ghost use Rattle.std.specs.List.{filter_map};
 ghost use Rattle.std.specs.Map.Iter.{TakesFirst, deref_pair};
 ghost use Rattle.dm_scope.specs.Derives.{derives_of, deref_derives};
@@ -56,8 +57,13 @@ impl<'a, T: Copy> Iterator for Listed<'a, T> {
         Some(*item)
     }
 
-    fn size_hint(&self) -> (usize, Option<usize>) {
-        self.rest.size_hint()
+    fn size_hint(&self) -> (usize, Option<usize>)
+        ensures lower { IsWithinCount result.0 (at_most (length self.now)) }
+        ensures upper { IfSome result.1 (UpTo (at_most (length self.now))) }
+        ensures exact { result ≡ (length self.now, Some (length self.now)) }
+    {
+        let left = self.rest.len();
+        (left, Some(left))
     }
 }
 
