@@ -1,9 +1,8 @@
 -- What holds of every world still holds with a block more.
-use Rattle.std.proofs.Common.{◌≡◌, ◌<◌, ◌≤◌, ◌+◌, ℕ, List, [], ◌∷◌, ◌++◌, Option, Some, None, length, slice_get, inl, inr, sym, ap, ◌∙◌, refl, subst, arith, length-append}
+use Rattle.std.proofs.Common.{◌≡◌, ◌<◌, ◌≤◌, ◌+◌, ℕ, List, [], ◌∷◌, ◌++◌, Option, Some, length, slice_get, inl, inr, sym, ap, ◌∙◌, refl, subst, arith, length-append}
 use Rattle.std.specs.Option.{option_and_then, option_map_or}
 use Rattle.std.proofs.lemmas.Option.{slice_get_within}
 use Rattle.dm_base.specs.declared.ids.ModuleId.{ModuleId}
-use Rattle.dm_base.specs.declared.ids.BlockId.{BlockId}
 use Rattle.dm_base.specs.declared.ids.Crate.{Crate}
 use Rattle.dm_base.specs.declared.ids.MapId.{MapId}
 use Rattle.dm_maps.specs.declared.place.Place.{Place}

@@ -1,5 +1,5 @@
 -- What is set in maps, beside their modules, keeps what holds of every world.
-use Rattle.std.proofs.Common.{◌≡◌, ℕ, Bool, true, false, cond, nat_eq, List, [], ◌∷◌, Option, Some, None, length, set, slice_get, refl, subst, sym, ap, ◌∙◌}
+use Rattle.std.proofs.Common.{◌≡◌, ℕ, Bool, true, false, cond, nat_eq, List, [], ◌∷◌, Option, Some, None, length, set, slice_get, refl, subst, sym}
 use Rattle.std.proofs.Math.ListN.{length-set}
 use Rattle.std.specs.Option.{option_map_or}
 use Rattle.dm_base.specs.declared.ids.BlockId.{BlockId}
@@ -12,7 +12,7 @@ use Rattle.dm_maps.specs.BuildCrateData.{map_with_shared, with_shared}
 use Rattle.dm_maps.specs.CrateData.{CrateData}
 use Rattle.dm_maps.specs.Maps.{Map, LocalMap}
 use Rattle.dm_maps.specs.World.{World}
-use Rattle.dm_maps.specs.BuildMaps.{maps_with, crate_maps_with, block_maps_with, with_map, locals_with}
+use Rattle.dm_maps.specs.BuildMaps.{maps_with, with_map, locals_with}
 use Rattle.dm_maps.specs.MapChanges.{changed}
 use Rattle.dm_maps.specs.Trees.{Outline, outline, outlines, containers_of, IsWorldOf, IsWorld}
 use Rattle.dm_maps.proofs.ModuleGrowth.{map-set_own}

@@ -1,19 +1,16 @@
 -- Tables of lists, with one more in a list; and where a variant is not refused.
 use Rattle.std.proofs.Common.{◌≡◌, ◌<◌, ℕ, Bool, true, false, List, true≢false, is_some, length, refl, Option, Some, None, [], ◌∷◌, ◌++◌, map, slice_get, position, sym, ap, ◌∙◌}
-use Rattle.std.specs.Option.{option_map_or, IfSome}
+use Rattle.std.specs.Option.{option_map_or}
 use Rattle.std.specs.Map.{lookup, keys_of}
 use Rattle.indexmap.specs.IndexMap.{insert_entry, set_value_at}
 use Rattle.indexmap.proofs.MapLemmas.{Found-position, insert_entry-first, insert_entry-absent, absent_from_lookup, some_index}
 use Rattle.dm_base.specs.declared.ids.EnumId.{EnumId}
-use Rattle.dm_base.specs.declared.ids.EnumVariantId.{EnumVariantId}
-use Rattle.dm_base.specs.declared.fields_shape.FieldsShape.{FieldsShape}
 use Rattle.dm_base.specs.Names.{Name, find_name}
-use Rattle.dm_maps.specs.BuildItems.{Enums, Variants, variants_in, enums_with_variant, enums_with_variant_at, IsFreeAt}
 use Rattle.dm_maps.specs.declared.build_fault.BuildFault.TheVariants.{NoSuchEnum, TakenVariant, OutOfNumbers}
 use Rattle.dm_maps.specs.Faults.{first_fault, is_full}
 use Rattle.dm_maps.specs.ItemFaults.{variant_fault, lacks_enum, has_variant}
 use Rattle.dm_maps.specs.World.{World}
-use Rattle.dm_maps.specs.Readings.{same_enum, variants_of}
+use Rattle.dm_maps.specs.Readings.{variants_of}
 use Rattle.dm_maps.proofs.FaultLemmas.{skipped, below}
 
 module _ {K X : Type 0} (eq : K → K → Bool) (es : List (K × List X)) (k : K) (x : X) where

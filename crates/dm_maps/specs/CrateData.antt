@@ -1,5 +1,5 @@
 -- What all maps of a crate share.
-use Rattle.std.specs.Prelude.{ℕ, Bool, true, false, nat_eq, List, [], ◌∷◌, ◌++◌, Option, None, codes, if◌then◌else◌}
+use Rattle.std.specs.Prelude.{ℕ, Bool, false, nat_eq, List, [], ◌∷◌, ◌++◌, Option, None, codes, if◌then◌else◌}
 use Rattle.indexmap.specs.IndexMap.{insert_entry}
 use Rattle.std.specs.List.{list_any}
 use Rattle.dm_base.specs.declared.ids.FunctionId.{FunctionId}

@@ -1,11 +1,10 @@
-use Rattle.std.proofs.Common.{◌≡◌, ◌++◌, ◌∷◌, [], ◌∙◌, None, Some, slice_get, sym, ap, subst}
+use Rattle.std.proofs.Common.{◌≡◌, ◌++◌, ◌∷◌, [], ◌∙◌, None, Some, sym, ap, subst}
 use Rattle.std.specs.Option.{option_map_or}
 use Rattle.dm_base.specs.declared.ids.MapId.{MapId}
-use Rattle.dm_maps.specs.Maps.{Map}
 use Rattle.dm_maps.specs.World.{World, crate_map}
 use Rattle.dm_maps.specs.BuildBlocks.{with_block, with_block_of, crate_in}
 use Rattle.dm_maps.specs.Trees.{IsWorld}
-use Rattle.dm_maps.proofs.ResultLemmas.{on-ok_two, on-err_two, either-way_two}
+use Rattle.dm_maps.proofs.ResultLemmas.{on-ok_two, either-way_two}
 use Rattle.dm_maps.proofs.BlockMade.{IsWorld-block, block-made}
 use Rattle.dm_maps.proofs.builder.WorldBuilder.push_block.Goals as goal
 
