@@ -6,6 +6,8 @@ pub mod CrateGrowth
 pub mod BlockGrowth
 pub mod BlockMade
 pub mod MapsKept
+pub mod MarkLemmas
+pub mod KeyLemmas
 pub mod WorldGrowth
 pub mod FaultLemmas
 pub mod VariantLemmas

@@ -1,12 +1,15 @@
 -- What is set in maps, beside their modules, keeps what holds of every world.
-use Rattle.std.proofs.Common.{◌≡◌, ℕ, List, Option, Some, None, length, set, slice_get, refl, subst, sym, ap, ◌∙◌}
+use Rattle.std.proofs.Common.{◌≡◌, ℕ, Bool, true, false, cond, nat_eq, List, [], ◌∷◌, Option, Some, None, length, set, slice_get, refl, subst, sym, ap, ◌∙◌}
 use Rattle.std.proofs.Math.ListN.{length-set}
 use Rattle.std.specs.Option.{option_map_or}
 use Rattle.dm_base.specs.declared.ids.BlockId.{BlockId}
+use Rattle.dm_base.specs.declared.ids.Crate.{Crate}
 use Rattle.dm_base.specs.declared.ids.MapId.{MapId}
 use Rattle.dm_base.specs.declared.ids.ModuleId.{ModuleId}
 use Rattle.dm_maps.specs.declared.map_change.MapChange.{MapChange}
-use Rattle.dm_maps.specs.declared.map_change.MapChange.TheVariants.{Prelude, MacroUse}
+use Rattle.dm_maps.specs.declared.map_change.MapChange.TheVariants.{Prelude, MacroUse, MacroDef, Helper}
+use Rattle.dm_maps.specs.BuildCrateData.{map_with_shared, with_shared}
+use Rattle.dm_maps.specs.CrateData.{CrateData}
 use Rattle.dm_maps.specs.Maps.{Map, LocalMap}
 use Rattle.dm_maps.specs.World.{World}
 use Rattle.dm_maps.specs.BuildMaps.{maps_with, crate_maps_with, block_maps_with, with_map, locals_with}
@@ -48,6 +51,8 @@ IsWorld-with_map w id f keeps is = by id.block
 pub Keeps-changed : (change : MapChange) → Keeps (changed change)
 Keeps-changed (Prelude p) = record { shape = λ m. refl; around = λ m. refl }
 Keeps-changed (MacroUse n e) = record { shape = λ m. refl; around = λ m. refl }
+Keeps-changed (MacroDef a d) = record { shape = λ m. refl; around = λ m. refl }
+Keeps-changed (Helper a h) = record { shape = λ m. refl; around = λ m. refl }
 
 pub length-locals_with : (Ls : List LocalMap) (k : ℕ) (f : LocalMap → LocalMap) → length (locals_with Ls k f) ≡ length Ls
 length-locals_with Ls k f = by (slice_get Ls k)
@@ -55,3 +60,27 @@ length-locals_with Ls k f = by (slice_get Ls k)
     by : (o : Option LocalMap) → length (option_map_or (λ L. set Ls k (f L)) o Ls) ≡ length Ls
     by None = refl
     by (Some L) = length-set Ls k (f L)
+
+-- ---- New data of a crate.
+
+outline-shared : (k : Crate) (d : CrateData) (m : Map) → outline (map_with_shared k d m) ≡ outline m
+outline-shared k d m = by (nat_eq m.id.krate.0 k.0)
+  where
+    by : (b : Bool) → outline (cond b (record m { shared = d }) m) ≡ outline m
+    by true = refl
+    by false = refl
+
+parent-shared : (k : Crate) (d : CrateData) (m : Map) → (map_with_shared k d m).parent ≡ m.parent
+parent-shared k d m = by (nat_eq m.id.krate.0 k.0)
+  where
+    by : (b : Bool) → (cond b (record m { shared = d }) m).parent ≡ m.parent
+    by true = refl
+    by false = refl
+
+pub outlines-shared : (k : Crate) (d : CrateData) (ms : List Map) → outlines (with_shared k d ms) ≡ outlines ms
+outlines-shared k d [] = refl
+outlines-shared k d (m ∷ ms) = (λ i. outline-shared k d m i ∷ outlines-shared k d ms i)
+
+pub containers-shared : (k : Crate) (d : CrateData) (ms : List Map) → containers_of (with_shared k d ms) ≡ containers_of ms
+containers-shared k d [] = refl
+containers-shared k d (m ∷ ms) = (λ i. parent-shared k d m i ∷ containers-shared k d ms i)

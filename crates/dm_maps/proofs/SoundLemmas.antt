@@ -12,15 +12,15 @@ use Rattle.dm_base.specs.declared.ids.UseId.{UseId}
 use Rattle.dm_base.specs.declared.item_ids.MacroId.{MacroId}
 use Rattle.dm_base.specs.Names.{Name, find_name}
 use Rattle.dm_scope.specs.Scope.{Scope, no_scope, bound_in, legacy_in, last_of}
-use Rattle.dm_maps.specs.declared.fault.Holder.TheVariants as holder
 use Rattle.dm_maps.specs.declared.held.HeldId.{HeldId}
 use Rattle.dm_maps.specs.declared.held.HeldId.TheVariants as held
 use Rattle.dm_maps.specs.declared.place.Place.{Place}
 use Rattle.dm_maps.specs.Maps.{Map, Module, Modules, LocalMap, module_at}
 use Rattle.dm_maps.specs.World.{World, scope_of, module_in, numbered_map, map_of}
 use Rattle.dm_maps.specs.Known.{knows, KnowsAll, res_holds, local_holds, type_holds, value_holds, macro_holds, vis_holds}
-use Rattle.dm_maps.specs.Holds.{map_holds, module_holds, scope_holds, prelude_holds, macro_uses_hold, types_hold, values_hold, macros_hold, legacies_hold, bindings_hold, lists_hold}
-use Rattle.dm_maps.specs.First.{Held, each_from, crate_holder, block_holder, module_holder, local_at, IsChecked}
+use Rattle.dm_maps.specs.Holds.{map_holds, preludes_hold, module_holds, scope_holds, prelude_holds, macro_uses_hold, types_hold, values_hold, macros_hold, legacies_hold, bindings_hold, lists_hold}
+use Rattle.dm_maps.specs.TablesHold.{macro_defs_hold, helpers_hold, data_holds}
+use Rattle.dm_maps.specs.First.{Held, each_from, crate_holder, block_holder, module_holder, tables_holder, local_at, IsChecked}
 use Rattle.dm_maps.specs.Readings.{macro_uses_of, prelude_in}
 use Rattle.dm_maps.specs.Trees.{tree_of, outline, outlines, IsWorld, IsMap, AreMaps, is_crate_id, is_block_id}
 use Rattle.dm_maps.specs.Sound.{IsSound}
@@ -62,28 +62,28 @@ module _ (w : World) where
     abbrev modules : List Held
     modules = each_from (module_holder w) 0 w.places
 
-    after_crates : AllByRecursion Fine (blocks ++ (modules ++ (holder.Tables, []) ∷ []))
-    after_crates = all-right Fine crates (blocks ++ (modules ++ (holder.Tables, []) ∷ [])) checked
+    after_crates : AllByRecursion Fine (blocks ++ (modules ++ tables_holder w ∷ []))
+    after_crates = all-right Fine crates (blocks ++ (modules ++ tables_holder w ∷ [])) checked
 
     fine_crate : (k : ℕ) (m : Map) → slice_get w.crate_maps k ≡ Some m → KnowsAll w (map_holds m)
     fine_crate k m e =
-        all-left Known (map_holds m) (local_holds (local_at w.local_maps (0 + k)))
-        (each-fine (crate_holder w.local_maps) 0 k w.crate_maps m (all-left Fine crates (blocks ++ (modules ++ (holder.Tables, []) ∷ [])) checked) e)
+        all-left Known (map_holds m) (local_holds (local_at w.local_maps (0 + k)) ++ data_holds m.shared)
+        (each-fine (crate_holder w.local_maps) 0 k w.crate_maps m (all-left Fine crates (blocks ++ (modules ++ tables_holder w ∷ [])) checked) e)
 
     -- the modules of an extern prelude
     pub fine_local : (k : ℕ) (m : Map) (L : LocalMap) → slice_get w.crate_maps k ≡ Some m → slice_get w.local_maps k ≡ Some L → KnowsAll w (local_holds L)
     fine_local k m L e g =
         subst (λ o. KnowsAll w (local_holds (option_map_or (λ (x : LocalMap). x) o []))) g
-        (subst (λ j. KnowsAll w (local_holds (local_at w.local_maps j))) (zero-add k) (all-right Known (map_holds m) (local_holds (local_at w.local_maps (0 + k)))
-        (each-fine (crate_holder w.local_maps) 0 k w.crate_maps m (all-left Fine crates (blocks ++ (modules ++ (holder.Tables, []) ∷ [])) checked) e)))
+        (subst (λ j. KnowsAll w (local_holds (local_at w.local_maps j))) (zero-add k) (all-left Known (local_holds (local_at w.local_maps (0 + k))) (data_holds m.shared) (all-right Known (map_holds m) (local_holds (local_at w.local_maps (0 + k)) ++ data_holds m.shared)
+        (each-fine (crate_holder w.local_maps) 0 k w.crate_maps m (all-left Fine crates (blocks ++ (modules ++ tables_holder w ∷ [])) checked) e))))
 
     fine_block : (b : ℕ) (m : Map) → slice_get w.block_maps b ≡ Some m → KnowsAll w (map_holds m)
-    fine_block b m e = all-get (λ (x : Map). KnowsAll w (map_holds x)) w.block_maps b m (all-map Fine block_holder w.block_maps (all-left Fine blocks (modules ++ (holder.Tables, []) ∷ []) after_crates)) e
+    fine_block b m e = all-get (λ (x : Map). KnowsAll w (map_holds x)) w.block_maps b m (all-map Fine block_holder w.block_maps (all-left Fine blocks (modules ++ tables_holder w ∷ []) after_crates)) e
 
     fine_module : (m : ModuleId) (p : Place) (d : Module) → slice_get w.places m.0 ≡ Some p → module_in w p ≡ Some d → KnowsAll w (module_holds d)
     fine_module m p d e g =
         subst (λ o. KnowsAll w (option_map_or module_holds o [])) g
-        (each-fine (module_holder w) 0 m.0 w.places p (all-left Fine modules ((holder.Tables, []) ∷ []) (all-right Fine blocks (modules ++ (holder.Tables, []) ∷ []) after_crates)) e)
+        (each-fine (module_holder w) 0 m.0 w.places p (all-left Fine modules (tables_holder w ∷ []) (all-right Fine blocks (modules ++ tables_holder w ∷ []) after_crates)) e)
 
     fine_numbered : (id : MapId) (m : Map) → numbered_map w id ≡ Some m → KnowsAll w (map_holds m)
     fine_numbered id m e = by id.block e
@@ -91,6 +91,9 @@ module _ (w : World) where
         by : (block : Option BlockId) → elim block [ None ↦ slice_get w.crate_maps id.krate.0 | Some b ↦ slice_get w.block_maps b.0 ] ≡ Some m → KnowsAll w (map_holds m)
         by None g = fine_crate id.krate.0 m g
         by (Some b) g = fine_block b.0 m g
+
+    fine_preludes : (id : MapId) (m : Map) → numbered_map w id ≡ Some m → KnowsAll w (preludes_hold m)
+    fine_preludes id m e = all-left Known (preludes_hold m) (macro_defs_hold m.macro_defs ++ helpers_hold m.derive_helpers) (fine_numbered id m e)
 
     -- what a scope binds under a name
     bound_of : (s : Scope) → KnowsAll w (scope_holds s) → (n : Name) → KnowsAll w (res_holds (bound_in s n))
@@ -156,7 +159,7 @@ module _ (w : World) where
 
         by : (o : Option Map) → numbered_map w id ≡ o → Q (find_name n (option_map_or (λ (m : Map). m.macro_use) o []))
         by None e = for_none (λ y. IsTrue (knows w (held.Macro y.0)))
-        by (Some m) e = at m (all-right Known (option_map_or prelude_holds m.prelude []) (macro_uses_hold m.macro_use) (fine_numbered id m e)) (find_name n m.macro_use) refl
+        by (Some m) e = at m (all-right Known (option_map_or prelude_holds m.prelude []) (macro_uses_hold m.macro_use) (fine_preludes id m e)) (find_name n m.macro_use) refl
 
     prelude-known : (id : MapId) → ForSome (prelude_in w id) (λ m. IsTrue (knows w (held.Module m)))
     prelude-known id = by (numbered_map w id) refl
@@ -170,7 +173,7 @@ module _ (w : World) where
 
         by : (o : Option Map) → numbered_map w id ≡ o → Q (option_and_then (λ (m : Map). option_map (λ (p : ModuleId × Option UseId). p.0) m.prelude) o)
         by None e = for_none (λ m. IsTrue (knows w (held.Module m)))
-        by (Some m) e = at m.prelude (all-left Known (option_map_or prelude_holds m.prelude []) (macro_uses_hold m.macro_use) (fine_numbered id m e))
+        by (Some m) e = at m.prelude (all-left Known (option_map_or prelude_holds m.prelude []) (macro_uses_hold m.macro_use) (fine_preludes id m e))
 
 -- ---- Roots.
 

@@ -1,5 +1,5 @@
--- The variants of an enum, with one more.
-use Rattle.std.proofs.Common.{◌≡◌, ◌<◌, ℕ, true, false, true≢false, is_some, length, refl, Option, Some, None, [], ◌∷◌, ◌++◌, map, slice_get, position, sym, ap, ◌∙◌}
+-- Tables of lists, with one more in a list; and where a variant is not refused.
+use Rattle.std.proofs.Common.{◌≡◌, ◌<◌, ℕ, Bool, true, false, List, true≢false, is_some, length, refl, Option, Some, None, [], ◌∷◌, ◌++◌, map, slice_get, position, sym, ap, ◌∙◌}
 use Rattle.std.specs.Option.{option_map_or, IfSome}
 use Rattle.std.specs.Map.{lookup, keys_of}
 use Rattle.indexmap.specs.IndexMap.{insert_entry, set_value_at}
@@ -16,26 +16,31 @@ use Rattle.dm_maps.specs.World.{World}
 use Rattle.dm_maps.specs.Readings.{same_enum, variants_of}
 use Rattle.dm_maps.proofs.FaultLemmas.{skipped, below}
 
-module _ (es : Enums) (e : EnumId) (n : Name) (v : EnumVariantId × FieldsShape) where
-  -- the enum stands at its place
-  pub variant-at : (i : ℕ) → position (same_enum e) (keys_of es) ≡ Some i → slice_get (map (λ x. x.1) es) i ≡ lookup (same_enum e) es → enums_with_variant_at es i n v ≡ enums_with_variant es e n v
-  variant-at i p value =
-      ap (λ o. option_map_or (λ vs. set_value_at es i (vs ++ (n, v) ∷ [])) o es) value
-      ∙ by (lookup (same_enum e) es) (sym (ap is_some p) ∙ some_index (same_enum e) es)
+module _ {K X : Type 0} (eq : K → K → Bool) (es : List (K × List X)) (k : K) (x : X) where
+  -- the key stands at its place
+  pub listed-at : (i : ℕ) → position (eq k) (keys_of es) ≡ Some i → slice_get (map (λ e. e.1) es) i ≡ lookup (eq k) es
+      → option_map_or (λ xs. set_value_at es i (xs ++ x ∷ [])) (slice_get (map (λ e. e.1) es) i) es ≡ insert_entry eq es k (option_map_or (λ xs. xs) (lookup (eq k) es) [] ++ x ∷ [])
+  listed-at i p value =
+      ap (λ o. option_map_or (λ xs. set_value_at es i (xs ++ x ∷ [])) o es) value
+      ∙ by (lookup (eq k) es) (sym (ap is_some p) ∙ some_index (eq k) es)
     where
-      by : (o : Option Variants) → true ≡ is_some o → option_map_or (λ vs. set_value_at es i (vs ++ (n, v) ∷ [])) o es ≡ insert_entry same_enum es e (option_map_or (λ vs. vs) o [] ++ (n, v) ∷ [])
+      by : (o : Option (List X)) → true ≡ is_some o → option_map_or (λ xs. set_value_at es i (xs ++ x ∷ [])) o es ≡ insert_entry eq es k (option_map_or (λ xs. xs) o [] ++ x ∷ [])
       by None h = absurd (true≢false h)
-      by (Some vs) h = sym (insert_entry-first same_enum e (vs ++ (n, v) ∷ []) es i (Found-position (same_enum e) es i p).first)
+      by (Some xs) h = sym (insert_entry-first eq k (xs ++ x ∷ []) es i (Found-position (eq k) es i p).first)
 
-  -- the enum has no variant yet
-  pub variant-new : lookup (same_enum e) es ≡ None → enums_with_variant es e n v ≡ es ++ (e, (n, v) ∷ []) ∷ []
-  variant-new none =
-      ap (λ o. insert_entry same_enum es e (option_map_or (λ vs. vs) o [] ++ (n, v) ∷ [])) none
-      ∙ insert_entry-absent same_enum e ((n, v) ∷ []) es (absent_from_lookup (same_enum e) es none)
+  -- the key is not there yet
+  pub listed-new : lookup (eq k) es ≡ None → insert_entry eq es k (option_map_or (λ xs. xs) (lookup (eq k) es) [] ++ x ∷ []) ≡ insert_entry eq es k (x ∷ [])
+  listed-new none = ap (λ o. insert_entry eq es k (option_map_or (λ xs. xs) o [] ++ x ∷ [])) none
+
+  pub listed-last : lookup (eq k) es ≡ None → insert_entry eq es k (option_map_or (λ xs. xs) (lookup (eq k) es) [] ++ x ∷ []) ≡ es ++ (k, x ∷ []) ∷ []
+  listed-last none = listed-new none ∙ insert_entry-absent eq k (x ∷ []) es (absent_from_lookup (eq k) es none)
 
 pub none-by : {X : Type 0} (o : Option X) → is_some o ≡ false → o ≡ None
 none-by None g = refl
 none-by (Some x) g = absurd (true≢false g)
+
+pub none-listed : {K X : Type 0} (eq : K → K → Bool) (es : List (K × X)) (k : K) → position (eq k) (keys_of es) ≡ None → lookup (eq k) es ≡ None
+none-listed eq es k p = none-by (lookup (eq k) es) (sym (some_index (eq k) es) ∙ ap is_some p)
 
 -- where a variant is not refused, its name is free in its enum, and there is a number for it
 pub variant_fault-none : (w : World) (e : EnumId) (n : Name) → variant_fault w e n ≡ None → (find_name n (variants_of w e) ≡ None) × (length w.variants < 4294967295)

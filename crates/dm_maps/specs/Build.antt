@@ -18,6 +18,7 @@ use Rattle.dm_maps.specs.declared.place.Place.{Place}
 use Rattle.dm_maps.specs.declared.module_origin.ModuleOrigin.{ModuleOrigin}
 use Rattle.dm_maps.specs.declared.module_origin.ModuleOrigin.TheVariants.{CrateRoot}
 use Rattle.dm_maps.specs.Maps.{Map, Module, fresh_module, fresh_map, map_with_child, module_at}
+use Rattle.dm_maps.specs.ItemTables.{no_tables}
 use Rattle.dm_maps.specs.World.{World, place_of, numbered_map}
 
 -- a builder of nothing
@@ -32,6 +33,7 @@ no_world = record {
   enums = [];
   variants = [];
   macros = [];
+  item_tables = no_tables;
 }
 
 -- the number of the next module, and of the next crate

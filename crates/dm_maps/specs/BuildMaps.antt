@@ -8,7 +8,9 @@ use Rattle.dm_base.specs.declared.ids.MapId.{MapId}
 use Rattle.dm_base.specs.declared.ids.ModuleId.{ModuleId}
 use Rattle.dm_base.specs.declared.ids.UseId.{UseId}
 use Rattle.dm_base.specs.declared.item_ids.MacroId.{MacroId}
+use Rattle.dm_base.specs.declared.source.AstId.{AstId}
 use Rattle.dm_base.specs.Names.{Name, same_name}
+use Rattle.dm_scope.specs.Sameness.{same_ast}
 use Rattle.dm_maps.specs.declared.build_fault.BuildFault.{BuildFault}
 use Rattle.dm_maps.specs.declared.build_fault.BuildFault.TheVariants.{NoSuchCrate}
 use Rattle.dm_maps.specs.declared.held.HeldId.TheVariants as held
@@ -16,6 +18,8 @@ use Rattle.dm_maps.specs.Maps.{Map, LocalMap}
 use Rattle.dm_maps.specs.World.{World, numbered_map}
 use Rattle.dm_maps.specs.Known.{knows}
 use Rattle.dm_maps.specs.Faults.{first_fault}
+use Rattle.dm_maps.specs.HelperChanges.{helpers_with}
+use Rattle.dm_maps.specs.Helpers.{Helper}
 use Rattle.dm_maps.specs.Locals.{with_extern}
 
 -- the maps, with f of the one of number k
@@ -39,6 +43,14 @@ with_prelude w id p = with_map w id (λ m. record m { prelude = p })
 -- with a macro that `#[macro_use]` brings: a name that is there keeps its place and takes the new macro
 abbrev pub with_macro_use : World → MapId → Name → MacroId → Option ExternCrateId → World
 with_macro_use w id n m x = with_map w id (λ map. record map { macro_use = insert_entry same_name map.macro_use n (m, x) })
+
+-- with the macro that an item of the syntax defines: what is there keeps its place and is replaced
+abbrev pub with_macro_def : World → MapId → AstId → MacroId → World
+with_macro_def w id a m = with_map w id (λ map. record map { macro_defs = insert_entry same_ast map.macro_defs a m })
+
+-- with a derive helper at an item of the syntax, the last of that item
+abbrev pub with_helper : World → MapId → AstId → Helper → World
+with_helper w id a h = with_map w id (λ map. record map { derive_helpers = helpers_with map.derive_helpers a h })
 
 abbrev pub locals_with : List LocalMap → ℕ → (LocalMap → LocalMap) → List LocalMap
 locals_with Ls k f = option_map_or (λ L. slice_set Ls k (f L)) (slice_get Ls k) Ls

@@ -12,6 +12,7 @@ use Rattle.dm_maps.specs.Maps.{Map, LocalMap}
 use Rattle.dm_maps.specs.World.{World, module_in}
 use Rattle.dm_maps.specs.Known.{KnowsAll, local_holds}
 use Rattle.dm_maps.specs.Holds.{map_holds, module_holds}
+use Rattle.dm_maps.specs.TablesHold.{data_holds, tables_hold}
 use Rattle.dm_maps.specs.Held.{IsLeast, noted}
 
 -- a holder with the ids that it holds
@@ -27,9 +28,9 @@ each_from f i (x ∷ xs) = f i x ∷ each_from f (i + 1) xs
 abbrev pub local_at : List LocalMap → ℕ → LocalMap
 local_at Ls k = option_map_or (λ L. L) (slice_get Ls k) []
 
--- a crate's map, with its extern prelude
+-- a crate's map, with its extern prelude and its procedural macros
 abbrev pub crate_holder : List LocalMap → ℕ → Map → Held
-crate_holder Ls k m = (holder.Map m.id, map_holds m ++ local_holds (local_at Ls k))
+crate_holder Ls k m = (holder.Map m.id, map_holds m ++ (local_holds (local_at Ls k) ++ data_holds m.shared))
 
 -- a block's map
 abbrev pub block_holder : Map → Held
@@ -39,11 +40,15 @@ block_holder m = (holder.Map m.id, map_holds m)
 abbrev pub module_holder : World → ℕ → Place → Held
 module_holder w i p = (holder.Module (record { 0 = i }), option_map_or module_holds (module_in w p) [])
 
+-- the tables that belong to none of them
+abbrev pub tables_holder : World → Held
+tables_holder w = (holder.Tables, tables_hold w.item_tables)
+
 -- all of them: the maps of crates, the maps of blocks, the modules, each by number, and the tables
 abbrev pub holders : World → List Held
 holders w =
     each_from (crate_holder w.local_maps) 0 w.crate_maps
-    ++ (map block_holder w.block_maps ++ (each_from (module_holder w) 0 w.places ++ (holder.Tables, []) ∷ []))
+    ++ (map block_holder w.block_maps ++ (each_from (module_holder w) 0 w.places ++ tables_holder w ∷ []))
 
 -- A world is checked where each id that a holder holds is one of its own, with its kind.
 abbrev pub IsChecked : World → Type 0

@@ -22,6 +22,7 @@ use Rattle.dm_scope.specs.Scope.{Scope}
 use Rattle.dm_maps.specs.declared.held.HeldId.{HeldId}
 use Rattle.dm_maps.specs.declared.held.HeldId.TheVariants as held
 use Rattle.dm_maps.specs.Maps.{Map, Module}
+use Rattle.dm_maps.specs.TablesHold.{macro_defs_hold, helpers_hold}
 use Rattle.dm_maps.specs.Known.{def_holds, vis_holds, import_holds, value_import_holds, type_holds, value_holds, macro_holds}
 
 -- a map's prelude holds its module, and the use that named it
@@ -32,8 +33,12 @@ abbrev pub macro_uses_hold : {X : Type 0} → List (Name × (MacroId × X)) → 
 macro_uses_hold es = map (λ e. held.Macro e.0) (map (λ e. e.1) es)
 
 -- a map holds its prelude's ids and the macros that `#[macro_use]` brings
+abbrev pub preludes_hold : Map → List HeldId
+preludes_hold m = option_map_or prelude_holds m.prelude [] ++ macro_uses_hold m.macro_use
+
+-- and the macros of its definitions in syntax and of its derive helpers
 abbrev pub map_holds : Map → List HeldId
-map_holds m = option_map_or prelude_holds m.prelude [] ++ macro_uses_hold m.macro_use
+map_holds m = preludes_hold m ++ (macro_defs_hold m.macro_defs ++ helpers_hold m.derive_helpers)
 
 -- what an import stands for holds the use of a further import, or the definition
 abbrev pub step_holds : ImportOrDef → List HeldId

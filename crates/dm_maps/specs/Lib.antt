@@ -2,6 +2,15 @@ pub mod Origins
 pub mod Maps
 pub mod World
 pub mod Asked
+pub mod CrateData
+pub mod Helpers
+pub mod ItemTables
+pub mod HelperChanges
+pub mod Keys
+pub mod TableChanges
+pub mod TablesHold
+pub mod BuildCrateData
+pub mod BuildTables
 pub mod Build
 pub mod BuildItems
 pub mod BuildBlocks

@@ -12,6 +12,7 @@ use Rattle.dm_base.specs.declared.macros.MacroLoc.{MacroLoc}
 use Rattle.dm_base.specs.Names.{Name}
 use Rattle.dm_scope.specs.Scope.{Scope, no_scope}
 use Rattle.dm_maps.specs.declared.place.Place.{Place}
+use Rattle.dm_maps.specs.ItemTables.{ItemTables}
 use Rattle.dm_maps.specs.Maps.{Map, Module, LocalMap, nth_module, map_with_scope}
 
 -- The tables of a world. A number of a list is an id: the third of `uses` is the use of number 2.
@@ -32,6 +33,8 @@ pub record World : Type 0 where
   pub variants : List EnumId
   -- the module of each macro, and what it is
   pub macros : List (ModuleId × MacroLoc)
+  -- the tables that belong to no map and no module
+  pub item_tables : ItemTables
 
 -- the map of that id, by its number
 abbrev pub numbered_map : World → MapId → Option Map

@@ -11,6 +11,7 @@ use crate::growth::add_map;
 use crate::module_data::ModuleData;
 use crate::module_origin::ModuleOrigin;
 use crate::place::Place;
+use crate::share::shared_of;
 use dm_base::ids::{BlockId, Crate, MapId, ModuleId};
 use dm_base::source::AstId;
 use dm_base::visibility::{Visibility, VisibilityExplicitness};
@@ -100,6 +101,15 @@ fn fresh_block(
         krate,
         block: Some(b),
     };
-    let map = DefMap::with_root(id, of.edition(), Some(containing), root, added, alloc)?;
+    let shared = shared_of(of)?;
+    let map = DefMap::with_root(
+        id,
+        of.edition(),
+        Some(containing),
+        root,
+        added,
+        shared,
+        alloc,
+    )?;
     Ok(map)
 }

@@ -6,11 +6,13 @@ ghost use Rattle.dm_maps.specs.Origins.{is_child};
 
 use crate::build_fault::BuildFault;
 use crate::builder::WorldBuilder;
+use crate::crate_data::CrateData;
 use crate::def_map::DefMap;
 use crate::growth::{NewChild, add_child, add_crate_map};
 use crate::module_data::ModuleData;
 use crate::module_origin::ModuleOrigin;
 use crate::place::Place;
+use crate::share::share;
 use dm_base::ids::{Crate, MapId, ModuleId};
 use dm_base::name::Name;
 use dm_base::source::{Edition, EditionedFileId};
@@ -204,6 +206,7 @@ fn fresh_crate(
     let origin = ModuleOrigin::CrateRoot { definition: file };
     let id = MapId { krate, block: None };
     let added = ModuleData::fresh(origin, Visibility::Public, None, alloc);
-    let map = DefMap::with_root(id, edition, None, root, added, alloc)?;
+    let shared = share(CrateData::fresh(alloc)?, alloc)?;
+    let map = DefMap::with_root(id, edition, None, root, added, shared, alloc)?;
     Ok(map)
 }

@@ -3,6 +3,7 @@ ghost use Rattle.std.specs.Prelude.{◌≡◌};
 ghost use Rattle.dm_maps.specs.Build.{no_world};
 
 use crate::def_map::DefMap;
+use crate::item_tables::ItemTables;
 use crate::local_def_map::LocalDefMap;
 use crate::place::Place;
 use crate::variants::EnumVariants;
@@ -25,6 +26,7 @@ pub struct WorldBuilder {
     pub(crate) enums: IndexMap<EnumId, EnumVariants>,
     pub(crate) variants: Vec<EnumId>,
     pub(crate) macros: Vec<(ModuleId, MacroLoc)>,
+    pub(crate) item_tables: ItemTables,
     pub(crate) alloc: Global,
 }
 
@@ -35,7 +37,7 @@ impl Model for WorldBuilder {
 
     ghost Value = { World };
 
-    ghost view = { λ w. record { crate_maps = w.crate_maps.items; block_maps = w.block_maps.items; places = w.places.items; local_maps = w.local_maps.items; uses = w.uses.items; items = w.items.items; enums = w.enums.entries; variants = w.variants.items; macros = w.macros.items } };
+    ghost view = { λ w. record { crate_maps = w.crate_maps.items; block_maps = w.block_maps.items; places = w.places.items; local_maps = w.local_maps.items; uses = w.uses.items; items = w.items.items; enums = w.enums.entries; variants = w.variants.items; macros = w.macros.items; item_tables = w.item_tables } };
 
     ghost invariant = { λ w. IsWorldOf w.places.items (outlines w.crate_maps.items) (outlines w.block_maps.items) (containers_of w.block_maps.items) (length w.local_maps.items) };
 }
@@ -55,6 +57,7 @@ impl WorldBuilder {
             enums: IndexMap::new(alloc),
             variants: Vec::new(alloc),
             macros: Vec::new(alloc),
+            item_tables: ItemTables::new(alloc),
             alloc,
         }
     }

@@ -1,6 +1,6 @@
 //! What is set in the maps of a builder, and in its extern preludes.
 ghost use Rattle.std.specs.Prelude.{◌≡◌, false, IsOk, OnOk, OnErr};
-ghost use Rattle.dm_maps.specs.BuildMaps.{AnswersFree, with_map, maps_with, crate_maps_with, block_maps_with, with_prelude, with_macro_use, locals_with, with_extern_of, lacks_map, map_fault, krate_fault};
+ghost use Rattle.dm_maps.specs.BuildMaps.{AnswersFree, with_map, maps_with, crate_maps_with, block_maps_with, with_prelude, with_macro_use, with_macro_def, with_helper, locals_with, with_extern_of, lacks_map, map_fault, krate_fault};
 ghost use Rattle.dm_maps.specs.Faults.{Answers};
 ghost use Rattle.dm_maps.specs.Locals.{with_extern};
 ghost use Rattle.dm_maps.specs.MapChanges.{changed, grows};
@@ -11,10 +11,14 @@ use crate::def_map::DefMap;
 use crate::held::HeldId;
 use crate::local_def_map::LocalDefMap;
 use crate::map_change::MapChange;
-use dm_base::ids::{Crate, ExternCrateId, MapId, ModuleId, UseId};
+use dm_base::ids::{
+    BuiltinDeriveImplId, Crate, ExternCrateId, MacroCallId, MapId, ModuleId, UseId,
+};
 use dm_base::item_ids::MacroId;
 use dm_base::name::Name;
-use std::alloc::AllocError;
+use dm_base::source::AstId;
+use either::Either;
+use std::alloc::{AllocError, Global};
 
 impl WorldBuilder {
     /// Sets the prelude module of a map, with the use that named it, or none. Takes no memory.
@@ -57,6 +61,46 @@ impl WorldBuilder {
             return Err(BuildFault::NoSuchCrate);
         }
         self.change_map(map, MapChange::MacroUse(name, (m, brought_by)))?;
+        Ok(())
+    }
+
+    /// Sets the macro that an item of the syntax defines, in a map. What is there is replaced.
+    ///
+    /// Refused are, in this order, `NoSuchCrate` of a map that is not the builder's, and `OutOfMemory`; the builder is then
+    /// as it was. The macro may not be the builder's: `check` finds that.
+    pub fn add_macro_def(&mut self, map: MapId, ast: AstId, m: MacroId) -> Result<(), BuildFault>
+        ensures ok { OnOk result (self.new ≡ with_macro_def self.old map ast m) }
+        ensures fault { Answers (map_fault self.old map) result }
+        ensures err { OnErr result (self.new ≡ self.old) }
+    {
+        if self.lacks_map(map) {
+            return Err(BuildFault::NoSuchCrate);
+        }
+        self.change_map(map, MapChange::MacroDef(ast, m))?;
+        Ok(())
+    }
+
+    /// Adds a helper attribute of a derive at an item of the syntax, in a map, the last of that item: its name, the macro of
+    /// the derive, and the call of the derive, or what a builtin derive writes.
+    ///
+    /// Refused are, in this order, `NoSuchCrate` of a map that is not the builder's, and `OutOfMemory`; the builder is then
+    /// as it was. The macro may not be the builder's: `check` finds that.
+    pub fn add_derive_helper(
+        &mut self,
+        map: MapId,
+        ast: AstId,
+        name: Name,
+        m: MacroId,
+        call: Either<MacroCallId, BuiltinDeriveImplId>,
+    ) -> Result<(), BuildFault>
+        ensures ok { OnOk result (self.new ≡ with_helper self.old map ast (name, m, call)) }
+        ensures fault { Answers (map_fault self.old map) result }
+        ensures err { OnErr result (self.new ≡ self.old) }
+    {
+        if self.lacks_map(map) {
+            return Err(BuildFault::NoSuchCrate);
+        }
+        self.change_map(map, MapChange::Helper(ast, (name, m, call)))?;
         Ok(())
     }
 
@@ -112,7 +156,13 @@ impl WorldBuilder {
         ensures err { OnErr result (self.new ≡ self.old) }
         ensures free { grows change ≡ false → IsOk result }
     {
-        change_in(&mut self.crate_maps, &mut self.block_maps, id, change)
+        change_in(
+            &mut self.crate_maps,
+            &mut self.block_maps,
+            id,
+            change,
+            self.alloc,
+        )
     }
 }
 
@@ -122,6 +172,7 @@ fn change_in(
     block_maps: &mut Vec<DefMap>,
     id: MapId,
     change: MapChange,
+    alloc: Global,
 ) -> Result<(), AllocError>
     ensures crate_maps { OnOk result (crate_maps.new.items ≡ crate_maps_with crate_maps.old.items id (changed change)) }
     ensures block_maps { OnOk result (block_maps.new.items ≡ block_maps_with block_maps.old.items id (changed change)) }
@@ -130,20 +181,25 @@ fn change_in(
     ensures free { grows change ≡ false → IsOk result }
 {
     match id.block {
-        None => change_at(crate_maps, id.krate.0 as usize, change),
-        Some(b) => change_at(block_maps, b.0 as usize, change),
+        None => change_at(crate_maps, id.krate.0 as usize, change, alloc),
+        Some(b) => change_at(block_maps, b.0 as usize, change, alloc),
     }
 }
 
 /// Makes a change in the map of number `k`.
-fn change_at(maps: &mut Vec<DefMap>, k: usize, change: MapChange) -> Result<(), AllocError>
+fn change_at(
+    maps: &mut Vec<DefMap>,
+    k: usize,
+    change: MapChange,
+    alloc: Global,
+) -> Result<(), AllocError>
     ensures ok { OnOk result (maps.new.items ≡ maps_with maps.old.items k (changed change)) }
     ensures err { OnErr result (maps.new.items ≡ maps.old.items) }
     ensures free { grows change ≡ false → IsOk result }
 {
     match maps.get_mut(k) {
         None => Ok(()),
-        Some(map) => map.change(change),
+        Some(map) => map.change(change, alloc),
     }
 }
 

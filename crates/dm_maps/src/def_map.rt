@@ -7,17 +7,21 @@ ghost use Rattle.dm_maps.specs.Maps.{module_at, nth_module, scope_at, fresh_map,
 ghost use Rattle.dm_maps.specs.LendingMap.{LendsMapScope};
 ghost use Rattle.dm_maps.specs.MapChanges.{changed, grows};
 
+use crate::crate_data::CrateData;
+use crate::derive_helpers::{DeriveHelpers, add_helper};
+use crate::keyed_tables::put_macro_def;
 use crate::map_change::MapChange;
 use crate::module_data::ModuleData;
 use crate::modules_map::ModulesMap;
 use dm_base::ids::{BlockId, Crate, ExternCrateId, MapId, ModuleId, UseId};
 use dm_base::item_ids::MacroId;
 use dm_base::name::Name;
-use dm_base::source::Edition;
+use dm_base::source::{AstId, Edition};
 use dm_scope::item_scope::ItemScope;
 use indexmap::IndexMap;
 use std::alloc::{AllocError, Global};
 use std::marker::Model;
+use std::rc::Rc;
 
 /// The modules of a crate, or of a block in it.
 #[derive(Drop)]
@@ -29,6 +33,9 @@ pub struct DefMap {
     modules: ModulesMap,
     prelude: Option<(ModuleId, Option<UseId>)>,
     macro_use_prelude: IndexMap<Name, (MacroId, Option<ExternCrateId>)>,
+    macro_defs: IndexMap<AstId, MacroId>,
+    derive_helpers: IndexMap<AstId, DeriveHelpers>,
+    shared: Rc<CrateData>,
 }
 
 impl Model for DefMap {
@@ -36,20 +43,21 @@ impl Model for DefMap {
 
     ghost Value = { Map };
 
-    ghost view = { λ m. record { id = m.id; edition = m.edition; root = m.root; parent = m.parent; modules = m.modules; prelude = m.prelude; macro_use = m.macro_use_prelude.entries } };
+    ghost view = { λ m. record { id = m.id; edition = m.edition; root = m.root; parent = m.parent; modules = m.modules; prelude = m.prelude; macro_use = m.macro_use_prelude.entries; macro_defs = m.macro_defs.entries; derive_helpers = m.derive_helpers.entries; shared = m.shared.value } };
 }
 
 impl DefMap {
-    /// A new map, with its root alone.
+    /// A new map, with its root alone, and what all maps of its crate share.
     pub(crate) fn with_root(
         id: MapId,
         edition: Edition,
         parent: Option<ModuleId>,
         root: ModuleId,
         added: ModuleData,
+        shared: Rc<CrateData>,
         alloc: Global,
     ) -> Result<DefMap, AllocError>
-        ensures { IfOk result (λ map. map ≡ fresh_map id edition parent root added) }
+        ensures { IfOk result (λ map. map ≡ record (fresh_map id edition parent root added) { shared = shared.value }) }
     {
         let modules = ModulesMap::with_root(root, added, alloc)?;
         Ok(DefMap {
@@ -60,6 +68,9 @@ impl DefMap {
             modules,
             prelude: None,
             macro_use_prelude: IndexMap::new(alloc),
+            macro_defs: IndexMap::new(alloc),
+            derive_helpers: IndexMap::new(alloc),
+            shared,
         })
     }
 
@@ -165,7 +176,7 @@ impl DefMap {
     }
 
     /// Makes a change.
-    pub(crate) fn change(&mut self, change: MapChange) -> Result<(), AllocError>
+    pub(crate) fn change(&mut self, change: MapChange, alloc: Global) -> Result<(), AllocError>
         ensures ok { OnOk result (self.new ≡ changed change self.old) }
         ensures err { OnErr result (self.new ≡ self.old) }
         ensures free { grows change ≡ false → IsOk result }
@@ -174,6 +185,12 @@ impl DefMap {
             MapChange::Prelude(named) => self.prelude = named,
             MapChange::MacroUse(name, entry) => {
                 self.macro_use_prelude.insert(name, entry)?;
+            }
+            MapChange::MacroDef(ast, m) => {
+                put_macro_def(&mut self.macro_defs, ast, m)?;
+            }
+            MapChange::Helper(ast, helper) => {
+                add_helper(&mut self.derive_helpers, ast, helper, alloc)?;
             }
         }
         Ok(())
@@ -185,6 +202,34 @@ impl DefMap {
         ensures value { option_copied_mut result ≡ scope_at self.old.modules i }
     {
         self.modules.scope_mut(i)
+    }
+
+    /// What all maps of the crate share.
+    pub(crate) fn shared(&self) -> &Rc<CrateData>
+        ensures { result.now.value ≡ self.now.shared }
+    {
+        &self.shared
+    }
+
+    /// Shares other data.
+    pub(crate) fn set_shared(&mut self, shared: Rc<CrateData>)
+        ensures { self.new ≡ record self.old { shared = shared.value } }
+    {
+        self.shared = shared;
+    }
+
+    /// The macro that each item of the syntax defines.
+    pub(crate) fn macro_defs(&self) -> &IndexMap<AstId, MacroId>
+        ensures { result.now.entries ≡ self.now.macro_defs }
+    {
+        &self.macro_defs
+    }
+
+    /// The derive helpers of each item of the syntax.
+    pub(crate) fn derive_helpers(&self) -> &IndexMap<AstId, DeriveHelpers>
+        ensures { result.now.entries ≡ self.now.derive_helpers }
+    {
+        &self.derive_helpers
     }
 
     /// The macros that `#[macro_use]` brings.

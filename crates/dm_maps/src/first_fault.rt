@@ -14,6 +14,7 @@ use crate::held::HeldFault;
 use crate::local_def_map::LocalDefMap;
 use crate::note_maps::{note_local_map, note_map};
 use crate::note_modules::note_module;
+use crate::note_tables::{note_data, note_tables};
 use crate::place::Place;
 use dm_base::ids::ModuleId;
 
@@ -58,6 +59,7 @@ fn crate_map_fault(
 {
     let least = note_map(world, map);
     let least = note_local_map_at(world, least, locals, k);
+    let least = note_data(world, least, map.shared());
     fault_of(Holder::Map(map.id()), least)
 }
 
@@ -121,7 +123,10 @@ impl WorldBuilder {
         if let Some(fault) = of_block_maps(self, &self.block_maps) {
             return Some(fault);
         }
-        of_modules(self, &self.places)
+        if let Some(fault) = of_modules(self, &self.places) {
+            return Some(fault);
+        }
+        fault_of(Holder::Tables, note_tables(self, &self.item_tables))
     }
 
     /// The least fault of the first holder with one.

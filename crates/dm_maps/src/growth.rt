@@ -1,6 +1,6 @@
 //! Growth of lists and maps, all or nothing.
 ghost use Rattle.std.specs.Prelude.{◌≡◌, ◌-◌, ◌++◌, ◌∷◌, [], None, OnOk, OnErr, IfSome, take, length};
-ghost use Rattle.indexmap.specs.IndexMap.{get};
+ghost use Rattle.indexmap.specs.IndexMap.{get, insert_entry};
 ghost use Rattle.dm_maps.specs.Maps.{with_child_at};
 ghost use Rattle.dm_maps.specs.Build.{IsFree, maps_with_child, crate_maps_with_child, block_maps_with_child};
 
@@ -22,6 +22,19 @@ pub(crate) fn put_last<K: Eq + Hash + Drop, V: Drop>(
 ) -> Result<(), AllocError>
     requires { get K.eq map.old key ≡ None }
     ensures ok { OnOk result (map.new.entries ≡ map.old.entries ++ (key, value) ∷ []) }
+    ensures err { OnErr result (map.new.entries ≡ map.old.entries) }
+{
+    map.insert(key, value)?;
+    Ok(())
+}
+
+/// Puts a value under a key. A key that is there keeps its place and takes the new value.
+pub(crate) fn put<K: Eq + Hash + Drop, V: Drop>(
+    map: &mut IndexMap<K, V>,
+    key: K,
+    value: V,
+) -> Result<(), AllocError>
+    ensures ok { OnOk result (map.new.entries ≡ insert_entry K.eq map.old.entries key value) }
     ensures err { OnErr result (map.new.entries ≡ map.old.entries) }
 {
     map.insert(key, value)?;

@@ -1,7 +1,9 @@
 //! What is set in one map.
+use crate::derive_helpers::DeriveHelper;
 use dm_base::ids::{ExternCrateId, ModuleId, UseId};
 use dm_base::item_ids::MacroId;
 use dm_base::name::Name;
+use dm_base::source::AstId;
 
 /// What is set in one map.
 #[derive(Drop)]
@@ -10,4 +12,8 @@ pub(crate) enum MapChange {
     Prelude(Option<(ModuleId, Option<UseId>)>),
     /// A macro that `#[macro_use]` brings, with the item that brought it.
     MacroUse(Name, (MacroId, Option<ExternCrateId>)),
+    /// The macro that an item of the syntax defines.
+    MacroDef(AstId, MacroId),
+    /// A helper attribute of a derive at an item, the last.
+    Helper(AstId, DeriveHelper),
 }

@@ -10,6 +10,7 @@ use Rattle.dm_base.specs.declared.visibility.Visibility.TheVariants.{Public}
 use Rattle.dm_base.specs.declared.visibility.VisibilityExplicitness.TheVariants.{Implicit}
 use Rattle.dm_scope.specs.Scope.{Scope, no_scope}
 use Rattle.dm_maps.specs.Maps.{LocalMap, Map}
+use Rattle.dm_maps.specs.Build.{no_world}
 use Rattle.dm_maps.specs.World.{World}
 use Rattle.hir_def_map.specs.Written.{a_module, a_struct, a_function, an_enum, by_rules, within, leaf, named, named_value, an_item, crate_id, block_id, number, place, bindings, binds_types, module_with, a_map}
 
@@ -70,7 +71,7 @@ abbrev pub externs : LocalMap
 externs = (codes "dep", (number 4, None)) ∷ []
 
 abbrev pub world_a : World
-world_a = record {
+world_a = record no_world {
   crate_maps = map_of_a ∷ a_map (crate_id 1) Edition2015 4 None (module_with 4 None root_of_dep ∷ []) ∷ [];
   block_maps =
       a_map (block_id 0 0) Edition2021 5 (Some (number 1)) (module_with 5 None root_of_block ∷ module_with 6 (Some (number 5)) no_scope ∷ [])

@@ -5,6 +5,7 @@ use Rattle.dm_base.specs.declared.source.Edition.TheVariants.{Edition2021}
 use Rattle.dm_base.specs.declared.visibility.Visibility.TheVariants.{Public}
 use Rattle.dm_base.specs.declared.visibility.VisibilityExplicitness.TheVariants.{Implicit}
 use Rattle.dm_scope.specs.Scope.{Scope, no_scope}
+use Rattle.dm_maps.specs.Build.{no_world}
 use Rattle.dm_maps.specs.World.{World}
 use Rattle.hir_def_map.specs.Written.{a_module, a_struct, a_function, within, an_item, crate_id, number, place, bindings, binds_types, module_with, a_map}
 
@@ -15,7 +16,7 @@ scope_of_a = record no_scope {
 }
 
 abbrev pub world_t : World
-world_t = record {
+world_t = record no_world {
   crate_maps = a_map (crate_id 0) Edition2021 0 None
       (module_with 0 None (binds_types ((codes "a", an_item (a_module 1) Public None) ∷ (codes "u8", an_item (a_module 2) Public None) ∷ []))
       ∷ module_with 1 (Some (number 0)) scope_of_a

@@ -29,6 +29,7 @@ use Rattle.dm_maps.specs.declared.modes.BuiltinShadowMode.{BuiltinShadowMode}
 use Rattle.dm_maps.specs.declared.modes.MacroSubNs.{MacroSubNs}
 use Rattle.dm_maps.specs.declared.module_origin.ModuleOrigin.TheVariants.{Inline}
 use Rattle.dm_maps.specs.declared.place.Place.{Place}
+use Rattle.dm_maps.specs.CrateData.{fresh_data}
 use Rattle.dm_maps.specs.Maps as maps
 use Rattle.dm_maps.specs.Maps.{Map, Modules, LocalMap}
 use Rattle.dm_maps.specs.World.{World}
@@ -154,4 +155,15 @@ module_with m parent scope = (
 )
 
 abbrev pub a_map : MapId → Edition → ℕ → Option ModuleId → Modules → Map
-a_map id edition root inside modules = record { id = id; edition = edition; root = number root; parent = inside; modules = modules; prelude = None; macro_use = [] }
+a_map id edition root inside modules = record {
+  id = id;
+  edition = edition;
+  root = number root;
+  parent = inside;
+  modules = modules;
+  prelude = None;
+  macro_use = [];
+  macro_defs = [];
+  derive_helpers = [];
+  shared = fresh_data;
+}

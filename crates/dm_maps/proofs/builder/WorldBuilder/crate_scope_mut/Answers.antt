@@ -32,6 +32,7 @@ returns-in-Some c =
       enums = c.self.inside.enums.entries;
       variants = c.self.inside.variants.items;
       macros = c.self.inside.macros.items;
+      item_tables = c.self.inside.item_tables;
     } in
     let same = λ (w : Scope). ap (λ (o : Option Map). made (put_map ms c.args.k c.args.i o w)) (sym there) ∙ ap (λ (s : World). crate_with_scope s c.args.k c.args.i w) c.self.view_is in (
       λ j. inl (c.in-Some.scope.ghost_name, λ w. same w j),
@@ -56,6 +57,7 @@ returns-in-None c =
       enums = c.self.inside.enums.entries;
       variants = c.self.inside.variants.items;
       macros = c.self.inside.macros.items;
+      item_tables = c.self.inside.item_tables;
     } in
     let none = ap made (set-own ms c.args.k c.in_ok-map.map.now there) ∙ c.self.view_is in (
       λ j. inr (none j),

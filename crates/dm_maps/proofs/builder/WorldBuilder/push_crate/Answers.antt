@@ -19,6 +19,7 @@ before c = record {
   enums = c.self.inside.enums.entries;
   variants = c.self.inside.variants.items;
   macros = c.self.inside.macros.items;
+  item_tables = c.self.inside.item_tables;
 }
 
 -- and as they are

@@ -19,6 +19,7 @@ before c = record {
   enums = c.self.inside.enums.entries;
   variants = c.self.inside.variants.items;
   macros = c.self.inside.macros.items;
+  item_tables = c.self.inside.item_tables;
 }
 
 -- and as they are
@@ -65,6 +66,7 @@ add_child-requires c =
       enums = c.self.inside.enums.entries;
       variants = c.self.inside.variants.items;
       macros = c.self.inside.macros.items;
+      item_tables = c.self.inside.item_tables;
     } in
     let m : next_module w ≡ c.next_module-m.result = ap next_module c.self.view_is ∙ sym c.next_module-m.ensures in record {
       crate_free = subst (IsFree w.crate_maps c.index-at.result.now.map.krate.0) m (IsFree-crates w c.self.invariant c.index-at.result.now.map.krate.0);

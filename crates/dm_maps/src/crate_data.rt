@@ -1,0 +1,172 @@
+//! What all maps of a crate share.
+ghost use Rattle.std.specs.Prelude.{◌≡◌, ◌++◌, ◌∷◌, [], true, Some, IfOk, OnOk, OnErr};
+ghost use Rattle.dm_maps.specs.CrateData.{fresh_data, with_feature, with_proc_macro};
+
+use crate::growth::put;
+use dm_base::ids::{FunctionId, ProcMacroId};
+use dm_base::symbol::Symbol;
+use indexmap::IndexMap;
+use std::alloc::{AllocError, Global};
+use std::marker::Model;
+
+/// What all maps of a crate share.
+#[derive(Drop)]
+pub(crate) struct CrateData {
+    no_std: bool,
+    no_core: bool,
+    coherence_is_core: bool,
+    recursion_limit: Option<u32>,
+    tools: Vec<Symbol>,
+    features: Vec<Symbol>,
+    macro_of_fn: IndexMap<FunctionId, ProcMacroId>,
+    fn_of_macro: IndexMap<ProcMacroId, FunctionId>,
+}
+
+impl Model for CrateData {
+    ghost use Rattle.dm_maps.specs.CrateData.{CrateData};
+
+    ghost Value = { CrateData };
+
+    ghost view = { λ d. record { no_std = d.no_std; no_core = d.no_core; coherence_is_core = d.coherence_is_core; recursion_limit = d.recursion_limit; tools = d.tools.items; features = d.features.items; macro_of_fn = d.macro_of_fn.entries; fn_of_macro = d.fn_of_macro.entries } };
+}
+
+impl CrateData {
+    /// Of a new crate, which has the tools that every crate has.
+    pub(crate) fn fresh(alloc: Global) -> Result<CrateData, AllocError>
+        ensures { IfOk result (λ d. d ≡ fresh_data) }
+    {
+        let mut tools = Vec::new(alloc);
+        tools.push(Symbol::new(alloc, "clippy")?)?;
+        tools.push(Symbol::new(alloc, "rustfmt")?)?;
+        tools.push(Symbol::new(alloc, "diagnostic")?)?;
+        tools.push(Symbol::new(alloc, "miri")?)?;
+        tools.push(Symbol::new(alloc, "rust_analyzer")?)?;
+        Ok(CrateData {
+            no_std: false,
+            no_core: false,
+            coherence_is_core: false,
+            recursion_limit: None,
+            tools,
+            features: Vec::new(alloc),
+            macro_of_fn: IndexMap::new(alloc),
+            fn_of_macro: IndexMap::new(alloc),
+        })
+    }
+
+    /// The same, to be changed.
+    pub(crate) fn copy(&self, alloc: Global) -> Result<CrateData, AllocError>
+        ensures { IfOk result (λ d. d ≡ self.now) }
+    {
+        let tools = copy_symbols(&self.tools, alloc)?;
+        let features = copy_symbols(&self.features, alloc)?;
+        let macro_of_fn = copy_macro_of_fn(&self.macro_of_fn)?;
+        let fn_of_macro = copy_fn_of_macro(&self.fn_of_macro)?;
+        Ok(CrateData {
+            no_std: self.no_std,
+            no_core: self.no_core,
+            coherence_is_core: self.coherence_is_core,
+            recursion_limit: self.recursion_limit,
+            tools,
+            features,
+            macro_of_fn,
+            fn_of_macro,
+        })
+    }
+
+    pub(crate) fn set_no_std(&mut self)
+        ensures { self.new ≡ record self.old { no_std = true } }
+    {
+        self.no_std = true;
+    }
+
+    pub(crate) fn set_no_core(&mut self)
+        ensures { self.new ≡ record self.old { no_core = true } }
+    {
+        self.no_core = true;
+    }
+
+    pub(crate) fn set_coherence_is_core(&mut self)
+        ensures { self.new ≡ record self.old { coherence_is_core = true } }
+    {
+        self.coherence_is_core = true;
+    }
+
+    pub(crate) fn set_recursion_limit(&mut self, limit: u32)
+        ensures { self.new ≡ record self.old { recursion_limit = Some limit } }
+    {
+        self.recursion_limit = Some(limit);
+    }
+
+    /// Adds a tool, the last.
+    pub(crate) fn add_tool(&mut self, tool: Symbol) -> Result<(), AllocError>
+        ensures ok { OnOk result (self.new ≡ record self.old { tools = self.old.tools ++ tool ∷ [] }) }
+        ensures err { OnErr result (self.new ≡ self.old) }
+    {
+        self.tools.push(tool)?;
+        Ok(())
+    }
+
+    /// Adds a feature.
+    pub(crate) fn add_feature(&mut self, feature: Symbol) -> Result<(), AllocError>
+        ensures ok { OnOk result (self.new ≡ with_feature self.old feature) }
+        ensures err { OnErr result (self.new ≡ self.old) }
+    {
+        if self.features.contains(&feature) {
+            return Ok(());
+        }
+        self.features.push(feature)?;
+        Ok(())
+    }
+
+    /// Adds a procedural macro that a function defines. Where memory is short, one table may have it.
+    pub(crate) fn add_proc_macro(&mut self, f: FunctionId, m: ProcMacroId) -> Result<(), AllocError>
+        ensures { OnOk result (self.new ≡ with_proc_macro self.old f m) }
+    {
+        put(&mut self.macro_of_fn, f, m)?;
+        put(&mut self.fn_of_macro, m, f)?;
+        Ok(())
+    }
+
+    /// The procedural macro that each function defines.
+    pub(crate) fn macro_of_fn(&self) -> &IndexMap<FunctionId, ProcMacroId>
+        ensures { result.now.entries ≡ self.now.macro_of_fn }
+    {
+        &self.macro_of_fn
+    }
+
+    /// The function of each procedural macro.
+    pub(crate) fn fn_of_macro(&self) -> &IndexMap<ProcMacroId, FunctionId>
+        ensures { result.now.entries ≡ self.now.fn_of_macro }
+    {
+        &self.fn_of_macro
+    }
+}
+
+fn copy_symbols(symbols: &[Symbol], alloc: Global) -> Result<Vec<Symbol>, AllocError>
+    ensures { IfOk result (λ copies. copies.items ≡ symbols.now) }
+{
+    let mut copies = Vec::new(alloc);
+    for symbol in symbols {
+        let copy = symbol.copy(alloc)?;
+        copies.push(copy)?;
+    }
+    Ok(copies)
+}
+
+fn copy_macro_of_fn(
+    table: &IndexMap<FunctionId, ProcMacroId>,
+) -> Result<IndexMap<FunctionId, ProcMacroId>, AllocError>
+    ensures { IfOk result (λ copy. copy.entries ≡ table.now.entries) }
+{
+    let copy = table.clone()?;
+    Ok(copy)
+}
+
+fn copy_fn_of_macro(
+    table: &IndexMap<ProcMacroId, FunctionId>,
+) -> Result<IndexMap<ProcMacroId, FunctionId>, AllocError>
+    ensures { IfOk result (λ copy. copy.entries ≡ table.now.entries) }
+{
+    let copy = table.clone()?;
+    Ok(copy)
+}
