@@ -3,12 +3,17 @@ use super::ran;
 use crate::script::RunEnd;
 use std::test::Fail;
 
-/// Two crates: module 1 in the root of the first, 2 in 1, 3 beside 1, and the root of the second, 4.
+/// Two crates: module 1 in the root of the first, 2 in 1, 3 beside 1, and the root of the second, 4. Block 0, in module 1,
+/// has its root 5 and 6 in it; block 1, in module 0, has its root 8.
 const WORLD: &str = "crate 2021 0
 module 0 a pub
 module 1 b pub
 module 0 c pub
 crate 2015 1
+block 1 0
+module 5 n pub
+module 0 u8 pub
+block 0 1
 check
 ";
 
@@ -33,6 +38,15 @@ fn questions_are_answered_by_the_tree_of_modules(rt: HostRuntime) -> Result<(), 
         ("sees in:2:implicit 1", "false\n"),
         ("sees in:4:implicit 0", "false\n"),
         ("sees pub 4", "true\n"),
+        ("sees in:5:implicit 1", "true\n"),
+        ("sees in:6:implicit 1", "true\n"),
+        ("sees in:6:implicit 0", "false\n"),
+        ("sees in:6:implicit 5", "false\n"),
+        ("sees in:0:implicit 8", "true\n"),
+        ("max c0 in:5:implicit in:1:implicit", "none\n"),
+        ("max b0 in:5:implicit in:6:implicit", "in:5:implicit\n"),
+        ("min b0 in:5:implicit in:6:implicit", "in:6:implicit\n"),
+        ("min c0 in:5:implicit in:6:implicit", "none\n"),
     ];
     for (line, printed) in rows {
         let (out, end) = ran(rt.alloc(), WORLD.as_bytes(), line.as_bytes())?;
@@ -45,18 +59,18 @@ fn questions_are_answered_by_the_tree_of_modules(rt: HostRuntime) -> Result<(), 
 #[test]
 fn ids_that_the_world_has_not_are_unknown(rt: HostRuntime) -> Result<(), Fail> {
     let lines = [
-        "sees pub 5",
-        "sees in:5:implicit 0",
+        "sees pub 9",
+        "sees in:9:implicit 0",
         "sees crate:2 0",
         "max c2 pub pub",
-        "max b0 pub pub",
-        "min c0 in:5:explicit pub",
+        "max b2 pub pub",
+        "min c0 in:9:explicit pub",
         "min c0 pub crate:2",
     ];
     for line in lines {
         let (out, end) = ran(rt.alloc(), WORLD.as_bytes(), line.as_bytes())?;
         assert_eq!(rt; end, RunEnd::Refused, "{line}");
-        assert_eq!(rt; out.as_slice(), b"refused 7 Unknown\n".as_slice(), "{line}");
+        assert_eq!(rt; out.as_slice(), b"refused 11 Unknown\n".as_slice(), "{line}");
     }
     Ok(())
 }
