@@ -19,8 +19,12 @@ abbrev pub crate_id : ℕ → MapId
 crate_id k = record { krate = record { 0 = k }; block = None }
 
 pub IsMap-root : (ps : List Place) (id : MapId) → IsMap (ps ++ root_place id ∷ []) (root_outline ps id)
-IsMap-root ps id = record { root = refl; one_root = one; listed = listed }
+IsMap-root ps id = record { root = refl; one_root = one; listed = listed; ascending = ascending }
   where
+    ascending : (i j : ℕ) (a b : ModuleId × Option ModuleId) → i < j → slice_get (root_outline ps id).modules i ≡ Some a → slice_get (root_outline ps id).modules j ≡ Some b → a.0.0 < b.0.0
+    ascending i zero a b less e g = absurd (omega arith)
+    ascending i (suc j) a b less e g = cc
+
     one : (i : ℕ) (m : ModuleId) → slice_get (root_outline ps id).modules i ≡ Some (m, None) → i ≡ 0
     one zero m e = refl
     one (suc i) m e = cc

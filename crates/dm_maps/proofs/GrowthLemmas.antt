@@ -1,6 +1,7 @@
 -- What holds of every world still holds where a map has a module more, or a list a map.
 use Rattle.std.proofs.Common.{◌≡◌, ◌<◌, ◌≤◌, ℕ, zero, suc, Bool, true, false, List, [], ◌∷◌, ◌++◌, Option, Some, None, length, set, slice_get, nat_eq, inl, inr, sym, ap, ◌∙◌, refl, subst, arith, is_some, true≢false, eq-eqb}
 use Rattle.std.specs.Option.{option_map_or, option_and_then, option_or}
+use Rattle.std.proofs.lemmas.Option.{slice_get_within}
 use Rattle.std.proofs.lemmas.Bool.{eqb-true, ltb-true, lt-ltb}
 use Rattle.dm_base.specs.declared.ids.ModuleId.{ModuleId}
 use Rattle.dm_base.specs.declared.ids.BlockId.{BlockId}
@@ -111,6 +112,7 @@ IsMap-append ps qs o is = record {
   root = is.root;
   one_root = is.one_root;
   listed = λ i m q e. get-append ps qs m.0 (record { map = o.id; index = i; parent = q }) (is.listed i m q e);
+  ascending = is.ascending;
 }
 
 pub AreMaps-append : (own : ℕ → MapId → Type 0) (ps qs : List Place) (os : List Outline) → AreMaps own ps os → AreMaps own (ps ++ qs) os
@@ -134,7 +136,24 @@ IsMap-longer ps o q is = record {
         let up : Some q ≡ r = ap (λ (x : ModuleId × Option ModuleId). x.1) g.1 in
         (λ j. slice_get (ps ++ place_below o q ∷ []) (sym number j)) ∙ get-last ps (place_below o q) ∙ (λ j. Some (record { map = o.id; index = sym g.0 j; parent = up j }))
   ];
+  ascending = ascending;
 }
+  where
+    -- what the map had has smaller numbers than what comes after all places
+    smaller : (i : ℕ) (a : ModuleId × Option ModuleId) → slice_get o.modules i ≡ Some a → a.0.0 < length ps
+    smaller i a e = slice_get_within ps a.0.0 (record { map = o.id; index = i; parent = a.1 }) (is.listed i a.0 a.1 e)
+
+    ascending : (i j : ℕ) (a b : ModuleId × Option ModuleId) → i < j → slice_get (o.modules ++ (after ps, Some q) ∷ []) i ≡ Some a → slice_get (o.modules ++ (after ps, Some q) ∷ []) j ≡ Some b → a.0.0 < b.0.0
+    ascending i j a b less e g = elim (get-push o.modules (after ps, Some q) j b g) [
+      | inl h ↦ elim (get-push o.modules (after ps, Some q) i a e) [
+        | inl k ↦ is.ascending i j a b less k h
+        | inr k ↦ let at = k.0 in let within = slice_get_within o.modules j b h in absurd (omega arith)
+      ]
+      | inr h ↦ elim (get-push o.modules (after ps, Some q) i a e) [
+        | inl k ↦ let number : length ps ≡ b.0.0 = ap (λ (x : ModuleId × Option ModuleId). x.0.0) h.1 in let l = smaller i a k in omega arith
+        | inr k ↦ let at = k.0 in let end = h.0 in absurd (omega arith)
+      ]
+    ]
 
 pub AreMaps-longer : (own : ℕ → MapId → Type 0) (ps : List Place) (os : List Outline) (k : ℕ) (o : Outline) (q : ModuleId) → slice_get os k ≡ Some o → AreMaps own ps os → AreMaps own (ps ++ place_below o q ∷ []) (set os k (longer o (after ps) (Some q)))
 AreMaps-longer own ps os k o q at are j x e = elim (get-set os k j o (longer o (after ps) (Some q)) x at e) [

@@ -1,15 +1,13 @@
 -- How each module of a world stands.
-use Rattle.std.proofs.Common.{◌≡◌, ◌<◌, ℕ, zero, suc, Bool, true, false, cond, [], ◌∷◌, Option, None, Some, length, map, slice_get, nat_eq, refl, sym, ap, ◌∙◌, IsTrue, IsSome, true≢false, arith}
+use Rattle.std.proofs.Common.{◌≡◌, ◌<◌, ℕ, suc, Bool, true, false, cond, [], ◌∷◌, Option, None, Some, length, map, slice_get, nat_eq, refl, sym, ap, ◌∙◌, IsSome, true≢false, arith}
 use Rattle.std.proofs.lemmas.Bool.{ltb-true, eqb-true}
 use Rattle.std.proofs.lemmas.Option.{slice_get-map, slice_get_within}
 use Rattle.std.specs.Option.{option_map, option_map_or, option_and_then}
 use Rattle.dm_base.specs.declared.ids.BlockId.{BlockId}
 use Rattle.dm_base.specs.declared.ids.MapId.{MapId}
 use Rattle.dm_base.specs.declared.ids.ModuleId.{ModuleId}
-use Rattle.dm_maps.specs.declared.held.HeldId.TheVariants as held
 use Rattle.dm_maps.specs.declared.place.Place.{Place}
-use Rattle.dm_maps.specs.Facts.{HasContainer, Standing, IsInOrder}
-use Rattle.dm_maps.specs.Known.{knows}
+use Rattle.dm_maps.specs.Facts.{IsAscending, HasContainer, Standing, IsInOrder}
 use Rattle.dm_maps.specs.Maps.{Map, Module, Modules, module_at, nth_module}
 use Rattle.dm_maps.specs.Trees.{no_map, Outline, outline, containers_of, map_id_in, IsMap, IsWorld}
 use Rattle.dm_maps.specs.World.{World, map_of, module_in, numbered_map}
@@ -91,6 +89,12 @@ module _ (w : World) (is : IsWorld w) where
             let place : p ≡ record { map = own_map.id; index = f.0; parent = d.parent } = cc in
             sym f.1 ∙ ap (λ (y : Place). nth_module own_map.modules y.index) (sym place) ∙ nth
 
+    ascending : IsAscending own_map.modules
+    ascending i j a b less g h = lawful.ascending i j (entry a) (entry b) less (as_entry i a g) (as_entry j b h)
+      where
+        as_entry : (k : ℕ) (x : ModuleId × Module) → slice_get own_map.modules k ≡ Some x → slice_get (map entry own_map.modules) k ≡ Some (entry x)
+        as_entry k x f = slice_get-map entry own_map.modules k ∙ ap (option_map entry) f
+
     parent-stands : (q : ModuleId) → found.0.parent ≡ Some q → (q.0 < m.0) × (map_of w q ≡ Some own_map)
     parent-stands q g =
         let up = (is.placed m p e).parent q (sym found.2 ∙ g) in
@@ -113,7 +117,7 @@ module _ (w : World) (is : IsWorld w) where
         let place : p ≡ record { map = own_map.id; index = 0; parent = None } = cc in
         found.2 ∙ ap (λ (y : Place). y.parent) place
 
-    block-stands : (b : BlockId) → own_map.id.block ≡ Some b → HasContainer w m own_map own_map.id.krate
+    block-stands : (b : BlockId) → own_map.id.block ≡ Some b → HasContainer w m own_map
     block-stands b g =
         let in_block : p.map.block ≡ Some b = ap (λ (id : MapId). id.block) (sym at.2) ∙ g in
         let within_is = (is.placed m p e).block b in_block in
@@ -141,6 +145,7 @@ module _ (w : World) (is : IsWorld w) where
       own = map-own w is m own_map lies;
       is = ap (option_and_then (module_in w)) e ∙ found.1;
       listed = listed;
+      ascending = ascending;
       parent = parent-stands;
       root = (root-first, root-alone);
       block = block-stands;

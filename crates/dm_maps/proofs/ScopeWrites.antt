@@ -10,7 +10,6 @@ use Rattle.dm_base.specs.Tree.{same_module}
 use Rattle.dm_scope.specs.Scope.{Scope, no_scope}
 use Rattle.dm_maps.specs.declared.held.HeldId.{HeldId}
 use Rattle.dm_maps.specs.declared.held.HeldId.TheVariants as held
-use Rattle.dm_maps.specs.declared.fault.Holder.TheVariants as holder
 use Rattle.dm_maps.specs.declared.place.Place.{Place}
 use Rattle.dm_maps.specs.Maps.{Map, Module, Modules, nth_module, put_scope, with_scope_at, map_with_scope}
 use Rattle.dm_maps.specs.World.{World, place_of, module_in, module_of, scope_of, own_scope, numbered_map, put_map, maps_with_scope, with_scope_in, with_scope}
@@ -89,16 +88,17 @@ module _ (s : Scope) where
   abbrev Slot : World → Place → Place → Type 0
   Slot w q p = (numbered_map w p.map ≡ numbered_map w q.map) × (p.index ≡ q.index)
 
+  kept-made : (w : World) (q p : Place) (b c : Option BlockId)
+      → Kept ((elim c [ None ↦ slice_get w.crate_maps p.map.krate.0 | Some x ↦ slice_get w.block_maps x.0 ] ≡ elim b [ None ↦ slice_get w.crate_maps q.map.krate.0 | Some x ↦ slice_get w.block_maps x.0 ]) × (p.index ≡ q.index))
+      (nth_of (elim c [ None ↦ slice_get w.crate_maps p.map.krate.0 | Some x ↦ slice_get w.block_maps x.0 ]) p.index)
+      (nth_of (elim c [ None ↦ slice_get (made w q s b).crate_maps p.map.krate.0 | Some x ↦ slice_get (made w q s b).block_maps x.0 ]) p.index)
+  kept-made w q p None None = elim (kept-map w.crate_maps q.map.krate.0 q.index p.map.krate.0 p.index) [ inl h ↦ inl h | inr h ↦ inr ((ap (slice_get w.crate_maps) h.0.0, h.0.1), h.1, h.2, h.3) ]
+  kept-made w q p None (Some x) = inl refl
+  kept-made w q p (Some y) None = inl refl
+  kept-made w q p (Some y) (Some x) = elim (kept-map w.block_maps y.0 q.index x.0 p.index) [ inl h ↦ inl h | inr h ↦ inr ((ap (slice_get w.block_maps) h.0.0, h.0.1), h.1, h.2, h.3) ]
+
   kept-in : (w : World) (q p : Place) → Kept (Slot w q p) (module_in w p) (module_in (with_scope_in w (Some q) s) p)
-  kept-in w q p = by q.map.block p.map.block
-    where
-      by : (b c : Option BlockId) → Kept ((elim c [ None ↦ slice_get w.crate_maps p.map.krate.0 | Some x ↦ slice_get w.block_maps x.0 ] ≡ elim b [ None ↦ slice_get w.crate_maps q.map.krate.0 | Some x ↦ slice_get w.block_maps x.0 ]) × (p.index ≡ q.index))
-          (nth_of (elim c [ None ↦ slice_get w.crate_maps p.map.krate.0 | Some x ↦ slice_get w.block_maps x.0 ]) p.index)
-          (nth_of (elim c [ None ↦ slice_get (made w q s b).crate_maps p.map.krate.0 | Some x ↦ slice_get (made w q s b).block_maps x.0 ]) p.index)
-      by None None = elim (kept-map w.crate_maps q.map.krate.0 q.index p.map.krate.0 p.index) [ inl h ↦ inl h | inr h ↦ inr ((ap (slice_get w.crate_maps) h.0.0, h.0.1), h.1, h.2, h.3) ]
-      by None (Some x) = inl refl
-      by (Some y) None = inl refl
-      by (Some y) (Some x) = elim (kept-map w.block_maps y.0 q.index x.0 p.index) [ inl h ↦ inl h | inr h ↦ inr ((ap (slice_get w.block_maps) h.0.0, h.0.1), h.1, h.2, h.3) ]
+  kept-in w q p = kept-made w q p q.map.block p.map.block
 
   -- ---- The scopes of modules.
 
@@ -225,61 +225,35 @@ each-set f i k [] x y h same = refl
 each-set f i zero (z ∷ zs) x y h same = let is : x ≡ z = cc in ap (λ a. a ∷ each_from f (i + 1) zs) (same i ∙ ap (f i) is)
 each-set f i (suc k) (z ∷ zs) x y h same = ap (λ l. f i z ∷ l) (each-set f (i + 1) k zs x y h same)
 
-module _ (w : World) (checked : IsChecked w) (s : Scope) (fine : KnowsAll w (scope_holds s)) where
-  -- with what the world and another, v, both know
-  module _ (v : World) (same : (h : HeldId) → knows v h ≡ knows w h) where
-    knows-all : (hs : List HeldId) → KnowsAll w hs → KnowsAll v hs
-    knows-all hs h = all-weaker (Known w) (Known v) (λ x e. same x ∙ e) hs h
+-- with what the world, w, and another, v, both know
+module _ (w v : World) (same : (h : HeldId) → knows v h ≡ knows w h) (s : Scope) (fine : KnowsAll w (scope_holds s)) where
+  knows-all : (hs : List HeldId) → KnowsAll w hs → KnowsAll v hs
+  knows-all hs h = all-weaker (Known w) (Known v) (λ x e. same x ∙ e) hs h
 
-    module-fine : (o p : Option Module) (Slot : Type 0) → Kept s Slot o p → KnowsAll w (option_map_or module_holds o []) → KnowsAll v (option_map_or module_holds p [])
-    module-fine o p Slot (inl e) h = subst (λ x. KnowsAll v (option_map_or module_holds x [])) (sym e) (knows-all (option_map_or module_holds o []) h)
-    module-fine o p Slot (inr e) h =
-        let d = e.1 in
-        let old : KnowsAll w (vis_holds d.visibility ++ scope_holds d.scope) = subst (λ x. KnowsAll w (option_map_or module_holds x [])) e.2 h in
-        let new : KnowsAll w (vis_holds d.visibility ++ scope_holds s) = all-append (Known w) (vis_holds d.visibility) (scope_holds s) (all-left (Known w) (vis_holds d.visibility) (scope_holds d.scope) old) fine in
-        subst (λ x. KnowsAll v (option_map_or module_holds x [])) (sym e.3) (knows-all (vis_holds d.visibility ++ scope_holds s) new)
+  fine-list : (hs : List Held) → AllByRecursion (Fine w) hs → AllByRecursion (Fine v) hs
+  fine-list hs h = all-weaker (Fine w) (Fine v) (λ x g. knows-all x.1 g) hs h
 
-    fine-list : (hs : List Held) → AllByRecursion (Fine w) hs → AllByRecursion (Fine v) hs
-    fine-list hs h = all-weaker (Fine w) (Fine v) (λ x g. knows-all x.1 g) hs h
+  module-fine : (o p : Option Module) (Slot : Type 0) → Kept s Slot o p → KnowsAll w (option_map_or module_holds o []) → KnowsAll v (option_map_or module_holds p [])
+  module-fine o p Slot (inl e) h = subst (λ x. KnowsAll v (option_map_or module_holds x [])) (sym e) (knows-all (option_map_or module_holds o []) h)
+  module-fine o p Slot (inr e) h =
+      let d = e.1 in
+      let old : KnowsAll w (vis_holds d.visibility ++ scope_holds d.scope) = subst (λ x. KnowsAll w (option_map_or module_holds x [])) e.2 h in
+      let new : KnowsAll w (vis_holds d.visibility ++ scope_holds s) = all-append (Known w) (vis_holds d.visibility) (scope_holds s) (all-left (Known w) (vis_holds d.visibility) (scope_holds d.scope) old) fine in
+      subst (λ x. KnowsAll v (option_map_or module_holds x [])) (sym e.3) (knows-all (vis_holds d.visibility ++ scope_holds s) new)
 
-    module _ (crates : each_from (crate_holder v.local_maps) 0 v.crate_maps ≡ each_from (crate_holder w.local_maps) 0 w.crate_maps)
-        (blocks : map block_holder v.block_maps ≡ map block_holder w.block_maps) (places : v.places ≡ w.places)
-        (Slot_of : Place → Type 0) (kept : (p : Place) → Kept s (Slot_of p) (module_in w p) (module_in v p)) where
-      abbrev old_crates : List Held
-      old_crates = each_from (crate_holder w.local_maps) 0 w.crate_maps
-
-      abbrev old_blocks : List Held
-      old_blocks = map block_holder w.block_maps
-
-      abbrev old_modules : List Held
-      old_modules = each_from (module_holder w) 0 w.places
-
-      abbrev tables : List Held
-      tables = (holder.Tables, []) ∷ []
-
-      after_crates : AllByRecursion (Fine w) (old_blocks ++ (old_modules ++ tables))
-      after_crates = all-right (Fine w) old_crates (old_blocks ++ (old_modules ++ tables)) checked
-
-      after_blocks : AllByRecursion (Fine w) (old_modules ++ tables)
-      after_blocks = all-right (Fine w) old_blocks (old_modules ++ tables) after_crates
-
-      new_crates : AllByRecursion (Fine v) (each_from (crate_holder v.local_maps) 0 v.crate_maps)
-      new_crates = subst (λ l. AllByRecursion (Fine v) l) (sym crates) (fine-list old_crates (all-left (Fine w) old_crates (old_blocks ++ (old_modules ++ tables)) checked))
-
-      new_blocks : AllByRecursion (Fine v) (map block_holder v.block_maps)
-      new_blocks = subst (λ l. AllByRecursion (Fine v) l) (sym blocks) (fine-list old_blocks (all-left (Fine w) old_blocks (old_modules ++ tables) after_crates))
-
-      new_modules : AllByRecursion (Fine v) (each_from (module_holder v) 0 v.places)
-      new_modules =
-          subst (λ ps. AllByRecursion (Fine v) (each_from (module_holder v) 0 ps)) (sym places)
-          (each-weaker (Fine w) (Fine v) (module_holder w) (module_holder v) (λ i p h. module-fine (module_in w p) (module_in v p) (Slot_of p) (kept p) h) 0 w.places (all-left (Fine w) old_modules tables after_blocks))
-
-      IsChecked-like : IsChecked v
-      IsChecked-like =
-          all-append (Fine v) (each_from (crate_holder v.local_maps) 0 v.crate_maps) (map block_holder v.block_maps ++ (each_from (module_holder v) 0 v.places ++ tables)) new_crates
-          (all-append (Fine v) (map block_holder v.block_maps) (each_from (module_holder v) 0 v.places ++ tables) new_blocks
-          (all-append (Fine v) (each_from (module_holder v) 0 v.places) tables new_modules
-          (fine-list tables (all-right (Fine w) old_modules tables after_blocks))))
+  -- maps, then modules, then a rest: if the maps hold what they held, and the modules what they held or what s holds
+  fine-holders : (cs ds bs es rest : List Held) (ps : List Place) (Slot_of : Place → Type 0) → ds ≡ cs → es ≡ bs → ((p : Place) → Kept s (Slot_of p) (module_in w p) (module_in v p))
+      → AllByRecursion (Fine w) (cs ++ (bs ++ (each_from (module_holder w) 0 ps ++ rest))) → AllByRecursion (Fine v) (ds ++ (es ++ (each_from (module_holder v) 0 ps ++ rest)))
+  fine-holders cs ds bs es rest ps Slot_of crates blocks kept h =
+      let old = each_from (module_holder w) 0 ps in
+      let new = each_from (module_holder v) 0 ps in
+      let after_crates = all-right (Fine w) cs (bs ++ (old ++ rest)) h in
+      let after_blocks = all-right (Fine w) bs (old ++ rest) after_crates in
+      all-append (Fine v) ds (es ++ (new ++ rest)) (subst (λ l. AllByRecursion (Fine v) l) (sym crates) (fine-list cs (all-left (Fine w) cs (bs ++ (old ++ rest)) h)))
+      (all-append (Fine v) es (new ++ rest) (subst (λ l. AllByRecursion (Fine v) l) (sym blocks) (fine-list bs (all-left (Fine w) bs (old ++ rest) after_crates)))
+      (all-append (Fine v) new rest
+      (each-weaker (Fine w) (Fine v) (module_holder w) (module_holder v) (λ i p g. module-fine (module_in w p) (module_in v p) (Slot_of p) (kept p) g) 0 ps (all-left (Fine w) old rest after_blocks))
+      (fine-list rest (all-right (Fine w) old rest after_blocks))))
 
 length-scoped : (ms : List Map) (k i : ℕ) (s : Scope) → length (maps_with_scope ms k i s) ≡ length ms
 length-scoped ms k i s = by (slice_get ms k)
@@ -322,10 +296,15 @@ module _ (w : World) (q : Place) (s : Scope) where
 IsChecked-scoped : (w : World) (m : ModuleId) (s : Scope) → IsChecked w → KnowsAll w (scope_holds s) → IsChecked (with_scope w m s)
 IsChecked-scoped w m s checked fine = by (place_of w m)
   where
+    at : (q : Place) (b : Option BlockId) → IsChecked (made w q s b)
+    at q None =
+        fine-holders w (made w q s None) (knows-kept w q s None) s fine _ _ _ _ _ w.places _ (crates-kept w q s None) (blocks-kept w q s None) (λ p. kept-made s w q p None p.map.block) checked
+    at q (Some b) =
+        fine-holders w (made w q s (Some b)) (knows-kept w q s (Some b)) s fine _ _ _ _ _ w.places _ (crates-kept w q s (Some b)) (blocks-kept w q s (Some b)) (λ p. kept-made s w q p (Some b) p.map.block) checked
+
     by : (o : Option Place) → IsChecked (with_scope_in w o s)
     by None = checked
-    by (Some q) =
-        IsChecked-like w checked s fine (with_scope_in w (Some q) s) (knows-kept w q s q.map.block) (crates-kept w q s q.map.block) (blocks-kept w q s q.map.block) (places-kept s w (Some q)) (Slot s w q) (kept-in s w q)
+    by (Some q) = at q q.map.block
 
 -- and so it still is a checked world
 pub IsCheckedWorld-scoped : (w v : World) (m : ModuleId) (s : Scope) → IsCheckedWorld w → IsWorld v → v ≡ with_scope w m s → KnowsAll w (scope_holds s) → IsCheckedWorld v

@@ -76,11 +76,12 @@ pub record IsPlaced (ps : List Place) (inside : List (Option ModuleId)) (i : ℕ
   pub parent : (q : ModuleId) → p.parent ≡ Some q → (q.0 < i) × (map_id_in ps q ≡ p.map)
   pub block : (b : BlockId) → p.map.block ≡ Some b → IsWithin ps inside i p b
 
--- a map's first module is its root, no other lacks a parent, and each stands where its place says
+-- a map's first module is its root, no other lacks a parent, each stands where its place says, and numbers go up
 pub record IsMap (ps : List Place) (o : Outline) : Type 0 where
   pub root : slice_get o.modules 0 ≡ Some (o.root, None)
   pub one_root : (i : ℕ) (m : ModuleId) → slice_get o.modules i ≡ Some (m, None) → i ≡ 0
   pub listed : (i : ℕ) (m : ModuleId) (q : Option ModuleId) → slice_get o.modules i ≡ Some (m, q) → slice_get ps m.0 ≡ Some (record { map = o.id; index = i; parent = q })
+  pub ascending : (i j : ℕ) (a b : ModuleId × Option ModuleId) → i < j → slice_get o.modules i ≡ Some a → slice_get o.modules j ≡ Some b → a.0.0 < b.0.0
 
 abbrev pub is_crate_id : ℕ → MapId → Type 0
 is_crate_id k id = id ≡ record { krate = record { 0 = k }; block = None }
