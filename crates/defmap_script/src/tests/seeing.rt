@@ -70,7 +70,11 @@ fn ids_that_the_world_has_not_are_unknown(rt: HostRuntime) -> Result<(), Fail> {
     for line in lines {
         let (out, end) = ran(rt.alloc(), WORLD.as_bytes(), line.as_bytes())?;
         assert_eq!(rt; end, RunEnd::Refused, "{line}");
-        assert_eq!(rt; out.as_slice(), b"refused 11 Unknown\n".as_slice(), "{line}");
+        assert_eq!(rt;
+            out.as_slice(),
+            b"refused 11 Unknown\n".as_slice(),
+            "{line}"
+        );
     }
     Ok(())
 }
