@@ -33,6 +33,7 @@ pub data Added : Type 0 where
   NewMacroUse : MapName → Name → MacroId → Option ExternCrateId → Added
   NewExtern : Crate → Name → ModuleId → Option ExternCrateId → Added
   NewLegacy : ModuleId → Name → MacroId → Added
+  NewRaw : Name → Added
 
 -- what an addition adds
 abbrev pub added : Addition → Added
@@ -47,6 +48,7 @@ added (additions.Prelude map m) = NewPrelude map m
 added (additions.MacroUse map n m x) = NewMacroUse map n.now m x
 added (additions.Extern k n m x) = NewExtern k n.now m x
 added (additions.Legacy m n l) = NewLegacy m n.now l
+added (additions.Raw n) = NewRaw n.now
 
 -- the words behind the first of each kind of line
 abbrev pub crate_line : List Name → Option Added
@@ -101,12 +103,17 @@ abbrev pub legacy_line : List Name → Option Added
 legacy_line (m ∷ name ∷ l ∷ []) = option_and_then (λ n. option_map (λ id. NewLegacy (record { 0 = n }) name id) (macro_id l)) (number m)
 legacy_line _ = None
 
+abbrev pub raw_line : List Name → Option Added
+raw_line (name ∷ []) = Some (NewRaw name)
+raw_line _ = None
+
 -- what reads the words behind each first word
 abbrev pub addition_forms : List (Name × (List Name → Option Added))
 addition_forms =
     (codes "crate", crate_line) ∷ (codes "module", module_line) ∷ (codes "block", block_line) ∷ (codes "use", use_line)
     ∷ (codes "item", item_line) ∷ (codes "variant", variant_line) ∷ (codes "macro", macro_line) ∷ (codes "prelude", prelude_line)
-    ∷ (codes "macrouse", macro_use_line) ∷ (codes "extern", extern_line) ∷ (codes "legacy", legacy_line) ∷ []
+    ∷ (codes "macrouse", macro_use_line) ∷ (codes "extern", extern_line) ∷ (codes "legacy", legacy_line)
+    ∷ (codes "raw", raw_line) ∷ []
 
 abbrev pub addition : List Name → Option Added
 addition [] = None

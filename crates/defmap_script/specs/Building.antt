@@ -24,6 +24,7 @@ use Rattle.dm_maps.specs.Build.{with_crate, with_module, with_item}
 use Rattle.dm_maps.specs.BuildBlocks.{with_block, block_fault}
 use Rattle.dm_maps.specs.BuildItems.{with_use, with_macro, with_variant}
 use Rattle.dm_maps.specs.BuildMaps.{with_prelude, with_macro_use, with_extern_of, map_fault, krate_fault}
+use Rattle.dm_maps.specs.BuildTables.{with_raw}
 use Rattle.dm_maps.specs.Faults.{crate_fault, child_fault, item_fault}
 use Rattle.dm_maps.specs.ItemFaults.{use_fault, macro_fault, variant_fault}
 use Rattle.dm_maps.specs.World.{World, own_scope, with_scope}
@@ -31,7 +32,7 @@ use Rattle.defmap_script.specs.declared.build_words.MapName.{MapName}
 use Rattle.defmap_script.specs.declared.build_words.MapName.TheVariants as named
 use Rattle.defmap_script.specs.declared.fault.Fault.{Fault}
 use Rattle.defmap_script.specs.declared.fault.Fault.TheVariants as faults
-use Rattle.defmap_script.specs.BuildLines.{Added, NewCrate, NewModule, NewBlock, NewUse, NewItem, NewVariant, NewMacro, NewPrelude, NewMacroUse, NewExtern, NewLegacy}
+use Rattle.defmap_script.specs.BuildLines.{Added, NewCrate, NewModule, NewBlock, NewUse, NewItem, NewVariant, NewMacro, NewPrelude, NewMacroUse, NewExtern, NewLegacy, NewRaw}
 use Rattle.defmap_script.specs.Faults.{build_fault}
 
 abbrev pub file_of : FileId → Edition → EditionedFileId
@@ -82,6 +83,7 @@ added_to w (NewPrelude map m) = built (map_fault w (map_id w map)) (with_prelude
 added_to w (NewMacroUse map n m x) = built (map_fault w (map_id w map)) (with_macro_use w (map_id w map) n m x)
 added_to w (NewExtern k n m x) = built (krate_fault w k) (with_extern_of w k n m x)
 added_to w (NewLegacy m n l) = with_legacy w m n l (own_scope w m)
+added_to w (NewRaw n) = Ok (with_raw w n)
 
 -- a call that leaves what r has, or is refused: for its fault or for want of memory
 abbrev pub Leaves : Result World Fault → Result (Unit {0}) Fault → World → Type 0

@@ -1,5 +1,5 @@
 -- The lines that ask who sees what: the words behind the first of each.
-use Rattle.std.specs.Prelude.{List, [], ◌∷◌, Option, Some, None}
+use Rattle.std.specs.Prelude.{List, [], ◌∷◌, Option, None}
 use Rattle.std.specs.Option.{option_map, option_and_then}
 use Rattle.dm_base.specs.Names.{Name}
 use Rattle.dm_base.specs.declared.visibility.Visibility.{Visibility}

@@ -1,7 +1,7 @@
 //! The lines that add to a builder, as what they ask for.
 ghost use Rattle.std.specs.Prelude.{◌≡◌, ◌∷◌};
 ghost use Rattle.std.specs.Option.{option_map};
-ghost use Rattle.defmap_script.specs.BuildLines.{added, addition, crate_line, module_line, block_line, use_line, item_line, variant_line, macro_line, prelude_line, macro_use_line, extern_line, legacy_line};
+ghost use Rattle.defmap_script.specs.BuildLines.{added, addition, crate_line, module_line, block_line, use_line, item_line, variant_line, macro_line, prelude_line, macro_use_line, extern_line, legacy_line, raw_line};
 ghost use Rattle.defmap_script.specs.Lines.{words_left};
 
 use crate::build_words::{MapName, extern_crate, macro_id, macro_loc, map_name, shape};
@@ -67,6 +67,9 @@ pub(crate) enum Addition<'a> {
         name: &'a str,
         id: MacroId,
     },
+    Raw {
+        name: &'a str,
+    },
 }
 
 /// The addition of a first word and the words behind it.
@@ -85,6 +88,7 @@ pub(crate) fn addition_of<'a>(first: &str, words: Words<'a>) -> Option<Addition<
         "macrouse" => macro_use_line(words),
         "extern" => extern_line(words),
         "legacy" => legacy_line(words),
+        "raw" => raw_line(words),
         _ => None,
     }
 }
@@ -213,4 +217,13 @@ fn legacy_line(mut words: Words<'_>) -> Option<Addition<'_>>
     let id = macro_id(words.next()?)?;
     words.end()?;
     Some(Addition::Legacy { module, name, id })
+}
+
+/// `raw NAME`, behind its first word.
+fn raw_line(mut words: Words<'_>) -> Option<Addition<'_>>
+    ensures { option_map added result ≡ raw_line (words_left words.entry) }
+{
+    let name = words.next()?;
+    words.end()?;
+    Some(Addition::Raw { name })
 }

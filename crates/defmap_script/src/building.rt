@@ -1,6 +1,6 @@
 //! What the lines that add do to a builder. Where one is refused, the run ends.
 ghost use Rattle.std.specs.Prelude.{◌≡◌};
-ghost use Rattle.defmap_script.specs.BuildLines.{added, NewCrate, NewModule, NewBlock, NewUse, NewItem, NewVariant, NewMacro, NewPrelude, NewMacroUse, NewExtern, NewLegacy};
+ghost use Rattle.defmap_script.specs.BuildLines.{added, NewCrate, NewModule, NewBlock, NewUse, NewItem, NewVariant, NewMacro, NewPrelude, NewMacroUse, NewExtern, NewLegacy, NewRaw};
 ghost use Rattle.defmap_script.specs.Building.{added_to, ast_of, crate_of_block, inline, map_id, own_file, Leaves};
 
 use crate::build_lines::Addition;
@@ -48,6 +48,7 @@ pub(crate) fn add(
             by,
         } => add_extern(builder, alloc, krate, name, module, by),
         Addition::Legacy { module, name, id } => define_legacy(builder, alloc, module, name, id),
+        Addition::Raw { name } => add_raw_name(builder, alloc, name),
     }
 }
 
@@ -232,5 +233,13 @@ fn define_legacy(
     };
     let name = Name::new(alloc, name)?;
     scope.define_legacy_macro(name, id)?;
+    Ok(())
+}
+
+fn add_raw_name(builder: &mut WorldBuilder, alloc: Global, name: &str) -> Result<(), Fault>
+    ensures { Leaves (added_to builder.old (NewRaw name.now)) result builder.new }
+{
+    let name = Name::new(alloc, name)?;
+    builder.add_raw_name(name)?;
     Ok(())
 }

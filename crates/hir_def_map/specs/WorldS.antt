@@ -10,6 +10,7 @@ use Rattle.dm_base.specs.declared.visibility.Visibility.TheVariants.{Public}
 use Rattle.dm_scope.specs.Flags.{Globs, no_globs}
 use Rattle.dm_scope.specs.Push.{scope_after, globs_after}
 use Rattle.dm_scope.specs.Scope.{Scope, no_scope}
+use Rattle.dm_maps.specs.Build.{no_world}
 use Rattle.dm_maps.specs.Maps.{Map}
 use Rattle.dm_maps.specs.World.{World}
 use Rattle.hir_def_map.specs.Written.{a_struct, a_function, by_rules, glob, named, an_item, crate_id, block_id, number, place, bindings, binds_types, module_with, a_map}
@@ -45,7 +46,7 @@ abbrev pub crate_map : Map
 crate_map = record (a_map (crate_id 0) Edition2021 0 None (module_with 0 None root_scope ∷ [])) { macro_use = (codes "X", (by_rules 0, None)) ∷ [] }
 
 abbrev pub world_s : World
-world_s = record {
+world_s = record no_world {
   crate_maps = crate_map ∷ [];
   block_maps =
       a_map (block_id 0 0) Edition2021 1 (Some (number 0)) (module_with 1 None no_scope ∷ module_with 2 (Some (number 1)) outer_scope ∷ [])

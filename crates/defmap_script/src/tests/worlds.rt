@@ -239,6 +239,9 @@ prelude c0 0
 macrouse b0 m macro2:1 none
 macrouse c0 m macro2:1 4294967295
 extern 0 own 0 7
+raw match
+raw match
+raw raw
 check
 ";
     let (out, end) = ran(rt.alloc(), script.as_bytes(), b"")?;
