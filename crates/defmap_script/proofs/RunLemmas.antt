@@ -48,8 +48,8 @@ pub printed-line : (a b c l p : List ℕ) (ls rest : List (List ℕ)) (t u v : T
     → Printed a c t ls v (k + 1) rest
 printed-line a b c l p ls rest t u v k (q, e, g) step h = (q ++ p, longer a b c q p e h, goes_on-line t u v 1 k ls rest q p l g step)
 
-pub ran-end : (a b : List ℕ) (ls : List (List ℕ)) (t u : Tool) (k : ℕ) → Printed a b t ls u k [] → Ran a b t ls Done
-ran-end a b ls t u k (q, e, g) = (q, e, goes_on-end t u 1 k ls q g)
+pub ran-end : (a b : List ℕ) (ls rest : List (List ℕ)) (t u : Tool) (k : ℕ) → rest ≡ [] → Printed a b t ls u k rest → Ran a b t ls Done
+ran-end a b ls rest t u k ended (q, e, g) = (q, e, goes_on-end t u 1 k ls q (subst (λ left. GoesOn t 1 ls q u k left) ended g))
 
 pub ran-refused : (a b c l : List ℕ) (ls rest : List (List ℕ)) (t u : Tool) (k : ℕ) (f : Fault) → Printed a b t ls u k (l ∷ rest)
     → (f ≡ OutOfMemory) ⊎ IsLineStep u l (Err f) → (c ≡ b ++ refusal k f) ⊎ (c ≡ b) → Ran a c t ls (end_of f)

@@ -35,4 +35,4 @@ loop-line-preserved c =
 pub returns : goal.returns
 returns c =
     let ended : lines_left c.loop-line.line-iterator ≡ [] = search rules
-    in ran-end c.args.out.now.items c.loop-line.out.items (lines c.args.input.now) fresh c.loop-line.engine c.loop-line.number (rw (← ended) c.loop-line.invariant.0)
+    in ran-end c.args.out.now.items c.loop-line.out.items (lines c.args.input.now) (lines_left c.loop-line.line-iterator) fresh c.loop-line.engine c.loop-line.number ended c.loop-line.invariant.0
