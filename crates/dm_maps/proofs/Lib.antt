@@ -14,6 +14,7 @@ pub mod VariantLemmas
 pub mod ScopeLemmas
 pub mod AllLemmas
 pub mod Sets
+pub mod RecordLemmas
 pub mod Order
 pub mod FirstLemmas
 pub mod Least

@@ -7,7 +7,7 @@ use Rattle.dm_base.specs.declared.ids.Crate.{Crate}
 use Rattle.dm_base.specs.declared.ids.MapId.{MapId}
 use Rattle.dm_base.specs.declared.ids.ModuleId.{ModuleId}
 use Rattle.dm_maps.specs.declared.map_change.MapChange.{MapChange}
-use Rattle.dm_maps.specs.declared.map_change.MapChange.TheVariants.{Prelude, MacroUse, MacroDef, Helper}
+use Rattle.dm_maps.specs.declared.map_change.MapChange.TheVariants.{Prelude, MacroUse, MacroDef, Helper, Diagnostic}
 use Rattle.dm_maps.specs.BuildCrateData.{map_with_shared, with_shared}
 use Rattle.dm_maps.specs.CrateData.{CrateData}
 use Rattle.dm_maps.specs.Maps.{Map, LocalMap}
@@ -53,6 +53,7 @@ Keeps-changed (Prelude p) = record { shape = λ m. refl; around = λ m. refl }
 Keeps-changed (MacroUse n e) = record { shape = λ m. refl; around = λ m. refl }
 Keeps-changed (MacroDef a d) = record { shape = λ m. refl; around = λ m. refl }
 Keeps-changed (Helper a h) = record { shape = λ m. refl; around = λ m. refl }
+Keeps-changed (Diagnostic d) = record { shape = λ m. refl; around = λ m. refl }
 
 pub length-locals_with : (Ls : List LocalMap) (k : ℕ) (f : LocalMap → LocalMap) → length (locals_with Ls k f) ≡ length Ls
 length-locals_with Ls k f = by (slice_get Ls k)

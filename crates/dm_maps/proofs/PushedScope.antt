@@ -125,8 +125,15 @@ module _ (P : HeldId → Type 0) where
     firsts : All (option_map_or type_holds x.types [] ++ option_map_or value_holds x.values [])
     firsts = all-left P (option_map_or type_holds x.types [] ++ option_map_or value_holds x.values []) (option_map_or macro_holds x.macros []) res
 
+    -- what the scope holds beside its bindings and records, which no push changes
+    abbrev beside : List HeldId
+    beside = legacies_hold s.legacy_macros ++ lists_hold s
+
     bindings : All (bindings_hold s)
-    bindings = all-left P (bindings_hold s) (legacies_hold s.legacy_macros ++ lists_hold s) held_before
+    bindings = all-left P (bindings_hold s) (records_hold s ++ beside) held_before
+
+    recorded_before : All (records_hold s)
+    recorded_before = all-left P (records_hold s) beside (all-right P (bindings_hold s) (records_hold s ++ beside) held_before)
 
     others : All (values_hold s.values.items ++ macros_hold s.macros.items)
     others = all-right P (types_hold s.types.items) (values_hold s.values.items ++ macros_hold s.macros.items) bindings
@@ -152,62 +159,60 @@ module _ (P : HeldId → Type 0) where
         (item-holds macro_holds x.macros y (all-right P (option_map_or type_holds x.types [] ++ option_map_or value_holds x.values []) (option_map_or macro_holds x.macros []) res) e)
         (same-import by import_fine))
 
+    other_records : All (flat_map value_record_holds s.values.records ++ flat_map record_holds s.macros.records)
+    other_records = all-right P (flat_map record_holds s.types.records) (flat_map value_record_holds s.values.records ++ flat_map record_holds s.macros.records) recorded_before
+
+    type_item : (y : Item ModuleDefId ImportOrExternCrate) → x.types ≡ Some y → All (type_holds y)
+    type_item y e = item-holds type_holds x.types y (all-left P (option_map_or type_holds x.types []) (option_map_or value_holds x.values []) firsts) e
+
+    value_item : (y : Item ModuleDefId ImportOrGlob) → x.values ≡ Some y → All (value_holds y)
+    value_item y e = item-holds value_holds x.values y (all-right P (option_map_or type_holds x.types []) (option_map_or value_holds x.values []) firsts) e
+
+    macro_item : (y : Item MacroId ImportOrExternCrate) → x.macros ≡ Some y → All (macro_holds y)
+    macro_item y e = item-holds macro_holds x.macros y (all-right P (option_map_or type_holds x.types [] ++ option_map_or value_holds x.values []) (option_map_or macro_holds x.macros []) res) e
+
+    type_step : (y : Item ModuleDefId ImportOrExternCrate) → All (type_holds y) → All (step_holds (recorded types_reading y))
+    type_step y h = by_import y.import (all-right P (def_holds y.def ++ vis_holds y.vis) (option_map_or import_holds y.import []) h)
+      where
+        def_fine : All (def_holds y.def)
+        def_fine = all-left P (def_holds y.def) (vis_holds y.vis) (all-left P (def_holds y.def ++ vis_holds y.vis) (option_map_or import_holds y.import []) h)
+
+        by_import : (i : Option ImportOrExternCrate) → All (option_map_or import_holds i []) → All (step_holds (recorded_from types_reading i y.def))
+        by_import None g = def_fine
+        by_import (Some i) g = import-step i g
+
+    value_step : (y : Item ModuleDefId ImportOrGlob) → All (value_holds y) → All (step_holds (recorded values_reading y))
+    value_step y h = by_import y.import (all-right P (def_holds y.def ++ vis_holds y.vis) (option_map_or value_import_holds y.import []) h)
+      where
+        def_fine : All (def_holds y.def)
+        def_fine = all-left P (def_holds y.def) (vis_holds y.vis) (all-left P (def_holds y.def ++ vis_holds y.vis) (option_map_or value_import_holds y.import []) h)
+
+        by_import : (i : Option ImportOrGlob) → All (option_map_or value_import_holds i []) → All (step_holds (recorded_from values_reading i y.def))
+        by_import None g = def_fine
+        by_import (Some i) g = value-step i g
+
+    macro_step : (y : Item MacroId ImportOrExternCrate) → All (macro_holds y) → All (step_holds (recorded macros_reading y))
+    macro_step y h = by_import y.import (all-right P ((held.Macro y.def ∷ []) ++ vis_holds y.vis) (option_map_or import_holds y.import []) h)
+      where
+        def_fine : All (held.Macro y.def ∷ [])
+        def_fine = all-left P (held.Macro y.def ∷ []) (vis_holds y.vis) (all-left P ((held.Macro y.def ∷ []) ++ vis_holds y.vis) (option_map_or import_holds y.import []) h)
+
+        by_import : (i : Option ImportOrExternCrate) → All (option_map_or import_holds i []) → All (step_holds (recorded_from macros_reading i y.def))
+        by_import None g = def_fine
+        by_import (Some i) g = import-step i g
+
+    records : All (records_hold (scope_after s g m n x by))
+    records =
+        let v = scope_after s g m n x by in
+        all-append P (flat_map record_holds v.types.records) (flat_map value_record_holds v.values.records ++ flat_map record_holds v.macros.records)
+        (after-records import_holds types_reading s.types g.types m n x.types by (all-left P (flat_map record_holds s.types.records) (flat_map value_record_holds s.values.records ++ flat_map record_holds s.macros.records) recorded_before) (same-import by import_fine) (λ y e. type_step y (type_item y e)))
+        (all-append P (flat_map value_record_holds v.values.records) (flat_map record_holds v.macros.records)
+        (after-records value_import_holds values_reading s.values g.values m n x.values by (all-left P (flat_map value_record_holds s.values.records) (flat_map record_holds s.macros.records) other_records) (value-import by import_fine) (λ y e. value_step y (value_item y e)))
+        (after-records import_holds macros_reading s.macros g.macros m n x.macros by (all-right P (flat_map value_record_holds s.values.records) (flat_map record_holds s.macros.records) other_records) (same-import by import_fine) (λ y e. macro_step y (macro_item y e))))
+
     pub scope_after-holds : All (scope_holds (scope_after s g m n x by))
     scope_after-holds =
         let v = scope_after s g m n x by in
-        all-append P (bindings_hold v) (legacies_hold s.legacy_macros ++ lists_hold s)
+        all-append P (bindings_hold v) (records_hold v ++ beside)
         (all-append P (types_hold v.types.items) (values_hold v.values.items ++ macros_hold v.macros.items) types (all-append P (values_hold v.values.items) (macros_hold v.macros.items) values macros))
-        (all-right P (bindings_hold s) (legacies_hold s.legacy_macros ++ lists_hold s) held_before)
-
-    module _ (recorded_before : All (records_hold s)) where
-      other_records : All (flat_map value_record_holds s.values.records ++ flat_map record_holds s.macros.records)
-      other_records = all-right P (flat_map record_holds s.types.records) (flat_map value_record_holds s.values.records ++ flat_map record_holds s.macros.records) recorded_before
-
-      type_item : (y : Item ModuleDefId ImportOrExternCrate) → x.types ≡ Some y → All (type_holds y)
-      type_item y e = item-holds type_holds x.types y (all-left P (option_map_or type_holds x.types []) (option_map_or value_holds x.values []) firsts) e
-
-      value_item : (y : Item ModuleDefId ImportOrGlob) → x.values ≡ Some y → All (value_holds y)
-      value_item y e = item-holds value_holds x.values y (all-right P (option_map_or type_holds x.types []) (option_map_or value_holds x.values []) firsts) e
-
-      macro_item : (y : Item MacroId ImportOrExternCrate) → x.macros ≡ Some y → All (macro_holds y)
-      macro_item y e = item-holds macro_holds x.macros y (all-right P (option_map_or type_holds x.types [] ++ option_map_or value_holds x.values []) (option_map_or macro_holds x.macros []) res) e
-
-      type_step : (y : Item ModuleDefId ImportOrExternCrate) → All (type_holds y) → All (step_holds (recorded types_reading y))
-      type_step y h = by_import y.import (all-right P (def_holds y.def ++ vis_holds y.vis) (option_map_or import_holds y.import []) h)
-        where
-          def_fine : All (def_holds y.def)
-          def_fine = all-left P (def_holds y.def) (vis_holds y.vis) (all-left P (def_holds y.def ++ vis_holds y.vis) (option_map_or import_holds y.import []) h)
-
-          by_import : (i : Option ImportOrExternCrate) → All (option_map_or import_holds i []) → All (step_holds (recorded_from types_reading i y.def))
-          by_import None g = def_fine
-          by_import (Some i) g = import-step i g
-
-      value_step : (y : Item ModuleDefId ImportOrGlob) → All (value_holds y) → All (step_holds (recorded values_reading y))
-      value_step y h = by_import y.import (all-right P (def_holds y.def ++ vis_holds y.vis) (option_map_or value_import_holds y.import []) h)
-        where
-          def_fine : All (def_holds y.def)
-          def_fine = all-left P (def_holds y.def) (vis_holds y.vis) (all-left P (def_holds y.def ++ vis_holds y.vis) (option_map_or value_import_holds y.import []) h)
-
-          by_import : (i : Option ImportOrGlob) → All (option_map_or value_import_holds i []) → All (step_holds (recorded_from values_reading i y.def))
-          by_import None g = def_fine
-          by_import (Some i) g = value-step i g
-
-      macro_step : (y : Item MacroId ImportOrExternCrate) → All (macro_holds y) → All (step_holds (recorded macros_reading y))
-      macro_step y h = by_import y.import (all-right P ((held.Macro y.def ∷ []) ++ vis_holds y.vis) (option_map_or import_holds y.import []) h)
-        where
-          def_fine : All (held.Macro y.def ∷ [])
-          def_fine = all-left P (held.Macro y.def ∷ []) (vis_holds y.vis) (all-left P ((held.Macro y.def ∷ []) ++ vis_holds y.vis) (option_map_or import_holds y.import []) h)
-
-          by_import : (i : Option ImportOrExternCrate) → All (option_map_or import_holds i []) → All (step_holds (recorded_from macros_reading i y.def))
-          by_import None g = def_fine
-          by_import (Some i) g = import-step i g
-
-      -- the records after it
-      pub scope_after-records : All (records_hold (scope_after s g m n x by))
-      scope_after-records =
-          let v = scope_after s g m n x by in
-          all-append P (flat_map record_holds v.types.records) (flat_map value_record_holds v.values.records ++ flat_map record_holds v.macros.records)
-          (after-records import_holds types_reading s.types g.types m n x.types by (all-left P (flat_map record_holds s.types.records) (flat_map value_record_holds s.values.records ++ flat_map record_holds s.macros.records) recorded_before) (same-import by import_fine) (λ y e. type_step y (type_item y e)))
-          (all-append P (flat_map value_record_holds v.values.records) (flat_map record_holds v.macros.records)
-          (after-records value_import_holds values_reading s.values g.values m n x.values by (all-left P (flat_map value_record_holds s.values.records) (flat_map record_holds s.macros.records) other_records) (value-import by import_fine) (λ y e. value_step y (value_item y e)))
-          (after-records import_holds macros_reading s.macros g.macros m n x.macros by (all-right P (flat_map value_record_holds s.values.records) (flat_map record_holds s.macros.records) other_records) (same-import by import_fine) (λ y e. macro_step y (macro_item y e))))
+        (all-append P (records_hold v) beside records (all-right P (records_hold s) beside (all-right P (bindings_hold s) (records_hold s ++ beside) held_before)))

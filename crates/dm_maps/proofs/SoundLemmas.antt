@@ -18,8 +18,8 @@ use Rattle.dm_maps.specs.declared.place.Place.{Place}
 use Rattle.dm_maps.specs.Maps.{Map, Module, Modules, LocalMap, module_at}
 use Rattle.dm_maps.specs.World.{World, scope_of, module_in, numbered_map, map_of}
 use Rattle.dm_maps.specs.Known.{knows, KnowsAll, res_holds, local_holds, type_holds, value_holds, macro_holds, vis_holds}
-use Rattle.dm_maps.specs.Holds.{map_holds, preludes_hold, module_holds, scope_holds, prelude_holds, macro_uses_hold, types_hold, values_hold, macros_hold, legacies_hold, bindings_hold, lists_hold}
-use Rattle.dm_maps.specs.TablesHold.{macro_defs_hold, helpers_hold, data_holds}
+use Rattle.dm_maps.specs.Holds.{map_holds, preludes_hold, module_holds, scope_holds, prelude_holds, macro_uses_hold, types_hold, values_hold, macros_hold, legacies_hold, bindings_hold, records_hold, lists_hold}
+use Rattle.dm_maps.specs.TablesHold.{macro_defs_hold, helpers_hold, diagnostics_hold, data_holds}
 use Rattle.dm_maps.specs.First.{Held, each_from, crate_holder, block_holder, module_holder, tables_holder, local_at, IsChecked}
 use Rattle.dm_maps.specs.Readings.{macro_uses_of, prelude_in}
 use Rattle.dm_maps.specs.Trees.{tree_of, outline, outlines, IsWorld, IsMap, AreMaps, is_crate_id, is_block_id}
@@ -93,12 +93,12 @@ module _ (w : World) where
         by (Some b) g = fine_block b.0 m g
 
     fine_preludes : (id : MapId) (m : Map) → numbered_map w id ≡ Some m → KnowsAll w (preludes_hold m)
-    fine_preludes id m e = all-left Known (preludes_hold m) (macro_defs_hold m.macro_defs ++ helpers_hold m.derive_helpers) (fine_numbered id m e)
+    fine_preludes id m e = all-left Known (preludes_hold m) (macro_defs_hold m.macro_defs ++ (helpers_hold m.derive_helpers ++ diagnostics_hold m.diagnostics)) (fine_numbered id m e)
 
     -- what a scope binds under a name
     bound_of : (s : Scope) → KnowsAll w (scope_holds s) → (n : Name) → KnowsAll w (res_holds (bound_in s n))
     bound_of s holds n =
-        let bindings = all-left Known (bindings_hold s) (legacies_hold s.legacy_macros ++ lists_hold s) holds in
+        let bindings = all-left Known (bindings_hold s) (records_hold s ++ (legacies_hold s.legacy_macros ++ lists_hold s)) holds in
         let types = all-left Known (types_hold s.types.items) (values_hold s.values.items ++ macros_hold s.macros.items) bindings in
         let others = all-right Known (types_hold s.types.items) (values_hold s.values.items ++ macros_hold s.macros.items) bindings in
         let values = all-left Known (values_hold s.values.items) (macros_hold s.macros.items) others in
@@ -126,7 +126,9 @@ module _ (w : World) where
     legacy_in-known s holds n = by (find_name n s.legacy_macros) refl
       where
         legacies : KnowsAll w (legacies_hold s.legacy_macros)
-        legacies = all-left Known (legacies_hold s.legacy_macros) (lists_hold s) (all-right Known (bindings_hold s) (legacies_hold s.legacy_macros ++ lists_hold s) holds)
+        legacies =
+            let beside = legacies_hold s.legacy_macros ++ lists_hold s in
+            all-left Known (legacies_hold s.legacy_macros) (lists_hold s) (all-right Known (records_hold s) beside (all-right Known (bindings_hold s) (records_hold s ++ beside) holds))
 
         by : (o : Option (List MacroId)) → find_name n s.legacy_macros ≡ o → ForSome (elim o [ None ↦ None | Some ms ↦ last_of ms ]) (λ m. IsTrue (knows w (held.Macro m)))
         by None e = for_none (λ m. IsTrue (knows w (held.Macro m)))

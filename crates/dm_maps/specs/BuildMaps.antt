@@ -1,5 +1,5 @@
 -- What is set in the maps of a builder, and in its extern preludes.
-use Rattle.std.specs.Prelude.{◌≡◌, ℕ, Bool, not, true, nat_eq, List, [], ◌∷◌, Option, Some, None, Result, Err, IsOk, slice_get, slice_set}
+use Rattle.std.specs.Prelude.{◌≡◌, ℕ, Bool, not, true, nat_eq, List, [], ◌∷◌, ◌++◌, Option, Some, None, Result, Err, IsOk, slice_get, slice_set}
 use Rattle.std.specs.Option.{option_map_or}
 use Rattle.indexmap.specs.IndexMap.{insert_entry}
 use Rattle.dm_base.specs.declared.ids.Crate.{Crate}
@@ -10,6 +10,7 @@ use Rattle.dm_base.specs.declared.ids.UseId.{UseId}
 use Rattle.dm_base.specs.declared.item_ids.MacroId.{MacroId}
 use Rattle.dm_base.specs.declared.source.AstId.{AstId}
 use Rattle.dm_base.specs.Names.{Name, same_name}
+use Rattle.dm_scope.specs.declared.diagnostics.DefDiagnostic.{DefDiagnostic}
 use Rattle.dm_scope.specs.Sameness.{same_ast}
 use Rattle.dm_maps.specs.declared.build_fault.BuildFault.{BuildFault}
 use Rattle.dm_maps.specs.declared.build_fault.BuildFault.TheVariants.{NoSuchCrate}
@@ -51,6 +52,10 @@ with_macro_def w id a m = with_map w id (λ map. record map { macro_defs = inser
 -- with a derive helper at an item of the syntax, the last of that item
 abbrev pub with_helper : World → MapId → AstId → Helper → World
 with_helper w id a h = with_map w id (λ map. record map { derive_helpers = helpers_with map.derive_helpers a h })
+
+-- with a diagnostic, the last
+abbrev pub with_diagnostic : World → MapId → DefDiagnostic → World
+with_diagnostic w id d = with_map w id (λ map. record map { diagnostics = map.diagnostics ++ d ∷ [] })
 
 abbrev pub locals_with : List LocalMap → ℕ → (LocalMap → LocalMap) → List LocalMap
 locals_with Ls k f = option_map_or (λ L. slice_set Ls k (f L)) (slice_get Ls k) Ls

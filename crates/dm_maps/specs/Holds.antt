@@ -22,7 +22,7 @@ use Rattle.dm_scope.specs.Scope.{Scope}
 use Rattle.dm_maps.specs.declared.held.HeldId.{HeldId}
 use Rattle.dm_maps.specs.declared.held.HeldId.TheVariants as held
 use Rattle.dm_maps.specs.Maps.{Map, Module}
-use Rattle.dm_maps.specs.TablesHold.{macro_defs_hold, helpers_hold}
+use Rattle.dm_maps.specs.TablesHold.{macro_defs_hold, helpers_hold, diagnostics_hold}
 use Rattle.dm_maps.specs.Known.{def_holds, vis_holds, import_holds, value_import_holds, type_holds, value_holds, macro_holds}
 
 -- a map's prelude holds its module, and the use that named it
@@ -36,9 +36,9 @@ macro_uses_hold es = map (λ e. held.Macro e.0) (map (λ e. e.1) es)
 abbrev pub preludes_hold : Map → List HeldId
 preludes_hold m = option_map_or prelude_holds m.prelude [] ++ macro_uses_hold m.macro_use
 
--- and the macros of its definitions in syntax and of its derive helpers
+-- and the macros of its definitions in syntax and of its derive helpers, and what its diagnostics hold
 abbrev pub map_holds : Map → List HeldId
-map_holds m = preludes_hold m ++ (macro_defs_hold m.macro_defs ++ helpers_hold m.derive_helpers)
+map_holds m = preludes_hold m ++ (macro_defs_hold m.macro_defs ++ (helpers_hold m.derive_helpers ++ diagnostics_hold m.diagnostics))
 
 -- what an import stands for holds the use of a further import, or the definition
 abbrev pub step_holds : ImportOrDef → List HeldId
@@ -86,7 +86,7 @@ lists_hold s = flat_map def_holds s.declarations ++ (flat_map unnamed_trait_hold
 
 -- what a scope holds
 abbrev pub scope_holds : Scope → List HeldId
-scope_holds s = bindings_hold s ++ (legacies_hold s.legacy_macros ++ lists_hold s)
+scope_holds s = bindings_hold s ++ (records_hold s ++ (legacies_hold s.legacy_macros ++ lists_hold s))
 
 -- a module holds its visibility's ids and what its scope holds
 abbrev pub module_holds : Module → List HeldId

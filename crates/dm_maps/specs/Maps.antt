@@ -13,6 +13,7 @@ use Rattle.dm_base.specs.declared.source.Edition.{Edition}
 use Rattle.dm_base.specs.declared.visibility.Visibility.{Visibility}
 use Rattle.dm_base.specs.Names.{Name, same_name}
 use Rattle.dm_base.specs.Tree.{same_module}
+use Rattle.dm_scope.specs.declared.diagnostics.DefDiagnostic.{DefDiagnostic}
 use Rattle.dm_scope.specs.Scope.{Scope, no_scope}
 use Rattle.dm_maps.specs.declared.module_origin.ModuleOrigin.{ModuleOrigin}
 use Rattle.dm_maps.specs.CrateData.{CrateData, fresh_data}
@@ -35,8 +36,8 @@ abbrev pub Modules : Type 0
 Modules = List (ModuleId × Module)
 
 -- The map of a crate or of a block: its root, the module that contains its block, its modules, its prelude module, the
--- macros that `#[macro_use]` brings, the macro that each item of the syntax defines, the derive helpers of each, and what
--- all maps of the crate share.
+-- macros that `#[macro_use]` brings, the macro that each item of the syntax defines, the derive helpers of each, what went
+-- wrong while the map was made, and what all maps of the crate share.
 pub record Map : Type 0 where
   pub id : MapId
   pub edition : Edition
@@ -47,6 +48,7 @@ pub record Map : Type 0 where
   pub macro_use : List (Name × (MacroId × Option ExternCrateId))
   pub macro_defs : List (AstId × MacroId)
   pub derive_helpers : List (AstId × List Helper)
+  pub diagnostics : List DefDiagnostic
   pub shared : CrateData
 
 -- the module of that number
@@ -99,4 +101,4 @@ map_with_child map i n m d = record map { modules = with_new_child map.modules i
 
 -- a new map, with its root alone
 abbrev pub fresh_map : MapId → Edition → Option ModuleId → ModuleId → Module → Map
-fresh_map id e p m d = record { id = id; edition = e; root = m; parent = p; modules = (m, d) ∷ []; prelude = None; macro_use = []; macro_defs = []; derive_helpers = []; shared = fresh_data }
+fresh_map id e p m d = record { id = id; edition = e; root = m; parent = p; modules = (m, d) ∷ []; prelude = None; macro_use = []; macro_defs = []; derive_helpers = []; diagnostics = []; shared = fresh_data }

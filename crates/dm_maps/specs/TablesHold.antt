@@ -16,6 +16,9 @@ use Rattle.dm_base.specs.declared.item_ids.VariantId.TheVariants as variant
 use Rattle.dm_base.specs.declared.source.AstId.{AstId}
 use Rattle.dm_base.specs.declared.visibility.RawVisibility.{RawVisibility}
 use Rattle.dm_base.specs.declared.visibility.RawVisibility.TheVariants as raw
+use Rattle.dm_scope.specs.declared.diagnostics.DefDiagnostic.{DefDiagnostic}
+use Rattle.dm_scope.specs.declared.diagnostics.DefDiagnosticKind.{DefDiagnosticKind}
+use Rattle.dm_scope.specs.declared.diagnostics.DefDiagnosticKind.TheVariants as wrong
 use Rattle.dm_maps.specs.declared.held.HeldId.{HeldId}
 use Rattle.dm_maps.specs.declared.held.HeldId.TheVariants as held
 use Rattle.dm_maps.specs.CrateData.{CrateData}
@@ -33,6 +36,19 @@ helper_holds h = held.Macro h.1
 
 abbrev pub helpers_hold : List (AstId × List Helper) → List HeldId
 helpers_hold es = flat_map (map helper_holds) (map (λ e. e.1) es)
+
+-- what went wrong holds the crate of the `$crate` of the path that it is about, if it is about one
+abbrev pub diagnostic_kind_holds : DefDiagnosticKind → List HeldId
+diagnostic_kind_holds (wrong.UnresolvedMacroCall ast path) = path_holds path.kind
+diagnostic_kind_holds (wrong.MacroError ast path err) = path_holds path.kind
+diagnostic_kind_holds _ = []
+
+-- and the module that it is in
+abbrev pub diagnostic_holds : DefDiagnostic → List HeldId
+diagnostic_holds d = held.Module d.in_module ∷ diagnostic_kind_holds d.kind
+
+abbrev pub diagnostics_hold : List DefDiagnostic → List HeldId
+diagnostics_hold ds = flat_map diagnostic_holds ds
 
 -- both tables of procedural macros hold the function and the macro
 abbrev pub macro_of_fn_holds : FunctionId × ProcMacroId → List HeldId

@@ -17,6 +17,7 @@ use dm_base::ids::{BlockId, Crate, ExternCrateId, MapId, ModuleId, UseId};
 use dm_base::item_ids::MacroId;
 use dm_base::name::Name;
 use dm_base::source::{AstId, Edition};
+use dm_scope::diagnostics::DefDiagnostic;
 use dm_scope::item_scope::ItemScope;
 use indexmap::IndexMap;
 use std::alloc::{AllocError, Global};
@@ -35,6 +36,7 @@ pub struct DefMap {
     macro_use_prelude: IndexMap<Name, (MacroId, Option<ExternCrateId>)>,
     macro_defs: IndexMap<AstId, MacroId>,
     derive_helpers: IndexMap<AstId, DeriveHelpers>,
+    diagnostics: Vec<DefDiagnostic>,
     shared: Rc<CrateData>,
 }
 
@@ -43,7 +45,7 @@ impl Model for DefMap {
 
     ghost Value = { Map };
 
-    ghost view = { λ m. record { id = m.id; edition = m.edition; root = m.root; parent = m.parent; modules = m.modules; prelude = m.prelude; macro_use = m.macro_use_prelude.entries; macro_defs = m.macro_defs.entries; derive_helpers = m.derive_helpers.entries; shared = m.shared.value } };
+    ghost view = { λ m. record { id = m.id; edition = m.edition; root = m.root; parent = m.parent; modules = m.modules; prelude = m.prelude; macro_use = m.macro_use_prelude.entries; macro_defs = m.macro_defs.entries; derive_helpers = m.derive_helpers.entries; diagnostics = m.diagnostics.items; shared = m.shared.value } };
 }
 
 impl DefMap {
@@ -70,6 +72,7 @@ impl DefMap {
             macro_use_prelude: IndexMap::new(alloc),
             macro_defs: IndexMap::new(alloc),
             derive_helpers: IndexMap::new(alloc),
+            diagnostics: Vec::new(alloc),
             shared,
         })
     }
@@ -159,6 +162,13 @@ impl DefMap {
         self.macro_use_prelude.get(name).copied()
     }
 
+    /// What went wrong while the map was made, in order. Takes no memory.
+    pub fn diagnostics(&self) -> &[DefDiagnostic]
+        ensures { result.now ≡ self.now.diagnostics }
+    {
+        self.diagnostics.as_slice()
+    }
+
     /// Adds a module, as a child of the one at place `i`.
     pub(crate) fn add_child(
         &mut self,
@@ -191,6 +201,9 @@ impl DefMap {
             }
             MapChange::Helper(ast, helper) => {
                 add_helper(&mut self.derive_helpers, ast, helper, alloc)?;
+            }
+            MapChange::Diagnostic(diagnostic) => {
+                self.diagnostics.push(diagnostic)?;
             }
         }
         Ok(())

@@ -2,6 +2,7 @@
 #![tactic(auto)]
 
 mod add_blocks;
+mod add_diagnostics;
 mod add_items;
 mod add_modules;
 mod add_uses;
@@ -32,8 +33,10 @@ pub mod module_data;
 pub mod module_origin;
 pub mod modules_iter;
 pub mod modules_map;
+mod note_diagnostics;
 mod note_maps;
 mod note_modules;
+mod note_records;
 mod note_tables;
 mod notes;
 mod path_look_ups;

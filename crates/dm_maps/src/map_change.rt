@@ -4,6 +4,7 @@ use dm_base::ids::{ExternCrateId, ModuleId, UseId};
 use dm_base::item_ids::MacroId;
 use dm_base::name::Name;
 use dm_base::source::AstId;
+use dm_scope::diagnostics::DefDiagnostic;
 
 /// What is set in one map.
 #[derive(Drop)]
@@ -16,4 +17,6 @@ pub(crate) enum MapChange {
     MacroDef(AstId, MacroId),
     /// A helper attribute of a derive at an item, the last.
     Helper(AstId, DeriveHelper),
+    /// What went wrong while the map was made, the last.
+    Diagnostic(DefDiagnostic),
 }

@@ -10,6 +10,7 @@ use crate::builder::WorldBuilder;
 use crate::def_map::DefMap;
 use crate::held::{HeldFault, HeldId};
 use crate::local_def_map::LocalDefMap;
+use crate::note_diagnostics::note_diagnostics;
 use crate::note_tables::{note_helpers, note_macro_defs};
 use crate::notes::note;
 use dm_base::ids::{ExternCrateId, ModuleId, UseId};
@@ -74,7 +75,8 @@ pub(crate) fn note_map(world: &WorldBuilder, map: &DefMap) -> Option<HeldFault>
     };
     let least = note_macro_uses(world, least, map.macro_uses());
     let least = note_macro_defs(world, least, map.macro_defs());
-    note_helpers(world, least, map.derive_helpers())
+    let least = note_helpers(world, least, map.derive_helpers());
+    note_diagnostics(world, least, map.diagnostics())
 }
 
 /// With the modules of an extern prelude.

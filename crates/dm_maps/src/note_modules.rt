@@ -9,6 +9,7 @@ ghost use Rattle.dm_maps.specs.Known.{def_holds, type_holds, value_holds, macro_
 use crate::builder::WorldBuilder;
 use crate::held::{HeldFault, HeldId};
 use crate::module_data::ModuleData;
+use crate::note_records::note_records;
 use crate::notes::{note, note_def, note_import, note_value_import, note_vis};
 use dm_base::ids::TraitId;
 use dm_base::imports::{ImportId, ImportOrExternCrate, ImportOrGlob};
@@ -239,6 +240,7 @@ fn note_scope(
     ensures { result ≡ fold (noted world.now) least (scope_holds scope.now) }
 {
     let least = note_bindings(world, least, scope);
+    let least = note_records(world, least, scope);
     let least = note_legacies(world, least, scope);
     note_lists(world, least, scope)
 }

@@ -123,7 +123,12 @@ fn note_raw(
     }
 }
 
-fn note_path(world: &WorldBuilder, least: Option<HeldFault>, kind: PathKind) -> Option<HeldFault>
+/// With the crate of a path's `$crate`.
+pub(crate) fn note_path(
+    world: &WorldBuilder,
+    least: Option<HeldFault>,
+    kind: PathKind,
+) -> Option<HeldFault>
     ensures { result ≡ fold (noted world.now) least (path_holds kind) }
 {
     match kind {

@@ -165,5 +165,6 @@ a_map id edition root inside modules = record {
   macro_use = [];
   macro_defs = [];
   derive_helpers = [];
+  diagnostics = [];
   shared = fresh_data;
 }
