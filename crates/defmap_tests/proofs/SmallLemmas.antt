@@ -1,10 +1,12 @@
 -- The small tree is a tree: its laws are tested at each of its modules.
-use Rattle.std.proofs.Common.{◌≡◌, ◌<◌, ℕ, Bool, true, false, ◌&&◌, Option, None, Some, is_some, nat_lt, refl, sym, ap, ◌∙◌, eqb-true}
+use Rattle.std.proofs.Common.{◌≡◌, ◌<◌, ℕ, Bool, true, false, ◌&&◌, Option, None, Some, is_some, nat_lt, refl, sym, ap, ◌∙◌, eqb-true, true≢false}
 use Rattle.std.proofs.lemmas.Bool.{and_parts, ltb-true, agree_below_at}
 use Rattle.std.specs.Option.{option_map_or}
 use Rattle.dm_base.specs.declared.ids.ModuleId.{ModuleId}
+use Rattle.dm_base.specs.declared.ids.BlockId.{BlockId}
 use Rattle.dm_base.specs.declared.ids.Crate.{Crate}
-use Rattle.dm_base.specs.Tree.{Tree, IsTree, IsKnown, same_crate, crate_of, containing, outside, in_block_map}
+use Rattle.dm_base.specs.declared.ids.MapId.{MapId}
+use Rattle.dm_base.specs.Tree.{Tree, IsTree, IsKnown, same_crate, same_block, same_map, crate_of, containing, outside, in_block_map}
 use Rattle.defmap_tests.specs.SmallTree.{tree_by, small_places, small_blocks}
 
 abbrev t : Tree
@@ -21,8 +23,9 @@ same false false = true
 
 abbrev is_lawful : ModuleId → Bool
 is_lawful m =
-    option_map_or (may_contain m) (containing t m) true
-    && (option_map_or (may_contain m) (outside t m) true && same (is_some (outside t m)) (in_block_map t m))
+    option_map_or (λ p. same_map (t.map_of p) (t.map_of m)) (t.parent m) true
+    && (option_map_or (may_contain m) (containing t m) true
+    && (option_map_or (may_contain m) (outside t m) true && same (is_some (outside t m)) (in_block_map t m)))
 
 same-true : (a b : Bool) → same a b ≡ true → a ≡ b
 same-true true b e = sym e
@@ -32,13 +35,36 @@ same-true false false e = refl
 lawful-each : (m : ModuleId) → IsKnown t m → is_lawful m ≡ true
 lawful-each m known = agree_below_at (λ n. is_lawful (record { 0 = n })) (λ n. true) 10 m.0 refl (ltb-true m.0 10 known)
 
+-- a test of maps holds of the same map alone
+same_block-true : (a b : Option BlockId) → same_block a b ≡ true → a ≡ b
+same_block-true None None e = refl
+same_block-true None (Some b) e = absurd (true≢false (sym e))
+same_block-true (Some a) None e = absurd (true≢false (sym e))
+same_block-true (Some a) (Some b) e = ap (λ (n : ℕ). let o : Option BlockId = Some (record { 0 = n }) in o) (eqb-true a.0 b.0 e)
+
+same_map-true : (i j : MapId) → same_map i j ≡ true → i ≡ j
+same_map-true i j e =
+    let both = and_parts (same_crate i.krate j.krate) (same_block i.block j.block) e in
+    let krate : i.krate ≡ j.krate = ap (λ (n : ℕ). let k : Crate = record { 0 = n } in k) (eqb-true i.krate.0 j.krate.0 both.0) in
+    let block = same_block-true i.block j.block both.1 in
+    λ k. record { krate = krate k; block = block k }
+
+of-parent : (m p : ModuleId) → IsKnown t m → t.parent m ≡ Some p → t.map_of p ≡ t.map_of m
+of-parent m p known is =
+    same_map-true (t.map_of p) (t.map_of m)
+    (ap (λ (o : Option ModuleId). option_map_or (λ q. same_map (t.map_of q) (t.map_of m)) o true) (sym is) ∙ (and_parts _ _ (lawful-each m known)).0)
+
+-- of what stands outside a module
+of-rest : (m : ModuleId) → IsKnown t m → (option_map_or (may_contain m) (containing t m) true && (option_map_or (may_contain m) (outside t m) true && same (is_some (outside t m)) (in_block_map t m))) ≡ true
+of-rest m known = (and_parts _ _ (lawful-each m known)).1
+
 of-containing : (m c : ModuleId) → IsKnown t m → containing t m ≡ Some c → may_contain m c ≡ true
 of-containing m c known is =
-    ap (λ (o : Option ModuleId). option_map_or (may_contain m) o true) (sym is) ∙ (and_parts _ _ (lawful-each m known)).0
+    ap (λ (o : Option ModuleId). option_map_or (may_contain m) o true) (sym is) ∙ (and_parts _ _ (of-rest m known)).0
 
 of-outside : (m c : ModuleId) → IsKnown t m → outside t m ≡ Some c → may_contain m c ≡ true
 of-outside m c known is =
-    ap (λ (o : Option ModuleId). option_map_or (may_contain m) o true) (sym is) ∙ (and_parts _ _ ((and_parts _ _ (lawful-each m known)).1)).0
+    ap (λ (o : Option ModuleId). option_map_or (may_contain m) o true) (sym is) ∙ (and_parts _ _ ((and_parts _ _ (of-rest m known)).1)).0
 
 module _ (m c : ModuleId) (may : may_contain m c ≡ true) where
   known-too : IsKnown t c
@@ -57,11 +83,12 @@ module _ (m c : ModuleId) (may : may_contain m c ≡ true) where
 
 pub small-lawful : IsTree t
 small-lawful = record {
+  parent_map = of-parent;
   containing_known = λ m c known is. known-too m c (of-containing m c known is);
   containing_smaller = λ m c known is. smaller m c (of-containing m c known is);
   containing_crate = λ m c known is. of-one-crate m c (of-containing m c known is);
   outside_known = λ m c known is. known-too m c (of-outside m c known is);
   outside_smaller = λ m c known is. smaller m c (of-outside m c known is);
   outside_crate = λ m c known is. of-one-crate m c (of-outside m c known is);
-  outside_there = λ m known. same-true _ _ ((and_parts _ _ ((and_parts _ _ (lawful-each m known)).1)).1);
+  outside_there = λ m known. same-true _ _ ((and_parts _ _ ((and_parts _ _ (of-rest m known)).1)).1);
 }

@@ -3,4 +3,5 @@ mod builtins;
 mod items;
 mod names;
 mod traits;
+mod tree;
 mod visibility;

@@ -1,3 +1,4 @@
 pub mod TreeLemmas
+pub mod HomeLemmas
 pub mod PathLemmas
 pub mod SeesLemmas

@@ -8,7 +8,6 @@ use Rattle.dm_base.specs.declared.ids.BlockId.{BlockId}
 use Rattle.dm_base.specs.declared.ids.Crate.{Crate}
 use Rattle.dm_base.specs.declared.ids.MapId.{MapId}
 use Rattle.dm_base.specs.declared.visibility.VisibilityExplicitness.{VisibilityExplicitness}
-use Rattle.dm_base.specs.declared.visibility.Visibility.{Visibility}
 use Rattle.dm_base.specs.declared.visibility.Visibility.TheVariants.{Module}
 use Rattle.dm_base.specs.Tree.{Tree, IsTree, IsKnown, same_module, same_crate, same_block, same_map, crate_of, containing, outside, chain, is_among, is_ancestor, outward_within, outward, lies_in, is_lifted, lift_to, lift, sees}
 use Rattle.dm_base.specs.Visibility.{both_lie_in, max_of_modules, min_of_modules, IsUnion, IsIntersection}
@@ -80,7 +79,7 @@ and-absorbed false false then = refl
 fourth : {A : Type 0} (p q r s : Bool) (u v w z e : A) → p ≡ false → q ≡ true → r ≡ false → s ≡ true → z ≡ cond p u (cond (not q) v (cond r w (cond s z e)))
 fourth p q r s u v w z e not_p is_q not_r is_s = rw (not_p, is_q, not_r, is_s) refl
 
-pub of-some : (P : Visibility → Type 0) (v : Visibility) → P v → ForSome (Some v) P
+pub of-some : {A : Type 0} (P : A → Type 0) (v : A) → P v → ForSome (Some v) P
 of-some P v p w e = subst P (same_Some v w e) p
 
 pub lie-turned : (t : Tree) (map : MapId) (a b : ModuleId) → both_lie_in t map a b ≡ true → both_lie_in t map b a ≡ true

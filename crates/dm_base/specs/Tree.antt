@@ -1,5 +1,5 @@
 -- Trees of modules: the chain of a module, lifting out of blocks, who sees what, and the nearest modules that are no block's root.
-use Rattle.std.specs.Prelude.{◌≡◌, ◌<◌, IsTrue, ℕ, zero, suc, ◌&&◌, ◌||◌, not, nat_eq, List, [], ◌∷◌, Option, Some, None, Bool, true, false, is_none, is_some, unwrap_or, find, filter, slice_get}
+use Rattle.std.specs.Prelude.{◌≡◌, ◌<◌, IsTrue, ℕ, zero, suc, ◌&&◌, ◌||◌, not, nat_eq, List, [], ◌∷◌, Option, Some, None, Bool, true, false, is_none, is_some, unwrap_or, find, filter, slice_get, if◌then◌else◌}
 use Rattle.std.specs.List.{list_any}
 use Rattle.std.specs.Option.{option_and_then, option_map_or, option_or}
 use Rattle.dm_base.specs.declared.ids.ModuleId.{ModuleId}
@@ -51,6 +51,10 @@ outside t m = option_and_then t.inside (block_of t m)
 -- a block map's module without a parent
 abbrev pub is_block_root : Tree → ModuleId → Bool
 is_block_root t m = in_block_map t m && is_none (t.parent m)
+
+-- the module that contains the block whose root m is
+abbrev pub outside_root : Tree → ModuleId → Option ModuleId
+outside_root t m = if is_block_root t m then outside t m else None
 
 -- a module's parent, or for a block's root the module that contains the block
 abbrev pub containing : Tree → ModuleId → Option ModuleId
@@ -112,11 +116,22 @@ outer t m = filter (λ c. not (is_block_root t c)) (chain t m)
 abbrev pub home : Tree → ModuleId → ModuleId
 home t m = unwrap_or (slice_get (outer t m) 0) m
 
+-- the beginning of a list of modules, up to h
+abbrev pub up_to : ModuleId → List ModuleId → List ModuleId
+up_to h [] = []
+up_to h (m ∷ ms) = m ∷ (if same_module m h then [] else up_to h ms)
+
+-- m and the modules that contain it, up to the nearest that is no block's root
+abbrev pub homeward : Tree → ModuleId → List ModuleId
+homeward t m = up_to (home t m) (chain t m)
+
 abbrev pub IsKnown : Tree → ModuleId → Type 0
 IsKnown t m = IsTrue (t.has m)
 
 -- What holds of every lawful tree.
 pub record IsTree (t : Tree) : Type 0 where
+  -- a parent lies in the same map
+  pub parent_map : (m p : ModuleId) → IsKnown t m → t.parent m ≡ Some p → t.map_of p ≡ t.map_of m
   -- a containing module is one of the tree's, has a smaller number, and lies in the same crate
   pub containing_known : (m c : ModuleId) → IsKnown t m → containing t m ≡ Some c → IsKnown t c
   pub containing_smaller : (m c : ModuleId) → IsKnown t m → containing t m ≡ Some c → c.0 < m.0

@@ -1,8 +1,8 @@
 //! Trees of modules, whoever keeps them.
-ghost use Rattle.std.specs.Prelude.{◌≡◌, ◌↔◌, ◌<◌, IsTrue, Bool, true, false, ◌∷◌, []};
+ghost use Rattle.std.specs.Prelude.{◌≡◌, ◌↔◌, ◌<◌, ◌-◌, IsTrue, Bool, true, false, is_some, ◌∷◌, [], slice_get};
 ghost use Rattle.std.specs.Option.{option_map_or, ForSome, ForNone};
 ghost use Rattle.dm_base.specs.declared.ids.ModuleId.{ModuleId};
-ghost use Rattle.dm_base.specs.Tree.{Tree, IsKnown, IsTree, crate_of, block_of, containing, outside, chain, is_among, in_block_map};
+ghost use Rattle.dm_base.specs.Tree.{Tree, IsKnown, IsTree, crate_of, block_of, containing, outside, chain, is_among, in_block_map, is_block_root, outside_root, home, homeward, outer};
 
 use crate::ids::{BlockId, Crate, ModuleId};
 
@@ -54,6 +54,68 @@ pub trait ModuleTree {
         ensures outmost { ForNone result (in_block_map (tree self.now) m ≡ false) }
     {
         self.containing(m)
+    }
+
+    /// Whether a module is the root of a block's map.
+    fn is_block_root(&self, m: ModuleId) -> bool
+        requires { IsKnown (tree self.now) m }
+        ensures { result ≡ is_block_root (tree self.now) m }
+    {
+        self.block(m).is_some() && self.containing(m) == self.outside(m)
+    }
+
+    /// The module that contains the block whose root a module is: the next one on the way to its `home`.
+    fn outside_root(&self, m: ModuleId) -> Option<ModuleId>
+        requires { IsKnown (tree self.now) m }
+        ensures value { result ≡ outside_root (tree self.now) m }
+
+        // There is one exactly for a block's root, one of the tree's, of smaller number.
+        ensures root { is_some result ≡ is_block_root (tree self.now) m }
+        ensures known { ForSome result (IsKnown (tree self.now)) }
+        ensures smaller { ForSome result (λ o. o.0 < m.0) }
+
+        // The way home is the module, then the way home from the one outside; what is home to that is home to the
+        // module, and the chains of both are the same but for roots of blocks.
+        ensures way { homeward (tree self.now) m ≡ m ∷ option_map_or (homeward (tree self.now)) result [] }
+        ensures home { home (tree self.now) m ≡ option_map_or (home (tree self.now)) result m }
+        ensures outer { ForSome result (λ o. outer (tree self.now) m ≡ outer (tree self.now) o) }
+    {
+        if self.is_block_root(m) {
+            self.outside(m)
+        } else {
+            None
+        }
+    }
+
+    /// The nearest module, from `m` outwards, that is no block's root.
+    fn home(&self, m: ModuleId) -> ModuleId
+        requires { IsKnown (tree self.now) m }
+        ensures value { result ≡ home (tree self.now) m }
+        ensures known { IsKnown (tree self.now) result }
+        ensures no_root { is_block_root (tree self.now) result ≡ false }
+        ensures outer { outer (tree self.now) m ≡ outer (tree self.now) result }
+    {
+        let mut nearest = m;
+        'roots: while let Some(outside) = self.outside_root(nearest) {
+            nearest = outside;
+        }
+        nearest
+    }
+
+    /// Member `k`, from 0, of the chain of `m` without the roots of blocks.
+    fn outer_member(&self, m: ModuleId, k: u8) -> Option<ModuleId>
+        requires { IsKnown (tree self.now) m }
+        ensures value { result ≡ slice_get (outer (tree self.now) m) k }
+        ensures known { ForSome result (IsKnown (tree self.now)) }
+    {
+        let mut at = self.home(m);
+        'members: for _ in 0..k {
+            match self.climb(at) {
+                None => return None,
+                Some(container) => at = self.home(container),
+            }
+        }
+        Some(at)
     }
 
     /// Whether `a` is `m` or contains it, however far out.

@@ -1,6 +1,6 @@
 //! Who sees an item.
 ghost use Rattle.std.specs.Prelude.{◌≡◌, IsTrue, is_none, true};
-ghost use Rattle.std.specs.Option.{ForSome};
+ghost use Rattle.std.specs.Option.{ForSome, option_map};
 ghost use Rattle.dm_base.specs.declared.visibility.Visibility.TheVariants.{Module};
 ghost use Rattle.dm_base.specs.declared.visibility.VisibilityExplicitness.TheVariants as explicitness;
 ghost use Rattle.dm_base.specs.Tree.{Tree, IsKnown, IsTree, lies_in, is_ancestor, is_lifted, lift_to, sees};
@@ -96,29 +96,8 @@ impl Visibility {
         ensures union { ForSome result (IsUnion (T.tree tree.now) self other) }
         ensures none { IsTrue (are_of_map (T.tree tree.now) map self other) → is_none result ≡ are_apart (T.tree tree.now) self other }
     {
-        match (self, other) {
-            (Visibility::Public, _) | (_, Visibility::Public) => Some(Visibility::Public),
-            (Visibility::PubCrate(one), Visibility::PubCrate(two)) => {
-                if one == two { Some(self) } else { None }
-            }
-            (Visibility::Module(m, _), Visibility::PubCrate(krate)) => {
-                if tree.krate(m) == krate {
-                    Some(other)
-                } else {
-                    None
-                }
-            }
-            (Visibility::PubCrate(krate), Visibility::Module(m, _)) => {
-                if tree.krate(m) == krate {
-                    Some(self)
-                } else {
-                    None
-                }
-            }
-            (Visibility::Module(a, x), Visibility::Module(b, y)) => {
-                max_of_modules(tree, map, (a, x), (b, y))
-            }
-        }
+        let (most, _) = most_and_least(tree, map, self, other)?;
+        Some(most)
     }
 
     /// The least of two visibilities: one of them, which sees what both see. `None` where there is none such.
@@ -132,88 +111,84 @@ impl Visibility {
         ensures intersection { ForSome result (IsIntersection (T.tree tree.now) self other) }
         ensures none { IsTrue (are_of_map (T.tree tree.now) map self other) → is_none result ≡ are_apart (T.tree tree.now) self other }
     {
-        match (self, other) {
-            (Visibility::Public, least) | (least, Visibility::Public) => Some(least),
-            (Visibility::PubCrate(one), Visibility::PubCrate(two)) => {
-                if one == two { Some(self) } else { None }
+        let (_, least) = most_and_least(tree, map, self, other)?;
+        Some(least)
+    }
+}
+
+/// The most and the least of two visibilities, where there is one: the two of them, in order.
+fn most_and_least<T: ModuleTree>(
+    tree: &T,
+    map: MapId,
+    one: Visibility,
+    two: Visibility,
+) -> Option<(Visibility, Visibility)>
+    requires one { NamesKnown (T.tree tree.now) one }
+    requires two { NamesKnown (T.tree tree.now) two }
+    ensures most { option_map (λ o. o.0) result ≡ max_of (T.tree tree.now) map one two }
+    ensures most_turned { option_map (λ o. o.0) result ≡ max_of (T.tree tree.now) map two one }
+    ensures least { option_map (λ o. o.1) result ≡ min_of (T.tree tree.now) map one two }
+    ensures least_turned { option_map (λ o. o.1) result ≡ min_of (T.tree tree.now) map two one }
+    ensures union { ForSome (option_map (λ o. o.0) result) (IsUnion (T.tree tree.now) one two) }
+    ensures intersection { ForSome (option_map (λ o. o.1) result) (IsIntersection (T.tree tree.now) one two) }
+{
+    match (one, two) {
+        (Visibility::Public, least) | (least, Visibility::Public) => {
+            Some((Visibility::Public, least))
+        }
+        (Visibility::PubCrate(k), Visibility::PubCrate(l)) => {
+            if k == l { Some((one, two)) } else { None }
+        }
+        (Visibility::Module(m, _), Visibility::PubCrate(krate)) => {
+            if tree.krate(m) == krate {
+                Some((two, one))
+            } else {
+                None
             }
-            (Visibility::Module(m, _), Visibility::PubCrate(krate)) => {
-                if tree.krate(m) == krate {
-                    Some(self)
-                } else {
-                    None
-                }
+        }
+        (Visibility::PubCrate(krate), Visibility::Module(m, _)) => {
+            if tree.krate(m) == krate {
+                Some((one, two))
+            } else {
+                None
             }
-            (Visibility::PubCrate(krate), Visibility::Module(m, _)) => {
-                if tree.krate(m) == krate {
-                    Some(other)
-                } else {
-                    None
-                }
-            }
-            (Visibility::Module(a, x), Visibility::Module(b, y)) => {
-                min_of_modules(tree, map, (a, x), (b, y))
-            }
+        }
+        (Visibility::Module(a, x), Visibility::Module(b, y)) => {
+            most_and_least_of_modules(tree, map, (a, x), (b, y))
         }
     }
 }
 
-/// The most of what two modules see.
-fn max_of_modules<T: ModuleTree>(
+/// The most and the least of what two modules see: what the one that contains the other sees, and what that one does.
+fn most_and_least_of_modules<T: ModuleTree>(
     tree: &T,
     map: MapId,
     one: (ModuleId, VisibilityExplicitness),
     two: (ModuleId, VisibilityExplicitness),
-) -> Option<Visibility>
+) -> Option<(Visibility, Visibility)>
     requires one { IsKnown (T.tree tree.now) one.0 }
     requires two { IsKnown (T.tree tree.now) two.0 }
-    ensures table { result ≡ max_of_modules (T.tree tree.now) map one.0 one.1 two.0 two.1 }
-    ensures either_order { result ≡ max_of_modules (T.tree tree.now) map two.0 two.1 one.0 one.1 }
-    ensures union { ForSome result (IsUnion (T.tree tree.now) (Module one.0 one.1) (Module two.0 two.1)) }
+    ensures most { option_map (λ o. o.0) result ≡ max_of_modules (T.tree tree.now) map one.0 one.1 two.0 two.1 }
+    ensures most_turned { option_map (λ o. o.0) result ≡ max_of_modules (T.tree tree.now) map two.0 two.1 one.0 one.1 }
+    ensures least { option_map (λ o. o.1) result ≡ min_of_modules (T.tree tree.now) map one.0 one.1 two.0 two.1 }
+    ensures least_turned { option_map (λ o. o.1) result ≡ min_of_modules (T.tree tree.now) map two.0 two.1 one.0 one.1 }
+    ensures union { ForSome (option_map (λ o. o.0) result) (IsUnion (T.tree tree.now) (Module one.0 one.1) (Module two.0 two.1)) }
+    ensures intersection { ForSome (option_map (λ o. o.1) result) (IsIntersection (T.tree tree.now) (Module one.0 one.1) (Module two.0 two.1)) }
 {
     let (a, x) = one;
     let (b, y) = two;
     if a == b {
-        return Some(Visibility::Module(a, either_explicit(x, y)));
+        let both = Visibility::Module(a, either_explicit(x, y));
+        return Some((both, both));
     }
     if !both_lie_in(tree, map, a, b) {
         return None;
     }
     if is_ancestor(tree, b, a) {
-        return Some(Visibility::Module(b, y));
+        return Some((Visibility::Module(b, y), Visibility::Module(a, x)));
     }
     if is_ancestor(tree, a, b) {
-        return Some(Visibility::Module(a, x));
-    }
-    None
-}
-
-/// The least of what two modules see.
-fn min_of_modules<T: ModuleTree>(
-    tree: &T,
-    map: MapId,
-    one: (ModuleId, VisibilityExplicitness),
-    two: (ModuleId, VisibilityExplicitness),
-) -> Option<Visibility>
-    requires one { IsKnown (T.tree tree.now) one.0 }
-    requires two { IsKnown (T.tree tree.now) two.0 }
-    ensures table { result ≡ min_of_modules (T.tree tree.now) map one.0 one.1 two.0 two.1 }
-    ensures either_order { result ≡ min_of_modules (T.tree tree.now) map two.0 two.1 one.0 one.1 }
-    ensures intersection { ForSome result (IsIntersection (T.tree tree.now) (Module one.0 one.1) (Module two.0 two.1)) }
-{
-    let (a, x) = one;
-    let (b, y) = two;
-    if a == b {
-        return Some(Visibility::Module(a, either_explicit(x, y)));
-    }
-    if !both_lie_in(tree, map, a, b) {
-        return None;
-    }
-    if is_ancestor(tree, b, a) {
-        return Some(Visibility::Module(a, x));
-    }
-    if is_ancestor(tree, a, b) {
-        return Some(Visibility::Module(b, y));
+        return Some((Visibility::Module(a, x), Visibility::Module(b, y)));
     }
     None
 }

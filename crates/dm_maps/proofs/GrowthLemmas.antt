@@ -91,11 +91,18 @@ module _ (ps : List Place) (cs : List (Option ModuleId)) (placed : (m : ModuleId
       by p is None b = (λ i. is_some (option_and_then (λ x. container_in cs (Some x)) (b i))) ∙ sym (ap is_some b)
       by p is (Some x) b = (λ i. is_some (option_and_then (λ x. container_in cs (Some x)) (b i))) ∙ ap is_some (is.block x b).is ∙ sym (ap is_some b)
 
+  parent-map : (m p : ModuleId) → IsKnown (tree_by ps cs) m → parent_in ps m ≡ Some p → map_id_in ps p ≡ map_id_in ps m
+  parent-map m p known e =
+      let there = get-within ps m.0 (ltb-true m.0 (length ps) known) in
+      let up : there.0.parent ≡ Some p = sym (ap (option_and_then (λ (q : Place). q.parent)) there.1) ∙ e in
+      ((placed m there.0 there.1).parent p up).1 ∙ sym (ap (λ o. option_map_or (λ (q : Place). q.map) o no_map) there.1)
+
   smaller-known : (m c : ModuleId) → IsKnown (tree_by ps cs) m → c.0 < m.0 → IsKnown (tree_by ps cs) c
   smaller-known m c known less = let within : m.0 < length ps = ltb-true m.0 (length ps) known in lt-ltb c.0 (length ps) (omega arith)
 
   pub IsTree-placed : IsTree (tree_by ps cs)
   IsTree-placed = record {
+    parent_map = parent-map;
     containing_known = λ m c known e. smaller-known m c known (containing-around m c known e).0;
     containing_smaller = λ m c known e. (containing-around m c known e).0;
     containing_crate = λ m c known e. (containing-around m c known e).1;

@@ -2,7 +2,7 @@
 ghost use Rattle.std.specs.Prelude.{◌≡◌, IsTrue, IsSome, Some, true};
 ghost use Rattle.std.specs.Option.{ForSome};
 ghost use Rattle.dm_base.specs.Names.{find_name};
-ghost use Rattle.dm_base.specs.Tree.{IsKnown, is_block_root};
+ghost use Rattle.dm_base.specs.Tree.{IsKnown};
 ghost use Rattle.dm_maps.specs.declared.held.HeldId.TheVariants as held;
 ghost use Rattle.dm_maps.specs.Known.{knows};
 ghost use Rattle.dm_maps.specs.Readings.{variants_of, root_of, block_root_of, is_2015_in, prelude_in, macro_uses_of, styles_in};
@@ -31,14 +31,6 @@ impl World {
     {
         let _tables = &self.tables;
         true
-    }
-
-    /// Whether a module is the root of a block's map.
-    #[tactic(auto, unfolding(crate::specs::Trees::tree_of))]
-    pub fn is_block_root(&self, m: ModuleId) -> bool
-        ensures { result ≡ is_block_root (tree_of self.now) m }
-    {
-        self.tables.map_id_of(m).block.is_some() && self.tables.parent_of(m).is_none()
     }
 
     /// The root of a crate.

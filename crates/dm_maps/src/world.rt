@@ -120,4 +120,8 @@ impl ModuleTree for World {
     fn outside(&self, m: ModuleId) -> Option<ModuleId> {
         self.tables.container_of(self.tables.map_id_of(m).block)
     }
+
+    fn is_block_root(&self, m: ModuleId) -> bool {
+        self.tables.map_id_of(m).block.is_some() && self.tables.parent_of(m).is_none()
+    }
 }

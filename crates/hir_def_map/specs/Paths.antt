@@ -22,7 +22,7 @@ use Rattle.dm_base.specs.declared.per_ns.PerNs.{PerNs}
 use Rattle.dm_base.specs.Names.{Name}
 use Rattle.dm_base.specs.Items.{nothing, overlay, keep, seen_by, public_type, public_macro}
 use Rattle.dm_base.specs.Styles.{has_styles, fn_like, attr, derive}
-use Rattle.dm_base.specs.Tree.{Tree, same_module, same_crate, same_map, crate_of, in_block_map, is_block_root, chain, sees, outer, home, block_of}
+use Rattle.dm_base.specs.Tree.{Tree, same_crate, same_map, crate_of, in_block_map, is_block_root, chain, sees, outer, home, up_to, block_of}
 use Rattle.dm_maps.specs.declared.modes.BuiltinShadowMode.TheVariants as shadow
 use Rattle.dm_maps.specs.declared.modes.MacroSubNs.{MacroSubNs}
 use Rattle.dm_maps.specs.declared.modes.MacroSubNs.TheVariants.{Bang, Attr}
@@ -260,11 +260,6 @@ single w q S (Preludes id f) = elim q.kind [
 ]
 
 -- ---- Places and the answer
-
--- the beginning of a list of modules, up to h
-abbrev pub up_to : ModuleId → List ModuleId → List ModuleId
-up_to h [] = []
-up_to h (m ∷ ms) = m ∷ (if same_module m h then [] else up_to h ms)
 
 -- the preludes of the crate, seen from the root of h's block; none where h lies in no block
 abbrev pub prelude_place : Setting → ModuleId → List Place

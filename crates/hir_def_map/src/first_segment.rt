@@ -96,7 +96,8 @@ fn builtins_or_scope(
 /// The extern prelude, which a block's root skips.
 #[tactic(auto, unfolding(dm_maps::specs::Readings::setting_of))]
 fn extern_layer(world: &World, local: &LocalDefMap, m: ModuleId, segment: &Name) -> PerNs
-    requires { KnowsAll world.now (local_holds local.now) }
+    requires module_known { IsKnown (tree_of world.now) m }
+    requires local_known { KnowsAll world.now (local_holds local.now) }
     ensures value { result ≡ unless_block_root (setting_of world.now) m (extern_prelude (read world.now local.now segment.now)) }
     ensures known { KnowsAll world.now (res_holds result) }
 {
@@ -121,6 +122,7 @@ fn map_id_of(world: &World, m: ModuleId) -> MapId
 /// What the prelude module of a module's map binds, which a block's root skips.
 #[tactic(auto, unfolding(dm_maps::specs::Readings::setting_of))]
 fn prelude_layer(world: &World, m: ModuleId, id: MapId, segment: &Name) -> PerNs
+    requires { IsKnown (tree_of world.now) m }
     ensures value { (L : LocalMap) → result ≡ unless_block_root (setting_of world.now) m (prelude (setting_of world.now) id (read world.now L segment.now)) }
     ensures known { KnowsAll world.now (res_holds result) }
 {

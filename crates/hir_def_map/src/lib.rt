@@ -3,7 +3,6 @@
 
 mod answers;
 mod first_segment;
-mod home;
 mod layers;
 pub mod path_resolution;
 mod places;

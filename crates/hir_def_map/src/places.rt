@@ -8,7 +8,6 @@ ghost use Rattle.hir_def_map.specs.Answers.{merged};
 ghost use Rattle.hir_def_map.specs.Paths.{single, prelude_place, places};
 
 use crate::answers::{merge, nothing_no};
-use crate::home::home;
 use crate::question::Ask;
 use crate::result::ResolvePathResult;
 use crate::single::{single_at, single_in_preludes};
@@ -59,19 +58,15 @@ pub(crate) fn answer_outwards(
     requires local_known { KnowsAll world.now (local_holds local.now) }
     ensures { result ≡ merged (map (single (setting_of world.now) ask.now (map (read world.now local.now) segments.now)) (places (setting_of world.now) ask.now.origin)) }
 {
-    let inside = home(world, ask.origin);
     let mut answer = nothing_no();
     let mut at = ask.origin;
-    'roots: while world.is_block_root(at) {
+    'roots: while let Some(outside) = world.outside_root(at) {
         answer = merge(answer, single_at(world, local, ask, at, segments));
-        match world.climb(at) {
-            None => unreachable!("a block's root lies in a module"),
-            Some(outer) => at = outer,
-        }
+        at = outside;
     }
-    let own = single_at(world, local, ask, inside, segments);
+    let own = single_at(world, local, ask, at, segments);
     merge(
         answer,
-        merge(own, preludes_of(world, local, ask, inside, segments)),
+        merge(own, preludes_of(world, local, ask, at, segments)),
     )
 }

@@ -14,7 +14,6 @@ ghost use Rattle.hir_def_map.specs.Paths.{at_adt};
 ghost use Rattle.hir_def_map.specs.Walk.{through, move, walk, GoesKnown};
 
 use crate::answers::{marked, nothing_no, reached, stopped, variant_answer};
-use crate::home::home;
 use crate::result::ResolvePathResult;
 use dm_base::ids::{EnumId, ModuleId};
 use dm_base::item_ids::{AdtId, ModuleDefId};
@@ -87,7 +86,7 @@ fn through(world: &World, at: Stand, m: ModuleId, segment: &Name) -> Stand
             ..at
         };
     }
-    let inside = home(world, m);
+    let inside = world.home(m);
     Stand {
         differing: true,
         origin: inside,

@@ -10,7 +10,6 @@ ghost use Rattle.hir_def_map.specs.Paths.{stop, enter, root_item, from_root, fro
 
 use crate::answers::{nothing_no, nothing_yes, settled};
 use crate::first_segment::{asks_root, layers_at, layers_in_preludes};
-use crate::home::{home, outer_member};
 use crate::question::Ask;
 use crate::result::ResolvePathResult;
 use crate::segments::{Stand, walk};
@@ -71,7 +70,7 @@ fn enter(world: &World, m: ModuleId, segments: &[Name]) -> ResolvePathResult
     requires { IsKnown (tree_of world.now) m }
     ensures { (L : LocalMap) → result ≡ enter (tree_of world.now) m (map (read world.now L) segments.now) }
 {
-    let inside = home(world, m);
+    let inside = world.home(m);
     let answer = answer_from(world, inside, root_item(world, inside), 0, segments);
     settled(world.block(inside).is_some(), answer)
 }
@@ -81,7 +80,7 @@ fn from_super(world: &World, m: ModuleId, k: u8, segments: &[Name]) -> ResolvePa
     requires { IsKnown (tree_of world.now) m }
     ensures { (L : LocalMap) → result ≡ from_super (tree_of world.now) m k (map (read world.now L) segments.now) }
 {
-    match outer_member(world, m, k) {
+    match world.outer_member(m, k) {
         None => nothing_yes(),
         Some(outer) => if world.krate(outer) == world.krate(m)
             && world.block(outer) == world.block(m)

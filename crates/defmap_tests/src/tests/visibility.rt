@@ -5,7 +5,6 @@ ghost use Rattle.dm_base.specs.declared.visibility.VisibilityExplicitness.TheVar
 
 use crate::tree::SmallTree;
 use dm_base::ids::{BlockId, Crate, MapId, ModuleId};
-use dm_base::module_tree::ModuleTree;
 use dm_base::visibility::{Visibility, VisibilityExplicitness};
 use std::test::Fail;
 
@@ -102,18 +101,5 @@ fn the_least_of_two(rt: HostRuntime) -> Result<(), Fail> {
         Visibility::Public.min(&tree, inside(4), CRATE_0),
         Some(inside(4))
     );
-    Ok(())
-}
-
-#[test]
-fn chains_go_outwards_through_blocks(rt: HostRuntime) -> Result<(), Fail> {
-    let tree = SmallTree::new();
-    assert!(rt; tree.has(ModuleId(9)));
-    assert!(rt; !tree.has(ModuleId(10)));
-    assert!(rt; tree.contains(ModuleId(9), ModuleId(9)));
-    assert!(rt; tree.contains(ModuleId(0), ModuleId(9)));
-    assert!(rt; !tree.contains(ModuleId(3), ModuleId(9)));
-    assert_eq!(rt; tree.climb(ModuleId(9)), Some(ModuleId(6)));
-    assert_eq!(rt; tree.climb(ModuleId(4)), None);
     Ok(())
 }

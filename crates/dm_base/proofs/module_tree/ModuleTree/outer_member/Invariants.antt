@@ -1,11 +1,10 @@
 use Rattle.std.proofs.Common.{◌≡◌, ◌-◌, slice_get, false}
 use Rattle.dm_base.specs.Tree.{IsKnown, outer, is_block_root}
-use Rattle.dm_maps.specs.Trees.{tree_of}
-use Rattle.hir_def_map.proofs.home.outer_member.Given as goal
+use Rattle.dm_base.proofs.module_tree.ModuleTree.outer_member.Given as goal
 
 abbrev pub invariant-members : goal.invariant-members
-invariant-members l =
-    let t = tree_of l.world in
+invariant-members g l =
+    let t = g.Self.ModuleTree.tree l.self in
     record {
       known : IsKnown t l.at;
       no_root : is_block_root t l.at ≡ false;
