@@ -12,20 +12,20 @@ module _ (t : Tree) where
   outside_blocks ms = filter (λ c. not (is_block_root t c)) ms
 
   -- a chain begins with its module
-  pub chain-head : (n : ℕ) (m : ModuleId) → (l : List ModuleId) × (chain_within n t m ≡ m ∷ l)
+  chain-head : (n : ℕ) (m : ModuleId) → (l : List ModuleId) × (chain_within n t m ≡ m ∷ l)
   chain-head zero m = ([], refl)
   chain-head (suc n) m = (option_map_or (chain_within n t) (containing t m) [], refl)
 
   -- a block's root is left out
-  pub outer-root : (m : ModuleId) (l : List ModuleId) → is_block_root t m ≡ true → chain t m ≡ m ∷ l → outer t m ≡ outside_blocks l
+  outer-root : (m : ModuleId) (l : List ModuleId) → is_block_root t m ≡ true → chain t m ≡ m ∷ l → outer t m ≡ outside_blocks l
   outer-root m l is e = ap outside_blocks e ∙ ap (λ (b : Bool). cond (not b) (m ∷ outside_blocks l) (outside_blocks l)) is
 
   -- another module stays
-  pub outer-stays : (m : ModuleId) (l : List ModuleId) → is_block_root t m ≡ false → chain t m ≡ m ∷ l → outer t m ≡ m ∷ outside_blocks l
+  outer-stays : (m : ModuleId) (l : List ModuleId) → is_block_root t m ≡ false → chain t m ≡ m ∷ l → outer t m ≡ m ∷ outside_blocks l
   outer-stays m l is e = ap outside_blocks e ∙ ap (λ (b : Bool). cond (not b) (m ∷ outside_blocks l) (outside_blocks l)) is
 
   -- from a module that is no block's root the chain without them begins with it
-  pub outer-first : (m : ModuleId) → is_block_root t m ≡ false → slice_get (outer t m) 0 ≡ Some m
+  outer-first : (m : ModuleId) → is_block_root t m ≡ false → slice_get (outer t m) 0 ≡ Some m
   outer-first m is = let h = chain-head m.0 m in ap (λ l. slice_get l 0) (outer-stays m h.0 is h.1)
 
   -- m has the home h, and from both the chains without roots of blocks are the same

@@ -1,4 +1,4 @@
-use Rattle.std.proofs.Common.{◌≡◌, ◌∙◌, ap, sym, map, refl}
+use Rattle.std.proofs.Common.{◌∙◌, ap, sym, map, refl}
 use Rattle.dm_maps.specs.Readings.{read, setting_of}
 use Rattle.dm_maps.specs.Trees.{tree_of}
 use Rattle.hir_def_map.specs.Answers.{over_answer, merged}
