@@ -1,7 +1,10 @@
 -- What all maps of a crate share.
-use Rattle.std.specs.Prelude.{ℕ, Bool, false, nat_eq, List, [], ◌∷◌, ◌++◌, Option, None, codes, if◌then◌else◌}
-use Rattle.indexmap.specs.IndexMap.{insert_entry}
+use Rattle.std.specs.Prelude.{ℕ, Bool, false, ◌||◌, nat_eq, List, [], ◌∷◌, Option, None, codes}
 use Rattle.std.specs.List.{list_any}
+use Rattle.std.specs.Map.{lookup}
+use Rattle.std.specs.Option.{option_map_or}
+use Rattle.indexmap.specs.IndexMap.{insert_entry}
+use Rattle.indexmap.specs.IndexSet.{insert_key}
 use Rattle.dm_base.specs.declared.ids.FunctionId.{FunctionId}
 use Rattle.dm_base.specs.declared.ids.ProcMacroId.{ProcMacroId}
 use Rattle.dm_base.specs.Names.{same_name}
@@ -38,7 +41,7 @@ fresh_data = record {
 
 -- with a feature: one that is there stays at its place
 abbrev pub with_feature : CrateData → Symbol → CrateData
-with_feature d f = record d { features = if list_any (λ g. same_name g f) d.features then d.features else d.features ++ f ∷ [] }
+with_feature d f = record d { features = insert_key same_name d.features f }
 
 abbrev pub same_function : FunctionId → FunctionId → Bool
 same_function a b = nat_eq a.0 b.0
@@ -52,3 +55,22 @@ with_proc_macro d f m = record d {
   macro_of_fn = insert_entry same_function d.macro_of_fn f m;
   fn_of_macro = insert_entry same_proc_macro d.fn_of_macro m f;
 }
+
+-- how deep macros may expand: 128 where the crate sets nothing
+abbrev pub limit_of : CrateData → ℕ
+limit_of d = option_map_or (λ limit. limit) d.recursion_limit 128
+
+-- whether the crate goes without `std`: it does where it goes without `core`
+abbrev pub goes_without_std : CrateData → Bool
+goes_without_std d = d.no_std || d.no_core
+
+-- whether one of these features is f
+abbrev pub enables : List Symbol → Symbol → Bool
+enables fs f = list_any (same_name f) fs
+
+-- the procedural macro that a function defines, and the function of one
+abbrev pub macro_of : CrateData → FunctionId → Option ProcMacroId
+macro_of d f = lookup (same_function f) d.macro_of_fn
+
+abbrev pub fn_of : CrateData → ProcMacroId → Option FunctionId
+fn_of d m = lookup (same_proc_macro m) d.fn_of_macro

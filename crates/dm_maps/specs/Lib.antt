@@ -3,7 +3,9 @@ pub mod Maps
 pub mod World
 pub mod Asked
 pub mod CrateData
+pub mod CrateRows
 pub mod Helpers
+pub mod ItemHomes
 pub mod ItemTables
 pub mod HelperChanges
 pub mod Keys

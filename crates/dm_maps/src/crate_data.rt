@@ -1,12 +1,14 @@
 //! What all maps of a crate share.
 ghost use Rattle.std.specs.Prelude.{◌≡◌, ◌++◌, ◌∷◌, [], true, Some, IfOk, OnOk, OnErr};
-ghost use Rattle.dm_maps.specs.CrateData.{fresh_data, with_feature, with_proc_macro};
+ghost use Rattle.dm_maps.specs.CrateData.{fresh_data, limit_of, goes_without_std, with_feature, with_proc_macro};
 
 use crate::growth::put;
+use crate::unstable_features::UnstableFeatures;
 use dm_base::ids::{FunctionId, ProcMacroId};
 use dm_base::symbol::Symbol;
 use indexmap::IndexMap;
 use std::alloc::{AllocError, Global};
+use std::hash::Hash;
 use std::marker::Model;
 
 /// What all maps of a crate share.
@@ -17,7 +19,7 @@ pub(crate) struct CrateData {
     coherence_is_core: bool,
     recursion_limit: Option<u32>,
     tools: Vec<Symbol>,
-    features: Vec<Symbol>,
+    features: UnstableFeatures,
     macro_of_fn: IndexMap<FunctionId, ProcMacroId>,
     fn_of_macro: IndexMap<ProcMacroId, FunctionId>,
 }
@@ -27,7 +29,7 @@ impl Model for CrateData {
 
     ghost Value = { CrateData };
 
-    ghost view = { λ d. record { no_std = d.no_std; no_core = d.no_core; coherence_is_core = d.coherence_is_core; recursion_limit = d.recursion_limit; tools = d.tools.items; features = d.features.items; macro_of_fn = d.macro_of_fn.entries; fn_of_macro = d.fn_of_macro.entries } };
+    ghost view = { λ d. record { no_std = d.no_std; no_core = d.no_core; coherence_is_core = d.coherence_is_core; recursion_limit = d.recursion_limit; tools = d.tools.items; features = d.features; macro_of_fn = d.macro_of_fn.entries; fn_of_macro = d.fn_of_macro.entries } };
 }
 
 impl CrateData {
@@ -47,7 +49,7 @@ impl CrateData {
             coherence_is_core: false,
             recursion_limit: None,
             tools,
-            features: Vec::new(alloc),
+            features: UnstableFeatures::new(alloc),
             macro_of_fn: IndexMap::new(alloc),
             fn_of_macro: IndexMap::new(alloc),
         })
@@ -58,9 +60,9 @@ impl CrateData {
         ensures { IfOk result (λ d. d ≡ self.now) }
     {
         let tools = copy_symbols(&self.tools, alloc)?;
-        let features = copy_symbols(&self.features, alloc)?;
-        let macro_of_fn = copy_macro_of_fn(&self.macro_of_fn)?;
-        let fn_of_macro = copy_fn_of_macro(&self.fn_of_macro)?;
+        let features = self.features.copy(alloc)?;
+        let macro_of_fn = copy_table(&self.macro_of_fn)?;
+        let fn_of_macro = copy_table(&self.fn_of_macro)?;
         Ok(CrateData {
             no_std: self.no_std,
             no_core: self.no_core,
@@ -111,10 +113,7 @@ impl CrateData {
         ensures ok { OnOk result (self.new ≡ with_feature self.old feature) }
         ensures err { OnErr result (self.new ≡ self.old) }
     {
-        if self.features.contains(&feature) {
-            return Ok(());
-        }
-        self.features.push(feature)?;
+        self.features.enable(feature)?;
         Ok(())
     }
 
@@ -125,6 +124,48 @@ impl CrateData {
         put(&mut self.macro_of_fn, f, m)?;
         put(&mut self.fn_of_macro, m, f)?;
         Ok(())
+    }
+
+    /// The tools whose attributes the crate may have, in order.
+    pub(crate) fn tools(&self) -> &[Symbol]
+        ensures { result.now ≡ self.now.tools }
+    {
+        self.tools.as_slice()
+    }
+
+    /// The unstable features that the crate asks for.
+    pub(crate) fn features(&self) -> &UnstableFeatures
+        ensures { result.now ≡ self.now.features }
+    {
+        &self.features
+    }
+
+    /// Whether the crate counts as `core` where traits are implemented.
+    pub(crate) fn coherence_is_core(&self) -> bool
+        ensures { result ≡ self.now.coherence_is_core }
+    {
+        self.coherence_is_core
+    }
+
+    /// Whether the crate goes without `std`: it does where it goes without `core`.
+    pub(crate) fn goes_without_std(&self) -> bool
+        ensures { result ≡ goes_without_std self.now }
+    {
+        self.no_std || self.no_core
+    }
+
+    /// Whether the crate goes without `core`.
+    pub(crate) fn goes_without_core(&self) -> bool
+        ensures { result ≡ self.now.no_core }
+    {
+        self.no_core
+    }
+
+    /// How deep macros of the crate may expand: 128 where it sets nothing.
+    pub(crate) fn recursion_limit(&self) -> u32
+        ensures { result ≡ limit_of self.now }
+    {
+        self.recursion_limit.unwrap_or(128)
     }
 
     /// The procedural macro that each function defines.
@@ -153,18 +194,12 @@ fn copy_symbols(symbols: &[Symbol], alloc: Global) -> Result<Vec<Symbol>, AllocE
     Ok(copies)
 }
 
-fn copy_macro_of_fn(
-    table: &IndexMap<FunctionId, ProcMacroId>,
-) -> Result<IndexMap<FunctionId, ProcMacroId>, AllocError>
-    ensures { IfOk result (λ copy. copy.entries ≡ table.now.entries) }
-{
-    let copy = table.clone()?;
-    Ok(copy)
-}
-
-fn copy_fn_of_macro(
-    table: &IndexMap<ProcMacroId, FunctionId>,
-) -> Result<IndexMap<ProcMacroId, FunctionId>, AllocError>
+/// A second table of the same entries, where clones are what they are clones of.
+fn copy_table<K: Eq + Hash + Clone, V: Clone>(
+    table: &IndexMap<K, V>,
+) -> Result<IndexMap<K, V>, AllocError>
+    requires keys { (x y : K) → K.is_clone x y → y ≡ x }
+    requires values { (x y : V) → V.is_clone x y → y ≡ x }
     ensures { IfOk result (λ copy. copy.entries ≡ table.now.entries) }
 {
     let copy = table.clone()?;

@@ -2,14 +2,16 @@
 ghost use Rattle.std.specs.Prelude.{◌≡◌, ◌↔◌, false, IsTrue, IsSome, Some, None, IsOk, IfOk, OnOk, OnErr};
 ghost use Rattle.std.specs.Option.{option_copied, option_copied_mut};
 ghost use Rattle.std.specs.Borrow.{sem};
+ghost use Rattle.std.specs.Map.{lookup};
 ghost use Rattle.dm_base.specs.Names.{find_name};
+ghost use Rattle.dm_scope.specs.Sameness.{same_ast};
 ghost use Rattle.dm_maps.specs.Maps.{module_at, nth_module, scope_at, fresh_map, map_with_child};
 ghost use Rattle.dm_maps.specs.LendingMap.{LendsMapScope};
 ghost use Rattle.dm_maps.specs.MapChanges.{changed, grows};
 
 use crate::crate_data::CrateData;
-use crate::derive_helpers::{DeriveHelpers, add_helper};
-use crate::keyed_tables::put_macro_def;
+use crate::derive_helpers::{DeriveHelper, DeriveHelpers, add_helper};
+use crate::keyed_tables::{helpers_of, macro_def_of, put_macro_def};
 use crate::map_change::MapChange;
 use crate::module_data::ModuleData;
 use crate::modules_map::ModulesMap;
@@ -167,6 +169,20 @@ impl DefMap {
         ensures { result.now ≡ self.now.diagnostics }
     {
         self.diagnostics.as_slice()
+    }
+
+    /// The helper attributes of derives at an item of the syntax, in order; none where it has none. Takes no memory.
+    pub fn derive_helpers_in_scope(&self, id: AstId) -> Option<&[DeriveHelper]>
+        ensures { option_copied result ≡ lookup (same_ast id) self.now.derive_helpers }
+    {
+        helpers_of(&self.derive_helpers, id)
+    }
+
+    /// The macro that an item of the syntax defines. Takes no memory.
+    pub fn macro_def_to_macro_id(&self, id: AstId) -> Option<MacroId>
+        ensures { result ≡ lookup (same_ast id) self.now.macro_defs }
+    {
+        macro_def_of(&self.macro_defs, id)
     }
 
     /// Adds a module, as a child of the one at place `i`.

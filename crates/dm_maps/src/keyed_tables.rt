@@ -1,11 +1,12 @@
 //! Tables by item, set entry by entry. Where memory is short, nothing changes.
 ghost use Rattle.std.specs.Prelude.{◌≡◌, OnOk, OnErr, IfSome, slice_get, position, map};
 ghost use Rattle.std.specs.Map.{lookup, keys_of};
+ghost use Rattle.std.specs.Option.{option_copied};
 ghost use Rattle.indexmap.specs.IndexMap.{insert_entry};
 ghost use Rattle.dm_scope.specs.Sameness.{same_ast};
 ghost use Rattle.dm_maps.specs.Keys.{same_variant, same_assoc};
 
-use crate::derive_helpers::DeriveHelpers;
+use crate::derive_helpers::{DeriveHelper, DeriveHelpers};
 use crate::field_list::FieldList;
 use crate::growth::put;
 use dm_base::item_ids::{AssocItemId, ItemContainerId, MacroId, VariantId};
@@ -72,4 +73,24 @@ pub(crate) fn place_of_helpers(table: &IndexMap<AstId, DeriveHelpers>, ast: AstI
     ensures value { IfSome result (λ i. slice_get (map (λ e. e.1) table.now.entries) i ≡ lookup (same_ast ast) table.now.entries) }
 {
     table.get_index_of(&ast)
+}
+
+/// The helpers of an item, in order.
+pub(crate) fn helpers_of(
+    table: &IndexMap<AstId, DeriveHelpers>,
+    ast: AstId,
+) -> Option<&[DeriveHelper]>
+    ensures { option_copied result ≡ lookup (same_ast ast) table.now.entries }
+{
+    match table.get(&ast) {
+        None => None,
+        Some(helpers) => Some(helpers.as_slice()),
+    }
+}
+
+/// The macro that an item of the syntax defines.
+pub(crate) fn macro_def_of(table: &IndexMap<AstId, MacroId>, ast: AstId) -> Option<MacroId>
+    ensures { result ≡ lookup (same_ast ast) table.now.entries }
+{
+    table.get(&ast).copied()
 }

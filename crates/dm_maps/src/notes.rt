@@ -48,7 +48,8 @@ impl WorldBuilder {
     }
 }
 
-fn same_kind(a: ItemKind, b: ItemKind) -> bool
+/// Whether two kinds of items are the same.
+pub(crate) fn same_kind(a: ItemKind, b: ItemKind) -> bool
     ensures { result ≡ same_kind a b }
 {
     match (a, b) {
@@ -64,7 +65,8 @@ fn same_kind(a: ItemKind, b: ItemKind) -> bool
     }
 }
 
-fn is_of_kind(m: MacroId, loc: MacroLoc) -> bool
+/// Whether a macro is of the kind that its id says.
+pub(crate) fn is_of_kind(m: MacroId, loc: MacroLoc) -> bool
     ensures { result ≡ is_of_kind m loc }
 {
     match (m, loc) {

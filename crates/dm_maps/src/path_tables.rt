@@ -2,13 +2,13 @@
 ghost use Rattle.std.specs.Prelude.{◌≡◌};
 ghost use Rattle.std.specs.Option.{option_copied};
 ghost use Rattle.dm_base.specs.Names.{find_name};
-ghost use Rattle.dm_maps.specs.Known.{macro_number};
 ghost use Rattle.dm_maps.specs.Readings.{root_of, block_root_of, macro_uses_of, styles_by, styles_in, no_style};
 ghost use Rattle.dm_maps.specs.World.{crate_map, scope_of};
 ghost use Rattle.dm_scope.specs.Scope.{legacy_in, last_of};
 
 use crate::builder::WorldBuilder;
 use crate::def_map::DefMap;
+use crate::notes::macro_number;
 use bitflags::Flags;
 use dm_base::ids::{BlockId, Crate, ExternCrateId, MapId, ModuleId};
 use dm_base::item_ids::MacroId;
@@ -74,7 +74,7 @@ impl WorldBuilder {
     pub(crate) fn styles_of(&self, m: MacroId) -> MacroCallStyles
         ensures { result ≡ styles_in self.now m }
     {
-        match self.macros.get(number_of(m) as usize) {
+        match self.macros.get(macro_number(m) as usize) {
             None => MacroCallStyles::empty(),
             Some(entry) => styles_by(m, entry.1),
         }
@@ -86,17 +86,6 @@ fn last_of(macros: &[MacroId]) -> Option<MacroId>
     ensures { result ≡ last_of macros.now }
 {
     macros.last().copied()
-}
-
-/// The number of a macro in the list of all macros.
-fn number_of(m: MacroId) -> u32
-    ensures { result ≡ macro_number m }
-{
-    match m {
-        MacroId::Macro2Id(id) => id.0,
-        MacroId::MacroRulesId(id) => id.0,
-        MacroId::ProcMacroId(id) => id.0,
-    }
 }
 
 /// The styles of a macro, where what stands under its number is of its kind.

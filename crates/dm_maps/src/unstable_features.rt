@@ -1,8 +1,8 @@
 //! The unstable features that a crate enables.
-ghost use Rattle.std.specs.Prelude.{◌≡◌, [], OnOk, OnErr};
-ghost use Rattle.std.specs.List.{list_any};
+ghost use Rattle.std.specs.Prelude.{◌≡◌, [], IfOk, OnOk, OnErr};
 ghost use Rattle.indexmap.specs.IndexSet.{insert_key};
 ghost use Rattle.dm_base.specs.Names.{same_name};
+ghost use Rattle.dm_maps.specs.CrateData.{enables};
 
 use dm_base::symbol::Symbol;
 use indexmap::IndexSet;
@@ -35,7 +35,7 @@ impl UnstableFeatures {
 
     /// Whether a feature is enabled. Takes no memory.
     pub fn is_enabled(&self, feature: &Symbol) -> bool
-        ensures { result ≡ list_any (same_name feature.now) self.now }
+        ensures { result ≡ enables self.now feature.now }
     {
         self.enabled.contains(feature)
     }
@@ -48,4 +48,24 @@ impl UnstableFeatures {
         self.enabled.insert(feature)?;
         Ok(())
     }
+
+    /// The same features, to be added to.
+    pub(crate) fn copy(&self, alloc: Global) -> Result<UnstableFeatures, AllocError>
+        ensures { IfOk result (λ features. features ≡ self.now) }
+    {
+        let enabled = copy_enabled(&self.enabled, alloc)?;
+        Ok(UnstableFeatures { enabled })
+    }
+}
+
+fn copy_enabled(enabled: &IndexSet<Symbol>, alloc: Global) -> Result<IndexSet<Symbol>, AllocError>
+    ensures { IfOk result (λ copies. copies.keys ≡ enabled.now.keys) }
+{
+    let features = enabled.as_slice();
+    let mut copies = IndexSet::new(alloc);
+    for feature in features {
+        let copy = feature.copy(alloc)?;
+        copies.insert(copy)?;
+    }
+    Ok(copies)
 }

@@ -1,0 +1,66 @@
+//! What a map answers of its crate's data: each map of a crate answers the same. None of these calls takes memory.
+ghost use Rattle.std.specs.Prelude.{◌≡◌};
+ghost use Rattle.dm_maps.specs.CrateData.{limit_of, goes_without_std, macro_of, fn_of};
+
+use crate::def_map::DefMap;
+use crate::unstable_features::UnstableFeatures;
+use dm_base::ids::{FunctionId, ProcMacroId};
+use dm_base::symbol::Symbol;
+
+impl DefMap {
+    /// The tools whose attributes the crate may have: those that every crate has, then those that were added, in order.
+    pub fn registered_tools(&self) -> &[Symbol]
+        ensures { result.now ≡ self.now.shared.tools }
+    {
+        self.shared().tools()
+    }
+
+    /// The unstable features that the crate asks for.
+    pub fn features(&self) -> &UnstableFeatures
+        ensures { result.now ≡ self.now.shared.features }
+    {
+        self.shared().features()
+    }
+
+    /// Whether the crate counts as `core` where traits are implemented.
+    pub fn is_rustc_coherence_is_core(&self) -> bool
+        ensures { result ≡ self.now.shared.coherence_is_core }
+    {
+        self.shared().coherence_is_core()
+    }
+
+    /// Whether the crate goes without `std`: it does where it goes without `core`.
+    pub fn is_no_std(&self) -> bool
+        ensures { result ≡ goes_without_std self.now.shared }
+    {
+        self.shared().goes_without_std()
+    }
+
+    /// Whether the crate goes without `core`.
+    pub fn is_no_core(&self) -> bool
+        ensures { result ≡ self.now.shared.no_core }
+    {
+        self.shared().goes_without_core()
+    }
+
+    /// The procedural macro that a function of the crate defines.
+    pub fn fn_as_proc_macro(&self, id: FunctionId) -> Option<ProcMacroId>
+        ensures { result ≡ macro_of self.now.shared id }
+    {
+        self.shared().macro_of_fn().get(&id).copied()
+    }
+
+    /// The function of the crate that defines a procedural macro.
+    pub fn proc_macro_as_fn(&self, id: ProcMacroId) -> Option<FunctionId>
+        ensures { result ≡ fn_of self.now.shared id }
+    {
+        self.shared().fn_of_macro().get(&id).copied()
+    }
+
+    /// How deep macros of the crate may expand: 128 where it sets nothing.
+    pub fn recursion_limit(&self) -> u32
+        ensures { result ≡ limit_of self.now.shared }
+    {
+        self.shared().recursion_limit()
+    }
+}
