@@ -2,5 +2,7 @@
 mod builtins;
 mod items;
 mod names;
+mod scopes;
 mod traits;
 mod visibility;
+mod worlds;
