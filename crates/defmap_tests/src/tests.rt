@@ -2,6 +2,8 @@
 mod builtins;
 mod items;
 mod names;
+mod scopes;
 mod traits;
 mod tree;
 mod visibility;
+mod worlds;
