@@ -1,4 +1,5 @@
 //! A scope that is filled call by call.
+mod bindings;
 mod changes;
 mod definitions;
 mod derives;

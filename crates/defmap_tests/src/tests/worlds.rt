@@ -1,5 +1,7 @@
 //! Worlds that are built call by call.
 mod contents;
+mod crate_data;
+mod diagnostics;
 mod faults;
 mod local_maps;
 mod numbers;
