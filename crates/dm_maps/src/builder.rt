@@ -15,7 +15,6 @@ use std::alloc::Global;
 use std::marker::Model;
 
 /// The tables of a world, as they are filled.
-#[derive(Drop)]
 pub struct WorldBuilder {
     pub(crate) crate_maps: Vec<DefMap>,
     pub(crate) block_maps: Vec<DefMap>,
@@ -28,6 +27,25 @@ pub struct WorldBuilder {
     pub(crate) macros: Vec<(ModuleId, MacroLoc)>,
     pub(crate) item_tables: ItemTables,
     pub(crate) alloc: Global,
+}
+
+/// Written out, so that what lets one go has one call to prove.
+impl Drop for WorldBuilder {
+    fn drop(self) {
+        let WorldBuilder {
+            crate_maps: _crate_maps,
+            block_maps: _block_maps,
+            places: _places,
+            local_maps: _local_maps,
+            uses: _uses,
+            items: _items,
+            enums: _enums,
+            variants: _variants,
+            macros: _macros,
+            item_tables: _item_tables,
+            alloc: _alloc,
+        } = self;
+    }
 }
 
 impl Model for WorldBuilder {

@@ -12,7 +12,6 @@ use std::hash::Hash;
 use std::marker::Model;
 
 /// What all maps of a crate share.
-#[derive(Drop)]
 pub(crate) struct CrateData {
     no_std: bool,
     no_core: bool,
@@ -22,6 +21,22 @@ pub(crate) struct CrateData {
     features: UnstableFeatures,
     macro_of_fn: IndexMap<FunctionId, ProcMacroId>,
     fn_of_macro: IndexMap<ProcMacroId, FunctionId>,
+}
+
+/// Written out, so that what lets one go has one call to prove.
+impl Drop for CrateData {
+    fn drop(self) {
+        let CrateData {
+            no_std: _no_std,
+            no_core: _no_core,
+            coherence_is_core: _coherence_is_core,
+            recursion_limit: _recursion_limit,
+            tools: _tools,
+            features: _features,
+            macro_of_fn: _macro_of_fn,
+            fn_of_macro: _fn_of_macro,
+        } = self;
+    }
 }
 
 impl Model for CrateData {

@@ -27,7 +27,6 @@ use std::marker::Model;
 use std::rc::Rc;
 
 /// The modules of a crate, or of a block in it.
-#[derive(Drop)]
 pub struct DefMap {
     id: MapId,
     edition: Edition,
@@ -40,6 +39,25 @@ pub struct DefMap {
     derive_helpers: IndexMap<AstId, DeriveHelpers>,
     diagnostics: Vec<DefDiagnostic>,
     shared: Rc<CrateData>,
+}
+
+/// Written out, so that what lets one go has one call to prove.
+impl Drop for DefMap {
+    fn drop(self) {
+        let DefMap {
+            id: _id,
+            edition: _edition,
+            root: _root,
+            parent: _parent,
+            modules: _modules,
+            prelude: _prelude,
+            macro_use_prelude: _macro_use_prelude,
+            macro_defs: _macro_defs,
+            derive_helpers: _derive_helpers,
+            diagnostics: _diagnostics,
+            shared: _shared,
+        } = self;
+    }
 }
 
 impl Model for DefMap {

@@ -15,12 +15,23 @@ use std::alloc::{AllocError, Global};
 use std::marker::Model;
 
 /// What is said of fields, associated items and traits; and the names that are printed as raw.
-#[derive(Drop)]
 pub(crate) struct ItemTables {
     fields: IndexMap<VariantId, FieldList>,
     assocs: IndexMap<AssocItemId, (ItemContainerId, RawVisibility)>,
     traits: IndexMap<TraitId, RawVisibility>,
     raw_names: IndexSet<Name>,
+}
+
+/// Written out, so that what lets one go has one call to prove.
+impl Drop for ItemTables {
+    fn drop(self) {
+        let ItemTables {
+            fields: _fields,
+            assocs: _assocs,
+            traits: _traits,
+            raw_names: _raw_names,
+        } = self;
+    }
 }
 
 impl Model for ItemTables {

@@ -13,9 +13,17 @@ use std::alloc::{AllocError, Global};
 use std::marker::Model;
 
 /// The roots of other crates that paths of a crate can begin with, by name, each with the item that named it.
-#[derive(Drop)]
 pub struct LocalDefMap {
     extern_prelude: IndexMap<Name, (ModuleId, Option<ExternCrateId>)>,
+}
+
+/// Written out, so that what lets one go has one call to prove.
+impl Drop for LocalDefMap {
+    fn drop(self) {
+        let LocalDefMap {
+            extern_prelude: _extern_prelude,
+        } = self;
+    }
 }
 
 impl Model for LocalDefMap {

@@ -17,13 +17,25 @@ use std::alloc::{AllocError, Global};
 use std::marker::Model;
 
 /// A module of a map.
-#[derive(Drop)]
 pub struct ModuleData {
     origin: ModuleOrigin,
     visibility: Visibility,
     parent: Option<ModuleId>,
     children: IndexMap<Name, ModuleId>,
     scope: ItemScope,
+}
+
+/// Written out, so that what lets one go has one call to prove.
+impl Drop for ModuleData {
+    fn drop(self) {
+        let ModuleData {
+            origin: _origin,
+            visibility: _visibility,
+            parent: _parent,
+            children: _children,
+            scope: _scope,
+        } = self;
+    }
 }
 
 impl Model for ModuleData {

@@ -19,9 +19,15 @@ use dm_base::per_ns::PerNs;
 use std::marker::Model;
 
 /// A checked world: every id that one of its tables holds is one of its own, with its kind.
-#[derive(Drop)]
 pub struct World {
     pub(crate) tables: WorldBuilder,
+}
+
+/// Written out, so that what lets one go has one call to prove.
+impl Drop for World {
+    fn drop(self) {
+        let World { tables: _tables } = self;
+    }
 }
 
 impl Model for World {
@@ -57,7 +63,8 @@ impl World {
     pub(crate) fn into_tables(self) -> WorldBuilder
         ensures { result ≡ self }
     {
-        self.tables
+        let World { tables } = self;
+        tables
     }
 
     /// The map that a module lies in.

@@ -32,7 +32,6 @@ use std::alloc::{AllocError, Global};
 use std::marker::Model;
 
 /// A scope, which contracts see as the record of its tables and lists.
-#[derive(Drop)]
 pub struct ItemScope {
     types: Bindings<ModuleDefId, ImportOrExternCrate>,
     values: Bindings<ModuleDefId, ImportOrGlob>,
@@ -50,6 +49,30 @@ pub struct ItemScope {
     macro_invocations: IndexMap<AstId, MacroCallId>,
     derive_macros: IndexMap<AstId, SmallVec<DeriveMacroInvocation, 1>>,
     alloc: Global,
+}
+
+/// Written out, so that what lets one go has one call to prove.
+impl Drop for ItemScope {
+    fn drop(self) {
+        let ItemScope {
+            types: _types,
+            values: _values,
+            macros: _macros,
+            unresolved: _unresolved,
+            declarations: _declarations,
+            impls: _impls,
+            builtin_derive_impls: _builtin_derive_impls,
+            extern_blocks: _extern_blocks,
+            extern_crate_decls: _extern_crate_decls,
+            unnamed_consts: _unnamed_consts,
+            unnamed_traits: _unnamed_traits,
+            legacy_macros: _legacy_macros,
+            attr_macros: _attr_macros,
+            macro_invocations: _macro_invocations,
+            derive_macros: _derive_macros,
+            alloc: _alloc,
+        } = self;
+    }
 }
 
 impl Model for ItemScope {
