@@ -5,7 +5,7 @@ use Rattle.dm_base.specs.Names.{Name, same_name, find_name}
 use Rattle.dm_base.specs.Items.{first}
 use Rattle.dm_base.specs.declared.fields_shape.FieldsShape.{FieldsShape}
 use Rattle.dm_base.specs.declared.fields_shape.FieldsShape.TheVariants.{Record, Tuple, Unit}
-use Rattle.dm_base.specs.declared.ids.ExternCrateId.{ExternCrateId}
+use Rattle.dm_ids.specs.declared.ExternCrateId.{ExternCrateId}
 use Rattle.dm_base.specs.declared.item_ids.MacroId.{MacroId}
 use Rattle.dm_base.specs.declared.macros.MacroExpander.{MacroExpander}
 use Rattle.dm_base.specs.declared.macros.MacroExpander.TheVariants.{Declarative, BuiltIn, BuiltInEager, BuiltInAttr, BuiltInDerive, UnimplementedBuiltIn}

@@ -2,12 +2,12 @@
 use Rattle.std.specs.Prelude.{◌≡◌, ◌⊎◌, Option, Some, None, Result, Ok, Err, MatchResult, slice_get}
 use Rattle.std.specs.Option.{option_map_or}
 use Rattle.dm_base.specs.Names.{Name, same_name}
-use Rattle.dm_base.specs.declared.ids.BlockId.{BlockId}
-use Rattle.dm_base.specs.declared.ids.Crate.{Crate}
-use Rattle.dm_base.specs.declared.ids.FileAstId.{FileAstId}
-use Rattle.dm_base.specs.declared.ids.FileId.{FileId}
-use Rattle.dm_base.specs.declared.ids.MapId.{MapId}
-use Rattle.dm_base.specs.declared.ids.ModuleId.{ModuleId}
+use Rattle.dm_ids.specs.declared.BlockId.{BlockId}
+use Rattle.dm_ids.specs.declared.Crate.{Crate}
+use Rattle.dm_ids.specs.declared.FileAstId.{FileAstId}
+use Rattle.dm_ids.specs.declared.FileId.{FileId}
+use Rattle.dm_ids.specs.declared.MapId.{MapId}
+use Rattle.dm_ids.specs.declared.ModuleId.{ModuleId}
 use Rattle.dm_base.specs.declared.item_ids.MacroId.{MacroId}
 use Rattle.dm_base.specs.declared.source.AstId.{AstId}
 use Rattle.dm_base.specs.declared.source.Edition.{Edition}
@@ -18,8 +18,8 @@ use Rattle.dm_base.specs.declared.source.HirFileId.TheVariants as tree_file
 use Rattle.dm_scope.specs.Scope.{Scope}
 use Rattle.dm_scope.specs.TableLists.{add_to_list}
 use Rattle.dm_maps.specs.declared.build_fault.BuildFault.{BuildFault}
-use Rattle.dm_maps.specs.declared.module_origin.ModuleOrigin.{ModuleOrigin}
-use Rattle.dm_maps.specs.declared.module_origin.ModuleOrigin.TheVariants.{Inline}
+use Rattle.dm_modules.specs.declared.module_origin.ModuleOrigin.{ModuleOrigin}
+use Rattle.dm_modules.specs.declared.module_origin.ModuleOrigin.TheVariants.{Inline}
 use Rattle.dm_maps.specs.Build.{with_crate, with_module, with_item}
 use Rattle.dm_maps.specs.BuildBlocks.{with_block, block_fault}
 use Rattle.dm_maps.specs.BuildItems.{with_use, with_macro, with_variant}

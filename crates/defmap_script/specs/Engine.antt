@@ -2,7 +2,7 @@
 use Rattle.std.specs.Prelude.{◌≡◌, ◌⊎◌, if◌then◌else◌, ℕ, List, [], ◌++◌, true, false, IsTrue, IsSome, Option, Some, None, Result, Ok, Err, MatchResult, MatchOption, slice_get, codes}
 use Rattle.std.specs.Borrow.{Bor}
 use Rattle.dm_base.specs.Names.{Name}
-use Rattle.dm_base.specs.declared.ids.ModuleId.{ModuleId}
+use Rattle.dm_ids.specs.declared.ModuleId.{ModuleId}
 use Rattle.dm_base.specs.declared.imports.ImportOrExternCrate.{ImportOrExternCrate}
 use Rattle.dm_base.specs.declared.per_ns.PerNs.{PerNs}
 use Rattle.dm_scope.specs.Flags.{Globs, no_globs}
@@ -13,7 +13,7 @@ use Rattle.dm_maps.specs.declared.held.HeldId.TheVariants as held
 use Rattle.dm_maps.specs.Build.{no_world}
 use Rattle.dm_maps.specs.First.{holders, IsChecked, IsFirstFault}
 use Rattle.dm_maps.specs.Known.{knows, KnowsAll, local_holds, path_holds}
-use Rattle.dm_maps.specs.Maps.{Map, LocalMap, module_at}
+use Rattle.dm_modules.specs.Maps.{Map, LocalMap, module_at}
 use Rattle.dm_maps.specs.Asked.{push_holds, with_push}
 use Rattle.dm_maps.specs.Thin.{is_thin}
 use Rattle.dm_maps.specs.World.{World, map_of, numbered_map, own_scope, scope_of, with_scope}

@@ -5,7 +5,7 @@ use Rattle.std.specs.Str.{is_utf8}
 use Rattle.std.specs.Option.{option_map, option_map_or, option_and_then}
 use Rattle.dm_base.specs.Names.{Name, find_name}
 use Rattle.dm_base.specs.Path.{Path}
-use Rattle.dm_base.specs.declared.ids.ModuleId.{ModuleId}
+use Rattle.dm_ids.specs.declared.ModuleId.{ModuleId}
 use Rattle.dm_base.specs.declared.item_ids.MacroId.{MacroId}
 use Rattle.dm_base.specs.declared.item_ids.ModuleDefId.{ModuleDefId}
 use Rattle.dm_base.specs.declared.imports.ImportOrExternCrate.{ImportOrExternCrate}
@@ -13,8 +13,8 @@ use Rattle.dm_base.specs.declared.imports.ImportOrGlob.{ImportOrGlob}
 use Rattle.dm_base.specs.declared.per_ns.Item.{Item}
 use Rattle.dm_base.specs.declared.mod_path.PathKind.{PathKind}
 use Rattle.dm_base.specs.declared.per_ns.PerNs.{PerNs}
-use Rattle.dm_maps.specs.declared.modes.BuiltinShadowMode.{BuiltinShadowMode}
-use Rattle.dm_maps.specs.declared.modes.MacroSubNs.{MacroSubNs}
+use Rattle.dm_modules.specs.declared.modes.BuiltinShadowMode.{BuiltinShadowMode}
+use Rattle.dm_modules.specs.declared.modes.MacroSubNs.{MacroSubNs}
 use Rattle.hir_def_map.specs.declared.result.ResolveMode.{ResolveMode}
 use Rattle.defmap_script.specs.declared.lines.BadLine.{BadLine}
 use Rattle.defmap_script.specs.declared.lines.Command.{Command}

@@ -8,8 +8,8 @@ use Rattle.dm_base.specs.Names.{Name, same_name, find_name}
 use Rattle.dm_base.specs.Builtins.{builtin_words}
 use Rattle.dm_base.specs.Imports.{narrowed}
 use Rattle.dm_base.specs.Items.{first}
-use Rattle.dm_base.specs.declared.ids.UseId.{UseId}
-use Rattle.dm_base.specs.declared.ids.UseTreeIdx.{UseTreeIdx}
+use Rattle.dm_ids.specs.declared.UseId.{UseId}
+use Rattle.dm_ids.specs.declared.UseTreeIdx.{UseTreeIdx}
 use Rattle.dm_base.specs.declared.item_ids.AdtId.TheVariants as adt
 use Rattle.dm_base.specs.declared.item_ids.ItemKind.{ItemKind}
 use Rattle.dm_base.specs.declared.item_ids.ItemKind.TheVariants as item
@@ -29,10 +29,10 @@ use Rattle.dm_base.specs.declared.visibility.Visibility.{Visibility}
 use Rattle.dm_base.specs.declared.visibility.Visibility.TheVariants as seen
 use Rattle.dm_base.specs.declared.visibility.VisibilityExplicitness.{VisibilityExplicitness}
 use Rattle.dm_base.specs.declared.visibility.VisibilityExplicitness.TheVariants as how
-use Rattle.dm_maps.specs.declared.modes.BuiltinShadowMode.{BuiltinShadowMode}
-use Rattle.dm_maps.specs.declared.modes.BuiltinShadowMode.TheVariants as shadow
-use Rattle.dm_maps.specs.declared.modes.MacroSubNs.{MacroSubNs}
-use Rattle.dm_maps.specs.declared.modes.MacroSubNs.TheVariants as expected
+use Rattle.dm_modules.specs.declared.modes.BuiltinShadowMode.{BuiltinShadowMode}
+use Rattle.dm_modules.specs.declared.modes.BuiltinShadowMode.TheVariants as shadow
+use Rattle.dm_modules.specs.declared.modes.MacroSubNs.{MacroSubNs}
+use Rattle.dm_modules.specs.declared.modes.MacroSubNs.TheVariants as expected
 use Rattle.hir_def_map.specs.declared.result.ResolveMode.{ResolveMode}
 use Rattle.hir_def_map.specs.declared.result.ResolveMode.TheVariants as mode
 

@@ -1,6 +1,6 @@
 -- Files and expansions.
 use Rattle.std.specs.Prelude.{Option, Some, None}
-use Rattle.dm_base.specs.declared.ids.MacroCallId.{MacroCallId}
+use Rattle.dm_ids.specs.declared.MacroCallId.{MacroCallId}
 use Rattle.dm_base.specs.declared.source.HirFileId.{HirFileId}
 use Rattle.dm_base.specs.declared.source.HirFileId.TheVariants.{File, Macro}
 

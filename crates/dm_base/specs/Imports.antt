@@ -8,7 +8,7 @@ use Rattle.dm_base.specs.declared.imports.ImportOrDef.{ImportOrDef}
 use Rattle.dm_base.specs.declared.imports.ImportOrDef.TheVariants as step
 use Rattle.dm_base.specs.declared.imports.ImportId.{ImportId}
 use Rattle.dm_base.specs.declared.imports.GlobId.{GlobId}
-use Rattle.dm_base.specs.declared.ids.UseId.{UseId}
+use Rattle.dm_ids.specs.declared.UseId.{UseId}
 
 abbrev pub is_glob : ImportOrExternCrate → Bool
 is_glob (wide.Glob i) = true

@@ -2,12 +2,12 @@
 use Rattle.std.proofs.Common.{◌≡◌, ◌<◌, ℕ, List, [], ◌∷◌, ◌++◌, Option, Some, None, length, map, sym, ap, ◌∙◌, subst, refl}
 use Rattle.std.specs.Option.{option_map_or}
 use Rattle.std.proofs.lemmas.List.{length-map}
-use Rattle.dm_base.specs.declared.ids.ModuleId.{ModuleId}
-use Rattle.dm_base.specs.declared.ids.BlockId.{BlockId}
-use Rattle.dm_base.specs.declared.ids.Crate.{Crate}
+use Rattle.dm_ids.specs.declared.ModuleId.{ModuleId}
+use Rattle.dm_ids.specs.declared.BlockId.{BlockId}
+use Rattle.dm_ids.specs.declared.Crate.{Crate}
 use Rattle.dm_base.specs.declared.source.AstId.{AstId}
 use Rattle.dm_maps.specs.declared.place.Place.{Place}
-use Rattle.dm_maps.specs.Maps.{Map}
+use Rattle.dm_modules.specs.Maps.{Map}
 use Rattle.dm_maps.specs.World.{World, crate_map}
 use Rattle.dm_maps.specs.Build.{next_module}
 use Rattle.dm_maps.specs.BuildBlocks.{next_block, crate_in, fresh_block, with_block_of, with_block}

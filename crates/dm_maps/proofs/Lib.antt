@@ -7,7 +7,6 @@ pub mod BlockGrowth
 pub mod BlockMade
 pub mod MapsKept
 pub mod MarkLemmas
-pub mod KeyLemmas
 pub mod WorldGrowth
 pub mod FaultLemmas
 pub mod VariantLemmas
@@ -21,8 +20,6 @@ pub mod Least
 pub mod SoundLemmas
 pub mod LastLemmas
 pub mod MapLemmas
-pub mod LocalSteps
-pub mod RunLemmas
 pub mod PushedScope
 pub mod ScopeWrites
 pub mod WorldFacts

@@ -2,15 +2,15 @@
 use Rattle.std.proofs.Common.{◌≡◌, ℕ, Bool, true, false, cond, nat_eq, List, [], ◌∷◌, Option, Some, None, length, set, slice_get, refl, subst, sym}
 use Rattle.std.proofs.Math.ListN.{length-set}
 use Rattle.std.specs.Option.{option_map_or}
-use Rattle.dm_base.specs.declared.ids.BlockId.{BlockId}
-use Rattle.dm_base.specs.declared.ids.Crate.{Crate}
-use Rattle.dm_base.specs.declared.ids.MapId.{MapId}
-use Rattle.dm_base.specs.declared.ids.ModuleId.{ModuleId}
+use Rattle.dm_ids.specs.declared.BlockId.{BlockId}
+use Rattle.dm_ids.specs.declared.Crate.{Crate}
+use Rattle.dm_ids.specs.declared.MapId.{MapId}
+use Rattle.dm_ids.specs.declared.ModuleId.{ModuleId}
 use Rattle.dm_maps.specs.declared.map_change.MapChange.{MapChange}
 use Rattle.dm_maps.specs.declared.map_change.MapChange.TheVariants.{Prelude, MacroUse, MacroDef, Helper, Diagnostic}
 use Rattle.dm_maps.specs.BuildCrateData.{map_with_shared, with_shared}
-use Rattle.dm_maps.specs.CrateData.{CrateData}
-use Rattle.dm_maps.specs.Maps.{Map, LocalMap}
+use Rattle.dm_modules.specs.CrateData.{CrateData}
+use Rattle.dm_modules.specs.Maps.{Map, LocalMap}
 use Rattle.dm_maps.specs.World.{World}
 use Rattle.dm_maps.specs.BuildMaps.{maps_with, with_map, locals_with}
 use Rattle.dm_maps.specs.MapChanges.{changed}

@@ -1,7 +1,7 @@
 -- What stays when one scope is written.
 use Rattle.std.proofs.Common.{◌≡◌, ℕ, Option, Some, None, List, map, set, slice_get, ap, refl}
 use Rattle.dm_scope.specs.Scope.{Scope}
-use Rattle.dm_maps.specs.Maps.{Map, Module, Modules, nth_module, put_scope, with_scope_at, map_with_scope}
+use Rattle.dm_modules.specs.Maps.{Map, Module, Modules, nth_module, put_scope, with_scope_at, map_with_scope}
 use Rattle.dm_maps.specs.Trees.{outline, outlines, containers_of}
 use Rattle.dm_maps.proofs.ModuleGrowth.{entry, entries-set, map-set_own}
 

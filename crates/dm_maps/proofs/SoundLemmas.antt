@@ -4,18 +4,18 @@ use Rattle.std.specs.List.{AllByRecursion, flat_map}
 use Rattle.std.specs.Option.{ForSome, option_map, option_map_or, option_and_then}
 use Rattle.std.proofs.lemmas.Option.{slice_get-map, slice_get_within}
 use Rattle.std.proofs.lemmas.Bool.{lt-ltb, eqb-true}
-use Rattle.dm_base.specs.declared.ids.ModuleId.{ModuleId}
-use Rattle.dm_base.specs.declared.ids.BlockId.{BlockId}
-use Rattle.dm_base.specs.declared.ids.MapId.{MapId}
-use Rattle.dm_base.specs.declared.ids.ExternCrateId.{ExternCrateId}
-use Rattle.dm_base.specs.declared.ids.UseId.{UseId}
+use Rattle.dm_ids.specs.declared.ModuleId.{ModuleId}
+use Rattle.dm_ids.specs.declared.BlockId.{BlockId}
+use Rattle.dm_ids.specs.declared.MapId.{MapId}
+use Rattle.dm_ids.specs.declared.ExternCrateId.{ExternCrateId}
+use Rattle.dm_ids.specs.declared.UseId.{UseId}
 use Rattle.dm_base.specs.declared.item_ids.MacroId.{MacroId}
 use Rattle.dm_base.specs.Names.{Name, find_name}
 use Rattle.dm_scope.specs.Scope.{Scope, no_scope, bound_in, legacy_in, last_of}
 use Rattle.dm_maps.specs.declared.held.HeldId.{HeldId}
 use Rattle.dm_maps.specs.declared.held.HeldId.TheVariants as held
 use Rattle.dm_maps.specs.declared.place.Place.{Place}
-use Rattle.dm_maps.specs.Maps.{Map, Module, Modules, LocalMap, module_at}
+use Rattle.dm_modules.specs.Maps.{Map, Module, Modules, LocalMap, module_at}
 use Rattle.dm_maps.specs.World.{World, scope_of, module_in, numbered_map, map_of}
 use Rattle.dm_maps.specs.Known.{knows, KnowsAll, res_holds, local_holds, type_holds, value_holds, macro_holds, vis_holds}
 use Rattle.dm_maps.specs.Holds.{map_holds, preludes_hold, module_holds, scope_holds, prelude_holds, macro_uses_hold, types_hold, values_hold, macros_hold, legacies_hold, bindings_hold, records_hold, lists_hold}

@@ -2,11 +2,11 @@
 use Rattle.std.proofs.Common.{◌≡◌, ℕ, zero, suc, [], ◌∷◌, Option, None, Some, length, map, slice_get, refl, sym, ap, ◌∙◌, IsTrue, IsSome, is_some}
 use Rattle.std.proofs.lemmas.Bool.{ltb-true}
 use Rattle.std.specs.Option.{option_map, option_and_then}
-use Rattle.dm_base.specs.declared.ids.ModuleId.{ModuleId}
+use Rattle.dm_ids.specs.declared.ModuleId.{ModuleId}
 use Rattle.dm_maps.specs.declared.held.HeldId.TheVariants as held
 use Rattle.dm_maps.specs.declared.place.Place.{Place}
 use Rattle.dm_maps.specs.Known.{knows}
-use Rattle.dm_maps.specs.Maps.{Map, Module, Modules, nth_module}
+use Rattle.dm_modules.specs.Maps.{Map, Module, Modules, nth_module}
 use Rattle.dm_maps.specs.World.{World, module_in, own_scope, numbered_map}
 use Rattle.dm_maps.specs.Trees.{Outline, outline, IsWorld}
 use Rattle.dm_maps.proofs.GrowthLemmas.{get-within}

@@ -4,14 +4,14 @@ use Rattle.std.specs.Option.{option_map, option_map_or}
 use Rattle.std.proofs.lemmas.Option.{slice_get_within, slice_get-map}
 use Rattle.std.proofs.lemmas.List.{length-map}
 use Rattle.std.proofs.lemmas.Bool.{eqb-true}
-use Rattle.dm_base.specs.declared.ids.ModuleId.{ModuleId}
-use Rattle.dm_base.specs.declared.ids.Crate.{Crate}
-use Rattle.dm_base.specs.declared.ids.MapId.{MapId}
+use Rattle.dm_ids.specs.declared.ModuleId.{ModuleId}
+use Rattle.dm_ids.specs.declared.Crate.{Crate}
+use Rattle.dm_ids.specs.declared.MapId.{MapId}
 use Rattle.dm_base.specs.declared.source.Edition.{Edition}
 use Rattle.dm_base.specs.declared.source.EditionedFileId.{EditionedFileId}
 use Rattle.dm_base.specs.Names.{Name}
 use Rattle.dm_maps.specs.declared.place.Place.{Place}
-use Rattle.dm_maps.specs.Maps.{Map, Module, Modules, LocalMap, module_at}
+use Rattle.dm_modules.specs.Maps.{Map, Module, Modules, LocalMap, module_at}
 use Rattle.dm_maps.specs.World.{World, numbered_map}
 use Rattle.dm_maps.specs.Build.{crate_maps_with_child, block_maps_with_child, with_child_of, with_child_at_place, next_module, next_crate, next_place, IsFree, with_crate, fresh_crate}
 use Rattle.dm_maps.specs.Trees.{Outline, outline, outlines, containers_of, IsWorldOf, IsWorld, AreMaps, is_crate_id, is_block_id, numbered_outline}

@@ -1,9 +1,9 @@
 -- What builder calls change.
 use Rattle.std.specs.Prelude.{◌≡◌, IfSome, ℕ, List, [], ◌∷◌, ◌++◌, Option, Some, None, length, slice_get, slice_set}
 use Rattle.std.specs.Option.{option_map_or}
-use Rattle.dm_base.specs.declared.ids.ModuleId.{ModuleId}
-use Rattle.dm_base.specs.declared.ids.Crate.{Crate}
-use Rattle.dm_base.specs.declared.ids.MapId.{MapId}
+use Rattle.dm_ids.specs.declared.ModuleId.{ModuleId}
+use Rattle.dm_ids.specs.declared.Crate.{Crate}
+use Rattle.dm_ids.specs.declared.MapId.{MapId}
 use Rattle.dm_base.specs.declared.source.Edition.{Edition}
 use Rattle.dm_base.specs.declared.source.EditionedFileId.{EditionedFileId}
 use Rattle.dm_base.specs.declared.visibility.Visibility.{Visibility}
@@ -15,10 +15,10 @@ use Rattle.dm_base.specs.declared.item_ids.ModuleDefId.TheVariants as def
 use Rattle.dm_base.specs.declared.item_ids.AdtId.TheVariants as adt
 use Rattle.dm_base.specs.Names.{Name}
 use Rattle.dm_maps.specs.declared.place.Place.{Place}
-use Rattle.dm_maps.specs.declared.module_origin.ModuleOrigin.{ModuleOrigin}
-use Rattle.dm_maps.specs.declared.module_origin.ModuleOrigin.TheVariants.{CrateRoot}
-use Rattle.dm_maps.specs.Maps.{Map, Module, fresh_module, fresh_map, map_with_child, module_at}
-use Rattle.dm_maps.specs.ItemTables.{no_tables}
+use Rattle.dm_modules.specs.declared.module_origin.ModuleOrigin.{ModuleOrigin}
+use Rattle.dm_modules.specs.declared.module_origin.ModuleOrigin.TheVariants.{CrateRoot}
+use Rattle.dm_modules.specs.Maps.{Map, Module, fresh_module, fresh_map, map_with_child, module_at}
+use Rattle.dm_modules.specs.ItemTables.{no_tables}
 use Rattle.dm_maps.specs.World.{World, place_of, numbered_map}
 
 -- a builder of nothing

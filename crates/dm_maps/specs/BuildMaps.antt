@@ -2,26 +2,26 @@
 use Rattle.std.specs.Prelude.{◌≡◌, ℕ, Bool, not, true, nat_eq, List, [], ◌∷◌, ◌++◌, Option, Some, None, Result, Err, IsOk, slice_get, slice_set}
 use Rattle.std.specs.Option.{option_map_or}
 use Rattle.indexmap.specs.IndexMap.{insert_entry}
-use Rattle.dm_base.specs.declared.ids.Crate.{Crate}
-use Rattle.dm_base.specs.declared.ids.ExternCrateId.{ExternCrateId}
-use Rattle.dm_base.specs.declared.ids.MapId.{MapId}
-use Rattle.dm_base.specs.declared.ids.ModuleId.{ModuleId}
-use Rattle.dm_base.specs.declared.ids.UseId.{UseId}
+use Rattle.dm_ids.specs.declared.Crate.{Crate}
+use Rattle.dm_ids.specs.declared.ExternCrateId.{ExternCrateId}
+use Rattle.dm_ids.specs.declared.MapId.{MapId}
+use Rattle.dm_ids.specs.declared.ModuleId.{ModuleId}
+use Rattle.dm_ids.specs.declared.UseId.{UseId}
 use Rattle.dm_base.specs.declared.item_ids.MacroId.{MacroId}
 use Rattle.dm_base.specs.declared.source.AstId.{AstId}
 use Rattle.dm_base.specs.Names.{Name, same_name}
-use Rattle.dm_scope.specs.declared.diagnostics.DefDiagnostic.{DefDiagnostic}
+use Rattle.dm_diagnostics.specs.declared.DefDiagnostic.{DefDiagnostic}
 use Rattle.dm_scope.specs.Sameness.{same_ast}
 use Rattle.dm_maps.specs.declared.build_fault.BuildFault.{BuildFault}
 use Rattle.dm_maps.specs.declared.build_fault.BuildFault.TheVariants.{NoSuchCrate}
 use Rattle.dm_maps.specs.declared.held.HeldId.TheVariants as held
-use Rattle.dm_maps.specs.Maps.{Map, LocalMap}
+use Rattle.dm_modules.specs.Maps.{Map, LocalMap}
 use Rattle.dm_maps.specs.World.{World, numbered_map}
 use Rattle.dm_maps.specs.Known.{knows}
 use Rattle.dm_maps.specs.Faults.{first_fault}
-use Rattle.dm_maps.specs.HelperChanges.{helpers_with}
-use Rattle.dm_maps.specs.Helpers.{Helper}
-use Rattle.dm_maps.specs.Locals.{with_extern}
+use Rattle.dm_modules.specs.HelperChanges.{helpers_with}
+use Rattle.dm_modules.specs.Helpers.{Helper}
+use Rattle.dm_modules.specs.Locals.{with_extern}
 
 -- the maps, with f of the one of number k
 abbrev pub maps_with : List Map → ℕ → (Map → Map) → List Map

@@ -1,10 +1,10 @@
 -- What holds of the modules and maps of every world, whatever its scopes bind.
 use Rattle.std.specs.Prelude.{◌≡◌, ◌↔◌, ◌<◌, ℕ, IsTrue, Some, None, slice_get}
-use Rattle.dm_base.specs.declared.ids.BlockId.{BlockId}
-use Rattle.dm_base.specs.declared.ids.ModuleId.{ModuleId}
+use Rattle.dm_ids.specs.declared.BlockId.{BlockId}
+use Rattle.dm_ids.specs.declared.ModuleId.{ModuleId}
 use Rattle.dm_maps.specs.declared.held.HeldId.TheVariants as held
 use Rattle.dm_maps.specs.Known.{knows}
-use Rattle.dm_maps.specs.Maps.{Map, Module, Modules, module_at}
+use Rattle.dm_modules.specs.Maps.{Map, Module, Modules, module_at}
 use Rattle.dm_maps.specs.World.{World, map_of, module_of, numbered_map}
 
 -- the block of a map that m lies in is contained in a module of smaller number than m, which lies in a map of the same crate

@@ -8,7 +8,7 @@ use Rattle.dm_maps.specs.declared.fault.WorldFault.{WorldFault}
 use Rattle.dm_maps.specs.declared.held.HeldId.{HeldId}
 use Rattle.dm_maps.specs.declared.held.HeldFault.{HeldFault}
 use Rattle.dm_maps.specs.declared.place.Place.{Place}
-use Rattle.dm_maps.specs.Maps.{Map, LocalMap}
+use Rattle.dm_modules.specs.Maps.{Map, LocalMap}
 use Rattle.dm_maps.specs.World.{World, module_in}
 use Rattle.dm_maps.specs.Known.{KnowsAll, local_holds}
 use Rattle.dm_maps.specs.Holds.{map_holds, module_holds}

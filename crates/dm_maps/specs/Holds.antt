@@ -3,10 +3,10 @@
 use Rattle.std.specs.Prelude.{List, [], ◌∷◌, ◌++◌, Option, map}
 use Rattle.std.specs.List.{flat_map}
 use Rattle.std.specs.Option.{option_map_or}
-use Rattle.dm_base.specs.declared.ids.ModuleId.{ModuleId}
-use Rattle.dm_base.specs.declared.ids.UseId.{UseId}
-use Rattle.dm_base.specs.declared.ids.TraitId.{TraitId}
-use Rattle.dm_base.specs.declared.ids.ConstId.{ConstId}
+use Rattle.dm_ids.specs.declared.ModuleId.{ModuleId}
+use Rattle.dm_ids.specs.declared.UseId.{UseId}
+use Rattle.dm_ids.specs.declared.TraitId.{TraitId}
+use Rattle.dm_ids.specs.declared.ConstId.{ConstId}
 use Rattle.dm_base.specs.declared.item_ids.ItemKind.TheVariants as item
 use Rattle.dm_base.specs.declared.item_ids.ModuleDefId.{ModuleDefId}
 use Rattle.dm_base.specs.declared.item_ids.MacroId.{MacroId}
@@ -21,7 +21,7 @@ use Rattle.dm_base.specs.Names.{Name}
 use Rattle.dm_scope.specs.Scope.{Scope}
 use Rattle.dm_maps.specs.declared.held.HeldId.{HeldId}
 use Rattle.dm_maps.specs.declared.held.HeldId.TheVariants as held
-use Rattle.dm_maps.specs.Maps.{Map, Module}
+use Rattle.dm_modules.specs.Maps.{Map, Module}
 use Rattle.dm_maps.specs.TablesHold.{macro_defs_hold, helpers_hold, diagnostics_hold}
 use Rattle.dm_maps.specs.Known.{def_holds, vis_holds, import_holds, value_import_holds, type_holds, value_holds, macro_holds}
 

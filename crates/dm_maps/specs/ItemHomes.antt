@@ -1,7 +1,7 @@
 -- Where a world's items were declared.
 use Rattle.std.specs.Prelude.{ℕ, Option, Some, None, slice_get, if◌then◌else◌}
 use Rattle.std.specs.Option.{option_map, option_and_then}
-use Rattle.dm_base.specs.declared.ids.ModuleId.{ModuleId}
+use Rattle.dm_ids.specs.declared.ModuleId.{ModuleId}
 use Rattle.dm_base.specs.declared.item_ids.AdtId.TheVariants as adt
 use Rattle.dm_base.specs.declared.item_ids.ItemKind.{ItemKind}
 use Rattle.dm_base.specs.declared.item_ids.ItemKind.TheVariants as item

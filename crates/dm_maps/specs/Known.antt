@@ -23,7 +23,7 @@ use Rattle.dm_base.specs.declared.visibility.Visibility.{Visibility}
 use Rattle.dm_base.specs.declared.visibility.Visibility.TheVariants as vis
 use Rattle.dm_maps.specs.declared.held.HeldId.{HeldId}
 use Rattle.dm_maps.specs.declared.held.HeldId.TheVariants as held
-use Rattle.dm_maps.specs.Maps.{LocalMap}
+use Rattle.dm_modules.specs.Maps.{LocalMap}
 use Rattle.dm_maps.specs.World.{World}
 
 abbrev pub same_kind : ItemKind → ItemKind → Bool

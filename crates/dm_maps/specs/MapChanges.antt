@@ -5,8 +5,8 @@ use Rattle.dm_base.specs.Names.{same_name}
 use Rattle.dm_scope.specs.Sameness.{same_ast}
 use Rattle.dm_maps.specs.declared.map_change.MapChange.{MapChange}
 use Rattle.dm_maps.specs.declared.map_change.MapChange.TheVariants.{Prelude, MacroUse, MacroDef, Helper, Diagnostic}
-use Rattle.dm_maps.specs.HelperChanges.{helpers_with}
-use Rattle.dm_maps.specs.Maps.{Map}
+use Rattle.dm_modules.specs.HelperChanges.{helpers_with}
+use Rattle.dm_modules.specs.Maps.{Map}
 
 -- the map after it: an entry of a table that is set again keeps its place and is replaced, and a diagnostic goes last
 abbrev pub changed : MapChange → Map → Map

@@ -1,14 +1,14 @@
 -- What a world says of no name, and of one name.
-use Rattle.std.specs.Prelude.{nat_eq, Bool, true, false, List, [], Option, slice_get}
+use Rattle.std.specs.Prelude.{Bool, true, false, List, [], Option, slice_get}
 use Rattle.std.specs.Option.{option_map, option_map_or, option_and_then}
 use Rattle.std.specs.Map.{lookup}
-use Rattle.dm_base.specs.declared.ids.ModuleId.{ModuleId}
-use Rattle.dm_base.specs.declared.ids.BlockId.{BlockId}
-use Rattle.dm_base.specs.declared.ids.Crate.{Crate}
-use Rattle.dm_base.specs.declared.ids.EnumId.{EnumId}
-use Rattle.dm_base.specs.declared.ids.EnumVariantId.{EnumVariantId}
-use Rattle.dm_base.specs.declared.ids.ExternCrateId.{ExternCrateId}
-use Rattle.dm_base.specs.declared.ids.MapId.{MapId}
+use Rattle.dm_ids.specs.declared.ModuleId.{ModuleId}
+use Rattle.dm_ids.specs.declared.BlockId.{BlockId}
+use Rattle.dm_ids.specs.declared.Crate.{Crate}
+use Rattle.dm_ids.specs.declared.EnumId.{EnumId}
+use Rattle.dm_ids.specs.declared.EnumVariantId.{EnumVariantId}
+use Rattle.dm_ids.specs.declared.ExternCrateId.{ExternCrateId}
+use Rattle.dm_ids.specs.declared.MapId.{MapId}
 use Rattle.dm_base.specs.declared.item_ids.MacroId.{MacroId}
 use Rattle.dm_base.specs.declared.item_ids.MacroId.TheVariants.{Macro2Id, MacroRulesId, ProcMacroId}
 use Rattle.dm_base.specs.declared.fields_shape.FieldsShape.{FieldsShape}
@@ -24,7 +24,8 @@ use Rattle.dm_base.specs.Tree.{Tree}
 use Rattle.dm_base.specs.Builtins.{builtin_words}
 use Rattle.dm_base.specs.Styles.{styles_of}
 use Rattle.dm_scope.specs.Scope.{bound_in, legacy_in}
-use Rattle.dm_maps.specs.Maps.{LocalMap}
+use Rattle.dm_modules.specs.Maps.{LocalMap}
+use Rattle.dm_modules.specs.Variants.{same_enum}
 use Rattle.dm_maps.specs.World.{World, crate_map, numbered_map, scope_of}
 use Rattle.dm_maps.specs.Trees.{tree_of}
 use Rattle.dm_maps.specs.Known.{macro_number}
@@ -75,9 +76,6 @@ styles_by _ _ = no_style
 -- no style for a macro that is not the world's
 abbrev pub styles_in : World → MacroId → MacroCallStyles
 styles_in w m = option_map_or (λ e. styles_by m e.1) (slice_get w.macros (macro_number m)) no_style
-
-abbrev pub same_enum : EnumId → EnumId → Bool
-same_enum a b = nat_eq a.0 b.0
 
 abbrev pub variants_of : World → EnumId → List (Name × (EnumVariantId × FieldsShape))
 variants_of w e = option_map_or (λ vs. vs) (lookup (same_enum e) w.enums) []

@@ -1,15 +1,15 @@
 -- What a checked world's look-ups give: ids of the world.
 use Rattle.std.specs.Prelude.{◌≡◌, IsSome, IsTrue, Some}
 use Rattle.std.specs.Option.{ForSome}
-use Rattle.dm_base.specs.declared.ids.ModuleId.{ModuleId}
-use Rattle.dm_base.specs.declared.ids.BlockId.{BlockId}
-use Rattle.dm_base.specs.declared.ids.Crate.{Crate}
-use Rattle.dm_base.specs.declared.ids.MapId.{MapId}
+use Rattle.dm_ids.specs.declared.ModuleId.{ModuleId}
+use Rattle.dm_ids.specs.declared.BlockId.{BlockId}
+use Rattle.dm_ids.specs.declared.Crate.{Crate}
+use Rattle.dm_ids.specs.declared.MapId.{MapId}
 use Rattle.dm_base.specs.Names.{Name, find_name}
 use Rattle.dm_base.specs.Tree.{IsKnown}
 use Rattle.dm_scope.specs.Scope.{bound_in, legacy_in}
 use Rattle.dm_maps.specs.declared.held.HeldId.TheVariants as held
-use Rattle.dm_maps.specs.Maps.{Map, module_at}
+use Rattle.dm_modules.specs.Maps.{Map, module_at}
 use Rattle.dm_maps.specs.World.{World, scope_of, map_of, numbered_map}
 use Rattle.dm_maps.specs.Known.{knows, KnowsAll, res_holds}
 use Rattle.dm_maps.specs.Readings.{macro_uses_of, block_root_of, root_of, prelude_in}

@@ -1,9 +1,9 @@
 -- Which ids hold the tables of a crate, of the syntax, and of items.
 use Rattle.std.specs.Prelude.{List, [], ◌∷◌, ◌++◌, map}
 use Rattle.std.specs.List.{flat_map}
-use Rattle.dm_base.specs.declared.ids.FunctionId.{FunctionId}
-use Rattle.dm_base.specs.declared.ids.ProcMacroId.{ProcMacroId}
-use Rattle.dm_base.specs.declared.ids.TraitId.{TraitId}
+use Rattle.dm_ids.specs.declared.FunctionId.{FunctionId}
+use Rattle.dm_ids.specs.declared.ProcMacroId.{ProcMacroId}
+use Rattle.dm_ids.specs.declared.TraitId.{TraitId}
 use Rattle.dm_base.specs.declared.item_ids.AssocItemId.{AssocItemId}
 use Rattle.dm_base.specs.declared.item_ids.AssocItemId.TheVariants as assoc
 use Rattle.dm_base.specs.declared.item_ids.ItemContainerId.{ItemContainerId}
@@ -16,14 +16,14 @@ use Rattle.dm_base.specs.declared.item_ids.VariantId.TheVariants as variant
 use Rattle.dm_base.specs.declared.source.AstId.{AstId}
 use Rattle.dm_base.specs.declared.visibility.RawVisibility.{RawVisibility}
 use Rattle.dm_base.specs.declared.visibility.RawVisibility.TheVariants as raw
-use Rattle.dm_scope.specs.declared.diagnostics.DefDiagnostic.{DefDiagnostic}
-use Rattle.dm_scope.specs.declared.diagnostics.DefDiagnosticKind.{DefDiagnosticKind}
-use Rattle.dm_scope.specs.declared.diagnostics.DefDiagnosticKind.TheVariants as wrong
+use Rattle.dm_diagnostics.specs.declared.DefDiagnostic.{DefDiagnostic}
+use Rattle.dm_diagnostics.specs.declared.DefDiagnosticKind.{DefDiagnosticKind}
+use Rattle.dm_diagnostics.specs.declared.DefDiagnosticKind.TheVariants as wrong
 use Rattle.dm_maps.specs.declared.held.HeldId.{HeldId}
 use Rattle.dm_maps.specs.declared.held.HeldId.TheVariants as held
-use Rattle.dm_maps.specs.CrateData.{CrateData}
-use Rattle.dm_maps.specs.Helpers.{Helper}
-use Rattle.dm_maps.specs.ItemTables.{ItemTables}
+use Rattle.dm_modules.specs.CrateData.{CrateData}
+use Rattle.dm_modules.specs.Helpers.{Helper}
+use Rattle.dm_modules.specs.ItemTables.{ItemTables}
 use Rattle.dm_maps.specs.Known.{path_holds}
 
 -- the items of the syntax that define macros hold those

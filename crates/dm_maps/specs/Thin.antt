@@ -1,10 +1,10 @@
 -- Which questions are thin: what can be said of a small world by a name or from the crate's root.
 use Rattle.std.specs.Prelude.{◌&&◌, ◌==◌, Bool, true, false, not, List, None, length, is_none}
-use Rattle.dm_base.specs.declared.ids.Crate.{Crate}
-use Rattle.dm_base.specs.declared.ids.MapId.{MapId}
+use Rattle.dm_ids.specs.declared.Crate.{Crate}
+use Rattle.dm_ids.specs.declared.MapId.{MapId}
 use Rattle.dm_base.specs.declared.mod_path.PathKind.{PathKind}
 use Rattle.dm_base.specs.declared.mod_path.PathKind.TheVariants as kind
-use Rattle.dm_maps.specs.Maps.{LocalMap}
+use Rattle.dm_modules.specs.Maps.{LocalMap}
 use Rattle.dm_maps.specs.Readings.{is_2015_in, prelude_in}
 use Rattle.dm_maps.specs.World.{World}
 

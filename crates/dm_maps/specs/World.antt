@@ -1,19 +1,19 @@
 -- Worlds, as contracts see them.
 use Rattle.std.specs.Prelude.{ℕ, List, Option, Some, None, slice_get, slice_set}
 use Rattle.std.specs.Option.{option_map, option_map_or, option_and_then}
-use Rattle.dm_base.specs.declared.ids.ModuleId.{ModuleId}
-use Rattle.dm_base.specs.declared.ids.Crate.{Crate}
-use Rattle.dm_base.specs.declared.ids.EnumId.{EnumId}
-use Rattle.dm_base.specs.declared.ids.EnumVariantId.{EnumVariantId}
-use Rattle.dm_base.specs.declared.ids.MapId.{MapId}
+use Rattle.dm_ids.specs.declared.ModuleId.{ModuleId}
+use Rattle.dm_ids.specs.declared.Crate.{Crate}
+use Rattle.dm_ids.specs.declared.EnumId.{EnumId}
+use Rattle.dm_ids.specs.declared.EnumVariantId.{EnumVariantId}
+use Rattle.dm_ids.specs.declared.MapId.{MapId}
 use Rattle.dm_base.specs.declared.item_ids.ItemKind.{ItemKind}
 use Rattle.dm_base.specs.declared.fields_shape.FieldsShape.{FieldsShape}
 use Rattle.dm_base.specs.declared.macros.MacroLoc.{MacroLoc}
 use Rattle.dm_base.specs.Names.{Name}
 use Rattle.dm_scope.specs.Scope.{Scope, no_scope}
 use Rattle.dm_maps.specs.declared.place.Place.{Place}
-use Rattle.dm_maps.specs.ItemTables.{ItemTables}
-use Rattle.dm_maps.specs.Maps.{Map, Module, LocalMap, nth_module, map_with_scope}
+use Rattle.dm_modules.specs.ItemTables.{ItemTables}
+use Rattle.dm_modules.specs.Maps.{Map, Module, LocalMap, nth_module, map_with_scope}
 
 -- The tables of a world. A number of a list is an id: the third of `uses` is the use of number 2.
 pub record World : Type 0 where

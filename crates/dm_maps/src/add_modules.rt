@@ -2,21 +2,21 @@
 ghost use Rattle.std.specs.Prelude.{◌≡◌, ◌<◌, IsTrue, IfOk, OnOk, OnErr, None, Some, length};
 ghost use Rattle.dm_maps.specs.Build.{with_crate, with_module, with_child_of, next_crate, next_module, next_place, fresh_crate};
 ghost use Rattle.dm_maps.specs.Faults.{Answers, crate_fault, child_fault, has_child, is_full};
-ghost use Rattle.dm_maps.specs.Origins.{is_child};
+ghost use Rattle.dm_modules.specs.Origins.{is_child};
 
 use crate::build_fault::BuildFault;
 use crate::builder::WorldBuilder;
-use crate::crate_data::CrateData;
 use crate::def_map::DefMap;
 use crate::growth::{NewChild, add_child, add_crate_map};
-use crate::module_data::ModuleData;
-use crate::module_origin::ModuleOrigin;
 use crate::place::Place;
 use crate::share::share;
 use dm_base::ids::{Crate, MapId, ModuleId};
 use dm_base::name::Name;
 use dm_base::source::{Edition, EditionedFileId};
 use dm_base::visibility::Visibility;
+use dm_modules::crate_data::CrateData;
+use dm_modules::module_data::ModuleData;
+use dm_modules::module_origin::ModuleOrigin;
 use std::alloc::{AllocError, Global};
 
 /// The numbers of a list's entries are below this, so that the list's length is one too.

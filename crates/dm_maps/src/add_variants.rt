@@ -1,7 +1,7 @@
 //! Variants of enums, added to a builder.
 ghost use Rattle.std.specs.Prelude.{◌≡◌, ◌<◌, None, IfOk, OnOk, OnErr, length};
 ghost use Rattle.dm_base.specs.Names.{find_name};
-ghost use Rattle.dm_maps.specs.BuildItems.{with_variant, next_variant, variants_in, enums_with_variant, IsFreeAt, enums_with_variant_at};
+ghost use Rattle.dm_maps.specs.BuildItems.{with_variant, next_variant};
 ghost use Rattle.dm_maps.specs.Faults.{Answers};
 ghost use Rattle.dm_maps.specs.ItemFaults.{variant_fault};
 ghost use Rattle.dm_maps.specs.Readings.{variants_of};
@@ -9,15 +9,13 @@ ghost use Rattle.dm_maps.specs.Readings.{variants_of};
 use crate::add_modules::LAST_NUMBER;
 use crate::build_fault::BuildFault;
 use crate::builder::WorldBuilder;
-use crate::growth::put_last;
 use crate::held::HeldId;
-use crate::variants::EnumVariants;
 use dm_base::fields_shape::FieldsShape;
 use dm_base::ids::{EnumId, EnumVariantId};
 use dm_base::item_ids::ItemKind;
 use dm_base::name::Name;
-use indexmap::IndexMap;
-use std::alloc::{AllocError, Global};
+use dm_modules::variants::add_to_enum;
+use std::alloc::AllocError;
 
 impl WorldBuilder {
     /// Adds a variant of that name and shape to an enum, and answers its number. Variants of all enums are numbered
@@ -92,44 +90,5 @@ impl WorldBuilder {
                 Err(refused)
             }
         }
-    }
-}
-
-/// Adds a variant to an enum, which has none yet of that name.
-fn add_to_enum(
-    enums: &mut IndexMap<EnumId, EnumVariants>,
-    e: EnumId,
-    name: Name,
-    variant: (EnumVariantId, FieldsShape),
-    alloc: Global,
-) -> Result<(), AllocError>
-    requires { find_name name (variants_in enums.old.entries e) ≡ None }
-    ensures ok { OnOk result (enums.new.entries ≡ enums_with_variant enums.old.entries e name variant) }
-    ensures err { OnErr result (enums.new.entries ≡ enums.old.entries) }
-{
-    match enums.get_index_of(&e) {
-        None => {
-            let mut variants = EnumVariants::new(alloc);
-            variants.push(name, variant)?;
-            put_last(enums, e, variants)
-        }
-        Some(i) => add_to_nth(enums, i, name, variant),
-    }
-}
-
-/// Adds a variant to the enum at place `i`, which has none yet of that name.
-fn add_to_nth(
-    enums: &mut IndexMap<EnumId, EnumVariants>,
-    i: usize,
-    name: Name,
-    variant: (EnumVariantId, FieldsShape),
-) -> Result<(), AllocError>
-    requires { IsFreeAt enums.old.entries i name }
-    ensures ok { OnOk result (enums.new.entries ≡ enums_with_variant_at enums.old.entries i name variant) }
-    ensures err { OnErr result (enums.new.entries ≡ enums.old.entries) }
-{
-    match enums.get_index_mut(i) {
-        None => Ok(()),
-        Some(variants) => variants.push(name, variant),
     }
 }

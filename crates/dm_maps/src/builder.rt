@@ -3,13 +3,13 @@ ghost use Rattle.std.specs.Prelude.{◌≡◌};
 ghost use Rattle.dm_maps.specs.Build.{no_world};
 
 use crate::def_map::DefMap;
-use crate::item_tables::ItemTables;
-use crate::local_def_map::LocalDefMap;
 use crate::place::Place;
-use crate::variants::EnumVariants;
 use dm_base::ids::{EnumId, ModuleId};
 use dm_base::item_ids::ItemKind;
 use dm_base::macros::MacroLoc;
+use dm_modules::item_tables::ItemTables;
+use dm_modules::local_def_map::LocalDefMap;
+use dm_modules::variants::EnumVariants;
 use indexmap::IndexMap;
 use std::alloc::Global;
 use std::marker::Model;

@@ -2,14 +2,13 @@
 ghost use Rattle.std.specs.Prelude.{◌≡◌, false, IsOk, OnOk, OnErr};
 ghost use Rattle.dm_maps.specs.BuildMaps.{AnswersFree, with_map, maps_with, crate_maps_with, block_maps_with, with_prelude, with_macro_use, with_macro_def, with_helper, locals_with, with_extern_of, lacks_map, map_fault, krate_fault};
 ghost use Rattle.dm_maps.specs.Faults.{Answers};
-ghost use Rattle.dm_maps.specs.Locals.{with_extern};
+ghost use Rattle.dm_modules.specs.Locals.{with_extern};
 ghost use Rattle.dm_maps.specs.MapChanges.{changed, grows};
 
 use crate::build_fault::BuildFault;
 use crate::builder::WorldBuilder;
 use crate::def_map::DefMap;
 use crate::held::HeldId;
-use crate::local_def_map::LocalDefMap;
 use crate::map_change::MapChange;
 use dm_base::ids::{
     BuiltinDeriveImplId, Crate, ExternCrateId, MacroCallId, MapId, ModuleId, UseId,
@@ -17,6 +16,7 @@ use dm_base::ids::{
 use dm_base::item_ids::MacroId;
 use dm_base::name::Name;
 use dm_base::source::AstId;
+use dm_modules::local_def_map::LocalDefMap;
 use either::Either;
 use std::alloc::{AllocError, Global};
 

@@ -5,20 +5,20 @@ ghost use Rattle.std.specs.Borrow.{sem};
 ghost use Rattle.std.specs.Map.{lookup};
 ghost use Rattle.dm_base.specs.Names.{find_name};
 ghost use Rattle.dm_scope.specs.Sameness.{same_ast};
-ghost use Rattle.dm_maps.specs.Maps.{module_at, nth_module, scope_at, fresh_map, map_with_child};
+ghost use Rattle.dm_modules.specs.Maps.{module_at, nth_module, scope_at, fresh_map, map_with_child};
 ghost use Rattle.dm_maps.specs.LendingMap.{LendsMapScope};
 ghost use Rattle.dm_maps.specs.MapChanges.{changed, grows};
 
-use crate::crate_data::CrateData;
-use crate::derive_helpers::{DeriveHelper, DeriveHelpers, add_helper};
-use crate::keyed_tables::{helpers_of, macro_def_of, put_macro_def};
 use crate::map_change::MapChange;
-use crate::module_data::ModuleData;
-use crate::modules_map::ModulesMap;
 use dm_base::ids::{BlockId, Crate, ExternCrateId, MapId, ModuleId, UseId};
 use dm_base::item_ids::MacroId;
 use dm_base::name::Name;
 use dm_base::source::{AstId, Edition};
+use dm_modules::crate_data::CrateData;
+use dm_modules::derive_helpers::{DeriveHelper, DeriveHelpers, add_helper};
+use dm_modules::keyed_tables::{helpers_of, macro_def_of, put_macro_def};
+use dm_modules::module_data::ModuleData;
+use dm_modules::modules_map::ModulesMap;
 use dm_scope::diagnostics::DefDiagnostic;
 use dm_scope::item_scope::ItemScope;
 use indexmap::IndexMap;
@@ -61,7 +61,7 @@ impl Drop for DefMap {
 }
 
 impl Model for DefMap {
-    ghost use Rattle.dm_maps.specs.Maps.{Map};
+    ghost use Rattle.dm_modules.specs.Maps.{Map};
 
     ghost Value = { Map };
 

@@ -11,12 +11,12 @@ use crate::builder::WorldBuilder;
 use crate::def_map::DefMap;
 use crate::fault::{Holder, WorldFault};
 use crate::held::HeldFault;
-use crate::local_def_map::LocalDefMap;
 use crate::note_maps::{note_local_map, note_map};
 use crate::note_modules::note_module;
 use crate::note_tables::{note_data, note_tables};
 use crate::place::Place;
 use dm_base::ids::ModuleId;
+use dm_modules::local_def_map::LocalDefMap;
 
 /// The fault of a holder whose ids' least fault this is.
 fn fault_of(holder: Holder, least: Option<HeldFault>) -> Option<WorldFault>

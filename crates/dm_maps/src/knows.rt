@@ -8,7 +8,6 @@ ghost use Rattle.dm_maps.specs.Known.{knows, KnowsAll, def_holds, res_holds, loc
 
 use crate::builder::WorldBuilder;
 use crate::held::{HeldFault, HeldId};
-use crate::local_def_map::LocalDefMap;
 use crate::note_maps::note_local_map;
 use crate::note_modules::{note_macro, note_type, note_value};
 use crate::notes::{note, note_def, note_import};
@@ -18,6 +17,7 @@ use dm_base::imports::ImportOrExternCrate;
 use dm_base::item_ids::ModuleDefId;
 use dm_base::mod_path::{ModPath, PathKind};
 use dm_base::per_ns::PerNs;
+use dm_modules::local_def_map::LocalDefMap;
 
 impl World {
     /// Whether the world has a crate of that number.

@@ -11,30 +11,18 @@ pub mod build_fault;
 pub mod builder;
 mod change_maps;
 mod check;
-mod crate_data;
 mod crate_queries;
 pub mod def_map;
-pub mod derive_helpers;
 pub mod fault;
-mod field_list;
 mod first_fault;
 mod growth;
 pub mod held;
 mod in_order;
 mod item_modules;
-mod item_tables;
-mod keyed_tables;
 mod knows;
-pub mod local_def_map;
-mod local_hash;
 pub(crate) mod map_change;
 mod map_queries;
 pub mod maps_of;
-pub mod modes;
-pub mod module_data;
-pub mod module_origin;
-pub mod modules_iter;
-pub mod modules_map;
 mod note_diagnostics;
 mod note_maps;
 mod note_modules;
@@ -51,6 +39,9 @@ mod set_tables;
 mod share;
 mod tables;
 mod thin;
-pub mod unstable_features;
-pub mod variants;
 pub mod world;
+
+pub use dm_modules::{
+    derive_helpers, local_def_map, modes, module_data, module_origin, modules_iter, modules_map,
+    unstable_features, variants,
+};

@@ -1,12 +1,12 @@
 //! What a map says of its modules. None of these calls takes memory.
 ghost use Rattle.std.specs.Prelude.{◌≡◌, IsSome, Some};
-ghost use Rattle.dm_maps.specs.Maps.{module_at};
-ghost use Rattle.dm_maps.specs.Queries.{containing_in, fills, is_inline_in, modules_with};
+ghost use Rattle.dm_modules.specs.Maps.{module_at};
+ghost use Rattle.dm_modules.specs.Queries.{containing_in, fills, is_inline_in, modules_with};
 
 use crate::def_map::DefMap;
-use crate::module_data::ModuleData;
-use crate::modules_iter::{FilledBy, InlineIn, ModulesWith};
 use dm_base::ids::{FileId, MacroCallId, ModuleId};
+use dm_modules::module_data::ModuleData;
+use dm_modules::modules_iter::{FilledBy, InlineIn, ModulesWith};
 
 impl DefMap {
     /// The module of that number, which has to lie in this map: `has` tests it.

@@ -8,11 +8,11 @@ ghost use Rattle.dm_base.specs.declared.item_ids.ModuleDefId.TheVariants as def;
 
 use crate::builder::WorldBuilder;
 use crate::def_map::DefMap;
-use crate::local_def_map::LocalDefMap;
 use crate::world::World;
 use dm_base::ids::{BlockId, Crate, ModuleId};
 use dm_base::item_ids::MacroId;
 use dm_base::macros::MacroCallStyles;
+use dm_modules::local_def_map::LocalDefMap;
 
 /// The map of a crate.
 pub fn crate_def_map(world: &World, krate: Crate) -> &DefMap

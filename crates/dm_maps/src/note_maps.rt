@@ -9,13 +9,13 @@ ghost use Rattle.dm_maps.specs.Known.{local_holds};
 use crate::builder::WorldBuilder;
 use crate::def_map::DefMap;
 use crate::held::{HeldFault, HeldId};
-use crate::local_def_map::LocalDefMap;
 use crate::note_diagnostics::note_diagnostics;
 use crate::note_tables::{note_helpers, note_macro_defs};
 use crate::notes::note;
 use dm_base::ids::{ExternCrateId, ModuleId, UseId};
 use dm_base::item_ids::MacroId;
 use dm_base::name::Name;
+use dm_modules::local_def_map::LocalDefMap;
 use indexmap::IndexMap;
 
 /// With the module of a prelude, and the use that named it.

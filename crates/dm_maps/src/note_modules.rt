@@ -8,7 +8,6 @@ ghost use Rattle.dm_maps.specs.Known.{def_holds, type_holds, value_holds, macro_
 
 use crate::builder::WorldBuilder;
 use crate::held::{HeldFault, HeldId};
-use crate::module_data::ModuleData;
 use crate::note_records::note_records;
 use crate::notes::{note, note_def, note_import, note_value_import, note_vis};
 use dm_base::ids::TraitId;
@@ -16,6 +15,7 @@ use dm_base::imports::{ImportId, ImportOrExternCrate, ImportOrGlob};
 use dm_base::item_ids::{ItemKind, MacroId, ModuleDefId};
 use dm_base::per_ns::Item;
 use dm_base::visibility::Visibility;
+use dm_modules::module_data::ModuleData;
 use dm_scope::item_scope::ItemScope;
 
 /// With what a type holds.

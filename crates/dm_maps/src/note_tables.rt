@@ -6,17 +6,17 @@ ghost use Rattle.dm_maps.specs.Known.{path_holds};
 ghost use Rattle.dm_maps.specs.TablesHold.{macro_defs_hold, helper_holds, helpers_hold, macro_of_fn_holds, fn_of_macro_holds, data_holds, raw_holds, variant_holds, field_list_holds, assoc_id_holds, container_holds, assoc_holds, trait_holds, tables_hold};
 
 use crate::builder::WorldBuilder;
-use crate::crate_data::CrateData;
-use crate::derive_helpers::{DeriveHelper, DeriveHelpers};
-use crate::field_list::FieldList;
 use crate::held::{HeldFault, HeldId};
-use crate::item_tables::ItemTables;
 use crate::notes::note;
 use dm_base::ids::{FunctionId, ProcMacroId, TraitId};
 use dm_base::item_ids::{AssocItemId, ItemContainerId, ItemKind, MacroId, VariantId};
 use dm_base::mod_path::PathKind;
 use dm_base::source::AstId;
 use dm_base::visibility::RawVisibility;
+use dm_modules::crate_data::CrateData;
+use dm_modules::derive_helpers::{DeriveHelper, DeriveHelpers};
+use dm_modules::field_list::FieldList;
+use dm_modules::item_tables::ItemTables;
 use indexmap::IndexMap;
 
 /// With the macros that items of the syntax define.

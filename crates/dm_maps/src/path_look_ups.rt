@@ -8,7 +8,7 @@ ghost use Rattle.dm_maps.specs.Known.{knows};
 ghost use Rattle.dm_maps.specs.Readings.{variants_of, root_of, block_root_of, is_2015_in, prelude_in, macro_uses_of, styles_in};
 ghost use Rattle.dm_maps.specs.Trees.{tree_of};
 ghost use Rattle.dm_maps.specs.World.{scope_of, map_of, numbered_map};
-ghost use Rattle.dm_maps.specs.Maps.{module_at};
+ghost use Rattle.dm_modules.specs.Maps.{module_at};
 ghost use Rattle.dm_scope.specs.Scope.{legacy_in};
 
 use crate::def_map::DefMap;

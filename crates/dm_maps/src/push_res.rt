@@ -1,6 +1,6 @@
 //! Pushes into the scopes of a world.
 ghost use Rattle.std.specs.Prelude.{◌≡◌, false, List, [], ◌∷◌, ◌++◌, IsSome, IfOk, OnOk, OnErr};
-ghost use Rattle.dm_base.specs.declared.ids.ModuleId.{ModuleId};
+ghost use Rattle.dm_ids.specs.declared.ModuleId.{ModuleId};
 ghost use Rattle.dm_base.specs.Tree.{same_module};
 ghost use Rattle.dm_scope.specs.Push.{scope_after, globs_after, push_answer};
 ghost use Rattle.dm_scope.specs.Scope.{Scope};

@@ -2,15 +2,15 @@
 ghost use Rattle.std.specs.Prelude.{◌≡◌, ◌++◌, ◌∷◌, [], true, Some, IfOk, OnOk, OnErr};
 ghost use Rattle.dm_maps.specs.BuildCrateData.{sharing, data_of, with_data};
 ghost use Rattle.dm_maps.specs.BuildMaps.{krate_fault};
-ghost use Rattle.dm_maps.specs.CrateData.{with_feature, with_proc_macro};
+ghost use Rattle.dm_modules.specs.CrateData.{with_feature, with_proc_macro};
 ghost use Rattle.dm_maps.specs.Faults.{Answers};
 
 use crate::build_fault::BuildFault;
 use crate::builder::WorldBuilder;
-use crate::crate_data::CrateData;
 use crate::share::{hand_out, handles, share};
 use dm_base::ids::{Crate, FunctionId, MapId, ProcMacroId};
 use dm_base::symbol::Symbol;
+use dm_modules::crate_data::CrateData;
 use std::alloc::AllocError;
 
 /// Each call refuses, in this order, `NoSuchCrate` of a crate that is not the builder's, and `OutOfMemory`; the builder is
@@ -101,8 +101,7 @@ impl WorldBuilder {
         ensures fault { Answers (krate_fault self.old krate) result }
         ensures err { OnErr result (self.new ≡ self.old) }
     {
-        let mut data = self.copy_data(krate)?;
-        data.add_proc_macro(f, m)?;
+        let data = self.copy_data(krate)?.with_proc_macro(f, m)?;
         self.share_data(krate, data)?;
         Ok(())
     }

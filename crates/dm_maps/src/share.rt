@@ -2,9 +2,9 @@
 ghost use Rattle.std.specs.Prelude.{◌≡◌, ◌≤◌, ◌<◌, ◌+◌, length, All, IfOk};
 ghost use Rattle.dm_maps.specs.BuildCrateData.{with_shared, map_with_shared};
 
-use crate::crate_data::CrateData;
 use crate::def_map::DefMap;
 use dm_base::ids::Crate;
+use dm_modules::crate_data::CrateData;
 use std::alloc::{AllocError, Global};
 use std::rc::Rc;
 

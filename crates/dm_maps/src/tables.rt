@@ -10,12 +10,12 @@ ghost use Rattle.dm_maps.specs.Trees.{IsWorld, map_id_in, parent_in, container_i
 
 use crate::builder::WorldBuilder;
 use crate::def_map::DefMap;
-use crate::module_data::ModuleData;
 use crate::place::Place;
 use dm_base::fields_shape::FieldsShape;
 use dm_base::ids::{BlockId, Crate, EnumId, EnumVariantId, MapId, ModuleId};
 use dm_base::name::Name;
 use dm_base::per_ns::PerNs;
+use dm_modules::module_data::ModuleData;
 
 impl WorldBuilder {
     /// Where a module stands.

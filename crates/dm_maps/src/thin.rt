@@ -3,10 +3,10 @@ ghost use Rattle.std.specs.Prelude.{◌≡◌};
 ghost use Rattle.dm_maps.specs.Thin.{is_bare, is_small, is_plain_or_crate, is_thin};
 
 use crate::builder::WorldBuilder;
-use crate::local_def_map::LocalDefMap;
 use crate::world::World;
 use dm_base::ids::{Crate, MapId};
 use dm_base::mod_path::{ModPath, PathKind};
+use dm_modules::local_def_map::LocalDefMap;
 
 impl World {
     /// Whether a question is thin. Takes no memory.

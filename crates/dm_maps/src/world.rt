@@ -6,7 +6,7 @@ ghost use Rattle.dm_maps.specs.World.{place_of, numbered_map, map_of, module_of,
 ghost use Rattle.dm_maps.specs.First.{IsChecked};
 ghost use Rattle.dm_maps.specs.declared.held.HeldId.TheVariants as held;
 ghost use Rattle.dm_maps.specs.Known.{knows, KnowsAll, res_holds};
-ghost use Rattle.dm_maps.specs.Maps.{module_at};
+ghost use Rattle.dm_modules.specs.Maps.{module_at};
 ghost use Rattle.dm_maps.specs.Sound.{IsCheckedWorld};
 ghost use Rattle.dm_maps.specs.Trees.{IsWorld};
 

@@ -1,8 +1,8 @@
 -- What a scope's mutators do to a namespace, beside pushes.
 use Rattle.std.specs.Prelude.{◌&&◌, Bool, false, true, List, [], ◌∷◌, Option, Some, None, map, is_none, if◌then◌else◌}
 use Rattle.std.specs.Map.{remove_entry}
-use Rattle.dm_base.specs.declared.ids.Crate.{Crate}
-use Rattle.dm_base.specs.declared.ids.TraitId.{TraitId}
+use Rattle.dm_ids.specs.declared.Crate.{Crate}
+use Rattle.dm_ids.specs.declared.TraitId.{TraitId}
 use Rattle.dm_base.specs.declared.imports.ImportId.{ImportId}
 use Rattle.dm_base.specs.declared.imports.ImportOrExternCrate.{ImportOrExternCrate}
 use Rattle.dm_base.specs.declared.item_ids.MacroId.{MacroId}

@@ -1,9 +1,9 @@
 -- What the iterators of a scope show.
 use Rattle.std.specs.Prelude.{Bool, List, Option, None, Some, if◌then◌else◌}
 use Rattle.std.specs.Borrow.{Bor}
-use Rattle.dm_base.specs.declared.ids.ImplId.{ImplId}
-use Rattle.dm_base.specs.declared.ids.ModuleId.{ModuleId}
-use Rattle.dm_base.specs.declared.ids.TraitId.{TraitId}
+use Rattle.dm_ids.specs.declared.ImplId.{ImplId}
+use Rattle.dm_ids.specs.declared.ModuleId.{ModuleId}
+use Rattle.dm_ids.specs.declared.TraitId.{TraitId}
 use Rattle.dm_base.specs.declared.imports.ImportOrExternCrate.{ImportOrExternCrate}
 use Rattle.dm_base.specs.declared.item_ids.MacroId.{MacroId}
 use Rattle.dm_base.specs.declared.item_ids.ModuleDefId.{ModuleDefId}

@@ -1,7 +1,7 @@
 -- What a scope says of one definition.
 use Rattle.std.specs.Prelude.{◌≡◌, ◌∷◌, [], Bool, List, Option, Some, None, if◌then◌else◌, is_none, nat_eq}
 use Rattle.std.specs.Borrow.{Bor}
-use Rattle.dm_base.specs.declared.ids.TraitId.{TraitId}
+use Rattle.dm_ids.specs.declared.TraitId.{TraitId}
 use Rattle.dm_base.specs.declared.imports.ImportId.{ImportId}
 use Rattle.dm_base.specs.declared.item_in_ns.ItemInNs.{ItemInNs}
 use Rattle.dm_base.specs.declared.item_in_ns.ItemInNs.TheVariants.{Types, Values, Macros}

@@ -14,7 +14,7 @@ use Rattle.dm_base.specs.declared.imports.ImportOrGlob.{ImportOrGlob}
 use Rattle.dm_base.specs.declared.item_ids.AdtId.TheVariants as adt
 use Rattle.dm_base.specs.declared.item_ids.ModuleDefId.{ModuleDefId}
 use Rattle.dm_base.specs.declared.item_ids.ModuleDefId.TheVariants as def
-use Rattle.dm_base.specs.declared.ids.ModuleId.{ModuleId}
+use Rattle.dm_ids.specs.declared.ModuleId.{ModuleId}
 use Rattle.dm_scope.specs.Flags.{Globs, no_globs}
 use Rattle.dm_scope.specs.Push.{types_reading, values_reading, scope_after, globs_after, push_answer}
 use Rattle.dm_scope.specs.Pushes.{binding, record_of}

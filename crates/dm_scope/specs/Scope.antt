@@ -1,12 +1,12 @@
 -- Scopes, as contracts see them.
 use Rattle.std.specs.Prelude.{Bool, List, [], ◌∷◌, Option, Some, None}
-use Rattle.dm_base.specs.declared.ids.ImplId.{ImplId}
-use Rattle.dm_base.specs.declared.ids.BuiltinDeriveImplId.{BuiltinDeriveImplId}
-use Rattle.dm_base.specs.declared.ids.ExternBlockId.{ExternBlockId}
-use Rattle.dm_base.specs.declared.ids.ExternCrateId.{ExternCrateId}
-use Rattle.dm_base.specs.declared.ids.ConstId.{ConstId}
-use Rattle.dm_base.specs.declared.ids.TraitId.{TraitId}
-use Rattle.dm_base.specs.declared.ids.MacroCallId.{MacroCallId}
+use Rattle.dm_ids.specs.declared.ImplId.{ImplId}
+use Rattle.dm_ids.specs.declared.BuiltinDeriveImplId.{BuiltinDeriveImplId}
+use Rattle.dm_ids.specs.declared.ExternBlockId.{ExternBlockId}
+use Rattle.dm_ids.specs.declared.ExternCrateId.{ExternCrateId}
+use Rattle.dm_ids.specs.declared.ConstId.{ConstId}
+use Rattle.dm_ids.specs.declared.TraitId.{TraitId}
+use Rattle.dm_ids.specs.declared.MacroCallId.{MacroCallId}
 use Rattle.dm_base.specs.declared.source.AstId.{AstId}
 use Rattle.dm_base.specs.declared.imports.ImportId.{ImportId}
 use Rattle.dm_base.specs.declared.imports.ImportOrExternCrate.{ImportOrExternCrate}

@@ -166,7 +166,7 @@ pub struct Traits<'a> {
 impl<'a> Model for Traits<'a> {
     ghost use Rattle.std.specs.Prelude.{List, ◌++◌, map};
     ghost use Rattle.std.specs.Slice.Iter.{iter_rest};
-    ghost use Rattle.dm_base.specs.declared.ids.TraitId.{TraitId};
+    ghost use Rattle.dm_ids.specs.declared.TraitId.{TraitId};
 
     ghost Value = { List TraitId };
 
@@ -249,7 +249,7 @@ pub struct MacroInvocations<'a> {
 
 impl<'a> Model for MacroInvocations<'a> {
     ghost use Rattle.std.specs.Prelude.{List};
-    ghost use Rattle.dm_base.specs.declared.ids.MacroCallId.{MacroCallId};
+    ghost use Rattle.dm_ids.specs.declared.MacroCallId.{MacroCallId};
     ghost use Rattle.dm_base.specs.declared.source.AstId.{AstId};
 
     ghost Value = { List (AstId × MacroCallId) };
@@ -286,7 +286,7 @@ pub struct AttrMacroInvocations<'a> {
 
 impl<'a> Model for AttrMacroInvocations<'a> {
     ghost use Rattle.std.specs.Prelude.{List};
-    ghost use Rattle.dm_base.specs.declared.ids.MacroCallId.{MacroCallId};
+    ghost use Rattle.dm_ids.specs.declared.MacroCallId.{MacroCallId};
     ghost use Rattle.dm_base.specs.declared.source.AstId.{AstId};
 
     ghost Value = { List (AstId × MacroCallId) };

@@ -45,7 +45,7 @@ pub struct AttributeCalls<'a> {
 impl<'a> Model for AttributeCalls<'a> {
     ghost use Rattle.std.specs.Prelude.{List, ◌++◌};
     ghost use Rattle.std.specs.Slice.Iter.{iter_rest};
-    ghost use Rattle.dm_base.specs.declared.ids.MacroCallId.{MacroCallId};
+    ghost use Rattle.dm_ids.specs.declared.MacroCallId.{MacroCallId};
     ghost use Rattle.dm_scope.specs.MacroCalls.{attribute_calls};
 
     ghost Value = { List MacroCallId };
@@ -106,7 +106,7 @@ pub struct DeriveCalls<'a> {
 impl<'a> Model for DeriveCalls<'a> {
     ghost use Rattle.std.specs.Prelude.{List, ◌++◌};
     ghost use Rattle.std.specs.Slice.Iter.{iter_rest};
-    ghost use Rattle.dm_base.specs.declared.ids.MacroCallId.{MacroCallId};
+    ghost use Rattle.dm_ids.specs.declared.MacroCallId.{MacroCallId};
     ghost use Rattle.dm_scope.specs.MacroCalls.{item_calls};
 
     ghost Value = { List MacroCallId };
@@ -168,7 +168,7 @@ pub struct AllMacroCalls<'a> {
 impl<'a> Model for AllMacroCalls<'a> {
     ghost use Rattle.std.specs.Prelude.{List, ◌++◌};
     ghost use Rattle.std.specs.Slice.Iter.{iter_rest};
-    ghost use Rattle.dm_base.specs.declared.ids.MacroCallId.{MacroCallId};
+    ghost use Rattle.dm_ids.specs.declared.MacroCallId.{MacroCallId};
 
     ghost Value = { List MacroCallId };
 

@@ -3,7 +3,7 @@ use Rattle.std.proofs.Common.{◌≡◌, Bool, true, false, cond, List, [], ◌�
 use Rattle.std.specs.Option.{option_map_or}
 use Rattle.dm_base.specs.declared.imports.ImportOrExternCrate.{ImportOrExternCrate}
 use Rattle.dm_base.specs.declared.imports.ImportOrGlob.{ImportOrGlob}
-use Rattle.dm_base.specs.declared.ids.ModuleId.{ModuleId}
+use Rattle.dm_ids.specs.declared.ModuleId.{ModuleId}
 use Rattle.dm_base.specs.declared.item_ids.ModuleDefId.{ModuleDefId}
 use Rattle.dm_base.specs.declared.item_ids.ModuleDefId.TheVariants as def
 use Rattle.dm_base.specs.declared.item_ids.MacroId.{MacroId}
@@ -11,7 +11,7 @@ use Rattle.dm_base.specs.declared.per_ns.Item.{Item}
 use Rattle.dm_base.specs.declared.per_ns.PerNs.{PerNs}
 use Rattle.dm_base.specs.declared.visibility.Visibility.{Visibility}
 use Rattle.dm_base.specs.declared.visibility.Visibility.TheVariants.{Module, PubCrate, Public}
-use Rattle.dm_base.specs.declared.ids.ExternCrateId.{ExternCrateId}
+use Rattle.dm_ids.specs.declared.ExternCrateId.{ExternCrateId}
 use Rattle.dm_base.specs.Items.{keep, seen_by, public_type, first, over}
 use Rattle.dm_base.specs.Names.{Name, find_name, same_name}
 use Rattle.dm_base.specs.Tree.{IsKnown}
@@ -19,7 +19,7 @@ use Rattle.dm_base.specs.Visibility.{NamesKnown}
 use Rattle.dm_maps.specs.declared.held.HeldId.{HeldId}
 use Rattle.dm_maps.specs.declared.held.HeldId.TheVariants as held
 use Rattle.dm_maps.specs.Known.{KnowsAll, def_holds, vis_holds, import_holds, value_import_holds, type_holds, value_holds, macro_holds, res_holds, local_holds}
-use Rattle.dm_maps.specs.Maps.{LocalMap}
+use Rattle.dm_modules.specs.Maps.{LocalMap}
 use Rattle.dm_maps.specs.Trees.{tree_of}
 use Rattle.dm_maps.specs.World.{World}
 use Rattle.hir_def_map.specs.Paths.{by_crate}

@@ -3,11 +3,11 @@ use Rattle.std.proofs.Common.{◌≡◌, Bool, false, cond, List, [], ◌∷◌,
 use Rattle.dm_base.specs.declared.mod_path.PathKind.{PathKind}
 use Rattle.dm_base.specs.declared.mod_path.PathKind.TheVariants as kind
 use Rattle.dm_base.specs.declared.per_ns.PerNs.{PerNs}
-use Rattle.dm_base.specs.declared.ids.ModuleId.{ModuleId}
+use Rattle.dm_ids.specs.declared.ModuleId.{ModuleId}
 use Rattle.dm_base.specs.Items.{overlay}
 use Rattle.dm_base.specs.Tree.{crate_of}
 use Rattle.dm_base.specs.Names.{Name}
-use Rattle.dm_maps.specs.Maps.{LocalMap}
+use Rattle.dm_modules.specs.Maps.{LocalMap}
 use Rattle.dm_maps.specs.Readings.{Setting, Reading, setting_of, read}
 use Rattle.dm_maps.specs.World.{World}
 use Rattle.hir_def_map.specs.Answers.{nothing_no}

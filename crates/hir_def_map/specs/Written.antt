@@ -1,7 +1,7 @@
 -- Short forms for worked worlds and rows, after the words of the script.
 use Rattle.std.specs.Prelude.{ℕ, Bool, List, [], Option, Some, None}
-use Rattle.dm_base.specs.declared.ids.ModuleId.{ModuleId}
-use Rattle.dm_base.specs.declared.ids.MapId.{MapId}
+use Rattle.dm_ids.specs.declared.ModuleId.{ModuleId}
+use Rattle.dm_ids.specs.declared.MapId.{MapId}
 use Rattle.dm_base.specs.declared.builtin_type.BuiltinType.{BuiltinType}
 use Rattle.dm_base.specs.declared.imports.ImportId.{ImportId}
 use Rattle.dm_base.specs.declared.imports.ImportOrDef.{ImportOrDef}
@@ -25,13 +25,13 @@ use Rattle.dm_base.specs.declared.visibility.VisibilityExplicitness.{VisibilityE
 use Rattle.dm_base.specs.Names.{Name}
 use Rattle.dm_scope.specs.Bindings.{Bound}
 use Rattle.dm_scope.specs.Scope.{Scope, no_scope}
-use Rattle.dm_maps.specs.declared.modes.BuiltinShadowMode.{BuiltinShadowMode}
-use Rattle.dm_maps.specs.declared.modes.MacroSubNs.{MacroSubNs}
-use Rattle.dm_maps.specs.declared.module_origin.ModuleOrigin.TheVariants.{Inline}
+use Rattle.dm_modules.specs.declared.modes.BuiltinShadowMode.{BuiltinShadowMode}
+use Rattle.dm_modules.specs.declared.modes.MacroSubNs.{MacroSubNs}
+use Rattle.dm_modules.specs.declared.module_origin.ModuleOrigin.TheVariants.{Inline}
 use Rattle.dm_maps.specs.declared.place.Place.{Place}
-use Rattle.dm_maps.specs.CrateData.{fresh_data}
-use Rattle.dm_maps.specs.Maps as maps
-use Rattle.dm_maps.specs.Maps.{Map, Modules, LocalMap}
+use Rattle.dm_modules.specs.CrateData.{fresh_data}
+use Rattle.dm_modules.specs.Maps as maps
+use Rattle.dm_modules.specs.Maps.{Map, Modules, LocalMap}
 use Rattle.dm_maps.specs.World.{World}
 use Rattle.hir_def_map.specs.declared.result.ResolveMode.{ResolveMode}
 use Rattle.hir_def_map.specs.declared.result.ReachedFixedPoint.{ReachedFixedPoint}

@@ -3,12 +3,12 @@ ghost use Rattle.std.specs.Prelude.{◌≡◌, ◌&&◌, Bool, not, ◌∷◌, [
 ghost use Rattle.dm_base.specs.Items.{over, overlay};
 ghost use Rattle.dm_base.specs.Tree.{IsKnown};
 ghost use Rattle.dm_maps.specs.Known.{KnowsAll, res_holds, local_holds};
-ghost use Rattle.dm_maps.specs.Maps.{LocalMap};
+ghost use Rattle.dm_modules.specs.Maps.{LocalMap};
 ghost use Rattle.dm_maps.specs.Readings.{setting_of, read, is_2015_in};
 ghost use Rattle.dm_maps.specs.Trees.{tree_of};
 ghost use Rattle.dm_maps.specs.World.{World, scope_of};
 ghost use Rattle.dm_scope.specs.Scope.{bound_in};
-ghost use Rattle.dm_base.specs.declared.ids.ModuleId.{ModuleId};
+ghost use Rattle.dm_ids.specs.declared.ModuleId.{ModuleId};
 ghost use Rattle.hir_def_map.specs.declared.question.Ask.{Ask};
 ghost use Rattle.hir_def_map.specs.Paths.{asks_root, are_builtins_first, builtins_of, builtins_or_scope, unless_block_root, layers_by_2015_rule, extern_prelude, prelude, plain_layers, layers, In, Preludes};
 

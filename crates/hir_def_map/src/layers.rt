@@ -6,7 +6,7 @@ ghost use Rattle.dm_base.specs.Tree.{IsKnown};
 ghost use Rattle.dm_maps.specs.Trees.{tree_of};
 ghost use Rattle.dm_maps.specs.declared.held.HeldId.TheVariants as held;
 ghost use Rattle.dm_maps.specs.Known.{knows, KnowsAll, res_holds, local_holds};
-ghost use Rattle.dm_maps.specs.Maps.{LocalMap};
+ghost use Rattle.dm_modules.specs.Maps.{LocalMap};
 ghost use Rattle.dm_maps.specs.World.{World};
 ghost use Rattle.dm_maps.specs.Readings.{setting_of, read};
 ghost use Rattle.hir_def_map.specs.Paths.{fits, fitting, by_crate, legacy, extern_prelude, macro_use_prelude, prelude, builtin, root_scope};

@@ -7,7 +7,7 @@ ghost use Rattle.dm_base.specs.Visibility.{NamesKnown};
 ghost use Rattle.dm_scope.specs.Scope.{bound_in};
 ghost use Rattle.dm_maps.specs.Known.{KnowsAll, res_holds};
 ghost use Rattle.dm_maps.specs.World.{scope_of};
-ghost use Rattle.dm_maps.specs.Maps.{LocalMap};
+ghost use Rattle.dm_modules.specs.Maps.{LocalMap};
 ghost use Rattle.dm_maps.specs.Readings.{read};
 ghost use Rattle.dm_maps.specs.Trees.{tree_of};
 ghost use Rattle.hir_def_map.specs.Paths.{at_adt};

@@ -3,8 +3,8 @@ use Rattle.std.specs.Option.{option_map_or}
 use Rattle.std.proofs.lemmas.Bool.{ltb-false}
 use Rattle.std.proofs.lemmas.Option.{slice_get_past, slice_get_read}
 use Rattle.std.proofs.lemmas.Result.{on_ok_weaker}
-use Rattle.dm_maps.specs.Maps.{LocalMap}
-use Rattle.dm_maps.specs.Locals.{with_extern}
+use Rattle.dm_modules.specs.Maps.{LocalMap}
+use Rattle.dm_modules.specs.Locals.{with_extern}
 use Rattle.dm_maps.proofs.change_maps.put_extern_at.Goals as goal
 
 pub returns-in-None-clause-ok : goal.returns-in-None-clause-ok

@@ -1,7 +1,7 @@
 use Rattle.std.proofs.Common.{◌≡◌, ◌≤◌, ◌<◌, ◌∙◌, ap, sym, refl, rules, length, Option, Some, slice_get, set}
 use Rattle.std.proofs.lemmas.Bool.{ltb-false}
 use Rattle.std.proofs.lemmas.Option.{slice_get_past, slice_get_read}
-use Rattle.dm_maps.specs.Maps.{Map}
+use Rattle.dm_modules.specs.Maps.{Map}
 use Rattle.dm_maps.specs.Build.{put_child_in}
 use Rattle.std.proofs.lemmas.Result.{on_ok_weaker}
 use Rattle.dm_maps.proofs.growth.add_child_in.Goals as goal

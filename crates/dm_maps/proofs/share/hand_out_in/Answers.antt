@@ -1,5 +1,5 @@
 use Rattle.std.proofs.Common.{◌∙◌, ap, arith, get_or, slice_set, List}
-use Rattle.dm_maps.specs.Maps.{Map}
+use Rattle.dm_modules.specs.Maps.{Map}
 use Rattle.dm_maps.specs.BuildCrateData.{map_with_shared}
 use Rattle.dm_maps.proofs.MarkLemmas.{mark-step, mark-all}
 use Rattle.dm_maps.proofs.share.hand_out_in.Goals as goal

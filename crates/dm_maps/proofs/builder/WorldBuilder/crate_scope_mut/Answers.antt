@@ -2,7 +2,7 @@ use Rattle.std.proofs.Common.{◌≡◌, ◌<◌, ◌∙◌, rules, length, ap, 
 use Rattle.std.specs.Option.{option_map, option_and_then}
 use Rattle.std.proofs.lemmas.Option.{slice_get-get_or}
 use Rattle.dm_scope.specs.Scope.{Scope}
-use Rattle.dm_maps.specs.Maps.{Map, Module, nth_module}
+use Rattle.dm_modules.specs.Maps.{Map, Module, nth_module}
 use Rattle.dm_maps.specs.World.{World, put_map, scope_in}
 use Rattle.dm_maps.specs.LendingWorld.{crate_with_scope}
 use Rattle.dm_maps.specs.Trees.{IsWorldOf, Outline, outlines, containers_of}

@@ -1,6 +1,6 @@
 use Rattle.std.proofs.Common.{◌≡◌, ◌++◌, ◌∷◌, [], ◌∙◌, None, Some, sym, ap, subst}
 use Rattle.std.specs.Option.{option_map_or}
-use Rattle.dm_base.specs.declared.ids.MapId.{MapId}
+use Rattle.dm_ids.specs.declared.MapId.{MapId}
 use Rattle.dm_maps.specs.World.{World, crate_map}
 use Rattle.dm_maps.specs.BuildBlocks.{with_block, with_block_of, crate_in}
 use Rattle.dm_maps.specs.Trees.{IsWorld}

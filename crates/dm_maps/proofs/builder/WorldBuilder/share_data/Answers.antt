@@ -1,5 +1,5 @@
 use Rattle.std.proofs.Common.{◌≡◌, ◌∙◌, ap, sym, subst, List, Option, length}
-use Rattle.dm_base.specs.declared.ids.ModuleId.{ModuleId}
+use Rattle.dm_ids.specs.declared.ModuleId.{ModuleId}
 use Rattle.dm_maps.specs.Trees.{IsWorldOf, Outline, outlines, containers_of}
 use Rattle.dm_maps.proofs.MapsKept.{outlines-shared, containers-shared}
 use Rattle.dm_maps.proofs.builder.WorldBuilder.share_data.Goals as goal

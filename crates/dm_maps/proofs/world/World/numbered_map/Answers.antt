@@ -1,5 +1,5 @@
 use Rattle.std.proofs.Common.{◌≡◌, ◌∙◌, Some, ap}
-use Rattle.dm_maps.specs.Maps.{Map}
+use Rattle.dm_modules.specs.Maps.{Map}
 use Rattle.dm_maps.specs.World.{World, numbered_map}
 use Rattle.dm_maps.proofs.MapLemmas.{numbered-own, of_found}
 use Rattle.dm_maps.proofs.world.World.numbered_map.Goals as goal

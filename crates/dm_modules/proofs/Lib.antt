@@ -1,0 +1,4 @@
+pub mod TableLemmas
+pub mod KeyLemmas
+pub mod LocalSteps
+pub mod RunLemmas

@@ -1,0 +1,17 @@
+pub mod Origins
+pub mod Maps
+pub mod CrateData
+pub mod CrateRows
+pub mod Helpers
+pub mod ItemTables
+pub mod HelperChanges
+pub mod Keys
+pub mod TableChanges
+pub mod Locals
+pub mod LendingModule
+pub mod LendingModules
+pub mod LocalHash
+pub mod LocalOrder
+pub mod LocalLaws
+pub mod Queries
+pub mod Variants

@@ -1,0 +1,61 @@
+//! Growth of tables, all or nothing.
+ghost use Rattle.std.specs.Prelude.{◌≡◌, ◌-◌, ◌++◌, ◌∷◌, [], None, OnOk, OnErr, take, length};
+ghost use Rattle.indexmap.specs.IndexMap.{get, insert_entry};
+ghost use Rattle.dm_modules.specs.Maps.{with_child_at};
+
+use crate::module_data::ModuleData;
+use dm_base::ids::ModuleId;
+use dm_base::name::Name;
+use indexmap::IndexMap;
+use std::alloc::AllocError;
+use std::hash::Hash;
+
+/// Puts a new key last.
+pub(crate) fn put_last<K: Eq + Hash + Drop, V: Drop>(
+    map: &mut IndexMap<K, V>,
+    key: K,
+    value: V,
+) -> Result<(), AllocError>
+    requires { get K.eq map.old key ≡ None }
+    ensures ok { OnOk result (map.new.entries ≡ map.old.entries ++ (key, value) ∷ []) }
+    ensures err { OnErr result (map.new.entries ≡ map.old.entries) }
+{
+    map.insert(key, value)?;
+    Ok(())
+}
+
+/// Puts a value under a key. A key that is there keeps its place and takes the new value.
+pub(crate) fn put<K: Eq + Hash + Drop, V: Drop>(
+    map: &mut IndexMap<K, V>,
+    key: K,
+    value: V,
+) -> Result<(), AllocError>
+    ensures ok { OnOk result (map.new.entries ≡ insert_entry K.eq map.old.entries key value) }
+    ensures err { OnErr result (map.new.entries ≡ map.old.entries) }
+{
+    map.insert(key, value)?;
+    Ok(())
+}
+
+/// Takes the last key off again.
+pub(crate) fn drop_last<K: Eq + Hash + Drop, V: Drop>(map: &mut IndexMap<K, V>)
+    ensures { map.new.entries ≡ take (length map.old.entries - 1) map.old.entries }
+{
+    map.pop();
+}
+
+/// Lists `m` among the children of the module at place `i`.
+pub(crate) fn list_child(
+    modules: &mut IndexMap<ModuleId, ModuleData>,
+    i: usize,
+    name: Name,
+    m: ModuleId,
+) -> Result<(), AllocError>
+    ensures ok { OnOk result (modules.new.entries ≡ with_child_at modules.old.entries i name m) }
+    ensures err { OnErr result (modules.new.entries ≡ modules.old.entries) }
+{
+    match modules.get_index_mut(i) {
+        None => Ok(()),
+        Some(data) => data.add_child(name, m),
+    }
+}

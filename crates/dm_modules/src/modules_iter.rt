@@ -1,0 +1,155 @@
+//! Iterators over the modules of a map. Each is seen as the list of what it has left.
+ghost use Rattle.std.specs.Prelude.{◌≡◌, Bool, length};
+ghost use Rattle.std.specs.Iterator.{at_most};
+ghost use Rattle.std.specs.Map.Iter.{TakesFirst, ShowsInOrder};
+ghost use Rattle.dm_modules.specs.declared.module_origin.ModuleOrigin.{ModuleOrigin};
+ghost use Rattle.dm_modules.specs.Queries.{deref_module, fills, is_inline_in, modules_with};
+
+use crate::module_data::ModuleData;
+use crate::module_origin::ModuleOrigin;
+use crate::modules_map::ModulesMap;
+use dm_base::ids::{FileId, MacroCallId, ModuleId};
+use indexmap::map;
+use std::marker::Model;
+
+/// The modules of a map, each with its number, in order of number.
+#[derive(Drop)]
+pub struct Iter<'a> {
+    rest: map::Iter<'a, ModuleId, ModuleData>,
+}
+
+impl<'a> Model for Iter<'a> {
+    ghost use Rattle.dm_modules.specs.Maps.{Modules};
+
+    ghost Value = { Modules };
+
+    ghost view = { λ a. a.rest };
+}
+
+impl<'a> Iterator for Iter<'a> {
+    type Item = (ModuleId, &'a ModuleData);
+
+    ghost next_gives = { TakesFirst deref_module };
+
+    ghost remaining = { λ s. at_most (length s) };
+
+    fn next(&mut self) -> Option<(ModuleId, &'a ModuleData)> {
+        let (m, data) = self.rest.next()?;
+        Some((*m, data))
+    }
+
+    fn size_hint(&self) -> (usize, Option<usize>) {
+        self.rest.size_hint()
+    }
+}
+
+impl ModulesMap {
+    /// The modules, in order of number. Takes no memory.
+    pub fn iter(&self) -> Iter<'_>
+        ensures rest { result ≡ self.now }
+        ensures runs { ShowsInOrder deref_module }
+    {
+        Iter {
+            rest: self.entries().iter(),
+        }
+    }
+}
+
+/// A choice of modules by where they come from.
+pub trait Origins: Copy {
+    ghost passes: { Self → ModuleOrigin → Bool };
+
+    fn passes(&self, origin: ModuleOrigin) -> bool
+        ensures { result ≡ passes self.now origin };
+}
+
+/// The modules that fill a file, under whatever edition.
+#[derive(Clone, Copy)]
+pub struct FilledBy(pub FileId);
+
+impl Origins for FilledBy {
+    ghost passes = { λ by. fills by.0 };
+
+    fn passes(&self, origin: ModuleOrigin) -> bool {
+        match origin.file_id() {
+            None => false,
+            Some(own) => self.0 == own.file_id(),
+        }
+    }
+}
+
+/// The modules that are written out in what a macro call expands to.
+#[derive(Clone, Copy)]
+pub struct InlineIn(pub MacroCallId);
+
+impl Origins for InlineIn {
+    ghost passes = { λ by. is_inline_in by.0 };
+
+    fn passes(&self, origin: ModuleOrigin) -> bool {
+        match origin {
+            ModuleOrigin::Inline {
+                definition_tree_id,
+                ..
+            } => match definition_tree_id.file_id().macro_file() {
+                None => false,
+                Some(own) => self.0 == own,
+            },
+            _ => false,
+        }
+    }
+}
+
+/// The modules of a map whose origins pass, in order of number.
+#[derive(Drop)]
+pub struct ModulesWith<'a, P: Origins> {
+    rest: map::Iter<'a, ModuleId, ModuleData>,
+    origins: P,
+}
+
+impl<'a, P: Origins> Model for ModulesWith<'a, P> {
+    ghost use Rattle.std.specs.Prelude.{List};
+    ghost use Rattle.dm_ids.specs.declared.ModuleId.{ModuleId};
+    ghost use Rattle.dm_modules.specs.Queries.{modules_with};
+
+    ghost Value = { List ModuleId };
+
+    ghost view = { λ a. modules_with (P.passes a.origins) a.rest };
+}
+
+impl<'a, P: Origins> ModulesWith<'a, P> {
+    pub fn new(modules: &'a ModulesMap, origins: P) -> Self
+        ensures { result ≡ modules_with (P.passes origins) modules.now }
+    {
+        ModulesWith {
+            rest: modules.entries().iter(),
+            origins,
+        }
+    }
+}
+
+/// The next module whose origin passes.
+fn next_passing<P: Origins>(
+    rest: &mut map::Iter<'_, ModuleId, ModuleData>,
+    origins: P,
+) -> Option<ModuleId>
+    ensures { TakesFirst (λ x. x) (modules_with (P.passes origins) rest.old) result (modules_with (P.passes origins) rest.new) }
+{
+    while let Some((m, data)) = rest.next() {
+        if origins.passes(data.origin()) {
+            return Some(*m);
+        }
+    }
+    None
+}
+
+impl<'a, P: Origins> Iterator for ModulesWith<'a, P> {
+    type Item = ModuleId;
+
+    ghost next_gives = { TakesFirst (λ x. x) };
+
+    ghost remaining = { λ s. at_most (length s) };
+
+    fn next(&mut self) -> Option<ModuleId> {
+        next_passing(&mut self.rest, self.origins)
+    }
+}
