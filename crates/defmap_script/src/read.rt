@@ -1,5 +1,5 @@
 //! Reading a whole input.
-ghost use Rattle.std.specs.Prelude.{◌≡◌, ◌++◌, IfSome, OnOk};
+ghost use Rattle.std.specs.Prelude.{◌≡◌, ◌++◌, IfSome, OnOk, OnErr, take, length};
 
 use std::io::Read;
 
@@ -16,7 +16,8 @@ pub enum ReadFault {
 /// Fails where a read fails, where the input has not ended after 16,777,216 reads, and where memory runs out. What was
 /// read until then stays in `input`.
 pub fn read_all<R: Read>(reader: &mut R, input: &mut Vec<u8>) -> Result<(), ReadFault>
-    ensures { OnOk result (IfSome (R.remaining reader.old) (λ bytes. input.new.items ≡ input.old.items ++ bytes)) }
+    ensures ok { OnOk result (IfSome (R.remaining reader.old) (λ bytes. input.new.items ≡ input.old.items ++ bytes)) }
+    ensures err { OnErr result (take (length input.old.items) input.new.items ≡ input.old.items) }
 {
     let mut buffer = [0u8; 4096];
     for _ in 0..16_777_216u32 {
