@@ -8,13 +8,15 @@ use Rattle.dm_base.specs.declared.per_ns.PerNs.{PerNs}
 use Rattle.dm_scope.specs.Flags.{Globs, no_globs}
 use Rattle.dm_scope.specs.Push.{scope_after, globs_after, push_answer}
 use Rattle.dm_scope.specs.Scope.{Scope}
-use Rattle.dm_maps.specs.declared.fault.WorldFault.{WorldFault}
-use Rattle.dm_maps.specs.declared.held.HeldId.TheVariants as held
+use Rattle.dm_held.specs.declared.fault.WorldFault.{WorldFault}
+use Rattle.dm_held.specs.declared.held.HeldId.TheVariants as held
 use Rattle.dm_maps.specs.Build.{no_world}
 use Rattle.dm_maps.specs.First.{holders, IsChecked, IsFirstFault}
-use Rattle.dm_maps.specs.Known.{knows, KnowsAll, local_holds, path_holds}
+use Rattle.dm_maps.specs.Known.{knows, KnowsAll}
+use Rattle.dm_held.specs.Holding.{local_holds, path_holds}
 use Rattle.dm_modules.specs.Maps.{Map, LocalMap, module_at}
-use Rattle.dm_maps.specs.Asked.{push_holds, with_push}
+use Rattle.dm_held.specs.Pushes.{push_holds}
+use Rattle.dm_maps.specs.Asked.{with_push}
 use Rattle.dm_maps.specs.Thin.{is_thin}
 use Rattle.dm_maps.specs.World.{World, map_of, numbered_map, own_scope, scope_of, with_scope}
 use Rattle.hir_def_map.specs.Paths.{answer}

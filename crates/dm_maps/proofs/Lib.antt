@@ -12,8 +12,6 @@ pub mod FaultLemmas
 pub mod VariantLemmas
 pub mod ScopeLemmas
 pub mod AllLemmas
-pub mod Sets
-pub mod RecordLemmas
 pub mod Order
 pub mod FirstLemmas
 pub mod Least

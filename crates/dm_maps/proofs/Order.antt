@@ -2,8 +2,8 @@
 use Rattle.std.proofs.Common.{◌≡◌, ℕ, Bool, true, false, ◌&&◌, ◌||◌, nat_eq, arith}
 use Rattle.std.specs.Prelude.{nat_lt}
 use Rattle.std.proofs.lemmas.Bool.Decides.{nat_tests}
-use Rattle.dm_maps.specs.declared.held.HeldFault.{HeldFault}
-use Rattle.dm_maps.specs.Held.{comes_before, rank}
+use Rattle.dm_held.specs.declared.held.HeldFault.{HeldFault}
+use Rattle.dm_held.specs.Held.{comes_before, rank}
 
 abbrev before : ℕ → ℕ → ℕ → ℕ → Bool
 before a b c d = nat_lt a c || (nat_eq a c && nat_lt b d)

@@ -8,13 +8,14 @@ use Rattle.dm_ids.specs.declared.BlockId.{BlockId}
 use Rattle.dm_ids.specs.declared.ModuleId.{ModuleId}
 use Rattle.dm_base.specs.Tree.{same_module}
 use Rattle.dm_scope.specs.Scope.{Scope, no_scope}
-use Rattle.dm_maps.specs.declared.held.HeldId.{HeldId}
-use Rattle.dm_maps.specs.declared.held.HeldId.TheVariants as held
+use Rattle.dm_held.specs.declared.held.HeldId.{HeldId}
+use Rattle.dm_held.specs.declared.held.HeldId.TheVariants as held
 use Rattle.dm_maps.specs.declared.place.Place.{Place}
 use Rattle.dm_modules.specs.Maps.{Map, Module, Modules, nth_module, put_scope, with_scope_at, map_with_scope}
 use Rattle.dm_maps.specs.World.{World, place_of, module_in, module_of, scope_of, own_scope, numbered_map, put_map, maps_with_scope, with_scope_in, with_scope}
-use Rattle.dm_maps.specs.Known.{knows, KnowsAll, vis_holds}
-use Rattle.dm_maps.specs.Holds.{module_holds, scope_holds}
+use Rattle.dm_maps.specs.Known.{knows, KnowsAll}
+use Rattle.dm_held.specs.Holding.{vis_holds}
+use Rattle.dm_held.specs.Holds.{module_holds, scope_holds}
 use Rattle.dm_maps.specs.First.{Held, each_from, crate_holder, block_holder, module_holder, IsChecked}
 use Rattle.dm_maps.specs.LendingWorld.{crate_with_scope, block_with_scope}
 use Rattle.dm_maps.specs.Sound.{IsCheckedWorld}

@@ -3,7 +3,7 @@ use Rattle.std.proofs.Common.{◌≡◌, ℕ, zero, suc, [], ◌∷◌, Option, 
 use Rattle.std.proofs.lemmas.Bool.{ltb-true}
 use Rattle.std.specs.Option.{option_map, option_and_then}
 use Rattle.dm_ids.specs.declared.ModuleId.{ModuleId}
-use Rattle.dm_maps.specs.declared.held.HeldId.TheVariants as held
+use Rattle.dm_held.specs.declared.held.HeldId.TheVariants as held
 use Rattle.dm_maps.specs.declared.place.Place.{Place}
 use Rattle.dm_maps.specs.Known.{knows}
 use Rattle.dm_modules.specs.Maps.{Map, Module, Modules, nth_module}

@@ -2,7 +2,7 @@
 use Rattle.std.specs.Prelude.{◌≡◌, ◌↔◌, ◌<◌, ℕ, IsTrue, Some, None, slice_get}
 use Rattle.dm_ids.specs.declared.BlockId.{BlockId}
 use Rattle.dm_ids.specs.declared.ModuleId.{ModuleId}
-use Rattle.dm_maps.specs.declared.held.HeldId.TheVariants as held
+use Rattle.dm_held.specs.declared.held.HeldId.TheVariants as held
 use Rattle.dm_maps.specs.Known.{knows}
 use Rattle.dm_modules.specs.Maps.{Map, Module, Modules, module_at}
 use Rattle.dm_maps.specs.World.{World, map_of, module_of, numbered_map}

@@ -2,18 +2,19 @@
 use Rattle.std.specs.Prelude.{◌≡◌, ℕ, ◌+◌, ◌++◌, Option, Some, None, List, [], ◌∷◌, MatchOption, slice_get, take, map}
 use Rattle.std.specs.List.{AllByRecursion, fold}
 use Rattle.std.specs.Option.{option_map, option_map_or, option_or}
-use Rattle.dm_maps.specs.declared.fault.Holder.{Holder}
-use Rattle.dm_maps.specs.declared.fault.Holder.TheVariants as holder
-use Rattle.dm_maps.specs.declared.fault.WorldFault.{WorldFault}
-use Rattle.dm_maps.specs.declared.held.HeldId.{HeldId}
-use Rattle.dm_maps.specs.declared.held.HeldFault.{HeldFault}
+use Rattle.dm_held.specs.declared.fault.Holder.{Holder}
+use Rattle.dm_held.specs.declared.fault.Holder.TheVariants as holder
+use Rattle.dm_held.specs.declared.fault.WorldFault.{WorldFault}
+use Rattle.dm_held.specs.declared.held.HeldId.{HeldId}
+use Rattle.dm_held.specs.declared.held.HeldFault.{HeldFault}
 use Rattle.dm_maps.specs.declared.place.Place.{Place}
 use Rattle.dm_modules.specs.Maps.{Map, LocalMap}
 use Rattle.dm_maps.specs.World.{World, module_in}
-use Rattle.dm_maps.specs.Known.{KnowsAll, local_holds}
-use Rattle.dm_maps.specs.Holds.{map_holds, module_holds}
-use Rattle.dm_maps.specs.TablesHold.{data_holds, tables_hold}
-use Rattle.dm_maps.specs.Held.{IsLeast, noted}
+use Rattle.dm_maps.specs.Known.{knows, KnowsAll}
+use Rattle.dm_held.specs.Holding.{local_holds}
+use Rattle.dm_held.specs.Holds.{map_holds, module_holds}
+use Rattle.dm_held.specs.TablesHold.{data_holds, tables_hold}
+use Rattle.dm_held.specs.Held.{IsLeast, noted}
 
 -- a holder with the ids that it holds
 abbrev pub Held : Type 0
@@ -65,7 +66,7 @@ pub record IsFirstFault (w : World) (hs : List Held) (f : WorldFault) : Type 0 w
   pub fault : HeldFault
   pub there : slice_get hs place ≡ Some (holder, ids)
   pub before : AllByRecursion (λ h. KnowsAll w h.1) (take place hs)
-  pub least : IsLeast w ids fault
+  pub least : IsLeast (knows w) ids fault
   pub is : f ≡ fault_of holder fault
 
 -- none where no holder has a fault, else the first
@@ -75,4 +76,4 @@ IsAnswer w hs r = MatchOption r (AllByRecursion (λ h. KnowsAll w h.1) hs) (IsFi
 -- the same, as a computation
 abbrev pub first_in : World → List Held → Option WorldFault
 first_in w [] = None
-first_in w (h ∷ hs) = option_or (option_map (fault_of h.0) (fold (noted w) None h.1)) (first_in w hs)
+first_in w (h ∷ hs) = option_or (option_map (fault_of h.0) (fold (noted (knows w)) None h.1)) (first_in w hs)

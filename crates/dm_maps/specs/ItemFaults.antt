@@ -6,7 +6,7 @@ use Rattle.dm_base.specs.declared.item_ids.ItemKind.TheVariants as item
 use Rattle.dm_base.specs.Names.{Name, find_name}
 use Rattle.dm_maps.specs.declared.build_fault.BuildFault.{BuildFault}
 use Rattle.dm_maps.specs.declared.build_fault.BuildFault.TheVariants.{NoSuchModule, NoSuchEnum, TakenVariant, OutOfNumbers}
-use Rattle.dm_maps.specs.declared.held.HeldId.TheVariants as held
+use Rattle.dm_held.specs.declared.held.HeldId.TheVariants as held
 use Rattle.dm_maps.specs.World.{World}
 use Rattle.dm_maps.specs.Known.{knows}
 use Rattle.dm_maps.specs.Readings.{variants_of}

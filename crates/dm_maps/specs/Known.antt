@@ -21,33 +21,11 @@ use Rattle.dm_base.specs.declared.per_ns.Item.{Item}
 use Rattle.dm_base.specs.declared.per_ns.PerNs.{PerNs}
 use Rattle.dm_base.specs.declared.visibility.Visibility.{Visibility}
 use Rattle.dm_base.specs.declared.visibility.Visibility.TheVariants as vis
-use Rattle.dm_maps.specs.declared.held.HeldId.{HeldId}
-use Rattle.dm_maps.specs.declared.held.HeldId.TheVariants as held
+use Rattle.dm_held.specs.declared.held.HeldId.{HeldId}
+use Rattle.dm_held.specs.declared.held.HeldId.TheVariants as held
 use Rattle.dm_modules.specs.Maps.{LocalMap}
 use Rattle.dm_maps.specs.World.{World}
-
-abbrev pub same_kind : ItemKind → ItemKind → Bool
-same_kind item.Function item.Function = true
-same_kind item.Struct item.Struct = true
-same_kind item.Union item.Union = true
-same_kind item.Enum item.Enum = true
-same_kind item.Const item.Const = true
-same_kind item.Static item.Static = true
-same_kind item.Trait item.Trait = true
-same_kind item.TypeAlias item.TypeAlias = true
-same_kind _ _ = false
-
-abbrev pub macro_number : MacroId → ℕ
-macro_number (Macro2Id n) = n.0
-macro_number (MacroRulesId n) = n.0
-macro_number (ProcMacroId n) = n.0
-
--- whether a macro is of the kind that its id says
-abbrev pub is_of_kind : MacroId → MacroLoc → Bool
-is_of_kind (Macro2Id n) (loc.Macro2 e) = true
-is_of_kind (MacroRulesId n) (loc.MacroRules e) = true
-is_of_kind (ProcMacroId n) (loc.Proc k) = true
-is_of_kind _ _ = false
+use Rattle.dm_held.specs.Kinds.{same_kind, macro_number, is_of_kind}
 
 -- whether an id is the world's, and what stands under it is of its kind
 abbrev pub knows : World → HeldId → Bool
@@ -60,55 +38,3 @@ knows w (held.Macro m) = option_map_or (λ e. is_of_kind m e.1) (slice_get w.mac
 
 abbrev pub KnowsAll : World → List HeldId → Type 0
 KnowsAll w hs = AllByRecursion (λ h. IsTrue (knows w h)) hs
-
--- ---- What holds which ids. Extern crates are opaque, and builtin types are no ids.
-
-abbrev pub def_holds : ModuleDefId → List HeldId
-def_holds (def.ModuleId m) = held.Module m ∷ []
-def_holds (def.FunctionId n) = held.Item item.Function n.0 ∷ []
-def_holds (def.AdtId (adt.StructId n)) = held.Item item.Struct n.0 ∷ []
-def_holds (def.AdtId (adt.UnionId n)) = held.Item item.Union n.0 ∷ []
-def_holds (def.AdtId (adt.EnumId n)) = held.Item item.Enum n.0 ∷ []
-def_holds (def.EnumVariantId v) = held.Variant v ∷ []
-def_holds (def.ConstId n) = held.Item item.Const n.0 ∷ []
-def_holds (def.StaticId n) = held.Item item.Static n.0 ∷ []
-def_holds (def.TraitId n) = held.Item item.Trait n.0 ∷ []
-def_holds (def.TypeAliasId n) = held.Item item.TypeAlias n.0 ∷ []
-def_holds (def.BuiltinType b) = []
-def_holds (def.MacroId m) = held.Macro m ∷ []
-
-abbrev pub vis_holds : Visibility → List HeldId
-vis_holds (vis.Module m e) = held.Module m ∷ []
-vis_holds (vis.PubCrate k) = held.Crate k ∷ []
-vis_holds vis.Public = []
-
-abbrev pub import_holds : ImportOrExternCrate → List HeldId
-import_holds (wide.Glob i) = held.Use i.use_ ∷ []
-import_holds (wide.Import i) = held.Use i.use_ ∷ []
-import_holds (wide.ExternCrate k) = []
-
-abbrev pub value_import_holds : ImportOrGlob → List HeldId
-value_import_holds (narrow.Glob i) = held.Use i.use_ ∷ []
-value_import_holds (narrow.Import i) = held.Use i.use_ ∷ []
-
-abbrev pub type_holds : Item ModuleDefId ImportOrExternCrate → List HeldId
-type_holds i = def_holds i.def ++ vis_holds i.vis ++ option_map_or import_holds i.import []
-
-abbrev pub value_holds : Item ModuleDefId ImportOrGlob → List HeldId
-value_holds i = def_holds i.def ++ vis_holds i.vis ++ option_map_or value_import_holds i.import []
-
-abbrev pub macro_holds : Item MacroId ImportOrExternCrate → List HeldId
-macro_holds i = (held.Macro i.def ∷ []) ++ vis_holds i.vis ++ option_map_or import_holds i.import []
-
--- what an item set holds
-abbrev pub res_holds : PerNs → List HeldId
-res_holds x = option_map_or type_holds x.types [] ++ option_map_or value_holds x.values [] ++ option_map_or macro_holds x.macros []
-
--- a path holds the crate of its `$crate`
-abbrev pub path_holds : PathKind → List HeldId
-path_holds (kind.DollarCrate k) = held.Crate k ∷ []
-path_holds _ = []
-
--- a local map holds its modules
-abbrev pub local_holds : LocalMap → List HeldId
-local_holds L = map (λ e. held.Module e.0) (map (λ e. e.1) L)

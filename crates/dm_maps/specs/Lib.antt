@@ -1,7 +1,6 @@
 pub mod World
 pub mod Asked
 pub mod ItemHomes
-pub mod TablesHold
 pub mod BuildCrateData
 pub mod BuildTables
 pub mod Build
@@ -12,13 +11,9 @@ pub mod Facts
 pub mod Faults
 pub mod ItemFaults
 pub mod First
-pub mod Held
-pub mod Holds
 pub mod Known
 pub mod LendingWorld
 pub mod Readings
 pub mod Sound
 pub mod Thin
 pub mod Trees
-pub mod LendingMap
-pub mod MapChanges

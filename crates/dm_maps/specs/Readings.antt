@@ -28,7 +28,7 @@ use Rattle.dm_modules.specs.Maps.{LocalMap}
 use Rattle.dm_modules.specs.Variants.{same_enum}
 use Rattle.dm_maps.specs.World.{World, crate_map, numbered_map, scope_of}
 use Rattle.dm_maps.specs.Trees.{tree_of}
-use Rattle.dm_maps.specs.Known.{macro_number}
+use Rattle.dm_held.specs.Kinds.{macro_number}
 
 -- What paths read of a world beside its tree, and of no name.
 pub record Setting : Type 0 where

@@ -8,10 +8,11 @@ use Rattle.dm_ids.specs.declared.MapId.{MapId}
 use Rattle.dm_base.specs.Names.{Name, find_name}
 use Rattle.dm_base.specs.Tree.{IsKnown}
 use Rattle.dm_scope.specs.Scope.{bound_in, legacy_in}
-use Rattle.dm_maps.specs.declared.held.HeldId.TheVariants as held
+use Rattle.dm_held.specs.declared.held.HeldId.TheVariants as held
 use Rattle.dm_modules.specs.Maps.{Map, module_at}
 use Rattle.dm_maps.specs.World.{World, scope_of, map_of, numbered_map}
-use Rattle.dm_maps.specs.Known.{knows, KnowsAll, res_holds}
+use Rattle.dm_maps.specs.Known.{knows, KnowsAll}
+use Rattle.dm_held.specs.Holding.{res_holds}
 use Rattle.dm_maps.specs.Readings.{macro_uses_of, block_root_of, root_of, prelude_in}
 use Rattle.dm_maps.specs.First.{IsChecked}
 use Rattle.dm_maps.specs.Trees.{tree_of, IsWorld}

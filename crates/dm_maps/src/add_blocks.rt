@@ -6,7 +6,7 @@ ghost use Rattle.dm_maps.specs.Faults.{Answers};
 
 use crate::build_fault::BuildFault;
 use crate::builder::WorldBuilder;
-use crate::def_map::DefMap;
+use dm_def_map::def_map::DefMap;
 use crate::growth::add_map;
 use crate::place::Place;
 use crate::share::shared_of;

@@ -6,7 +6,7 @@ ghost use Rattle.dm_modules.specs.Origins.{is_child};
 
 use crate::build_fault::BuildFault;
 use crate::builder::WorldBuilder;
-use crate::def_map::DefMap;
+use dm_def_map::def_map::DefMap;
 use crate::growth::{NewChild, add_child, add_crate_map};
 use crate::place::Place;
 use crate::share::share;

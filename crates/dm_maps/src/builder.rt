@@ -2,7 +2,7 @@
 ghost use Rattle.std.specs.Prelude.{◌≡◌};
 ghost use Rattle.dm_maps.specs.Build.{no_world};
 
-use crate::def_map::DefMap;
+use dm_def_map::def_map::DefMap;
 use crate::place::Place;
 use dm_base::ids::{EnumId, ModuleId};
 use dm_base::item_ids::ItemKind;

@@ -3,13 +3,14 @@ ghost use Rattle.std.specs.Prelude.{◌≡◌, false, IsOk, OnOk, OnErr};
 ghost use Rattle.dm_maps.specs.BuildMaps.{AnswersFree, with_map, maps_with, crate_maps_with, block_maps_with, with_prelude, with_macro_use, with_macro_def, with_helper, locals_with, with_extern_of, lacks_map, map_fault, krate_fault};
 ghost use Rattle.dm_maps.specs.Faults.{Answers};
 ghost use Rattle.dm_modules.specs.Locals.{with_extern};
-ghost use Rattle.dm_maps.specs.MapChanges.{changed, grows};
+ghost use Rattle.dm_def_map.specs.MapChanges.{changed, grows};
 
 use crate::build_fault::BuildFault;
 use crate::builder::WorldBuilder;
-use crate::def_map::DefMap;
-use crate::held::HeldId;
-use crate::map_change::MapChange;
+use dm_def_map::def_map::DefMap;
+use dm_held::held::HeldId;
+use dm_held::known_ids::KnownIds;
+use dm_def_map::map_change::MapChange;
 use dm_base::ids::{
     BuiltinDeriveImplId, Crate, ExternCrateId, MacroCallId, MapId, ModuleId, UseId,
 };

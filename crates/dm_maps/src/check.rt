@@ -3,7 +3,7 @@ ghost use Rattle.std.specs.Prelude.{◌≡◌, ◌↔◌, IsOk, IfOk, IfErr};
 ghost use Rattle.dm_maps.specs.First.{holders, IsChecked, IsFirstFault};
 
 use crate::builder::WorldBuilder;
-use crate::fault::WorldFault;
+use dm_held::fault::WorldFault;
 use crate::world::World;
 
 impl WorldBuilder {

@@ -3,17 +3,18 @@ ghost use Rattle.std.specs.Prelude.{◌≡◌, ◌≤◌, length, map, None};
 ghost use Rattle.std.specs.List.{fold};
 ghost use Rattle.std.specs.Option.{option_map};
 ghost use Rattle.dm_maps.specs.First.{each_from, first_in, fault_of, local_at, crate_holder, block_holder, module_holder, holders, IsAnswer};
-ghost use Rattle.dm_maps.specs.Held.{noted};
-ghost use Rattle.dm_maps.specs.Known.{local_holds};
+ghost use Rattle.dm_held.specs.Held.{noted};
+ghost use Rattle.dm_maps.specs.Known.{knows};
+ghost use Rattle.dm_held.specs.Holding.{local_holds};
 ghost use Rattle.dm_maps.specs.Trees.{IsWorld};
 
 use crate::builder::WorldBuilder;
-use crate::def_map::DefMap;
-use crate::fault::{Holder, WorldFault};
-use crate::held::HeldFault;
-use crate::note_maps::{note_local_map, note_map};
-use crate::note_modules::note_module;
-use crate::note_tables::{note_data, note_tables};
+use dm_def_map::def_map::DefMap;
+use dm_held::fault::{Holder, WorldFault};
+use dm_held::held::HeldFault;
+use dm_held::note_maps::{note_local_map, note_map};
+use dm_held::note_modules::note_module;
+use dm_held::note_tables::{note_data, note_tables};
 use crate::place::Place;
 use dm_base::ids::ModuleId;
 use dm_modules::local_def_map::LocalDefMap;
@@ -39,7 +40,7 @@ fn note_local_map_at(
     locals: &[LocalDefMap],
     k: usize,
 ) -> Option<HeldFault>
-    ensures { result ≡ fold (noted world.now) least (local_holds (local_at locals.now k)) }
+    ensures { result ≡ fold (noted (knows world.now)) least (local_holds (local_at locals.now k)) }
 {
     match locals.get(k) {
         None => least,
@@ -48,14 +49,14 @@ fn note_local_map_at(
 }
 
 /// The fault of the map of crate `k`, and of its extern prelude.
-#[tactic(auto, using(crate::proofs::Sets::parts))]
+#[tactic(auto, using(crate::proofs::FirstLemmas::parts))]
 fn crate_map_fault(
     world: &WorldBuilder,
     locals: &[LocalDefMap],
     k: usize,
     map: &DefMap,
 ) -> Option<WorldFault>
-    ensures { result ≡ option_map (fault_of (crate_holder locals.now k map.now).0) (fold (noted world.now) None (crate_holder locals.now k map.now).1) }
+    ensures { result ≡ option_map (fault_of (crate_holder locals.now k map.now).0) (fold (noted (knows world.now)) None (crate_holder locals.now k map.now).1) }
 {
     let least = note_map(world, map);
     let least = note_local_map_at(world, least, locals, k);
@@ -65,7 +66,7 @@ fn crate_map_fault(
 
 /// The fault of the module of number `i`, which stands at that place.
 fn module_fault(world: &WorldBuilder, i: u32, place: Place) -> Option<WorldFault>
-    ensures { result ≡ option_map (fault_of (module_holder world.now i place).0) (fold (noted world.now) None (module_holder world.now i place).1) }
+    ensures { result ≡ option_map (fault_of (module_holder world.now i place).0) (fold (noted (knows world.now)) None (module_holder world.now i place).1) }
 {
     match world.module_in(place) {
         None => None,

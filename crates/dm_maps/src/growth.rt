@@ -2,7 +2,7 @@
 ghost use Rattle.std.specs.Prelude.{◌≡◌, ◌++◌, ◌∷◌, [], OnOk, OnErr, IfSome};
 ghost use Rattle.dm_maps.specs.Build.{IsFree, maps_with_child, crate_maps_with_child, block_maps_with_child};
 
-use crate::def_map::DefMap;
+use dm_def_map::def_map::DefMap;
 use crate::place::Place;
 use dm_base::ids::ModuleId;
 use dm_base::name::Name;

@@ -1,22 +1,22 @@
 //! Tests whether what is handed in is the world's. None of them takes memory.
 ghost use Rattle.std.specs.Prelude.{◌≡◌, ◌↔◌, IsTrue, nat_lt, length};
-ghost use Rattle.std.specs.List.{fold};
-ghost use Rattle.dm_maps.specs.declared.held.HeldId.TheVariants as held;
-ghost use Rattle.dm_maps.specs.Asked.{push_holds};
-ghost use Rattle.dm_maps.specs.Held.{noted};
-ghost use Rattle.dm_maps.specs.Known.{knows, KnowsAll, def_holds, res_holds, local_holds, path_holds};
+ghost use Rattle.dm_held.specs.declared.held.HeldId.TheVariants as held;
+ghost use Rattle.dm_held.specs.Pushes.{push_holds};
+ghost use Rattle.dm_maps.specs.Known.{knows, KnowsAll};
+ghost use Rattle.dm_held.specs.Holding.{def_holds, res_holds, local_holds, path_holds};
 
 use crate::builder::WorldBuilder;
-use crate::held::{HeldFault, HeldId};
-use crate::note_maps::note_local_map;
-use crate::note_modules::{note_macro, note_type, note_value};
-use crate::notes::{note, note_def, note_import};
 use crate::world::World;
 use dm_base::ids::{BlockId, Crate, ModuleId};
 use dm_base::imports::ImportOrExternCrate;
 use dm_base::item_ids::ModuleDefId;
 use dm_base::mod_path::{ModPath, PathKind};
 use dm_base::per_ns::PerNs;
+use dm_held::held::HeldId;
+use dm_held::known_ids::KnownIds;
+use dm_held::note_maps::note_local_map;
+use dm_held::note_pushes::note_push;
+use dm_held::notes::note_def;
 use dm_modules::local_def_map::LocalDefMap;
 
 impl World {
@@ -76,42 +76,5 @@ impl WorldBuilder {
         ensures { result ≡ nat_lt block.0 (length self.now.block_maps) }
     {
         (block.0 as usize) < self.block_maps.len()
-    }
-}
-
-/// The least fault of what a push holds.
-#[tactic(auto, using(crate::proofs::Sets::parts))]
-fn note_push(
-    world: &WorldBuilder,
-    m: ModuleId,
-    res: &PerNs,
-    import: Option<ImportOrExternCrate>,
-) -> Option<HeldFault>
-    ensures { result ≡ fold (noted world.now) None (push_holds m res.now import) }
-{
-    let least = note(world, None, HeldId::Module(m));
-    let least = note_res(world, least, res);
-    match import {
-        None => least,
-        Some(import) => note_import(world, least, import),
-    }
-}
-
-/// With what a set of items holds.
-#[tactic(auto, using(crate::proofs::Sets::parts))]
-fn note_res(world: &WorldBuilder, least: Option<HeldFault>, res: &PerNs) -> Option<HeldFault>
-    ensures { result ≡ fold (noted world.now) least (res_holds res.now) }
-{
-    let least = match res.types {
-        None => least,
-        Some(item) => note_type(world, least, item),
-    };
-    let least = match res.values {
-        None => least,
-        Some(item) => note_value(world, least, item),
-    };
-    match res.macros {
-        None => least,
-        Some(item) => note_macro(world, least, item),
     }
 }

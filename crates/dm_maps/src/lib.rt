@@ -11,24 +11,13 @@ pub mod build_fault;
 pub mod builder;
 mod change_maps;
 mod check;
-mod crate_queries;
-pub mod def_map;
-pub mod fault;
 mod first_fault;
 mod growth;
-pub mod held;
 mod in_order;
 mod item_modules;
+mod known_ids;
 mod knows;
-pub(crate) mod map_change;
-mod map_queries;
 pub mod maps_of;
-mod note_diagnostics;
-mod note_maps;
-mod note_modules;
-mod note_records;
-mod note_tables;
-mod notes;
 mod path_look_ups;
 mod path_tables;
 pub mod place;
@@ -41,6 +30,8 @@ mod tables;
 mod thin;
 pub mod world;
 
+pub use dm_def_map::def_map;
+pub use dm_held::{fault, held};
 pub use dm_modules::{
     derive_helpers, local_def_map, modes, module_data, module_origin, modules_iter, modules_map,
     unstable_features, variants,

@@ -1,13 +1,15 @@
 //! The maps of a world, by crate and by block.
 ghost use Rattle.std.specs.Prelude.{◌≡◌, IsTrue, Some, None, nat_lt, length, slice_get};
-ghost use Rattle.dm_maps.specs.declared.held.HeldId.TheVariants as held;
-ghost use Rattle.dm_maps.specs.Known.{knows, KnowsAll, def_holds, local_holds};
+ghost use Rattle.dm_held.specs.declared.held.HeldId.TheVariants as held;
+ghost use Rattle.dm_maps.specs.Known.{knows, KnowsAll};
+ghost use Rattle.dm_held.specs.Holding.{def_holds, local_holds};
 ghost use Rattle.dm_maps.specs.Readings.{root_of, styles_in};
 ghost use Rattle.dm_maps.specs.World.{crate_map, numbered_map};
+ghost use Rattle.dm_modules.specs.Maps.{Map};
 ghost use Rattle.dm_base.specs.declared.item_ids.ModuleDefId.TheVariants as def;
 
 use crate::builder::WorldBuilder;
-use crate::def_map::DefMap;
+use dm_def_map::def_map::DefMap;
 use crate::world::World;
 use dm_base::ids::{BlockId, Crate, ModuleId};
 use dm_base::item_ids::MacroId;
@@ -51,12 +53,21 @@ pub fn macro_styles_from_id(world: &World, m: MacroId) -> MacroCallStyles
     world.styles_of(m)
 }
 
-impl DefMap {
+/// What a map says of its crate.
+pub trait CrateRoot {
+    /// The map, as contracts see it.
+    ghost map: { Self → Map };
+
     /// The root of the crate that the map belongs to. The map has to be the world's of its id.
-    pub fn crate_root(&self, world: &World) -> ModuleId
-        requires { numbered_map world.now self.now.id ≡ Some self.now }
-        ensures { root_of world.now self.now.id.krate ≡ Some result }
-    {
+    fn crate_root(&self, world: &World) -> ModuleId
+        requires { numbered_map world.now (map self.now).id ≡ Some (map self.now) }
+        ensures { root_of world.now (map self.now).id.krate ≡ Some result };
+}
+
+impl CrateRoot for DefMap {
+    ghost map = { λ m. m };
+
+    fn crate_root(&self, world: &World) -> ModuleId {
         world.crate_root_of(self)
     }
 }

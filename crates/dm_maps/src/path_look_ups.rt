@@ -3,7 +3,7 @@ ghost use Rattle.std.specs.Prelude.{◌≡◌, IsTrue, IsSome, Some, true};
 ghost use Rattle.std.specs.Option.{ForSome};
 ghost use Rattle.dm_base.specs.Names.{find_name};
 ghost use Rattle.dm_base.specs.Tree.{IsKnown};
-ghost use Rattle.dm_maps.specs.declared.held.HeldId.TheVariants as held;
+ghost use Rattle.dm_held.specs.declared.held.HeldId.TheVariants as held;
 ghost use Rattle.dm_maps.specs.Known.{knows};
 ghost use Rattle.dm_maps.specs.Readings.{variants_of, root_of, block_root_of, is_2015_in, prelude_in, macro_uses_of, styles_in};
 ghost use Rattle.dm_maps.specs.Trees.{tree_of};
@@ -11,7 +11,7 @@ ghost use Rattle.dm_maps.specs.World.{scope_of, map_of, numbered_map};
 ghost use Rattle.dm_modules.specs.Maps.{module_at};
 ghost use Rattle.dm_scope.specs.Scope.{legacy_in};
 
-use crate::def_map::DefMap;
+use dm_def_map::def_map::DefMap;
 use crate::world::World;
 use dm_base::fields_shape::FieldsShape;
 use dm_base::ids::{BlockId, Crate, EnumId, EnumVariantId, ExternCrateId, MapId, ModuleId};

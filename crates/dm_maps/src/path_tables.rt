@@ -7,8 +7,8 @@ ghost use Rattle.dm_maps.specs.World.{crate_map, scope_of};
 ghost use Rattle.dm_scope.specs.Scope.{legacy_in, last_of};
 
 use crate::builder::WorldBuilder;
-use crate::def_map::DefMap;
-use crate::notes::macro_number;
+use dm_def_map::def_map::DefMap;
+use dm_held::kinds::macro_number;
 use bitflags::Flags;
 use dm_base::ids::{BlockId, Crate, ExternCrateId, MapId, ModuleId};
 use dm_base::item_ids::MacroId;

@@ -4,14 +4,15 @@ ghost use Rattle.std.specs.Option.{option_copied, option_map};
 ghost use Rattle.dm_scope.specs.Scope.{bound_in};
 ghost use Rattle.dm_maps.specs.World.{place_of, numbered_map, map_of, module_of, scope_of};
 ghost use Rattle.dm_maps.specs.First.{IsChecked};
-ghost use Rattle.dm_maps.specs.declared.held.HeldId.TheVariants as held;
-ghost use Rattle.dm_maps.specs.Known.{knows, KnowsAll, res_holds};
+ghost use Rattle.dm_held.specs.declared.held.HeldId.TheVariants as held;
+ghost use Rattle.dm_maps.specs.Known.{knows, KnowsAll};
+ghost use Rattle.dm_held.specs.Holding.{res_holds};
 ghost use Rattle.dm_modules.specs.Maps.{module_at};
 ghost use Rattle.dm_maps.specs.Sound.{IsCheckedWorld};
 ghost use Rattle.dm_maps.specs.Trees.{IsWorld};
 
 use crate::builder::WorldBuilder;
-use crate::def_map::DefMap;
+use dm_def_map::def_map::DefMap;
 use dm_base::ids::{BlockId, Crate, MapId, ModuleId};
 use dm_base::module_tree::ModuleTree;
 use dm_base::name::Name;

@@ -16,9 +16,10 @@ use Rattle.dm_base.specs.Items.{keep, seen_by, public_type, first, over}
 use Rattle.dm_base.specs.Names.{Name, find_name, same_name}
 use Rattle.dm_base.specs.Tree.{IsKnown}
 use Rattle.dm_base.specs.Visibility.{NamesKnown}
-use Rattle.dm_maps.specs.declared.held.HeldId.{HeldId}
-use Rattle.dm_maps.specs.declared.held.HeldId.TheVariants as held
-use Rattle.dm_maps.specs.Known.{KnowsAll, def_holds, vis_holds, import_holds, value_import_holds, type_holds, value_holds, macro_holds, res_holds, local_holds}
+use Rattle.dm_held.specs.declared.held.HeldId.{HeldId}
+use Rattle.dm_held.specs.declared.held.HeldId.TheVariants as held
+use Rattle.dm_maps.specs.Known.{KnowsAll}
+use Rattle.dm_held.specs.Holding.{def_holds, vis_holds, import_holds, value_import_holds, type_holds, value_holds, macro_holds, res_holds, local_holds}
 use Rattle.dm_modules.specs.Maps.{LocalMap}
 use Rattle.dm_maps.specs.Trees.{tree_of}
 use Rattle.dm_maps.specs.World.{World}

@@ -6,7 +6,8 @@ use Rattle.dm_base.specs.declared.item_ids.ModuleDefId.{ModuleDefId}
 use Rattle.dm_base.specs.declared.item_ids.ModuleDefId.TheVariants as def
 use Rattle.dm_base.specs.declared.per_ns.Item.{Item}
 use Rattle.dm_base.specs.Tree.{Tree, IsKnown, same_crate, crate_of, home}
-use Rattle.dm_maps.specs.Known.{KnowsAll, res_holds}
+use Rattle.dm_maps.specs.Known.{KnowsAll}
+use Rattle.dm_held.specs.Holding.{res_holds}
 use Rattle.dm_maps.specs.Readings.{Reading}
 use Rattle.dm_maps.specs.Trees.{tree_of}
 use Rattle.dm_maps.specs.World.{World}

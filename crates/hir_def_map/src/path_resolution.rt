@@ -1,6 +1,7 @@
 //! Paths, resolved over a checked world.
 ghost use Rattle.std.specs.Prelude.{◌≡◌, Some, IsSome};
-ghost use Rattle.dm_maps.specs.Known.{KnowsAll, local_holds, path_holds};
+ghost use Rattle.dm_maps.specs.Known.{KnowsAll};
+ghost use Rattle.dm_held.specs.Holding.{local_holds, path_holds};
 ghost use Rattle.dm_modules.specs.Maps.{Map, module_at};
 ghost use Rattle.dm_maps.specs.World.{numbered_map};
 ghost use Rattle.hir_def_map.specs.declared.result.ResolveMode.TheVariants.{Other};

@@ -1,7 +1,8 @@
 //! The places that a question asks.
 ghost use Rattle.std.specs.Prelude.{◌≡◌, map};
 ghost use Rattle.dm_base.specs.Tree.{IsKnown};
-ghost use Rattle.dm_maps.specs.Known.{KnowsAll, local_holds};
+ghost use Rattle.dm_maps.specs.Known.{KnowsAll};
+ghost use Rattle.dm_held.specs.Holding.{local_holds};
 ghost use Rattle.dm_maps.specs.Readings.{setting_of, read};
 ghost use Rattle.dm_maps.specs.Trees.{tree_of};
 ghost use Rattle.hir_def_map.specs.Answers.{merged};

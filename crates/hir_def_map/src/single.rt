@@ -1,7 +1,8 @@
 //! What one place answers.
 ghost use Rattle.std.specs.Prelude.{◌≡◌, ◌≤◌, ◌&&◌, if◌then◌else◌, map};
 ghost use Rattle.dm_base.specs.Tree.{IsKnown};
-ghost use Rattle.dm_maps.specs.Known.{KnowsAll, res_holds, local_holds};
+ghost use Rattle.dm_maps.specs.Known.{KnowsAll};
+ghost use Rattle.dm_held.specs.Holding.{res_holds, local_holds};
 ghost use Rattle.dm_modules.specs.Maps.{LocalMap};
 ghost use Rattle.dm_maps.specs.Readings.{setting_of, read, is_2015_in};
 ghost use Rattle.dm_maps.specs.Trees.{tree_of};

@@ -3,7 +3,7 @@ use Rattle.std.specs.Option.{option_map_or}
 use Rattle.std.proofs.lemmas.Bool.{ltb-false}
 use Rattle.std.proofs.lemmas.Option.{slice_get_past, slice_get_read}
 use Rattle.std.proofs.lemmas.Result.{on_ok_weaker}
-use Rattle.dm_maps.specs.MapChanges.{changed}
+use Rattle.dm_def_map.specs.MapChanges.{changed}
 use Rattle.dm_maps.proofs.change_maps.change_at.Goals as goal
 
 pub returns-in-None-clause-ok : goal.returns-in-None-clause-ok

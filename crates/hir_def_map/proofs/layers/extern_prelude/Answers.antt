@@ -2,7 +2,8 @@ use Rattle.std.proofs.Common.{◌∙◌, ap, sym, subst}
 use Rattle.dm_base.specs.declared.item_ids.ModuleDefId.TheVariants as def
 use Rattle.dm_base.specs.declared.per_ns.PerNs.{PerNs}
 use Rattle.dm_base.specs.Items.{public_type}
-use Rattle.dm_maps.specs.Known.{KnowsAll, res_holds}
+use Rattle.dm_maps.specs.Known.{KnowsAll}
+use Rattle.dm_held.specs.Holding.{res_holds}
 use Rattle.hir_def_map.proofs.KnownLemmas.{local-known, public_module-known}
 use Rattle.hir_def_map.proofs.layers.extern_prelude.Goals as goal
 

@@ -2,7 +2,8 @@ use Rattle.std.proofs.Common.{sym, subst, Option}
 use Rattle.dm_base.specs.declared.imports.ImportOrExternCrate.{ImportOrExternCrate}
 use Rattle.dm_base.specs.declared.item_ids.MacroId.{MacroId}
 use Rattle.dm_base.specs.declared.per_ns.Item.{Item}
-use Rattle.dm_maps.specs.Known.{KnowsAll, res_holds}
+use Rattle.dm_maps.specs.Known.{KnowsAll}
+use Rattle.dm_held.specs.Holding.{res_holds}
 use Rattle.dm_maps.specs.Readings.{setting_of}
 use Rattle.hir_def_map.specs.Paths.{fits}
 use Rattle.hir_def_map.proofs.KnownLemmas.{macros_kept-known}

@@ -1,6 +1,7 @@
 use Rattle.std.proofs.Common.{◌≡◌, ◌+◌, map, length}
 use Rattle.dm_base.specs.Tree.{IsKnown}
-use Rattle.dm_maps.specs.Known.{KnowsAll, res_holds}
+use Rattle.dm_maps.specs.Known.{KnowsAll}
+use Rattle.dm_held.specs.Holding.{res_holds}
 use Rattle.dm_modules.specs.Maps.{LocalMap}
 use Rattle.dm_maps.specs.Readings.{read}
 use Rattle.dm_maps.specs.Trees.{tree_of}

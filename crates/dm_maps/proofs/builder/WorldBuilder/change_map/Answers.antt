@@ -1,7 +1,7 @@
 use Rattle.std.proofs.Common.{◌≡◌, ◌∙◌, sym, subst, ap}
 use Rattle.dm_maps.specs.World.{World}
 use Rattle.dm_maps.specs.BuildMaps.{with_map, crate_maps_with, block_maps_with}
-use Rattle.dm_maps.specs.MapChanges.{changed}
+use Rattle.dm_def_map.specs.MapChanges.{changed}
 use Rattle.dm_maps.specs.Trees.{IsWorld}
 use Rattle.dm_maps.proofs.ResultLemmas.{on-ok_two, on-err_two, either-way_two}
 use Rattle.dm_maps.proofs.MapsKept.{IsWorld-with_map, Keeps-changed}

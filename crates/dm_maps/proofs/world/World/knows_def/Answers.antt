@@ -1,4 +1,4 @@
-use Rattle.dm_maps.specs.Known.{def_holds}
+use Rattle.dm_held.specs.Holding.{def_holds}
 use Rattle.dm_maps.proofs.Least.{known-by}
 use Rattle.dm_maps.proofs.world.World.knows_def.Goals as goal
 

@@ -1,4 +1,4 @@
-use Rattle.dm_maps.specs.Known.{local_holds}
+use Rattle.dm_held.specs.Holding.{local_holds}
 use Rattle.dm_maps.proofs.Least.{known-by}
 use Rattle.dm_maps.proofs.world.World.knows_local.Goals as goal
 

@@ -4,7 +4,7 @@ use Rattle.dm_base.specs.Tree.{same_module}
 use Rattle.dm_scope.specs.Push.{scope_after}
 use Rattle.dm_scope.specs.Scope.{Scope}
 use Rattle.dm_scope.specs.Shows.{Shows}
-use Rattle.dm_maps.specs.declared.held.HeldId.TheVariants as held
+use Rattle.dm_held.specs.declared.held.HeldId.TheVariants as held
 use Rattle.dm_maps.specs.Asked.{with_push}
 use Rattle.dm_maps.specs.Known.{knows}
 use Rattle.dm_maps.specs.Sound.{IsCheckedWorld}

@@ -1,0 +1,2 @@
+pub mod LendingMap
+pub mod MapChanges

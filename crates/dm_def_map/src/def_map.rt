@@ -1,0 +1,288 @@
+//! The map of a crate or of a block.
+ghost use Rattle.std.specs.Prelude.{◌≡◌, ◌↔◌, false, IsTrue, IsSome, Some, None, IsOk, IfOk, OnOk, OnErr};
+ghost use Rattle.std.specs.Option.{option_copied, option_copied_mut};
+ghost use Rattle.std.specs.Borrow.{sem};
+ghost use Rattle.std.specs.Map.{lookup};
+ghost use Rattle.dm_base.specs.Names.{find_name};
+ghost use Rattle.dm_scope.specs.Sameness.{same_ast};
+ghost use Rattle.dm_modules.specs.Maps.{module_at, nth_module, scope_at, fresh_map, map_with_child};
+ghost use Rattle.dm_def_map.specs.LendingMap.{LendsMapScope};
+ghost use Rattle.dm_def_map.specs.MapChanges.{changed, grows};
+
+use crate::map_change::MapChange;
+use dm_base::ids::{BlockId, Crate, ExternCrateId, MapId, ModuleId, UseId};
+use dm_base::item_ids::MacroId;
+use dm_base::name::Name;
+use dm_base::source::{AstId, Edition};
+use dm_modules::crate_data::CrateData;
+use dm_modules::derive_helpers::{DeriveHelper, DeriveHelpers, add_helper};
+use dm_modules::keyed_tables::{helpers_of, macro_def_of, put_macro_def};
+use dm_modules::module_data::ModuleData;
+use dm_modules::modules_map::ModulesMap;
+use dm_scope::diagnostics::DefDiagnostic;
+use dm_scope::item_scope::ItemScope;
+use indexmap::IndexMap;
+use std::alloc::{AllocError, Global};
+use std::marker::Model;
+use std::rc::Rc;
+
+/// The modules of a crate, or of a block in it.
+pub struct DefMap {
+    id: MapId,
+    edition: Edition,
+    root: ModuleId,
+    parent: Option<ModuleId>,
+    modules: ModulesMap,
+    prelude: Option<(ModuleId, Option<UseId>)>,
+    macro_use_prelude: IndexMap<Name, (MacroId, Option<ExternCrateId>)>,
+    macro_defs: IndexMap<AstId, MacroId>,
+    derive_helpers: IndexMap<AstId, DeriveHelpers>,
+    diagnostics: Vec<DefDiagnostic>,
+    shared: Rc<CrateData>,
+}
+
+/// Written out, so that what lets one go has one call to prove.
+impl Drop for DefMap {
+    fn drop(self) {
+        let DefMap {
+            id: _id,
+            edition: _edition,
+            root: _root,
+            parent: _parent,
+            modules: _modules,
+            prelude: _prelude,
+            macro_use_prelude: _macro_use_prelude,
+            macro_defs: _macro_defs,
+            derive_helpers: _derive_helpers,
+            diagnostics: _diagnostics,
+            shared: _shared,
+        } = self;
+    }
+}
+
+impl Model for DefMap {
+    ghost use Rattle.dm_modules.specs.Maps.{Map};
+
+    ghost Value = { Map };
+
+    ghost view = { λ m. record { id = m.id; edition = m.edition; root = m.root; parent = m.parent; modules = m.modules; prelude = m.prelude; macro_use = m.macro_use_prelude.entries; macro_defs = m.macro_defs.entries; derive_helpers = m.derive_helpers.entries; diagnostics = m.diagnostics.items; shared = m.shared.value } };
+}
+
+impl DefMap {
+    /// A new map, with its root alone, and what all maps of its crate share.
+    pub fn with_root(
+        id: MapId,
+        edition: Edition,
+        parent: Option<ModuleId>,
+        root: ModuleId,
+        added: ModuleData,
+        shared: Rc<CrateData>,
+        alloc: Global,
+    ) -> Result<DefMap, AllocError>
+        ensures { IfOk result (λ map. map ≡ record (fresh_map id edition parent root added) { shared = shared.value }) }
+    {
+        let modules = ModulesMap::with_root(root, added, alloc)?;
+        Ok(DefMap {
+            id,
+            edition,
+            root,
+            parent,
+            modules,
+            prelude: None,
+            macro_use_prelude: IndexMap::new(alloc),
+            macro_defs: IndexMap::new(alloc),
+            derive_helpers: IndexMap::new(alloc),
+            diagnostics: Vec::new(alloc),
+            shared,
+        })
+    }
+
+    /// Whose map it is.
+    pub fn id(&self) -> MapId
+        ensures { result ≡ self.now.id }
+    {
+        self.id
+    }
+
+    /// The crate that the map belongs to.
+    pub fn krate(&self) -> Crate
+        ensures { result ≡ self.now.id.krate }
+    {
+        self.id.krate
+    }
+
+    /// The block whose map it is; none for a crate's.
+    pub fn block_id(&self) -> Option<BlockId>
+        ensures { result ≡ self.now.id.block }
+    {
+        self.id.block
+    }
+
+    /// The edition of the crate.
+    pub fn edition(&self) -> Edition
+        ensures { result ≡ self.now.edition }
+    {
+        self.edition
+    }
+
+    /// The root of this map.
+    pub fn root_module_id(&self) -> ModuleId
+        ensures { result ≡ self.now.root }
+    {
+        self.root
+    }
+
+    /// The module that contains the map's block; none for a crate's map.
+    pub fn parent(&self) -> Option<ModuleId>
+        ensures { result ≡ self.now.parent }
+    {
+        self.parent
+    }
+
+    /// The modules of this map, by number.
+    pub fn modules(&self) -> &ModulesMap
+        ensures { result.now ≡ self.now.modules }
+    {
+        &self.modules
+    }
+
+    /// Whether the module lies in this map.
+    pub fn has(&self, m: ModuleId) -> bool
+        ensures { IsTrue result ↔ IsSome (module_at self.now.modules m) }
+    {
+        let found = self.modules.get(m);
+        found.is_some()
+    }
+
+    /// The module of that number, if it lies in this map.
+    pub fn get(&self, m: ModuleId) -> Option<&ModuleData>
+        ensures { option_copied result ≡ module_at self.now.modules m }
+    {
+        self.modules.get(m)
+    }
+
+    /// The module at place `i`, counted from the root.
+    pub fn nth(&self, i: usize) -> Option<&ModuleData>
+        ensures { option_copied result ≡ nth_module self.now.modules i }
+    {
+        self.modules.nth(i)
+    }
+
+    /// The prelude module, with the use that named it.
+    pub fn prelude(&self) -> Option<(ModuleId, Option<UseId>)>
+        ensures { result ≡ self.now.prelude }
+    {
+        self.prelude
+    }
+
+    /// The macro that `#[macro_use]` brings under a name, with the item that brought it. Takes no memory.
+    pub fn macro_use_prelude(&self, name: &Name) -> Option<(MacroId, Option<ExternCrateId>)>
+        ensures { result ≡ find_name name.now self.now.macro_use }
+    {
+        self.macro_use_prelude.get(name).copied()
+    }
+
+    /// What went wrong while the map was made, in order. Takes no memory.
+    pub fn diagnostics(&self) -> &[DefDiagnostic]
+        ensures { result.now ≡ self.now.diagnostics }
+    {
+        self.diagnostics.as_slice()
+    }
+
+    /// The helper attributes of derives at an item of the syntax, in order; none where it has none. Takes no memory.
+    pub fn derive_helpers_in_scope(&self, id: AstId) -> Option<&[DeriveHelper]>
+        ensures { option_copied result ≡ lookup (same_ast id) self.now.derive_helpers }
+    {
+        helpers_of(&self.derive_helpers, id)
+    }
+
+    /// The macro that an item of the syntax defines. Takes no memory.
+    pub fn macro_def_to_macro_id(&self, id: AstId) -> Option<MacroId>
+        ensures { result ≡ lookup (same_ast id) self.now.macro_defs }
+    {
+        macro_def_of(&self.macro_defs, id)
+    }
+
+    /// Adds a module, as a child of the one at place `i`.
+    pub fn add_child(
+        &mut self,
+        i: usize,
+        name: Name,
+        m: ModuleId,
+        added: ModuleData,
+    ) -> Result<(), AllocError>
+        requires { module_at self.old.modules m ≡ None }
+        ensures ok { OnOk result (self.new ≡ map_with_child self.old i name m added) }
+        ensures err { OnErr result (self.new ≡ self.old) }
+    {
+        self.modules.add_child(i, name, m, added)?;
+        Ok(())
+    }
+
+    /// Makes a change.
+    pub fn change(&mut self, change: MapChange, alloc: Global) -> Result<(), AllocError>
+        ensures ok { OnOk result (self.new ≡ changed change self.old) }
+        ensures err { OnErr result (self.new ≡ self.old) }
+        ensures free { grows change ≡ false → IsOk result }
+    {
+        match change {
+            MapChange::Prelude(named) => self.prelude = named,
+            MapChange::MacroUse(name, entry) => {
+                self.macro_use_prelude.insert(name, entry)?;
+            }
+            MapChange::MacroDef(ast, m) => {
+                put_macro_def(&mut self.macro_defs, ast, m)?;
+            }
+            MapChange::Helper(ast, helper) => {
+                add_helper(&mut self.derive_helpers, ast, helper, alloc)?;
+            }
+            MapChange::Diagnostic(diagnostic) => {
+                self.diagnostics.push(diagnostic)?;
+            }
+        }
+        Ok(())
+    }
+
+    /// What the module at place `i` binds, to be changed.
+    pub fn scope_mut(&mut self, i: usize) -> Option<&mut ItemScope>
+        ensures* writes_back { sem 𝓛 (LendsMapScope self.entry i result) }
+        ensures value { option_copied_mut result ≡ scope_at self.old.modules i }
+    {
+        self.modules.scope_mut(i)
+    }
+
+    /// What all maps of the crate share.
+    pub fn shared(&self) -> &Rc<CrateData>
+        ensures { result.now.value ≡ self.now.shared }
+    {
+        &self.shared
+    }
+
+    /// Shares other data.
+    pub fn set_shared(&mut self, shared: Rc<CrateData>)
+        ensures { self.new ≡ record self.old { shared = shared.value } }
+    {
+        self.shared = shared;
+    }
+
+    /// The macro that each item of the syntax defines.
+    pub fn macro_defs(&self) -> &IndexMap<AstId, MacroId>
+        ensures { result.now.entries ≡ self.now.macro_defs }
+    {
+        &self.macro_defs
+    }
+
+    /// The derive helpers of each item of the syntax.
+    pub fn derive_helpers(&self) -> &IndexMap<AstId, DeriveHelpers>
+        ensures { result.now.entries ≡ self.now.derive_helpers }
+    {
+        &self.derive_helpers
+    }
+
+    /// The macros that `#[macro_use]` brings.
+    pub fn macro_uses(&self) -> &IndexMap<Name, (MacroId, Option<ExternCrateId>)>
+        ensures { result.now.entries ≡ self.now.macro_use }
+    {
+        &self.macro_use_prelude
+    }
+}

@@ -1,0 +1,13 @@
+-- What a push holds.
+use Rattle.std.specs.Prelude.{List, [], ◌∷◌, ◌++◌, Option}
+use Rattle.std.specs.Option.{option_map_or}
+use Rattle.dm_ids.specs.declared.ModuleId.{ModuleId}
+use Rattle.dm_base.specs.declared.imports.ImportOrExternCrate.{ImportOrExternCrate}
+use Rattle.dm_base.specs.declared.per_ns.PerNs.{PerNs}
+use Rattle.dm_held.specs.declared.held.HeldId.{HeldId}
+use Rattle.dm_held.specs.declared.held.HeldId.TheVariants as held
+use Rattle.dm_held.specs.Holding.{res_holds, import_holds}
+
+-- its module, what it resolves to, and its import
+abbrev pub push_holds : ModuleId → PerNs → Option ImportOrExternCrate → List HeldId
+push_holds m x i = (held.Module m ∷ []) ++ (res_holds x ++ option_map_or import_holds i [])

@@ -1,0 +1,15 @@
+//! Who has ids.
+ghost use Rattle.std.specs.Prelude.{◌≡◌, Bool};
+ghost use Rattle.dm_held.specs.declared.held.HeldId.{HeldId};
+
+use crate::held::HeldId;
+
+/// Who has ids, each with the kind of what stands under it.
+pub trait KnownIds {
+    /// Which ids it has, for contracts.
+    ghost known: { Self → HeldId → Bool };
+
+    /// Whether it has an id, and what stands under the id is of its kind.
+    fn knows(&self, held: HeldId) -> bool
+        ensures { result ≡ known self.now held };
+}

@@ -1,0 +1,14 @@
+//! Which ids the tables of a world hold, and the least of them that nobody has.
+#![tactic(auto)]
+
+pub mod fault;
+pub mod held;
+pub mod kinds;
+pub mod known_ids;
+mod note_diagnostics;
+pub mod note_maps;
+pub mod note_modules;
+pub mod note_pushes;
+mod note_records;
+pub mod note_tables;
+pub mod notes;
