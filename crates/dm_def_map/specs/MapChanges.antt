@@ -2,10 +2,10 @@
 use Rattle.std.specs.Prelude.{[], ◌∷◌, ◌++◌, Bool, true, false}
 use Rattle.indexmap.specs.IndexMap.{insert_entry}
 use Rattle.dm_base.specs.Names.{same_name}
-use Rattle.dm_scope.specs.Sameness.{same_ast}
+use Rattle.dm_lists.specs.Sameness.{same_ast}
 use Rattle.dm_def_map.specs.declared.map_change.MapChange.{MapChange}
 use Rattle.dm_def_map.specs.declared.map_change.MapChange.TheVariants.{Prelude, MacroUse, MacroDef, Helper, Diagnostic}
-use Rattle.dm_modules.specs.HelperChanges.{helpers_with}
+use Rattle.dm_tables.specs.HelperChanges.{helpers_with}
 use Rattle.dm_modules.specs.Maps.{Map}
 
 -- the map after it: an entry of a table that is set again keeps its place and is replaced, and a diagnostic goes last

@@ -1,11 +1,11 @@
 //! What a map answers of its crate's data: each map of a crate answers the same. None of these calls takes memory.
 ghost use Rattle.std.specs.Prelude.{◌≡◌};
-ghost use Rattle.dm_modules.specs.CrateData.{limit_of, goes_without_std, macro_of, fn_of};
+ghost use Rattle.dm_tables.specs.CrateData.{limit_of, goes_without_std, macro_of, fn_of};
 
 use crate::def_map::DefMap;
 use dm_base::ids::{FunctionId, ProcMacroId};
 use dm_base::symbol::Symbol;
-use dm_modules::unstable_features::UnstableFeatures;
+use dm_tables::unstable_features::UnstableFeatures;
 
 impl DefMap {
     /// The tools whose attributes the crate may have: those that every crate has, then those that were added, in order.

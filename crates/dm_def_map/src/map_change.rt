@@ -3,7 +3,7 @@ use dm_base::ids::{ExternCrateId, ModuleId, UseId};
 use dm_base::item_ids::MacroId;
 use dm_base::name::Name;
 use dm_base::source::AstId;
-use dm_modules::derive_helpers::DeriveHelper;
+use dm_tables::derive_helpers::DeriveHelper;
 use dm_scope::diagnostics::DefDiagnostic;
 
 /// What is set in one map.

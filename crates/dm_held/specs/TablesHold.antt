@@ -21,9 +21,9 @@ use Rattle.dm_diagnostics.specs.declared.DefDiagnosticKind.{DefDiagnosticKind}
 use Rattle.dm_diagnostics.specs.declared.DefDiagnosticKind.TheVariants as wrong
 use Rattle.dm_held.specs.declared.held.HeldId.{HeldId}
 use Rattle.dm_held.specs.declared.held.HeldId.TheVariants as held
-use Rattle.dm_modules.specs.CrateData.{CrateData}
-use Rattle.dm_modules.specs.Helpers.{Helper}
-use Rattle.dm_modules.specs.ItemTables.{ItemTables}
+use Rattle.dm_tables.specs.CrateData.{CrateData}
+use Rattle.dm_tables.specs.Helpers.{Helper}
+use Rattle.dm_tables.specs.ItemTables.{ItemTables}
 use Rattle.dm_held.specs.Holding.{path_holds}
 
 -- the items of the syntax that define macros hold those

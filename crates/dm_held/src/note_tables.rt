@@ -13,10 +13,10 @@ use dm_base::item_ids::{AssocItemId, ItemContainerId, ItemKind, MacroId, Variant
 use dm_base::mod_path::PathKind;
 use dm_base::source::AstId;
 use dm_base::visibility::RawVisibility;
-use dm_modules::crate_data::CrateData;
-use dm_modules::derive_helpers::{DeriveHelper, DeriveHelpers};
-use dm_modules::field_list::FieldList;
-use dm_modules::item_tables::ItemTables;
+use dm_tables::crate_data::CrateData;
+use dm_tables::derive_helpers::{DeriveHelper, DeriveHelpers};
+use dm_tables::field_list::FieldList;
+use dm_tables::item_tables::ItemTables;
 use indexmap::IndexMap;
 
 /// With the macros that items of the syntax define.

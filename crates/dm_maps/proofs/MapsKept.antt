@@ -9,7 +9,7 @@ use Rattle.dm_ids.specs.declared.ModuleId.{ModuleId}
 use Rattle.dm_def_map.specs.declared.map_change.MapChange.{MapChange}
 use Rattle.dm_def_map.specs.declared.map_change.MapChange.TheVariants.{Prelude, MacroUse, MacroDef, Helper, Diagnostic}
 use Rattle.dm_maps.specs.BuildCrateData.{map_with_shared, with_shared}
-use Rattle.dm_modules.specs.CrateData.{CrateData}
+use Rattle.dm_tables.specs.CrateData.{CrateData}
 use Rattle.dm_modules.specs.Maps.{Map, LocalMap}
 use Rattle.dm_maps.specs.World.{World}
 use Rattle.dm_maps.specs.BuildMaps.{maps_with, with_map, locals_with}

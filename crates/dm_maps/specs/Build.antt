@@ -18,7 +18,7 @@ use Rattle.dm_maps.specs.declared.place.Place.{Place}
 use Rattle.dm_modules.specs.declared.module_origin.ModuleOrigin.{ModuleOrigin}
 use Rattle.dm_modules.specs.declared.module_origin.ModuleOrigin.TheVariants.{CrateRoot}
 use Rattle.dm_modules.specs.Maps.{Map, Module, fresh_module, fresh_map, map_with_child, module_at}
-use Rattle.dm_modules.specs.ItemTables.{no_tables}
+use Rattle.dm_tables.specs.ItemTables.{no_tables}
 use Rattle.dm_maps.specs.World.{World, place_of, numbered_map}
 
 -- a builder of nothing

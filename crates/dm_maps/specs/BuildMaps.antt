@@ -11,7 +11,7 @@ use Rattle.dm_base.specs.declared.item_ids.MacroId.{MacroId}
 use Rattle.dm_base.specs.declared.source.AstId.{AstId}
 use Rattle.dm_base.specs.Names.{Name, same_name}
 use Rattle.dm_diagnostics.specs.declared.DefDiagnostic.{DefDiagnostic}
-use Rattle.dm_scope.specs.Sameness.{same_ast}
+use Rattle.dm_lists.specs.Sameness.{same_ast}
 use Rattle.dm_maps.specs.declared.build_fault.BuildFault.{BuildFault}
 use Rattle.dm_maps.specs.declared.build_fault.BuildFault.TheVariants.{NoSuchCrate}
 use Rattle.dm_held.specs.declared.held.HeldId.TheVariants as held
@@ -19,8 +19,8 @@ use Rattle.dm_modules.specs.Maps.{Map, LocalMap}
 use Rattle.dm_maps.specs.World.{World, numbered_map}
 use Rattle.dm_maps.specs.Known.{knows}
 use Rattle.dm_maps.specs.Faults.{first_fault}
-use Rattle.dm_modules.specs.HelperChanges.{helpers_with}
-use Rattle.dm_modules.specs.Helpers.{Helper}
+use Rattle.dm_tables.specs.HelperChanges.{helpers_with}
+use Rattle.dm_tables.specs.Helpers.{Helper}
 use Rattle.dm_modules.specs.Locals.{with_extern}
 
 -- the maps, with f of the one of number k

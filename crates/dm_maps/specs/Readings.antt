@@ -25,7 +25,7 @@ use Rattle.dm_base.specs.Builtins.{builtin_words}
 use Rattle.dm_base.specs.Styles.{styles_of}
 use Rattle.dm_scope.specs.Scope.{bound_in, legacy_in}
 use Rattle.dm_modules.specs.Maps.{LocalMap}
-use Rattle.dm_modules.specs.Variants.{same_enum}
+use Rattle.dm_tables.specs.Variants.{same_enum}
 use Rattle.dm_maps.specs.World.{World, crate_map, numbered_map, scope_of}
 use Rattle.dm_maps.specs.Trees.{tree_of}
 use Rattle.dm_held.specs.Kinds.{macro_number}

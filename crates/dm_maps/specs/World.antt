@@ -12,7 +12,7 @@ use Rattle.dm_base.specs.declared.macros.MacroLoc.{MacroLoc}
 use Rattle.dm_base.specs.Names.{Name}
 use Rattle.dm_scope.specs.Scope.{Scope, no_scope}
 use Rattle.dm_maps.specs.declared.place.Place.{Place}
-use Rattle.dm_modules.specs.ItemTables.{ItemTables}
+use Rattle.dm_tables.specs.ItemTables.{ItemTables}
 use Rattle.dm_modules.specs.Maps.{Map, Module, LocalMap, nth_module, map_with_scope}
 
 -- The tables of a world. A number of a list is an id: the third of `uses` is the use of number 2.

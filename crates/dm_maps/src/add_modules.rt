@@ -14,7 +14,7 @@ use dm_base::ids::{Crate, MapId, ModuleId};
 use dm_base::name::Name;
 use dm_base::source::{Edition, EditionedFileId};
 use dm_base::visibility::Visibility;
-use dm_modules::crate_data::CrateData;
+use dm_tables::crate_data::CrateData;
 use dm_modules::module_data::ModuleData;
 use dm_modules::module_origin::ModuleOrigin;
 use std::alloc::{AllocError, Global};

@@ -15,7 +15,7 @@ use dm_base::fields_shape::FieldsShape;
 use dm_base::ids::{EnumId, EnumVariantId};
 use dm_base::item_ids::ItemKind;
 use dm_base::name::Name;
-use dm_modules::variants::add_to_enum;
+use dm_tables::variants::add_to_enum;
 use std::alloc::AllocError;
 
 impl WorldBuilder {

@@ -2,7 +2,7 @@
 ghost use Rattle.std.specs.Prelude.{◌≡◌, ◌++◌, ◌∷◌, [], true, Some, IfOk, OnOk, OnErr};
 ghost use Rattle.dm_maps.specs.BuildCrateData.{sharing, data_of, with_data};
 ghost use Rattle.dm_maps.specs.BuildMaps.{krate_fault};
-ghost use Rattle.dm_modules.specs.CrateData.{with_feature, with_proc_macro};
+ghost use Rattle.dm_tables.specs.CrateData.{with_feature, with_proc_macro};
 ghost use Rattle.dm_maps.specs.Faults.{Answers};
 
 use crate::build_fault::BuildFault;
@@ -10,7 +10,7 @@ use crate::builder::WorldBuilder;
 use crate::share::{hand_out, handles, share};
 use dm_base::ids::{Crate, FunctionId, MapId, ProcMacroId};
 use dm_base::symbol::Symbol;
-use dm_modules::crate_data::CrateData;
+use dm_tables::crate_data::CrateData;
 use std::alloc::AllocError;
 
 /// Each call refuses, in this order, `NoSuchCrate` of a crate that is not the builder's, and `OutOfMemory`; the builder is

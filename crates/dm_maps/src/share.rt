@@ -4,7 +4,7 @@ ghost use Rattle.dm_maps.specs.BuildCrateData.{with_shared, map_with_shared};
 
 use dm_def_map::def_map::DefMap;
 use dm_base::ids::Crate;
-use dm_modules::crate_data::CrateData;
+use dm_tables::crate_data::CrateData;
 use std::alloc::{AllocError, Global};
 use std::rc::Rc;
 

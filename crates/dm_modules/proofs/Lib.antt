@@ -1,4 +1,3 @@
 pub mod TableLemmas
-pub mod KeyLemmas
 pub mod LocalSteps
 pub mod RunLemmas

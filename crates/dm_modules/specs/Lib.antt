@@ -1,12 +1,5 @@
 pub mod Origins
 pub mod Maps
-pub mod CrateData
-pub mod CrateRows
-pub mod Helpers
-pub mod ItemTables
-pub mod HelperChanges
-pub mod Keys
-pub mod TableChanges
 pub mod Locals
 pub mod LendingModule
 pub mod LendingModules
@@ -14,4 +7,3 @@ pub mod LocalHash
 pub mod LocalOrder
 pub mod LocalLaws
 pub mod Queries
-pub mod Variants

@@ -16,8 +16,8 @@ use Rattle.dm_base.specs.Tree.{same_module}
 use Rattle.dm_diagnostics.specs.declared.DefDiagnostic.{DefDiagnostic}
 use Rattle.dm_scope.specs.Scope.{Scope, no_scope}
 use Rattle.dm_modules.specs.declared.module_origin.ModuleOrigin.{ModuleOrigin}
-use Rattle.dm_modules.specs.CrateData.{CrateData, fresh_data}
-use Rattle.dm_modules.specs.Helpers.{Helper}
+use Rattle.dm_tables.specs.CrateData.{CrateData, fresh_data}
+use Rattle.dm_tables.specs.Helpers.{Helper}
 
 -- a module: where it comes from, who sees it, its parent in its map, its children by name, its scope
 pub record Module : Type 0 where

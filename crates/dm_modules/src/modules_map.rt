@@ -5,7 +5,8 @@ ghost use Rattle.std.specs.Borrow.{sem};
 ghost use Rattle.dm_modules.specs.Maps.{module_at, nth_module, scope_at, with_new_child};
 ghost use Rattle.dm_modules.specs.LendingModules.{LendsNthScope};
 
-use crate::growth::{drop_last, list_child, put_last};
+use crate::growth::{drop_last, list_child};
+use dm_tables::growth::put_last;
 use crate::module_data::ModuleData;
 use dm_base::ids::ModuleId;
 use dm_base::name::Name;

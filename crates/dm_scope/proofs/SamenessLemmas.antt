@@ -27,17 +27,9 @@ use Rattle.dm_base.specs.contracts.imports.ImportOrGlobPartialEq.TheImpl as valu
 use Rattle.dm_base.specs.contracts.item_ids.AdtIdPartialEq.TheImpl as adt_eq
 use Rattle.dm_base.specs.contracts.item_ids.MacroIdPartialEq.TheImpl as macro_eq
 use Rattle.dm_base.specs.contracts.item_ids.ModuleDefIdPartialEq.TheImpl as def_eq
-use Rattle.dm_base.specs.declared.source.AstId.{AstId}
-use Rattle.dm_base.specs.declared.source.Edition.{Edition}
-use Rattle.dm_base.specs.declared.source.Edition.TheVariants as edition
-use Rattle.dm_base.specs.declared.source.HirFileId.{HirFileId}
-use Rattle.dm_base.specs.declared.source.HirFileId.TheVariants as file
-use Rattle.dm_base.specs.contracts.source.AstIdPartialEq.TheImpl as ast_eq
-use Rattle.dm_base.specs.contracts.source.EditionPartialEq.TheImpl as edition_eq
-use Rattle.dm_base.specs.contracts.source.HirFileIdPartialEq.TheImpl as file_eq
 use Rattle.dm_base.specs.Imports.{is_glob, is_glob_or_import, narrowed, widened}
 use Rattle.dm_base.specs.Definitions.{widened_macro}
-use Rattle.dm_scope.specs.Sameness.{same_import, same_value_import, same_int, same_uint, same_float, same_builtin, same_adt, same_macro, same_def, same_edition, same_file, same_ast}
+use Rattle.dm_lists.specs.Sameness.{same_import, same_value_import, same_int, same_uint, same_float, same_builtin, same_adt, same_macro, same_def}
 use Rattle.dm_scope.specs.Bindings.{reading}
 use Rattle.dm_scope.specs.Push.{types_reading, values_reading, macros_reading}
 
@@ -123,25 +115,6 @@ values_reading_is = λ k. reading (λ x y. value_import_is x y k) (λ x y. def_i
 
 pub macros_reading_is : reading import_eq.ghosts.eq macro_eq.ghosts.eq is_glob (λ i. Some i) (λ i. i) widened_macro ≡ macros_reading
 macros_reading_is = λ k. reading (λ x y. import_is x y k) (λ x y. macro_is x y k) is_glob (λ i. Some i) (λ i. i) widened_macro
-
-edition_is : (x y : Edition) → edition_eq.ghosts.eq x y ≡ same_edition x y
-edition_is edition.Edition2015 edition.Edition2015 = refl
-edition_is edition.Edition2018 edition.Edition2018 = refl
-edition_is edition.Edition2021 edition.Edition2021 = refl
-edition_is edition.Edition2024 edition.Edition2024 = refl
-edition_is x y = refl
-
-file_is : (x y : HirFileId) → file_eq.ghosts.eq x y ≡ same_file x y
-file_is (file.File i) (file.File j) = λ k. nat_eq i.file.0 j.file.0 && edition_is i.edition j.edition k
-file_is (file.Macro i) (file.Macro j) = refl
-file_is x y = refl
-
-ast_is : (x y : AstId) → ast_eq.ghosts.eq x y ≡ same_ast x y
-unfolding same_ast
-ast_is x y = λ k. file_is x.file_id y.file_id k && nat_eq x.value.0 y.value.0
-
-pub ast_test_is : ast_eq.ghosts.eq ≡ same_ast
-ast_test_is = λ k. λ x y. ast_is x y k
 
 pub def_test_is : def_eq.ghosts.eq ≡ same_def
 def_test_is = λ k. λ x y. def_is x y k

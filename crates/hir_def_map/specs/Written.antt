@@ -29,7 +29,7 @@ use Rattle.dm_modules.specs.declared.modes.BuiltinShadowMode.{BuiltinShadowMode}
 use Rattle.dm_modules.specs.declared.modes.MacroSubNs.{MacroSubNs}
 use Rattle.dm_modules.specs.declared.module_origin.ModuleOrigin.TheVariants.{Inline}
 use Rattle.dm_maps.specs.declared.place.Place.{Place}
-use Rattle.dm_modules.specs.CrateData.{fresh_data}
+use Rattle.dm_tables.specs.CrateData.{fresh_data}
 use Rattle.dm_modules.specs.Maps as maps
 use Rattle.dm_modules.specs.Maps.{Map, Modules, LocalMap}
 use Rattle.dm_maps.specs.World.{World}

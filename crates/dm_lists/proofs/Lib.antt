@@ -1,0 +1,2 @@
+pub mod TableListLemmas
+pub mod Outcomes

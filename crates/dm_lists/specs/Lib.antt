@@ -1,0 +1,6 @@
+pub mod Sameness
+pub mod AstLaws
+pub mod TableLists
+pub mod Derives
+pub mod MacroCalls
+pub mod Iterators

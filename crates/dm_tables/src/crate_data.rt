@@ -1,0 +1,232 @@
+//! What all maps of a crate share.
+ghost use Rattle.std.specs.Prelude.{◌≡◌, ◌++◌, ◌∷◌, [], true, Some, IfOk, OnOk, OnErr};
+ghost use Rattle.dm_tables.specs.CrateData.{fresh_data, limit_of, goes_without_std, with_feature, with_proc_macro};
+
+use crate::growth::put;
+use crate::unstable_features::UnstableFeatures;
+use dm_base::ids::{FunctionId, ProcMacroId};
+use dm_base::symbol::Symbol;
+use indexmap::IndexMap;
+use std::alloc::{AllocError, Global};
+use std::hash::Hash;
+use std::marker::Model;
+
+/// What all maps of a crate share.
+pub struct CrateData {
+    no_std: bool,
+    no_core: bool,
+    coherence_is_core: bool,
+    recursion_limit: Option<u32>,
+    tools: Vec<Symbol>,
+    features: UnstableFeatures,
+    macro_of_fn: IndexMap<FunctionId, ProcMacroId>,
+    fn_of_macro: IndexMap<ProcMacroId, FunctionId>,
+}
+
+/// Written out, so that what lets one go has one call to prove.
+impl Drop for CrateData {
+    fn drop(self) {
+        let CrateData {
+            no_std: _no_std,
+            no_core: _no_core,
+            coherence_is_core: _coherence_is_core,
+            recursion_limit: _recursion_limit,
+            tools: _tools,
+            features: _features,
+            macro_of_fn: _macro_of_fn,
+            fn_of_macro: _fn_of_macro,
+        } = self;
+    }
+}
+
+impl Model for CrateData {
+    ghost use Rattle.dm_tables.specs.CrateData.{CrateData};
+
+    ghost Value = { CrateData };
+
+    ghost view = { λ d. record { no_std = d.no_std; no_core = d.no_core; coherence_is_core = d.coherence_is_core; recursion_limit = d.recursion_limit; tools = d.tools.items; features = d.features; macro_of_fn = d.macro_of_fn.entries; fn_of_macro = d.fn_of_macro.entries } };
+}
+
+impl CrateData {
+    /// Of a new crate, which has the tools that every crate has.
+    pub fn fresh(alloc: Global) -> Result<CrateData, AllocError>
+        ensures { IfOk result (λ d. d ≡ fresh_data) }
+    {
+        let mut tools = Vec::new(alloc);
+        tools.push(Symbol::new(alloc, "clippy")?)?;
+        tools.push(Symbol::new(alloc, "rustfmt")?)?;
+        tools.push(Symbol::new(alloc, "diagnostic")?)?;
+        tools.push(Symbol::new(alloc, "miri")?)?;
+        tools.push(Symbol::new(alloc, "rust_analyzer")?)?;
+        Ok(CrateData {
+            no_std: false,
+            no_core: false,
+            coherence_is_core: false,
+            recursion_limit: None,
+            tools,
+            features: UnstableFeatures::new(alloc),
+            macro_of_fn: IndexMap::new(alloc),
+            fn_of_macro: IndexMap::new(alloc),
+        })
+    }
+
+    /// The same, to be changed.
+    pub fn copy(&self, alloc: Global) -> Result<CrateData, AllocError>
+        ensures { IfOk result (λ d. d ≡ self.now) }
+    {
+        let tools = copy_symbols(&self.tools, alloc)?;
+        let features = self.features.copy(alloc)?;
+        let macro_of_fn = copy_table(&self.macro_of_fn)?;
+        let fn_of_macro = copy_table(&self.fn_of_macro)?;
+        Ok(CrateData {
+            no_std: self.no_std,
+            no_core: self.no_core,
+            coherence_is_core: self.coherence_is_core,
+            recursion_limit: self.recursion_limit,
+            tools,
+            features,
+            macro_of_fn,
+            fn_of_macro,
+        })
+    }
+
+    pub fn set_no_std(&mut self)
+        ensures { self.new ≡ record self.old { no_std = true } }
+    {
+        self.no_std = true;
+    }
+
+    pub fn set_no_core(&mut self)
+        ensures { self.new ≡ record self.old { no_core = true } }
+    {
+        self.no_core = true;
+    }
+
+    pub fn set_coherence_is_core(&mut self)
+        ensures { self.new ≡ record self.old { coherence_is_core = true } }
+    {
+        self.coherence_is_core = true;
+    }
+
+    pub fn set_recursion_limit(&mut self, limit: u32)
+        ensures { self.new ≡ record self.old { recursion_limit = Some limit } }
+    {
+        self.recursion_limit = Some(limit);
+    }
+
+    /// Adds a tool, the last.
+    pub fn add_tool(&mut self, tool: Symbol) -> Result<(), AllocError>
+        ensures ok { OnOk result (self.new ≡ record self.old { tools = self.old.tools ++ tool ∷ [] }) }
+        ensures err { OnErr result (self.new ≡ self.old) }
+    {
+        self.tools.push(tool)?;
+        Ok(())
+    }
+
+    /// Adds a feature.
+    pub fn add_feature(&mut self, feature: Symbol) -> Result<(), AllocError>
+        ensures ok { OnOk result (self.new ≡ with_feature self.old feature) }
+        ensures err { OnErr result (self.new ≡ self.old) }
+    {
+        self.features.enable(feature)?;
+        Ok(())
+    }
+
+    /// The same data with a procedural macro that a function defines, in a table each way. What is there is replaced.
+    ///
+    /// Fails where memory runs out, and the data is then dropped.
+    pub fn with_proc_macro(mut self, f: FunctionId, m: ProcMacroId) -> Result<CrateData, AllocError>
+        ensures { IfOk result (λ d. d ≡ with_proc_macro self f m) }
+    {
+        self.add_proc_macro(f, m)?;
+        Ok(self)
+    }
+
+    /// Adds a procedural macro that a function defines. Where memory is short, one table may have it.
+    fn add_proc_macro(&mut self, f: FunctionId, m: ProcMacroId) -> Result<(), AllocError>
+        ensures { OnOk result (self.new ≡ with_proc_macro self.old f m) }
+    {
+        put(&mut self.macro_of_fn, f, m)?;
+        put(&mut self.fn_of_macro, m, f)?;
+        Ok(())
+    }
+
+    /// The tools whose attributes the crate may have, in order.
+    pub fn tools(&self) -> &[Symbol]
+        ensures { result.now ≡ self.now.tools }
+    {
+        self.tools.as_slice()
+    }
+
+    /// The unstable features that the crate asks for.
+    pub fn features(&self) -> &UnstableFeatures
+        ensures { result.now ≡ self.now.features }
+    {
+        &self.features
+    }
+
+    /// Whether the crate counts as `core` where traits are implemented.
+    pub fn coherence_is_core(&self) -> bool
+        ensures { result ≡ self.now.coherence_is_core }
+    {
+        self.coherence_is_core
+    }
+
+    /// Whether the crate goes without `std`: it does where it goes without `core`.
+    pub fn goes_without_std(&self) -> bool
+        ensures { result ≡ goes_without_std self.now }
+    {
+        self.no_std || self.no_core
+    }
+
+    /// Whether the crate goes without `core`.
+    pub fn goes_without_core(&self) -> bool
+        ensures { result ≡ self.now.no_core }
+    {
+        self.no_core
+    }
+
+    /// How deep macros of the crate may expand: 128 where it sets nothing.
+    pub fn recursion_limit(&self) -> u32
+        ensures { result ≡ limit_of self.now }
+    {
+        self.recursion_limit.unwrap_or(128)
+    }
+
+    /// The procedural macro that each function defines.
+    pub fn macro_of_fn(&self) -> &IndexMap<FunctionId, ProcMacroId>
+        ensures { result.now.entries ≡ self.now.macro_of_fn }
+    {
+        &self.macro_of_fn
+    }
+
+    /// The function of each procedural macro.
+    pub fn fn_of_macro(&self) -> &IndexMap<ProcMacroId, FunctionId>
+        ensures { result.now.entries ≡ self.now.fn_of_macro }
+    {
+        &self.fn_of_macro
+    }
+}
+
+fn copy_symbols(symbols: &[Symbol], alloc: Global) -> Result<Vec<Symbol>, AllocError>
+    ensures { IfOk result (λ copies. copies.items ≡ symbols.now) }
+{
+    let mut copies = Vec::new(alloc);
+    for symbol in symbols {
+        let copy = symbol.copy(alloc)?;
+        copies.push(copy)?;
+    }
+    Ok(copies)
+}
+
+/// A second table of the same entries, where clones are what they are clones of.
+fn copy_table<K: Eq + Hash + Clone, V: Clone>(
+    table: &IndexMap<K, V>,
+) -> Result<IndexMap<K, V>, AllocError>
+    requires keys { (x y : K) → K.is_clone x y → y ≡ x }
+    requires values { (x y : V) → V.is_clone x y → y ≡ x }
+    ensures { IfOk result (λ copy. copy.entries ≡ table.now.entries) }
+{
+    let copy = table.clone()?;
+    Ok(copy)
+}

@@ -1,0 +1,92 @@
+//! The helper attributes of derives, by the items that the derives stand at.
+ghost use Rattle.std.specs.Prelude.{◌≡◌, ◌++◌, ◌∷◌, [], OnOk, OnErr};
+ghost use Rattle.dm_tables.specs.HelperChanges.{helpers_with, helpers_with_at};
+
+use crate::keyed_tables::{place_of_helpers, put_helpers};
+use dm_base::ids::{BuiltinDeriveImplId, MacroCallId};
+use dm_base::item_ids::MacroId;
+use dm_base::name::Name;
+use dm_base::source::AstId;
+use either::Either;
+use indexmap::IndexMap;
+use std::alloc::{AllocError, Global};
+use std::marker::Model;
+
+/// A helper attribute: its name, the macro of the derive, and the call of the derive, or what a builtin derive writes.
+pub type DeriveHelper = (Name, MacroId, Either<MacroCallId, BuiltinDeriveImplId>);
+
+/// The helper attributes at an item, in order.
+#[derive(Drop)]
+pub struct DeriveHelpers {
+    helpers: Vec<DeriveHelper>,
+}
+
+impl Model for DeriveHelpers {
+    ghost use Rattle.std.specs.Prelude.{List};
+    ghost use Rattle.dm_tables.specs.Helpers.{Helper};
+
+    ghost Value = { List Helper };
+
+    ghost view = { λ h. h.helpers.items };
+}
+
+impl DeriveHelpers {
+    fn new(alloc: Global) -> DeriveHelpers
+        ensures { result ≡ [] }
+    {
+        DeriveHelpers {
+            helpers: Vec::new(alloc),
+        }
+    }
+
+    /// Adds a helper, the last.
+    fn push(&mut self, helper: DeriveHelper) -> Result<(), AllocError>
+        ensures ok { OnOk result (self.new ≡ self.old ++ helper ∷ []) }
+        ensures err { OnErr result (self.new ≡ self.old) }
+    {
+        self.helpers.push(helper)?;
+        Ok(())
+    }
+
+    /// The helpers, in order.
+    pub fn as_slice(&self) -> &[DeriveHelper]
+        ensures { result.now ≡ self.now }
+    {
+        self.helpers.as_slice()
+    }
+}
+
+/// Adds a helper to those at an item, the last.
+pub fn add_helper(
+    table: &mut IndexMap<AstId, DeriveHelpers>,
+    ast: AstId,
+    helper: DeriveHelper,
+    alloc: Global,
+) -> Result<(), AllocError>
+    ensures ok { OnOk result (table.new.entries ≡ helpers_with table.old.entries ast helper) }
+    ensures err { OnErr result (table.new.entries ≡ table.old.entries) }
+{
+    match place_of_helpers(table, ast) {
+        None => {
+            let mut helpers = DeriveHelpers::new(alloc);
+            helpers.push(helper)?;
+            put_helpers(table, ast, helpers)
+        }
+        Some(i) => add_helper_at(table, i, helper),
+    }
+}
+
+/// Adds a helper to those of the item at place `i`, the last.
+fn add_helper_at(
+    table: &mut IndexMap<AstId, DeriveHelpers>,
+    i: usize,
+    helper: DeriveHelper,
+) -> Result<(), AllocError>
+    ensures ok { OnOk result (table.new.entries ≡ helpers_with_at table.old.entries i helper) }
+    ensures err { OnErr result (table.new.entries ≡ table.old.entries) }
+{
+    match table.get_index_mut(i) {
+        None => Ok(()),
+        Some(helpers) => helpers.push(helper),
+    }
+}

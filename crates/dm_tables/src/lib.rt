@@ -1,0 +1,11 @@
+//! What a crate has beside its modules: its data, and the tables of its syntax and its items.
+#![tactic(auto)]
+
+pub mod crate_data;
+pub mod derive_helpers;
+pub mod field_list;
+pub mod growth;
+pub mod item_tables;
+pub mod keyed_tables;
+pub mod unstable_features;
+pub mod variants;
