@@ -3,8 +3,8 @@ use dm_base::ids::{ExternCrateId, ModuleId, UseId};
 use dm_base::item_ids::MacroId;
 use dm_base::name::Name;
 use dm_base::source::AstId;
-use dm_tables::derive_helpers::DeriveHelper;
 use dm_scope::diagnostics::DefDiagnostic;
+use dm_tables::derive_helpers::DeriveHelper;
 
 /// What is set in one map.
 #[derive(Drop)]

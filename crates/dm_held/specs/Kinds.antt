@@ -47,4 +47,3 @@ is_of_kind (Macro2Id n) (loc.Macro2 e) = true
 is_of_kind (MacroRulesId n) (loc.MacroRules e) = true
 is_of_kind (ProcMacroId n) (loc.Proc k) = true
 is_of_kind _ _ = false
-

@@ -6,15 +6,15 @@ ghost use Rattle.dm_held.specs.Held.{noted};
 ghost use Rattle.dm_held.specs.Holds.{prelude_holds, map_holds, macro_uses_hold};
 ghost use Rattle.dm_held.specs.Holding.{local_holds};
 
-use crate::known_ids::KnownIds;
-use dm_def_map::def_map::DefMap;
 use crate::held::{HeldFault, HeldId};
+use crate::known_ids::KnownIds;
 use crate::note_diagnostics::note_diagnostics;
 use crate::note_tables::{note_helpers, note_macro_defs};
 use crate::notes::note;
 use dm_base::ids::{ExternCrateId, ModuleId, UseId};
 use dm_base::item_ids::MacroId;
 use dm_base::name::Name;
+use dm_def_map::def_map::DefMap;
 use dm_modules::local_def_map::LocalDefMap;
 use indexmap::IndexMap;
 

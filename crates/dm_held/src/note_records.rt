@@ -13,7 +13,11 @@ use dm_base::per_ns::Namespace;
 use dm_scope::item_scope::ItemScope;
 
 /// With the use or the definition that an import stands for.
-fn note_step<T: KnownIds>(world: &T, least: Option<HeldFault>, step: ImportOrDef) -> Option<HeldFault>
+fn note_step<T: KnownIds>(
+    world: &T,
+    least: Option<HeldFault>,
+    step: ImportOrDef,
+) -> Option<HeldFault>
     ensures { result ≡ fold (noted (T.known world.now)) least (step_holds step) }
 {
     match step {

@@ -6,13 +6,13 @@ ghost use Rattle.dm_maps.specs.Faults.{Answers};
 
 use crate::build_fault::BuildFault;
 use crate::builder::WorldBuilder;
-use dm_def_map::def_map::DefMap;
 use crate::growth::add_map;
 use crate::place::Place;
 use crate::share::shared_of;
 use dm_base::ids::{BlockId, Crate, MapId, ModuleId};
 use dm_base::source::AstId;
 use dm_base::visibility::{Visibility, VisibilityExplicitness};
+use dm_def_map::def_map::DefMap;
 use dm_modules::module_data::ModuleData;
 use dm_modules::module_origin::ModuleOrigin;
 use std::alloc::{AllocError, Global};

@@ -5,8 +5,8 @@ ghost use Rattle.dm_maps.specs.Faults.{Answers};
 
 use crate::build_fault::BuildFault;
 use crate::builder::WorldBuilder;
-use dm_def_map::map_change::MapChange;
 use dm_base::ids::MapId;
+use dm_def_map::map_change::MapChange;
 use dm_scope::diagnostics::DefDiagnostic;
 
 impl WorldBuilder {

@@ -6,7 +6,6 @@ ghost use Rattle.dm_modules.specs.Origins.{is_child};
 
 use crate::build_fault::BuildFault;
 use crate::builder::WorldBuilder;
-use dm_def_map::def_map::DefMap;
 use crate::growth::{NewChild, add_child, add_crate_map};
 use crate::place::Place;
 use crate::share::share;
@@ -14,9 +13,10 @@ use dm_base::ids::{Crate, MapId, ModuleId};
 use dm_base::name::Name;
 use dm_base::source::{Edition, EditionedFileId};
 use dm_base::visibility::Visibility;
-use dm_tables::crate_data::CrateData;
+use dm_def_map::def_map::DefMap;
 use dm_modules::module_data::ModuleData;
 use dm_modules::module_origin::ModuleOrigin;
+use dm_tables::crate_data::CrateData;
 use std::alloc::{AllocError, Global};
 
 /// The numbers of a list's entries are below this, so that the list's length is one too.

@@ -9,12 +9,12 @@ ghost use Rattle.dm_maps.specs.Readings.{variants_of};
 use crate::add_modules::LAST_NUMBER;
 use crate::build_fault::BuildFault;
 use crate::builder::WorldBuilder;
-use dm_held::held::HeldId;
-use dm_held::known_ids::KnownIds;
 use dm_base::fields_shape::FieldsShape;
 use dm_base::ids::{EnumId, EnumVariantId};
 use dm_base::item_ids::ItemKind;
 use dm_base::name::Name;
+use dm_held::held::HeldId;
+use dm_held::known_ids::KnownIds;
 use dm_tables::variants::add_to_enum;
 use std::alloc::AllocError;
 

@@ -2,13 +2,13 @@
 ghost use Rattle.std.specs.Prelude.{◌≡◌};
 ghost use Rattle.dm_maps.specs.Build.{no_world};
 
-use dm_def_map::def_map::DefMap;
 use crate::place::Place;
 use dm_base::ids::{EnumId, ModuleId};
 use dm_base::item_ids::ItemKind;
 use dm_base::macros::MacroLoc;
-use dm_tables::item_tables::ItemTables;
+use dm_def_map::def_map::DefMap;
 use dm_modules::local_def_map::LocalDefMap;
+use dm_tables::item_tables::ItemTables;
 use dm_tables::variants::EnumVariants;
 use indexmap::IndexMap;
 use std::alloc::Global;

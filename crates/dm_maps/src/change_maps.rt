@@ -7,16 +7,16 @@ ghost use Rattle.dm_def_map.specs.MapChanges.{changed, grows};
 
 use crate::build_fault::BuildFault;
 use crate::builder::WorldBuilder;
-use dm_def_map::def_map::DefMap;
-use dm_held::held::HeldId;
-use dm_held::known_ids::KnownIds;
-use dm_def_map::map_change::MapChange;
 use dm_base::ids::{
     BuiltinDeriveImplId, Crate, ExternCrateId, MacroCallId, MapId, ModuleId, UseId,
 };
 use dm_base::item_ids::MacroId;
 use dm_base::name::Name;
 use dm_base::source::AstId;
+use dm_def_map::def_map::DefMap;
+use dm_def_map::map_change::MapChange;
+use dm_held::held::HeldId;
+use dm_held::known_ids::KnownIds;
 use dm_modules::local_def_map::LocalDefMap;
 use either::Either;
 use std::alloc::{AllocError, Global};

@@ -3,8 +3,8 @@ ghost use Rattle.std.specs.Prelude.{◌≡◌, ◌↔◌, IsOk, IfOk, IfErr};
 ghost use Rattle.dm_maps.specs.First.{holders, IsChecked, IsFirstFault};
 
 use crate::builder::WorldBuilder;
-use dm_held::fault::WorldFault;
 use crate::world::World;
+use dm_held::fault::WorldFault;
 
 impl WorldBuilder {
     /// The world of the builder's tables, if each id that they hold is one of their own, with its kind.

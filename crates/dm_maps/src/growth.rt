@@ -2,10 +2,10 @@
 ghost use Rattle.std.specs.Prelude.{◌≡◌, ◌++◌, ◌∷◌, [], OnOk, OnErr, IfSome};
 ghost use Rattle.dm_maps.specs.Build.{IsFree, maps_with_child, crate_maps_with_child, block_maps_with_child};
 
-use dm_def_map::def_map::DefMap;
 use crate::place::Place;
 use dm_base::ids::ModuleId;
 use dm_base::name::Name;
+use dm_def_map::def_map::DefMap;
 use dm_modules::local_def_map::LocalDefMap;
 use dm_modules::module_data::ModuleData;
 use std::alloc::{AllocError, Global};

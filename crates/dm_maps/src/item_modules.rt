@@ -3,11 +3,11 @@ ghost use Rattle.std.specs.Prelude.{◌≡◌};
 ghost use Rattle.dm_maps.specs.ItemHomes.{module_of_item, module_of_def, module_of_macro};
 
 use crate::builder::WorldBuilder;
-use dm_held::kinds::{is_of_kind, macro_number, same_kind};
 use crate::world::World;
 use dm_base::ids::{Crate, EnumId, EnumVariantId, ModuleId};
 use dm_base::item_ids::{AdtId, ItemKind, MacroId, ModuleDefId};
 use dm_base::item_in_ns::ItemModules;
+use dm_held::kinds::{is_of_kind, macro_number, same_kind};
 
 #[tactic(auto, unfolding(crate::specs::ItemHomes::homes_of))]
 impl ItemModules for World {

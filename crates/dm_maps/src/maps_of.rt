@@ -9,11 +9,11 @@ ghost use Rattle.dm_modules.specs.Maps.{Map};
 ghost use Rattle.dm_base.specs.declared.item_ids.ModuleDefId.TheVariants as def;
 
 use crate::builder::WorldBuilder;
-use dm_def_map::def_map::DefMap;
 use crate::world::World;
 use dm_base::ids::{BlockId, Crate, ModuleId};
 use dm_base::item_ids::MacroId;
 use dm_base::macros::MacroCallStyles;
+use dm_def_map::def_map::DefMap;
 use dm_modules::local_def_map::LocalDefMap;
 
 /// The map of a crate.

@@ -11,7 +11,6 @@ ghost use Rattle.dm_maps.specs.World.{scope_of, map_of, numbered_map};
 ghost use Rattle.dm_modules.specs.Maps.{module_at};
 ghost use Rattle.dm_scope.specs.Scope.{legacy_in};
 
-use dm_def_map::def_map::DefMap;
 use crate::world::World;
 use dm_base::fields_shape::FieldsShape;
 use dm_base::ids::{BlockId, Crate, EnumId, EnumVariantId, ExternCrateId, MapId, ModuleId};
@@ -19,6 +18,7 @@ use dm_base::item_ids::MacroId;
 use dm_base::macros::MacroCallStyles;
 use dm_base::name::Name;
 use dm_base::source::Edition;
+use dm_def_map::def_map::DefMap;
 
 impl World {
     /// Whether a module of a map is one of the world's: it is, where the map is the world's of its id.

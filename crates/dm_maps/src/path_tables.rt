@@ -7,13 +7,13 @@ ghost use Rattle.dm_maps.specs.World.{crate_map, scope_of};
 ghost use Rattle.dm_scope.specs.Scope.{legacy_in, last_of};
 
 use crate::builder::WorldBuilder;
-use dm_def_map::def_map::DefMap;
-use dm_held::kinds::macro_number;
 use bitflags::Flags;
 use dm_base::ids::{BlockId, Crate, ExternCrateId, MapId, ModuleId};
 use dm_base::item_ids::MacroId;
 use dm_base::macros::{MacroCallStyles, MacroLoc};
 use dm_base::name::Name;
+use dm_def_map::def_map::DefMap;
+use dm_held::kinds::macro_number;
 
 impl WorldBuilder {
     /// The map of a crate.

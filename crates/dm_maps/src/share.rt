@@ -2,8 +2,8 @@
 ghost use Rattle.std.specs.Prelude.{◌≡◌, ◌≤◌, ◌<◌, ◌+◌, length, All, IfOk};
 ghost use Rattle.dm_maps.specs.BuildCrateData.{with_shared, map_with_shared};
 
-use dm_def_map::def_map::DefMap;
 use dm_base::ids::Crate;
+use dm_def_map::def_map::DefMap;
 use dm_tables::crate_data::CrateData;
 use std::alloc::{AllocError, Global};
 use std::rc::Rc;

@@ -9,12 +9,12 @@ ghost use Rattle.dm_maps.specs.Readings.{variants_of};
 ghost use Rattle.dm_maps.specs.Trees.{IsWorld, map_id_in, parent_in, container_in, containers_of};
 
 use crate::builder::WorldBuilder;
-use dm_def_map::def_map::DefMap;
 use crate::place::Place;
 use dm_base::fields_shape::FieldsShape;
 use dm_base::ids::{BlockId, Crate, EnumId, EnumVariantId, MapId, ModuleId};
 use dm_base::name::Name;
 use dm_base::per_ns::PerNs;
+use dm_def_map::def_map::DefMap;
 use dm_modules::module_data::ModuleData;
 
 impl WorldBuilder {

@@ -12,11 +12,11 @@ ghost use Rattle.dm_maps.specs.Sound.{IsCheckedWorld};
 ghost use Rattle.dm_maps.specs.Trees.{IsWorld};
 
 use crate::builder::WorldBuilder;
-use dm_def_map::def_map::DefMap;
 use dm_base::ids::{BlockId, Crate, MapId, ModuleId};
 use dm_base::module_tree::ModuleTree;
 use dm_base::name::Name;
 use dm_base::per_ns::PerNs;
+use dm_def_map::def_map::DefMap;
 use std::marker::Model;
 
 /// A checked world: every id that one of its tables holds is one of its own, with its kind.

@@ -6,11 +6,11 @@ ghost use Rattle.dm_modules.specs.Maps.{module_at, nth_module, scope_at, with_ne
 ghost use Rattle.dm_modules.specs.LendingModules.{LendsNthScope};
 
 use crate::growth::{drop_last, list_child};
-use dm_tables::growth::put_last;
 use crate::module_data::ModuleData;
 use dm_base::ids::ModuleId;
 use dm_base::name::Name;
 use dm_scope::item_scope::ItemScope;
+use dm_tables::growth::put_last;
 use indexmap::IndexMap;
 use std::alloc::{AllocError, Global};
 use std::marker::Model;

@@ -14,7 +14,6 @@ mod push;
 mod sorted;
 
 use crate::bindings::Bindings;
-use dm_lists::derives::DeriveMacroInvocation;
 use crate::glob_imports::PerNsGlobImports;
 use dm_base::ids::{
     BuiltinDeriveImplId, ConstId, ExternBlockId, ExternCrateId, ImplId, MacroCallId, ModuleId,
@@ -26,6 +25,7 @@ use dm_base::name::Name;
 use dm_base::per_ns::PerNs;
 use dm_base::source::AstId;
 use dm_base::visibility::Visibility;
+use dm_lists::derives::DeriveMacroInvocation;
 use indexmap::{IndexMap, IndexSet};
 use smallvec::SmallVec;
 use std::alloc::{AllocError, Global};

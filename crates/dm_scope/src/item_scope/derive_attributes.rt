@@ -6,11 +6,11 @@ ghost use Rattle.dm_lists.specs.Sameness.{same_ast};
 ghost use Rattle.dm_lists.specs.TableLists.{add_to_list};
 
 use super::ItemScope;
+use dm_base::ids::{AttrId, BuiltinDeriveImplId, MacroCallId};
+use dm_base::source::AstId;
 use dm_lists::derives::DeriveMacroInvocation;
 use dm_lists::iterators::DeriveMacroInvocations;
 use dm_lists::table_lists::add_to_list;
-use dm_base::ids::{AttrId, BuiltinDeriveImplId, MacroCallId};
-use dm_base::source::AstId;
 use either::Either;
 use indexmap::IndexMap;
 use smallvec::SmallVec;

@@ -14,17 +14,17 @@ ghost use Rattle.dm_lists.specs.Iterators.{any_impl, trait_impl, inherent_impl, 
 use super::ItemScope;
 use crate::bindings::Iter;
 use crate::import_records::ImportRecords;
+use dm_base::ids::{BuiltinDeriveImplId, ConstId, ExternBlockId, ExternCrateId, TraitId, UseId};
+use dm_base::imports::{ImportId, ImportOrExternCrate, ImportOrGlob};
+use dm_base::item_ids::{MacroId, ModuleDefId};
+use dm_base::per_ns::Namespace;
+use dm_base::visibility::Visibility;
 use dm_lists::iterators::{
     AnyImpl, AttrMacroInvocations, Impls, InherentImpl, InherentImpls, LegacyMacros, Listed,
     MacroInvocations, ModuleType, ModulesInScope, TraitImpl, TraitImpls, Traits,
 };
 use dm_lists::macro_calls::AllMacroCalls;
 use dm_lists::picked::Picked;
-use dm_base::ids::{BuiltinDeriveImplId, ConstId, ExternBlockId, ExternCrateId, TraitId, UseId};
-use dm_base::imports::{ImportId, ImportOrExternCrate, ImportOrGlob};
-use dm_base::item_ids::{MacroId, ModuleDefId};
-use dm_base::per_ns::Namespace;
-use dm_base::visibility::Visibility;
 
 impl ItemScope {
     /// What is declared in the scope, in order of definition. Takes no memory.

@@ -6,7 +6,6 @@ ghost use Rattle.dm_lists.specs.TableLists.{add_to_list};
 ghost use Rattle.dm_lists.specs.Sameness.{same_ast};
 
 use super::ItemScope;
-use dm_lists::table_lists::add_to_list;
 use dm_base::ids::{
     BuiltinDeriveImplId, ConstId, ExternBlockId, ExternCrateId, ImplId, MacroCallId, TraitId,
 };
@@ -15,6 +14,7 @@ use dm_base::item_ids::{MacroId, ModuleDefId};
 use dm_base::name::Name;
 use dm_base::source::AstId;
 use dm_base::visibility::Visibility;
+use dm_lists::table_lists::add_to_list;
 use std::alloc::AllocError;
 
 impl ItemScope {
