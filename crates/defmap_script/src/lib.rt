@@ -12,6 +12,4 @@ pub mod read;
 pub mod script;
 mod seeing;
 mod seeing_lines;
-#[cfg(test)]
-mod tests;
 mod words;

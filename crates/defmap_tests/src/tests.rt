@@ -3,6 +3,7 @@ mod builtins;
 mod items;
 mod names;
 mod scopes;
+mod scripts;
 mod traits;
 mod tree;
 mod visibility;

@@ -1,6 +1,6 @@
 //! Whole worlds, built line by line.
 use super::ran;
-use crate::script::RunEnd;
+use defmap_script::script::RunEnd;
 use std::test::Fail;
 
 /// Two crates, two blocks, an enum with a variant, a macro, uses, pushes by import and without.

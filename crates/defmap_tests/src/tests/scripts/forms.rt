@@ -1,6 +1,6 @@
 //! Lines of every form.
 use super::ran;
-use crate::script::RunEnd;
+use defmap_script::script::RunEnd;
 use std::test::Fail;
 
 #[test]

@@ -5,7 +5,7 @@ mod refusals;
 mod seeing;
 mod worlds;
 
-use crate::script::{RunEnd, run_script};
+use defmap_script::script::{RunEnd, run_script};
 use std::alloc::{AllocError, Global};
 
 /// What a script prints, in two parts that are run as one, and how it ends.

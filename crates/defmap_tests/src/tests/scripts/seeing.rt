@@ -1,6 +1,6 @@
 //! Who sees what, and the most and the least of two visibilities.
 use super::ran;
-use crate::script::RunEnd;
+use defmap_script::script::RunEnd;
 use std::test::Fail;
 
 /// Two crates: module 1 in the root of the first, 2 in 1, 3 beside 1, and the root of the second, 4. Block 0, in module 1,

@@ -1,6 +1,6 @@
 //! Which lines are refused, and with which words.
 use super::ran;
-use crate::script::RunEnd;
+use defmap_script::script::RunEnd;
 use std::test::Fail;
 
 #[test]

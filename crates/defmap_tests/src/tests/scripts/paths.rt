@@ -1,6 +1,6 @@
 //! What questions answer.
 use super::ran;
-use crate::script::RunEnd;
+use defmap_script::script::RunEnd;
 use std::test::Fail;
 
 /// A crate with a module `a`, a module `u8`, a struct that its own module alone sees, and a function.
