@@ -1,5 +1,5 @@
 -- The macro calls of derive attributes.
-use Rattle.std.specs.Prelude.{◌++◌, List, Option, None, Some, map}
+use Rattle.std.specs.Prelude.{List, Option, None, Some}
 use Rattle.std.specs.List.{filter_map, flat_map}
 use Rattle.either.specs.declared.Either.TheVariants.{Left, Right}
 use Rattle.smallvec.specs.SmallVec.{SmallVec}
