@@ -1,15 +1,11 @@
 -- What a push into a world changes.
-use Rattle.std.specs.Prelude.{List, [], ◌∷◌, ◌++◌, Option}
-use Rattle.std.specs.Option.{option_map_or}
+use Rattle.std.specs.Prelude.{Option}
 use Rattle.dm_ids.specs.declared.ModuleId.{ModuleId}
 use Rattle.dm_base.specs.declared.imports.ImportOrExternCrate.{ImportOrExternCrate}
 use Rattle.dm_base.specs.declared.per_ns.PerNs.{PerNs}
-use Rattle.dm_held.specs.declared.held.HeldId.{HeldId}
-use Rattle.dm_held.specs.declared.held.HeldId.TheVariants as held
 use Rattle.dm_base.specs.Names.{Name}
 use Rattle.dm_scope.specs.Flags.{Globs}
 use Rattle.dm_scope.specs.Push.{scope_after}
-use Rattle.dm_held.specs.Holding.{res_holds, import_holds}
 use Rattle.dm_maps.specs.World.{World, scope_of, with_scope}
 
 -- the world after a push: the module's scope is as after the push, and all else stays

@@ -1,5 +1,5 @@
 -- The `==` of imports and definitions is the test of their sameness.
-use Rattle.std.proofs.Common.{◌≡◌, ◌&&◌, refl, Some, nat_eq}
+use Rattle.std.proofs.Common.{◌≡◌, refl, Some}
 use Rattle.dm_base.specs.declared.builtin_type.BuiltinInt.{BuiltinInt}
 use Rattle.dm_base.specs.declared.builtin_type.BuiltinInt.TheVariants as int
 use Rattle.dm_base.specs.declared.builtin_type.BuiltinUint.{BuiltinUint}

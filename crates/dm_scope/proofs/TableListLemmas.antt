@@ -1,9 +1,7 @@
 -- One element more in a table of lists.
-use Rattle.std.proofs.Common.{◌≡◌, Bool, true, false, cond, List, [], ◌∷◌, ◌++◌, map, None, Some, refl, sym, ap, ◌∙◌}
+use Rattle.std.proofs.Common.{◌≡◌, Bool, true, false, cond, List, [], ◌∷◌, ◌++◌, map, refl, ap}
 use Rattle.std.proofs.lemmas.List.{map-append}
-use Rattle.std.specs.Map.{lookup, set_value}
-use Rattle.smallvec.specs.SmallVec.{SmallVec}
-use Rattle.dm_lists.specs.TableLists.{lists_of, add_to_list}
+use Rattle.dm_lists.specs.TableLists.{add_to_list}
 
 -- the elements seen by what they show
 pub add_to_list-map : {K X Y : Type 0} (eq : K → K → Bool) (f : X → Y) (es : List (K × List X)) (k : K) (x : X)

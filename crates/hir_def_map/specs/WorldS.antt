@@ -1,5 +1,5 @@
 -- A worked world of shadowing: pushes under one name, macros under one name, and modules of blocks inside one another.
-use Rattle.std.specs.Prelude.{◌≡◌, [], ◌∷◌, Some, None, codes, refl}
+use Rattle.std.specs.Prelude.{[], ◌∷◌, Some, None, codes}
 use Rattle.dm_base.specs.declared.macros.MacroExpander.TheVariants.{Declarative}
 use Rattle.dm_base.specs.declared.macros.MacroLoc.TheVariants.{MacroRules}
 use Rattle.dm_base.specs.declared.item_ids.ItemKind.TheVariants as kind
