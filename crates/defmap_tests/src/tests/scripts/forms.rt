@@ -1,5 +1,5 @@
 //! Lines of every form.
-use super::ran;
+use super::{assert_transcript, ran};
 use defmap_script::script::RunEnd;
 use std::test::Fail;
 
@@ -60,21 +60,18 @@ fn spaces_alone_part_words(rt: HostRuntime) -> Result<(), Fail> {
 
 #[test]
 fn zeros_may_lead_numbers(rt: HostRuntime) -> Result<(), Fail> {
-    let script = "crate 2018 4294967295
+    let transcript = "crate 2018 4294967295
 module 000 a crate:00
 item struct 01
 push 0000000000000001 S struct:000/in:0001:explicit/none - - none
+=> true
 check
 path 01 other module any plain S
+=> struct:0/in:1:explicit/none - - yes - -
 path 00000000000000000000000000000000 other module any crate
+=> mod:0/pub/none - - yes - -
 ";
-    let printed = "true
-struct:0/in:1:explicit/none - - yes - -
-mod:0/pub/none - - yes - -
-";
-    let (out, end) = ran(rt.alloc(), script.as_bytes(), b"")?;
-    assert_eq!(rt; end, RunEnd::Done);
-    assert_eq!(rt; out.as_slice(), printed.as_bytes());
+    assert_transcript(&rt, rt.alloc(), transcript)?;
     Ok(())
 }
 

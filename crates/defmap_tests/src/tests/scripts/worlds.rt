@@ -1,5 +1,5 @@
 //! Whole worlds, built line by line.
-use super::ran;
+use super::{assert_transcript, assert_transcripts, ran};
 use defmap_script::script::RunEnd;
 use std::test::Fail;
 
@@ -73,6 +73,260 @@ item fn 0
 check
 ";
 
+/// Pushes of one name, and what it then is.
+const TURNS: &str = "push 0 A struct:0/pub/none - - glob:0:0
+=> true
+push 0 A struct:1/pub/none - - import:0:1
+=> true
+path 0 other module any plain A
+=> struct:1/pub/import:0:1 - - yes - -
+
+push 0 A struct:0/pub/none - - import:0:1
+=> true
+push 0 A struct:1/pub/none - - import:0:2
+=> false
+push 0 A struct:2/pub/none - - import:0:1
+=> true
+path 0 other module any plain A
+=> struct:2/pub/import:0:1 - - yes - -
+
+push 0 A struct:0/pub/none - - import:0:1
+=> true
+push 0 A struct:0/in:0:implicit/none - - import:0:1
+=> false
+push 0 A struct:1/pub/none - - glob:0:0
+=> false
+path 0 other module any plain A
+=> struct:0/pub/import:0:1 - - yes - -
+
+push 0 A struct:0/pub/none fn:3/pub/none - extern:0
+=> true
+path 0 other module any plain A
+=> struct:0/pub/extern:0 fn:3/pub/none - yes - -
+
+push 0 A struct:0/pub/none - - none
+=> true
+push 0 A struct:1/pub/none - - none
+=> false
+path 0 other module any plain A
+=> struct:0/pub/none - - yes - -";
+
+/// Tables behind one crate that fail the check.
+const DANGLING: &str = "prelude c0 9
+check
+=> refused 3 UnknownModule c0 9
+
+extern 0 d 9 none
+check
+=> refused 3 UnknownModule c0 9
+
+macrouse c0 m rules:7 none
+check
+=> refused 3 UnknownMacro c0 7
+
+module 0 a in:9:implicit
+check
+=> refused 3 UnknownModule m1 9
+
+module 0 a crate:4
+check
+=> refused 3 UnknownCrate m1 4
+
+legacy 0 m rules:3
+check
+=> refused 3 UnknownMacro m0 3
+
+push 0 z mod:0/pub/none - - import:7:0
+=> true
+check
+=> refused 3 UnknownUse m0 7
+
+item fn 0
+push 0 z struct:0/pub/none - - none
+=> true
+check
+=> refused 4 UnknownItem m0 0
+
+push 0 z struct:5/pub/none - - none
+=> true
+push 0 y mod:9/pub/none - - none
+=> true
+check
+=> refused 4 UnknownModule m0 9
+
+block 0 0
+prelude b0 9
+check
+=> refused 4 UnknownModule b0 9
+
+block 0 0
+macrouse b0 m macro2:0 none
+check
+=> refused 4 UnknownMacro b0 0
+
+macro rules 0 builtin
+legacy 0 m macro2:0
+check
+=> refused 4 UnknownMacro m0 0
+
+push 0 z variant:0/pub/none - - none
+=> true
+check
+=> refused 3 UnknownItem m0 0
+
+push 0 z mod:0/pub/none - - glob:7:1
+=> true
+check
+=> refused 3 UnknownUse m0 7";
+
+/// One crate with a use, a function, an enum with a variant, and a macro.
+const WORLD_C: &str = "crate 2021 0
+use 0
+item fn 0
+item enum 0
+variant 1 V tuple
+macro rules 0 builtin
+check
+";
+
+/// Pushes that name what that world does not have.
+const UNKNOWN: &str = "push 1 z - - - none
+=> refused 8 Unknown
+
+push 1 z mod:0/pub/none - - none
+=> refused 8 Unknown
+
+push 0 z mod:1/pub/none - - none
+=> refused 8 Unknown
+
+push 0 z fn:1/pub/none - - none
+=> refused 8 Unknown
+
+push 0 z - struct:0/pub/none - none
+=> refused 8 Unknown
+
+push 0 z type:2/pub/none - - none
+=> refused 8 Unknown
+
+push 0 z variant:1/pub/none - - none
+=> refused 8 Unknown
+
+push 0 z - - rules:1/pub/none none
+=> refused 8 Unknown
+
+push 0 z - - macro2:0/pub/none none
+=> refused 8 Unknown
+
+push 0 z proc:0/pub/none - - none
+=> refused 8 Unknown
+
+push 0 z fn:0/in:1:implicit/none - - none
+=> refused 8 Unknown
+
+push 0 z fn:0/crate:1/none - - none
+=> refused 8 Unknown
+
+push 0 z fn:0/pub/import:1:0 - - none
+=> refused 8 Unknown
+
+push 0 z - fn:0/pub/glob:1:0 - none
+=> refused 8 Unknown
+
+push 0 z - - - import:1:0
+=> refused 8 Unknown
+
+push 0 z - - - glob:1:0
+=> refused 8 Unknown";
+
+/// Pushes that name what it has.
+const KNOWN: &str = "push 0 z mod:0/pub/none fn:0/in:0:explicit/none rules:0/crate:0/none none
+=> true
+
+push 0 z variant:0/pub/import:0:9 variant:0/pub/glob:0:9 - import:0:7
+=> true
+
+push 0 z enum:1/pub/extern:9 - rules:0/pub/extern:9 extern:9
+=> true
+
+push 0 z builtin:u8/pub/none - - none
+=> true
+
+push 0 z - - - glob:0:4294967295
+=> true";
+
+/// What makes a world of one crate too great for questions about paths.
+const GREATER: &str = "use 0
+crate 2021 0
+check
+path 0 other module any crate
+=> refused 5 BadLine
+
+use 0
+crate 2021 0
+check
+path 9 other module any crate
+=> refused 5 Unknown
+
+use 0
+block 0 0
+check
+path 0 other module any crate
+=> refused 5 BadLine
+
+use 0
+block 0 0
+check
+path 9 other module any crate
+=> refused 5 Unknown
+
+item enum 0
+variant 0 V unit
+check
+path 0 other module any crate
+=> refused 5 BadLine
+
+item enum 0
+variant 0 V unit
+check
+path 9 other module any crate
+=> refused 5 Unknown
+
+use 0
+macro rules 0 builtin
+check
+path 0 other module any crate
+=> refused 5 BadLine
+
+use 0
+macro rules 0 builtin
+check
+path 9 other module any crate
+=> refused 5 Unknown
+
+use 0
+prelude c0 0
+check
+path 0 other module any crate
+=> refused 5 BadLine
+
+use 0
+prelude c0 0
+check
+path 9 other module any crate
+=> refused 5 Unknown
+
+use 0
+extern 0 d 0 none
+check
+path 0 other module any crate
+=> refused 5 BadLine
+
+use 0
+extern 0 d 0 none
+check
+path 9 other module any crate
+=> refused 5 Unknown";
+
 #[test]
 fn two_crates_with_blocks_and_macros_are_built(rt: HostRuntime) -> Result<(), Fail> {
     let (out, end) = ran(rt.alloc(), WORLD_A.as_bytes(), b"")?;
@@ -104,111 +358,58 @@ fn every_beginning_of_a_script_prints_a_beginning(rt: HostRuntime) -> Result<(),
 
 #[test]
 fn a_world_for_retries_is_built(rt: HostRuntime) -> Result<(), Fail> {
-    let script = "crate 2021 0
+    let transcript = "crate 2021 0
 module 0 a pub
 use 0
 item struct 1
 push 0 a mod:1/pub/none - - none
+=> true
 push 1 S struct:0/pub/none - - none
+=> true
 check
 path 0 other module any crate a S
+=> struct:0/pub/none - - yes - -
 ";
-    let printed = "true\ntrue\nstruct:0/pub/none - - yes - -\n";
-    let (out, end) = ran(rt.alloc(), script.as_bytes(), b"")?;
-    assert_eq!(rt; end, RunEnd::Done);
-    assert_eq!(rt; out.as_slice(), printed.as_bytes());
+    assert_transcript(&rt, rt.alloc(), transcript)?;
     Ok(())
 }
 
 #[test]
 fn pushes_by_imports_take_turns(rt: HostRuntime) -> Result<(), Fail> {
-    let rows = [
-        (
-            "push 0 A struct:0/pub/none - - glob:0:0
-push 0 A struct:1/pub/none - - import:0:1
-path 0 other module any plain A
-",
-            "true\ntrue\nstruct:1/pub/import:0:1 - - yes - -\n",
-        ),
-        (
-            "push 0 A struct:0/pub/none - - import:0:1
-push 0 A struct:1/pub/none - - import:0:2
-push 0 A struct:2/pub/none - - import:0:1
-path 0 other module any plain A
-",
-            "true\nfalse\ntrue\nstruct:2/pub/import:0:1 - - yes - -\n",
-        ),
-        (
-            "push 0 A struct:0/pub/none - - import:0:1
-push 0 A struct:0/in:0:implicit/none - - import:0:1
-push 0 A struct:1/pub/none - - glob:0:0
-path 0 other module any plain A
-",
-            "true\nfalse\nfalse\nstruct:0/pub/import:0:1 - - yes - -\n",
-        ),
-        (
-            "push 0 A struct:0/pub/none fn:3/pub/none - extern:0
-path 0 other module any plain A
-",
-            "true\nstruct:0/pub/extern:0 fn:3/pub/none - yes - -\n",
-        ),
-        (
-            "push 0 A struct:0/pub/none - - none
-push 0 A struct:1/pub/none - - none
-path 0 other module any plain A
-",
-            "true\nfalse\nstruct:0/pub/none - - yes - -\n",
-        ),
-    ];
-    for (lines, printed) in rows {
-        // With the world, and with the builder.
-        let (out, end) = ran(rt.alloc(), WORLD_B.as_bytes(), lines.as_bytes())?;
-        assert_eq!(rt; end, RunEnd::Done, "{lines}");
-        assert_eq!(rt; out.as_slice(), printed.as_bytes(), "{lines}");
-        let tables = format!(in rt.alloc(); "{WORLD_B}build\n")?;
-        let asked = format!(in rt.alloc();
-            "check\npath {}",
-            lines.split_once("path ").unwrap_or(("", "")).1
-        )?;
-        let pushes = format!(in rt.alloc();
-            "{}{asked}",
-            lines.split_once("path ").unwrap_or(("", "")).0
-        )?;
-        let (out, end) = ran(rt.alloc(), tables.as_bytes(), pushes.as_bytes())?;
-        assert_eq!(rt; end, RunEnd::Done, "{lines}");
-        assert_eq!(rt; out.as_slice(), printed.as_bytes(), "{lines}");
+    assert_transcripts(&rt, rt.alloc(), WORLD_B, TURNS)?;
+    for rows in TURNS.split("\n\n") {
+        let (pushes, path) = rows.split_once("path ").unwrap_or((rows, ""));
+        let transcript = format!(in rt.alloc(); "{WORLD_B}build\n{pushes}check\npath {path}")?;
+        assert_transcript(&rt, rt.alloc(), transcript.as_str())?;
     }
     Ok(())
 }
 
 #[test]
 fn a_world_is_built_on(rt: HostRuntime) -> Result<(), Fail> {
-    let script = "crate 2021 0
+    let transcript = "crate 2021 0
 item struct 0
 check
 path 0 other module any plain S
+=> - - - yes - -
 build
 push 0 S struct:0/pub/none - - none
+=> true
 module 0 a pub
 push 0 a mod:1/pub/none - - none
+=> true
 check
 path 0 other module any plain S
+=> struct:0/pub/none - - yes - -
 path 0 other module any crate a
+=> mod:1/pub/none - - yes - -
 build
 push 0 z mod:9/pub/none - - none
+=> true
 check
+=> refused 14 UnknownModule m0 9
 ";
-    let printed = "- - - yes - -
-true
-true
-struct:0/pub/none - - yes - -
-mod:1/pub/none - - yes - -
-true
-refused 14 UnknownModule m0 9
-";
-    let (out, end) = ran(rt.alloc(), script.as_bytes(), b"")?;
-    assert_eq!(rt; end, RunEnd::Refused);
-    assert_eq!(rt; out.as_slice(), printed.as_bytes());
+    assert_transcript(&rt, rt.alloc(), transcript)?;
     Ok(())
 }
 
@@ -258,139 +459,27 @@ check
 
 #[test]
 fn tables_that_name_what_is_not_there_fail_the_check(rt: HostRuntime) -> Result<(), Fail> {
-    let rows = [
-        ("prelude c0 9", "refused 3 UnknownModule c0 9\n"),
-        ("extern 0 d 9 none", "refused 3 UnknownModule c0 9\n"),
-        (
-            "macrouse c0 m rules:7 none",
-            "refused 3 UnknownMacro c0 7\n",
-        ),
-        ("module 0 a in:9:implicit", "refused 3 UnknownModule m1 9\n"),
-        ("module 0 a crate:4", "refused 3 UnknownCrate m1 4\n"),
-        ("legacy 0 m rules:3", "refused 3 UnknownMacro m0 3\n"),
-        (
-            "push 0 z mod:0/pub/none - - import:7:0",
-            "true\nrefused 3 UnknownUse m0 7\n",
-        ),
-        (
-            "item fn 0\npush 0 z struct:0/pub/none - - none",
-            "true\nrefused 4 UnknownItem m0 0\n",
-        ),
-        (
-            "push 0 z struct:5/pub/none - - none\npush 0 y mod:9/pub/none - - none",
-            "true\ntrue\nrefused 4 UnknownModule m0 9\n",
-        ),
-        ("block 0 0\nprelude b0 9", "refused 4 UnknownModule b0 9\n"),
-        (
-            "block 0 0\nmacrouse b0 m macro2:0 none",
-            "refused 4 UnknownMacro b0 0\n",
-        ),
-        (
-            "macro rules 0 builtin\nlegacy 0 m macro2:0",
-            "refused 4 UnknownMacro m0 0\n",
-        ),
-        (
-            "push 0 z variant:0/pub/none - - none",
-            "true\nrefused 3 UnknownItem m0 0\n",
-        ),
-        (
-            "push 0 z mod:0/pub/none - - glob:7:1",
-            "true\nrefused 3 UnknownUse m0 7\n",
-        ),
-    ];
-    for (lines, printed) in rows {
-        let script = format!(in rt.alloc(); "crate 2021 0\n{lines}\ncheck\n")?;
-        let (out, end) = ran(rt.alloc(), script.as_bytes(), b"nonsense\n")?;
-        assert_eq!(rt; end, RunEnd::Refused, "{lines}");
-        assert_eq!(rt; out.as_slice(), printed.as_bytes(), "{lines}");
-    }
+    assert_transcripts(&rt, rt.alloc(), "crate 2021 0\n", DANGLING)?;
     Ok(())
 }
 
 #[test]
 fn pushes_into_a_world_name_what_it_has(rt: HostRuntime) -> Result<(), Fail> {
-    let world = "crate 2021 0
-use 0
-item fn 0
-item enum 0
-variant 1 V tuple
-macro rules 0 builtin
-check
-";
-    let refused = [
-        "push 1 z - - - none",
-        "push 1 z mod:0/pub/none - - none",
-        "push 0 z mod:1/pub/none - - none",
-        "push 0 z fn:1/pub/none - - none",
-        "push 0 z - struct:0/pub/none - none",
-        "push 0 z type:2/pub/none - - none",
-        "push 0 z variant:1/pub/none - - none",
-        "push 0 z - - rules:1/pub/none none",
-        "push 0 z - - macro2:0/pub/none none",
-        "push 0 z proc:0/pub/none - - none",
-        "push 0 z fn:0/in:1:implicit/none - - none",
-        "push 0 z fn:0/crate:1/none - - none",
-        "push 0 z fn:0/pub/import:1:0 - - none",
-        "push 0 z - fn:0/pub/glob:1:0 - none",
-        "push 0 z - - - import:1:0",
-        "push 0 z - - - glob:1:0",
-    ];
-    for line in refused {
-        let (out, end) = ran(rt.alloc(), world.as_bytes(), line.as_bytes())?;
-        assert_eq!(rt; end, RunEnd::Refused, "{line}");
-        assert_eq!(rt; out.as_slice(), b"refused 8 Unknown\n".as_slice(), "{line}");
-    }
-    let answered = [
-        "push 0 z mod:0/pub/none fn:0/in:0:explicit/none rules:0/crate:0/none none",
-        "push 0 z variant:0/pub/import:0:9 variant:0/pub/glob:0:9 - import:0:7",
-        "push 0 z enum:1/pub/extern:9 - rules:0/pub/extern:9 extern:9",
-        "push 0 z builtin:u8/pub/none - - none",
-        "push 0 z - - - glob:0:4294967295",
-    ];
-    for line in answered {
-        let (out, end) = ran(rt.alloc(), world.as_bytes(), line.as_bytes())?;
-        assert_eq!(rt; end, RunEnd::Done, "{line}");
-        assert_eq!(rt; out.as_slice(), b"true\n".as_slice(), "{line}");
-    }
+    assert_transcripts(&rt, rt.alloc(), WORLD_C, UNKNOWN)?;
+    assert_transcripts(&rt, rt.alloc(), WORLD_C, KNOWN)?;
     Ok(())
 }
 
 #[test]
 fn paths_of_greater_worlds_are_refused(rt: HostRuntime) -> Result<(), Fail> {
-    let greater = [
-        "use 0\ncrate 2021 0",
-        "use 0\nblock 0 0",
-        "item enum 0\nvariant 0 V unit",
-        "use 0\nmacro rules 0 builtin",
-        "use 0\nprelude c0 0",
-        "use 0\nextern 0 d 0 none",
-    ];
-    for lines in greater {
-        let world = format!(in rt.alloc(); "crate 2021 0\n{lines}\ncheck\n")?;
-        let (out, _) = ran(
-            rt.alloc(),
-            world.as_bytes(),
-            b"path 0 other module any crate",
-        )?;
-        assert_eq!(rt;
-            out.as_slice(),
-            b"refused 5 BadLine\n".as_slice(),
-            "{lines}"
-        );
-        let (out, _) = ran(
-            rt.alloc(),
-            world.as_bytes(),
-            b"path 9 other module any crate",
-        )?;
-        assert_eq!(rt;
-            out.as_slice(),
-            b"refused 5 Unknown\n".as_slice(),
-            "{lines}"
-        );
-    }
-    let world = "crate 2024 0\nuse 0\nitem trait 0\ncheck\n";
-    let line = b"path 0 other module any crate\n";
-    let (out, _) = ran(rt.alloc(), world.as_bytes(), line.as_slice())?;
-    assert_eq!(rt; out.as_slice(), b"mod:0/pub/none - - yes - -\n".as_slice());
+    assert_transcripts(&rt, rt.alloc(), "crate 2021 0\n", GREATER)?;
+    let small = "crate 2024 0
+use 0
+item trait 0
+check
+path 0 other module any crate
+=> mod:0/pub/none - - yes - -
+";
+    assert_transcript(&rt, rt.alloc(), small)?;
     Ok(())
 }
