@@ -1,7 +1,5 @@
-//! Tests that call the crates below it, and the callers that docs/USING.md shows.
+//! Tests that run whole scripts, and so all the crates below.
 #![tactic(auto)]
 
 #[cfg(test)]
 mod tests;
-pub mod tree;
-pub mod using;

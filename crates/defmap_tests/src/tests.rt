@@ -1,10 +1,63 @@
-//! Calls at concrete types, with ample memory.
-mod builtins;
-mod items;
-mod names;
-mod scopes;
-mod scripts;
-mod traits;
-mod tree;
-mod visibility;
+//! Scripts, and what they have to print.
+mod forms;
+mod paths;
+mod refusals;
+mod seeing;
 mod worlds;
+
+use defmap_script::script::{RunEnd, run_script};
+use std::alloc::{AllocError, Global};
+use std::process::Abort;
+
+/// What a script prints, in two parts that are run as one, and how it ends.
+fn ran(alloc: Global, script: &[u8], lines: &[u8]) -> Result<(Vec<u8>, RunEnd), AllocError> {
+    let mut input = Vec::new(alloc);
+    input.extend_from_slice(script)?;
+    input.extend_from_slice(lines)?;
+    let mut out = Vec::new(alloc);
+    let end = run_script(input.as_slice(), &mut out);
+    Ok((out, end))
+}
+
+fn push_line(text: &mut String, line: &str) -> Result<(), AllocError> {
+    text.push_str(line)?;
+    text.push_str("\n")
+}
+
+/// Runs the lines of a transcript, and compares what they print with what stands in it behind `=> `.
+///
+/// Where a line is refused, one more follows it, which has to go unread.
+fn assert_transcript(rt: &impl Abort, alloc: Global, transcript: &str) -> Result<(), AllocError> {
+    let mut script = String::new(alloc);
+    let mut printed = String::new(alloc);
+    for line in transcript.lines() {
+        match line.strip_prefix("=> ") {
+            Some(answer) => push_line(&mut printed, answer)?,
+            None => push_line(&mut script, line)?,
+        }
+    }
+    let is_refused = printed.contains("refused ");
+    let (wanted, behind) = if is_refused {
+        (RunEnd::Refused, "nonsense")
+    } else {
+        (RunEnd::Done, "")
+    };
+    let (out, end) = ran(alloc, script.as_bytes(), behind.as_bytes())?;
+    assert_eq!(rt; end, wanted, "{transcript}");
+    assert_eq!(rt; out.as_slice(), printed.as_bytes(), "{transcript}");
+    Ok(())
+}
+
+/// Runs each transcript of a table behind the lines of another. Blank lines part the table.
+fn assert_transcripts(
+    rt: &impl Abort,
+    alloc: Global,
+    beginning: &str,
+    table: &str,
+) -> Result<(), AllocError> {
+    for rows in table.split("\n\n") {
+        let transcript = format!(in alloc; "{beginning}{rows}")?;
+        assert_transcript(rt, alloc, transcript.as_str())?;
+    }
+    Ok(())
+}

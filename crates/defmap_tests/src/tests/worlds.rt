@@ -1,138 +1,485 @@
-//! Worlds that are built call by call.
-mod contents;
-mod crate_data;
-mod diagnostics;
-mod faults;
-mod local_maps;
-mod numbers;
-mod reading;
+//! Whole worlds, built line by line.
+use super::{assert_transcript, assert_transcripts, ran};
+use defmap_script::script::RunEnd;
+use std::test::Fail;
 
-use dm_base::ids::{BlockId, Crate, FileAstId, FileId, MapId, ModuleId};
-use dm_base::mod_path::{ModPath, PathKind};
-use dm_base::source::{AstId, Edition, EditionedFileId, HirFileId, TreeId};
-use dm_base::visibility::{RawVisibility, VisibilityExplicitness};
-use dm_maps::builder::WorldBuilder;
-use dm_maps::fault::WorldFault;
-use dm_maps::module_origin::ModuleOrigin;
-use dm_maps::world::World;
-use std::alloc::{AllocError, Global};
+/// Two crates, two blocks, an enum with a variant, a macro, uses, pushes by import and without.
+const WORLD_A: &str = "crate 2021 0
+module 0 a pub
+module 1 b pub
+module 0 c pub
+crate 2015 1
+block 1 0
+module 5 n pub
+module 0 u8 pub
+block 0 1
+item enum 0
+variant 0 V tuple
+item struct 1
+item fn 5
+item fn 4
+item enum 4
+item struct 7
+macro rules 0 declarative:1
+use 0
+use 1
+use 3
+extern 0 dep 4 none
+macrouse c0 mu rules:0 none
+legacy 0 mm rules:0
+push 0 E enum:0/pub/none - - none
+push 0 a mod:1/pub/none - - none
+push 0 c mod:3/pub/none - - none
+push 0 u8 mod:7/pub/none - - none
+push 1 b mod:2/pub/none - - none
+push 1 S struct:1/in:1:implicit/none - - none
+push 4 E enum:4/pub/none - - none
+push 4 hidden - fn:3/in:4:implicit/none - none
+push 5 S - fn:2/in:5:implicit/none - none
+push 5 n mod:6/in:5:implicit/none - - none
+push 7 x struct:5/pub/none - - none
+push 0 P struct:1/pub/import:1:0 fn:2/pub/none - import:0:0
+push 1 Q struct:1/pub/import:0:0 - - import:1:0
+push 0 R struct:1/pub/none - - import:0:1
+push 3 R struct:1/pub/import:0:1 - - import:2:0
+check
+";
 
-/// The map of crate 0.
-const CRATE_MAP: MapId = MapId {
-    krate: Crate(0),
-    block: None,
-};
+/// What the fifteen pushes of that world print.
+const PUSHED: &str = "true
+true
+true
+true
+true
+true
+true
+true
+true
+true
+true
+true
+true
+true
+true
+";
 
-/// The map of block 0, in crate 0.
-const BLOCK_MAP: MapId = MapId {
-    krate: Crate(0),
-    block: Some(BlockId(0)),
-};
+/// One crate with a use, three structs and a function.
+const WORLD_B: &str = "crate 2021 0
+use 0
+item struct 0
+item struct 0
+item struct 0
+item fn 0
+check
+";
 
-const ROOT: ModuleId = ModuleId(0);
+/// Pushes of one name, and what it then is.
+const TURNS: &str = "push 0 A struct:0/pub/none - - glob:0:0
+=> true
+push 0 A struct:1/pub/none - - import:0:1
+=> true
+path 0 other module any plain A
+=> struct:1/pub/import:0:1 - - yes - -
 
-const FILE: EditionedFileId = EditionedFileId {
-    file: FileId(0),
-    edition: Edition::Edition2021,
-};
+push 0 A struct:0/pub/none - - import:0:1
+=> true
+push 0 A struct:1/pub/none - - import:0:2
+=> false
+push 0 A struct:2/pub/none - - import:0:1
+=> true
+path 0 other module any plain A
+=> struct:2/pub/import:0:1 - - yes - -
 
-/// A module that is written out in that file.
-const INLINE: ModuleOrigin = ModuleOrigin::Inline {
-    definition_tree_id: TreeId {
-        file: HirFileId::File(FILE),
-        block: None,
-    },
-    definition: FileAstId(0),
-};
+push 0 A struct:0/pub/none - - import:0:1
+=> true
+push 0 A struct:0/in:0:implicit/none - - import:0:1
+=> false
+push 0 A struct:1/pub/none - - glob:0:0
+=> false
+path 0 other module any plain A
+=> struct:0/pub/import:0:1 - - yes - -
 
-/// An item of that file.
-fn ast(item: u32) -> AstId {
-    AstId {
-        file_id: HirFileId::File(FILE),
-        value: FileAstId(item),
-    }
+push 0 A struct:0/pub/none fn:3/pub/none - extern:0
+=> true
+path 0 other module any plain A
+=> struct:0/pub/extern:0 fn:3/pub/none - yes - -
+
+push 0 A struct:0/pub/none - - none
+=> true
+push 0 A struct:1/pub/none - - none
+=> false
+path 0 other module any plain A
+=> struct:0/pub/none - - yes - -";
+
+/// Tables behind one crate that fail the check.
+const DANGLING: &str = "prelude c0 9
+check
+=> refused 3 UnknownModule c0 9
+
+extern 0 d 9 none
+check
+=> refused 3 UnknownModule c0 9
+
+macrouse c0 m rules:7 none
+check
+=> refused 3 UnknownMacro c0 7
+
+module 0 a in:9:implicit
+check
+=> refused 3 UnknownModule m1 9
+
+module 0 a crate:4
+check
+=> refused 3 UnknownCrate m1 4
+
+legacy 0 m rules:3
+check
+=> refused 3 UnknownMacro m0 3
+
+push 0 z mod:0/pub/none - - import:7:0
+=> true
+check
+=> refused 3 UnknownUse m0 7
+
+item fn 0
+push 0 z struct:0/pub/none - - none
+=> true
+check
+=> refused 4 UnknownItem m0 0
+
+push 0 z struct:5/pub/none - - none
+=> true
+push 0 y mod:9/pub/none - - none
+=> true
+check
+=> refused 4 UnknownModule m0 9
+
+block 0 0
+prelude b0 9
+check
+=> refused 4 UnknownModule b0 9
+
+block 0 0
+macrouse b0 m macro2:0 none
+check
+=> refused 4 UnknownMacro b0 0
+
+macro rules 0 builtin
+legacy 0 m macro2:0
+check
+=> refused 4 UnknownMacro m0 0
+
+push 0 z variant:0/pub/none - - none
+=> true
+check
+=> refused 3 UnknownItem m0 0
+
+push 0 z mod:0/pub/none - - glob:7:1
+=> true
+check
+=> refused 3 UnknownUse m0 7";
+
+/// One crate with a use, a function, an enum with a variant, and a macro.
+const WORLD_C: &str = "crate 2021 0
+use 0
+item fn 0
+item enum 0
+variant 1 V tuple
+macro rules 0 builtin
+check
+";
+
+/// Pushes that name what that world does not have.
+const UNKNOWN: &str = "push 1 z - - - none
+=> refused 8 Unknown
+
+push 1 z mod:0/pub/none - - none
+=> refused 8 Unknown
+
+push 0 z mod:1/pub/none - - none
+=> refused 8 Unknown
+
+push 0 z fn:1/pub/none - - none
+=> refused 8 Unknown
+
+push 0 z - struct:0/pub/none - none
+=> refused 8 Unknown
+
+push 0 z type:2/pub/none - - none
+=> refused 8 Unknown
+
+push 0 z variant:1/pub/none - - none
+=> refused 8 Unknown
+
+push 0 z - - rules:1/pub/none none
+=> refused 8 Unknown
+
+push 0 z - - macro2:0/pub/none none
+=> refused 8 Unknown
+
+push 0 z proc:0/pub/none - - none
+=> refused 8 Unknown
+
+push 0 z fn:0/in:1:implicit/none - - none
+=> refused 8 Unknown
+
+push 0 z fn:0/crate:1/none - - none
+=> refused 8 Unknown
+
+push 0 z fn:0/pub/import:1:0 - - none
+=> refused 8 Unknown
+
+push 0 z - fn:0/pub/glob:1:0 - none
+=> refused 8 Unknown
+
+push 0 z - - - import:1:0
+=> refused 8 Unknown
+
+push 0 z - - - glob:1:0
+=> refused 8 Unknown";
+
+/// Pushes that name what it has.
+const KNOWN: &str = "push 0 z mod:0/pub/none fn:0/in:0:explicit/none rules:0/crate:0/none none
+=> true
+
+push 0 z variant:0/pub/import:0:9 variant:0/pub/glob:0:9 - import:0:7
+=> true
+
+push 0 z enum:1/pub/extern:9 - rules:0/pub/extern:9 extern:9
+=> true
+
+push 0 z builtin:u8/pub/none - - none
+=> true
+
+push 0 z - - - glob:0:4294967295
+=> true";
+
+/// What makes a world of one crate too great for questions about paths.
+const GREATER: &str = "use 0
+crate 2021 0
+check
+path 0 other module any crate
+=> refused 5 BadLine
+
+use 0
+crate 2021 0
+check
+path 9 other module any crate
+=> refused 5 Unknown
+
+use 0
+block 0 0
+check
+path 0 other module any crate
+=> refused 5 BadLine
+
+use 0
+block 0 0
+check
+path 9 other module any crate
+=> refused 5 Unknown
+
+item enum 0
+variant 0 V unit
+check
+path 0 other module any crate
+=> refused 5 BadLine
+
+item enum 0
+variant 0 V unit
+check
+path 9 other module any crate
+=> refused 5 Unknown
+
+use 0
+macro rules 0 builtin
+check
+path 0 other module any crate
+=> refused 5 BadLine
+
+use 0
+macro rules 0 builtin
+check
+path 9 other module any crate
+=> refused 5 Unknown
+
+use 0
+prelude c0 0
+check
+path 0 other module any crate
+=> refused 5 BadLine
+
+use 0
+prelude c0 0
+check
+path 9 other module any crate
+=> refused 5 Unknown
+
+use 0
+extern 0 d 0 none
+check
+path 0 other module any crate
+=> refused 5 BadLine
+
+use 0
+extern 0 d 0 none
+check
+path 9 other module any crate
+=> refused 5 Unknown";
+
+#[test]
+fn two_crates_with_blocks_and_macros_are_built(rt: HostRuntime) -> Result<(), Fail> {
+    let (out, end) = ran(rt.alloc(), WORLD_A.as_bytes(), b"")?;
+    assert_eq!(rt; end, RunEnd::Done);
+    assert_eq!(rt; out.as_slice(), PUSHED.as_bytes());
+    Ok(())
 }
 
-/// `pub(in path)` for a path of this kind without segments.
-fn seen_in(alloc: Global, kind: PathKind) -> RawVisibility {
-    RawVisibility::Module(
-        ModPath::from_segments(kind, Vec::new(alloc)),
-        VisibilityExplicitness::Explicit,
-    )
-}
-
-/// Two fields, of which the second is seen by a path of this kind.
-fn two_fields(alloc: Global, kind: PathKind) -> Result<Vec<RawVisibility>, AllocError> {
-    let mut fields = Vec::new(alloc);
-    fields.push(RawVisibility::Public)?;
-    fields.push(seen_in(alloc, kind))?;
-    Ok(fields)
-}
-
-/// A builder.
-struct Building {
-    builder: WorldBuilder,
-}
-
-/// Written out, since a builder let go in each test would be proved there each time.
-impl Drop for Building {
-    fn drop(self) {
-        let Building { builder: _builder } = self;
-    }
-}
-
-/// A checked world.
-struct Checked {
-    world: World,
-}
-
-/// Written out, as for a builder.
-impl Drop for Checked {
-    fn drop(self) {
-        let Checked { world: _world } = self;
-    }
-}
-
-impl Building {
-    /// Nothing yet.
-    fn new(alloc: Global) -> Building {
-        Building {
-            builder: WorldBuilder::new(alloc),
+/// Whether each printed line is the answer of an effective push, or refuses a bad line.
+fn is_beginning(printed: &[u8]) -> bool {
+    for line in printed.split(|byte| *byte == b'\n') {
+        let refused = line.starts_with(b"refused ") && line.ends_with(b" BadLine");
+        if !line.is_empty() && line != b"true".as_slice() && !refused {
+            return false;
         }
     }
-
-    /// The world; or the builder, and why there is no world.
-    fn check(self) -> Result<Checked, (Building, WorldFault)> {
-        let Building { builder } = self;
-        match builder.check() {
-            Ok(world) => Ok(Checked { world }),
-            Err((builder, fault)) => Err((Building { builder }, fault)),
-        }
-    }
-
-    /// The world, if there is one.
-    fn world(self) -> Option<Checked> {
-        match self.check() {
-            Ok(checked) => Some(checked),
-            Err((_building, _fault)) => None,
-        }
-    }
-
-    /// Why there is no world, if there is none.
-    fn fault(self) -> Option<WorldFault> {
-        match self.check() {
-            Ok(_checked) => None,
-            Err((_building, fault)) => Some(fault),
-        }
-    }
+    true
 }
 
-impl Checked {
-    /// The builder of the same tables.
-    fn into_building(self) -> Building {
-        let Checked { world } = self;
-        Building {
-            builder: world.into_builder(),
-        }
+#[test]
+fn every_beginning_of_a_script_prints_a_beginning(rt: HostRuntime) -> Result<(), Fail> {
+    let script = WORLD_A.as_bytes();
+    for cut in 0..script.len() {
+        let (out, _end) = ran(rt.alloc(), &script[..cut], b"")?;
+        assert!(rt; is_beginning(out.as_slice()), "{cut}");
     }
+    Ok(())
+}
+
+#[test]
+fn a_world_for_retries_is_built(rt: HostRuntime) -> Result<(), Fail> {
+    let transcript = "crate 2021 0
+module 0 a pub
+use 0
+item struct 1
+push 0 a mod:1/pub/none - - none
+=> true
+push 1 S struct:0/pub/none - - none
+=> true
+check
+path 0 other module any crate a S
+=> struct:0/pub/none - - yes - -
+";
+    assert_transcript(&rt, rt.alloc(), transcript)?;
+    Ok(())
+}
+
+#[test]
+fn pushes_by_imports_take_turns(rt: HostRuntime) -> Result<(), Fail> {
+    assert_transcripts(&rt, rt.alloc(), WORLD_B, TURNS)?;
+    for rows in TURNS.split("\n\n") {
+        let (pushes, path) = rows.split_once("path ").unwrap_or((rows, ""));
+        let transcript = format!(in rt.alloc(); "{WORLD_B}build\n{pushes}check\npath {path}")?;
+        assert_transcript(&rt, rt.alloc(), transcript.as_str())?;
+    }
+    Ok(())
+}
+
+#[test]
+fn a_world_is_built_on(rt: HostRuntime) -> Result<(), Fail> {
+    let transcript = "crate 2021 0
+item struct 0
+check
+path 0 other module any plain S
+=> - - - yes - -
+build
+push 0 S struct:0/pub/none - - none
+=> true
+module 0 a pub
+push 0 a mod:1/pub/none - - none
+=> true
+check
+path 0 other module any plain S
+=> struct:0/pub/none - - yes - -
+path 0 other module any crate a
+=> mod:1/pub/none - - yes - -
+build
+push 0 z mod:9/pub/none - - none
+=> true
+check
+=> refused 14 UnknownModule m0 9
+";
+    assert_transcript(&rt, rt.alloc(), transcript)?;
+    Ok(())
+}
+
+#[test]
+fn every_word_of_a_macro_and_a_shape_is_read(rt: HostRuntime) -> Result<(), Fail> {
+    let script = "# words
+  crate  2018 07 \nitem enum 0
+variant 0 R record
+variant 0 T tuple
+variant 0 U unit
+macro macro2 0 eager
+macro macro2 0 builtin
+macro macro2 0 unimplemented
+macro rules 0 attr
+macro rules 0 derive
+macro rules 0 declarative:07
+macro proc 0 bang
+macro proc 0 attr
+macro proc 0 custom_derive
+legacy 0 l macro2:0
+legacy 0 l macro2:1
+legacy 0 l macro2:2
+legacy 0 l rules:3
+legacy 0 l rules:4
+legacy 0 l rules:5
+legacy 0 l proc:6
+legacy 0 l proc:7
+legacy 0 l proc:08
+push 0 v variant:0/pub/none variant:1/pub/none - none
+push 0 w variant:2/pub/none - proc:8/pub/none none
+block 0 4294967295
+prelude b00 0
+prelude c0 0
+macrouse b0 m macro2:1 none
+macrouse c0 m macro2:1 4294967295
+extern 0 own 0 7
+raw match
+raw match
+raw raw
+check
+";
+    let (out, end) = ran(rt.alloc(), script.as_bytes(), b"")?;
+    assert_eq!(rt; out.as_slice(), b"true\ntrue\n".as_slice());
+    assert_eq!(rt; end, RunEnd::Done);
+    Ok(())
+}
+
+#[test]
+fn tables_that_name_what_is_not_there_fail_the_check(rt: HostRuntime) -> Result<(), Fail> {
+    assert_transcripts(&rt, rt.alloc(), "crate 2021 0\n", DANGLING)?;
+    Ok(())
+}
+
+#[test]
+fn pushes_into_a_world_name_what_it_has(rt: HostRuntime) -> Result<(), Fail> {
+    assert_transcripts(&rt, rt.alloc(), WORLD_C, UNKNOWN)?;
+    assert_transcripts(&rt, rt.alloc(), WORLD_C, KNOWN)?;
+    Ok(())
+}
+
+#[test]
+fn paths_of_greater_worlds_are_refused(rt: HostRuntime) -> Result<(), Fail> {
+    assert_transcripts(&rt, rt.alloc(), "crate 2021 0\n", GREATER)?;
+    let small = "crate 2024 0
+use 0
+item trait 0
+check
+path 0 other module any crate
+=> mod:0/pub/none - - yes - -
+";
+    assert_transcript(&rt, rt.alloc(), small)?;
+    Ok(())
 }

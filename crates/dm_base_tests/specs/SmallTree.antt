@@ -4,7 +4,7 @@ use Rattle.std.specs.Option.{option_map_or, option_and_then}
 use Rattle.dm_ids.specs.declared.ModuleId.{ModuleId}
 use Rattle.dm_ids.specs.declared.MapId.{MapId}
 use Rattle.dm_base.specs.Tree.{Tree}
-use Rattle.defmap_tests.specs.declared.tree.Place.{Place}
+use Rattle.dm_base_tests.specs.declared.tree.Place.{Place}
 
 -- a crate's map, and a block's map in crate 0
 abbrev pub crate_map : ℕ → MapId

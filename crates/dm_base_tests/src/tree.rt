@@ -1,7 +1,7 @@
 //! A tree of modules that is no world's: what is generic over trees is proved and run at this type too.
 ghost use Rattle.std.specs.Prelude.{◌≡◌};
 ghost use Rattle.dm_base.specs.Tree.{IsTree};
-ghost use Rattle.defmap_tests.specs.SmallTree.{tree_by, small_places, small_blocks};
+ghost use Rattle.dm_base_tests.specs.SmallTree.{tree_by, small_places, small_blocks};
 
 use dm_base::ids::{BlockId, Crate, MapId, ModuleId};
 use dm_base::module_tree::ModuleTree;

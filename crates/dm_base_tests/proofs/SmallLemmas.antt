@@ -7,7 +7,7 @@ use Rattle.dm_ids.specs.declared.BlockId.{BlockId}
 use Rattle.dm_ids.specs.declared.Crate.{Crate}
 use Rattle.dm_ids.specs.declared.MapId.{MapId}
 use Rattle.dm_base.specs.Tree.{Tree, IsTree, IsKnown, same_crate, same_block, same_map, crate_of, containing, outside, in_block_map}
-use Rattle.defmap_tests.specs.SmallTree.{tree_by, small_places, small_blocks}
+use Rattle.dm_base_tests.specs.SmallTree.{tree_by, small_places, small_blocks}
 
 abbrev t : Tree
 t = tree_by small_places small_blocks

@@ -1,0 +1,7 @@
+//! Calls at concrete types, with ample memory.
+mod builtins;
+mod items;
+mod names;
+mod traits;
+mod tree;
+mod visibility;
