@@ -102,7 +102,7 @@ impl Building {
     }
 
     /// All of these.
-    pub fn full(alloc: Global) -> Result<Building, BuildFault> {
+    pub(crate) fn full(alloc: Global) -> Result<Building, BuildFault> {
         let mut building = Building::one_of_each(alloc)?;
         building.put_into_maps(alloc)?;
         building.put_extern(alloc)?;

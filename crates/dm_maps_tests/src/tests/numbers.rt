@@ -27,12 +27,12 @@ const KINDS: [ItemKind; 8] = [
 
 impl Building {
     /// A crate.
-    pub fn add_crate(&mut self, edition: Edition) -> Result<Crate, BuildFault> {
+    pub(crate) fn add_crate(&mut self, edition: Edition) -> Result<Crate, BuildFault> {
         self.builder.add_crate(edition, FILE)
     }
 
     /// A public module that is written out below another.
-    pub fn add_module(
+    pub(crate) fn add_module(
         &mut self,
         alloc: Global,
         parent: ModuleId,
@@ -44,22 +44,26 @@ impl Building {
     }
 
     /// A block.
-    pub fn add_block(&mut self, containing: ModuleId) -> Result<BlockId, BuildFault> {
+    pub(crate) fn add_block(&mut self, containing: ModuleId) -> Result<BlockId, BuildFault> {
         self.builder.add_block(containing, ast(1))
     }
 
     /// A `use`.
-    pub fn add_use(&mut self, m: ModuleId) -> Result<UseId, BuildFault> {
+    pub(crate) fn add_use(&mut self, m: ModuleId) -> Result<UseId, BuildFault> {
         self.builder.add_use(m)
     }
 
     /// An item.
-    pub fn add_item(&mut self, kind: ItemKind, m: ModuleId) -> Result<ModuleDefId, BuildFault> {
+    pub(crate) fn add_item(
+        &mut self,
+        kind: ItemKind,
+        m: ModuleId,
+    ) -> Result<ModuleDefId, BuildFault> {
         self.builder.add_item(kind, m)
     }
 
     /// A tuple variant.
-    pub fn add_variant(
+    pub(crate) fn add_variant(
         &mut self,
         alloc: Global,
         e: EnumId,
@@ -70,7 +74,7 @@ impl Building {
     }
 
     /// A macro.
-    pub fn add_macro(&mut self, m: ModuleId, loc: MacroLoc) -> Result<MacroId, BuildFault> {
+    pub(crate) fn add_macro(&mut self, m: ModuleId, loc: MacroLoc) -> Result<MacroId, BuildFault> {
         self.builder.add_macro(m, loc)
     }
 
@@ -102,7 +106,7 @@ impl Building {
     }
 
     /// One of each: modules 0 to 3, block 0, items 0 to 7, variant 0, use 0, macros 0 to 2.
-    pub fn one_of_each(alloc: Global) -> Result<Building, BuildFault> {
+    pub(crate) fn one_of_each(alloc: Global) -> Result<Building, BuildFault> {
         let mut building = Building::new(alloc);
         building.add_modules(alloc)?;
         building.add_items(alloc)?;

@@ -28,12 +28,12 @@ fn world(alloc: Global) -> Result<Option<Checked>, BuildFault> {
 
 impl Checked {
     /// The prelude module of a map, and its `use`.
-    pub fn prelude(&self, id: MapId) -> Option<(ModuleId, Option<UseId>)> {
+    pub(crate) fn prelude(&self, id: MapId) -> Option<(ModuleId, Option<UseId>)> {
         self.world.numbered_map(id)?.prelude()
     }
 
     /// The module under a name in a crate's extern prelude.
-    pub fn extern_crate(
+    pub(crate) fn extern_crate(
         &self,
         alloc: Global,
         krate: Crate,
