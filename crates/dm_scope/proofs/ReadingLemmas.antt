@@ -21,7 +21,7 @@ use Rattle.dm_base.specs.declared.item_ids.MacroId.TheVariants as macro
 use Rattle.dm_base.specs.declared.item_ids.ModuleDefId.{ModuleDefId}
 use Rattle.dm_base.specs.declared.item_ids.ModuleDefId.TheVariants as def
 use Rattle.dm_scope.specs.Push.{types_reading, values_reading, macros_reading}
-use Rattle.dm_lists.specs.Sameness.{same_import_id, same_glob_id, same_import, same_value_import, same_int, same_uint, same_float, same_builtin, same_adt, same_macro, same_def}
+use Rattle.dm_base.specs.Sameness.{same_import_id, same_glob_id, same_import, same_value_import, same_int, same_uint, same_float, same_builtin, same_adt, same_macro, same_def}
 use Rattle.dm_scope.proofs.PushLemmas.{IsReading, and_left, and_right}
 
 and-both : (a b : Bool) → a ≡ true → b ≡ true → (a && b) ≡ true

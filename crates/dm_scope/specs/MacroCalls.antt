@@ -4,8 +4,8 @@ use Rattle.std.specs.List.{filter_map, flat_map}
 use Rattle.either.specs.declared.Either.TheVariants.{Left, Right}
 use Rattle.smallvec.specs.SmallVec.{SmallVec}
 use Rattle.dm_ids.specs.declared.MacroCallId.{MacroCallId}
-use Rattle.dm_lists.specs.Derives.{Derive, Slot}
-use Rattle.dm_lists.specs.declared.derives.DeriveMacroInvocation.{DeriveMacroInvocation}
+use Rattle.dm_scope.specs.Derives.{Derive, Slot}
+use Rattle.dm_scope.specs.declared.derives.DeriveMacroInvocation.{DeriveMacroInvocation}
 
 -- the macro call that a derive's slot holds, if it is filled and the derive is no builtin one
 abbrev pub call_in : Slot → Option MacroCallId

@@ -1,8 +1,8 @@
 use Rattle.std.proofs.Common.{◌∙◌, sym, ap}
-use Rattle.dm_lists.specs.TableLists.{lists_of}
-use Rattle.dm_lists.proofs.Outcomes.{on-err}
-use Rattle.dm_lists.proofs.TableListLemmas.{add_to_list-present, lists_of-unchanged}
-use Rattle.dm_lists.proofs.table_lists.add_to_list.Goals as goal
+use Rattle.dm_scope.specs.TableLists.{lists_of}
+use Rattle.dm_scope.proofs.Outcomes.{on-err}
+use Rattle.dm_scope.proofs.TableListLemmas.{add_to_list-present, lists_of-unchanged}
+use Rattle.dm_scope.proofs.table_lists.add_to_list.Goals as goal
 
 pub returns-in_err-push_last-in-Some-clause-err : goal.returns-in_err-push_last-in-Some-clause-err
 returns-in_err-push_last-in-Some-clause-err g c =

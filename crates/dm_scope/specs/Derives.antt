@@ -9,9 +9,9 @@ use Rattle.dm_ids.specs.declared.BuiltinDeriveImplId.{BuiltinDeriveImplId}
 use Rattle.dm_base.specs.declared.source.AstId.{AstId}
 use Rattle.either.specs.declared.Either.{Either}
 use Rattle.smallvec.specs.SmallVec.{SmallVec}
-use Rattle.dm_lists.specs.Sameness.{same_ast}
-use Rattle.dm_lists.specs.TableLists.{lists_of}
-use Rattle.dm_lists.specs.declared.derives.DeriveMacroInvocation.{DeriveMacroInvocation}
+use Rattle.dm_base.specs.Sameness.{same_ast}
+use Rattle.dm_scope.specs.TableLists.{lists_of}
+use Rattle.dm_scope.specs.declared.derives.DeriveMacroInvocation.{DeriveMacroInvocation}
 
 -- what a derive of an attribute stands for, once it is known: a macro call, or an `impl` that a builtin derive writes
 abbrev pub Slot : Type 0

@@ -4,9 +4,9 @@ ghost use Rattle.std.specs.Iterator.{at_most, UpTo};
 ghost use Rattle.std.specs.Iterator.SizeHint.{IsWithinCount};
 ghost use Rattle.std.specs.List.{filter_map};
 ghost use Rattle.std.specs.Map.Iter.{TakesFirst, deref_pair};
-ghost use Rattle.dm_lists.specs.Derives.{derives_of, deref_derives};
-ghost use Rattle.dm_lists.specs.Iterators.{any_impl, trait_impl, inherent_impl, module_of, trait_of, deref_legacy};
-ghost use Rattle.dm_lists.specs.TableLists.{lists_of};
+ghost use Rattle.dm_scope.specs.Derives.{derives_of, deref_derives};
+ghost use Rattle.dm_scope.specs.Iterators.{any_impl, trait_impl, inherent_impl, module_of, trait_of, deref_legacy};
+ghost use Rattle.dm_scope.specs.TableLists.{lists_of};
 
 use crate::derives::DeriveMacroInvocation;
 use crate::picked::{Pick, Picked};
@@ -213,7 +213,7 @@ impl<'a> Model for LegacyMacros<'a> {
     ghost use Rattle.std.specs.Prelude.{List};
     ghost use Rattle.dm_base.specs.declared.item_ids.MacroId.{MacroId};
     ghost use Rattle.dm_base.specs.Names.{Name};
-    ghost use Rattle.dm_lists.specs.TableLists.{lists_of};
+    ghost use Rattle.dm_scope.specs.TableLists.{lists_of};
 
     ghost Value = { List (Name × List MacroId) };
 
@@ -324,7 +324,7 @@ pub struct DeriveMacroInvocations<'a> {
 impl<'a> Model for DeriveMacroInvocations<'a> {
     ghost use Rattle.std.specs.Prelude.{List};
     ghost use Rattle.dm_base.specs.declared.source.AstId.{AstId};
-    ghost use Rattle.dm_lists.specs.Derives.{Derive, derives_of};
+    ghost use Rattle.dm_scope.specs.Derives.{Derive, derives_of};
 
     ghost Value = { List (AstId × List Derive) };
 

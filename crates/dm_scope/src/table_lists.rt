@@ -1,7 +1,7 @@
 //! Tables of lists.
 ghost use Rattle.std.specs.Prelude.{◌≡◌, ◌++◌, ◌∷◌, [], None, OnErr, OnOk};
 ghost use Rattle.std.specs.Map.{lookup};
-ghost use Rattle.dm_lists.specs.TableLists.{lists_of, add_to_list};
+ghost use Rattle.dm_scope.specs.TableLists.{lists_of, add_to_list};
 
 use indexmap::IndexMap;
 use smallvec::SmallVec;
@@ -11,7 +11,7 @@ use std::hash::Hash;
 
 /// Puts an element at the end of a key's list, or of a new list of a key that is not there yet. Where memory is short,
 /// nothing changes.
-pub fn add_to_list<K: Eq + Hash + Drop, X: MadeWith<Global> + Drop, const N: usize>(
+pub(crate) fn add_to_list<K: Eq + Hash + Drop, X: MadeWith<Global> + Drop, const N: usize>(
     table: &mut IndexMap<K, SmallVec<X, N>>,
     key: K,
     x: X,

@@ -5,7 +5,7 @@ ghost use Rattle.std.specs.List.{filter_map};
 ghost use Rattle.std.specs.Map.Iter.{TakesFirst};
 ghost use Rattle.std.specs.Option.{MatchOption};
 ghost use Rattle.std.specs.Slice.Iter.{iter_rest};
-ghost use Rattle.dm_lists.specs.MacroCalls.{call_in, attribute_calls, item_calls};
+ghost use Rattle.dm_scope.specs.MacroCalls.{call_in, attribute_calls, item_calls};
 
 use crate::derives::DeriveMacroInvocation;
 use crate::picked::{Pick, Picked};
@@ -46,7 +46,7 @@ impl<'a> Model for AttributeCalls<'a> {
     ghost use Rattle.std.specs.Prelude.{List, ◌++◌};
     ghost use Rattle.std.specs.Slice.Iter.{iter_rest};
     ghost use Rattle.dm_ids.specs.declared.MacroCallId.{MacroCallId};
-    ghost use Rattle.dm_lists.specs.MacroCalls.{attribute_calls};
+    ghost use Rattle.dm_scope.specs.MacroCalls.{attribute_calls};
 
     ghost Value = { List MacroCallId };
 
@@ -107,7 +107,7 @@ impl<'a> Model for DeriveCalls<'a> {
     ghost use Rattle.std.specs.Prelude.{List, ◌++◌};
     ghost use Rattle.std.specs.Slice.Iter.{iter_rest};
     ghost use Rattle.dm_ids.specs.declared.MacroCallId.{MacroCallId};
-    ghost use Rattle.dm_lists.specs.MacroCalls.{item_calls};
+    ghost use Rattle.dm_scope.specs.MacroCalls.{item_calls};
 
     ghost Value = { List MacroCallId };
 

@@ -8,7 +8,7 @@ use Rattle.dm_base.specs.declared.source.HirFileId.TheVariants as file
 use Rattle.dm_base.specs.contracts.source.AstIdPartialEq.TheImpl as ast_eq
 use Rattle.dm_base.specs.contracts.source.EditionPartialEq.TheImpl as edition_eq
 use Rattle.dm_base.specs.contracts.source.HirFileIdPartialEq.TheImpl as file_eq
-use Rattle.dm_lists.specs.Sameness.{same_edition, same_file, same_ast}
+use Rattle.dm_base.specs.Sameness.{same_edition, same_file, same_ast}
 
 edition_is : (x y : Edition) → edition_eq.ghosts.eq x y ≡ same_edition x y
 edition_is edition.Edition2015 edition.Edition2015 = refl

@@ -1,9 +1,9 @@
 use Rattle.std.proofs.Common.{◌∙◌, ◌++◌, ◌∷◌, [], ap, sym}
 use Rattle.std.proofs.lemmas.List.{map-append}
 use Rattle.indexmap.proofs.CallerLemmas.{insert_entry-new}
-use Rattle.dm_lists.specs.TableLists.{lists_of}
-use Rattle.dm_lists.proofs.TableListLemmas.{add_to_list-absent}
-use Rattle.dm_lists.proofs.table_lists.add_list.Goals as goal
+use Rattle.dm_scope.specs.TableLists.{lists_of}
+use Rattle.dm_scope.proofs.TableListLemmas.{add_to_list-absent}
+use Rattle.dm_scope.proofs.table_lists.add_list.Goals as goal
 
 pub returns-clause-ok : goal.returns-clause-ok
 returns-clause-ok g c =
