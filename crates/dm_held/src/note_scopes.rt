@@ -1,9 +1,9 @@
-//! The ids that modules hold.
+//! The ids that scopes hold.
 ghost use Rattle.std.specs.Prelude.{◌≡◌, None, map};
 ghost use Rattle.std.specs.List.{fold, flat_map};
 ghost use Rattle.dm_held.specs.declared.held.HeldId.TheVariants as held;
 ghost use Rattle.dm_held.specs.Held.{noted};
-ghost use Rattle.dm_held.specs.Holds.{module_holds, scope_holds, bindings_hold, lists_hold, legacies_hold, types_hold, values_hold, macros_hold, unnamed_trait_holds, unnamed_const_holds};
+ghost use Rattle.dm_held.specs.Holds.{scope_holds, bindings_hold, lists_hold, legacies_hold, types_hold, values_hold, macros_hold, unnamed_trait_holds, unnamed_const_holds};
 ghost use Rattle.dm_held.specs.Holding.{def_holds, type_holds, value_holds, macro_holds};
 
 use crate::held::{HeldFault, HeldId};
@@ -15,7 +15,6 @@ use dm_base::imports::{ImportId, ImportOrExternCrate, ImportOrGlob};
 use dm_base::item_ids::{ItemKind, MacroId, ModuleDefId};
 use dm_base::per_ns::Item;
 use dm_base::visibility::Visibility;
-use dm_modules::module_data::ModuleData;
 use dm_scope::item_scope::ItemScope;
 
 /// With what a type holds.
@@ -232,7 +231,7 @@ fn note_lists<T: KnownIds>(
 
 /// With what a scope holds.
 #[tactic(auto, using(crate::proofs::Sets::parts))]
-fn note_scope<T: KnownIds>(
+pub fn note_scope<T: KnownIds>(
     world: &T,
     least: Option<HeldFault>,
     scope: &ItemScope,
@@ -243,13 +242,4 @@ fn note_scope<T: KnownIds>(
     let least = note_records(world, least, scope);
     let least = note_legacies(world, least, scope);
     note_lists(world, least, scope)
-}
-
-/// The least fault of a module.
-#[tactic(auto, using(crate::proofs::Sets::parts))]
-pub fn note_module<T: KnownIds>(world: &T, m: &ModuleData) -> Option<HeldFault>
-    ensures { result ≡ fold (noted (T.known world.now)) None (module_holds m.now) }
-{
-    let least = note_vis(world, None, m.visibility());
-    note_scope(world, least, m.scope())
 }
