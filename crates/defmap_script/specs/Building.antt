@@ -16,7 +16,7 @@ use Rattle.dm_base.specs.declared.source.EditionedFileId.{EditionedFileId}
 use Rattle.dm_base.specs.declared.source.HirFileId.{HirFileId}
 use Rattle.dm_base.specs.declared.source.HirFileId.TheVariants as tree_file
 use Rattle.dm_scope.specs.Scope.{Scope}
-use Rattle.dm_lists.specs.TableLists.{add_to_list}
+use Rattle.dm_scope.specs.TableLists.{add_to_list}
 use Rattle.dm_maps.specs.declared.build_fault.BuildFault.{BuildFault}
 use Rattle.dm_modules.specs.declared.module_origin.ModuleOrigin.{ModuleOrigin}
 use Rattle.dm_modules.specs.declared.module_origin.ModuleOrigin.TheVariants.{Inline}

@@ -15,3 +15,5 @@ pub mod ItemList
 pub mod Reresolved
 pub mod Files
 pub mod VisibilityRows
+pub mod Sameness
+pub mod AstLaws

@@ -1,6 +1,8 @@
 -- Which ids definitions, items, paths and extern preludes hold.
-use Rattle.std.specs.Prelude.{List, [], ◌∷◌, ◌++◌, map}
+use Rattle.std.specs.Prelude.{List, [], ◌∷◌, ◌++◌, Option, map}
 use Rattle.std.specs.Option.{option_map_or}
+use Rattle.dm_ids.specs.declared.ExternCrateId.{ExternCrateId}
+use Rattle.dm_ids.specs.declared.ModuleId.{ModuleId}
 use Rattle.dm_base.specs.declared.item_ids.ItemKind.TheVariants as item
 use Rattle.dm_base.specs.declared.item_ids.ModuleDefId.{ModuleDefId}
 use Rattle.dm_base.specs.declared.item_ids.ModuleDefId.TheVariants as def
@@ -16,9 +18,9 @@ use Rattle.dm_base.specs.declared.per_ns.Item.{Item}
 use Rattle.dm_base.specs.declared.per_ns.PerNs.{PerNs}
 use Rattle.dm_base.specs.declared.visibility.Visibility.{Visibility}
 use Rattle.dm_base.specs.declared.visibility.Visibility.TheVariants as vis
+use Rattle.dm_base.specs.Names.{Name}
 use Rattle.dm_held.specs.declared.held.HeldId.{HeldId}
 use Rattle.dm_held.specs.declared.held.HeldId.TheVariants as held
-use Rattle.dm_modules.specs.Maps.{LocalMap}
 
 -- ---- What holds which ids. Extern crates are opaque, and builtin types are no ids.
 
@@ -68,6 +70,6 @@ abbrev pub path_holds : PathKind → List HeldId
 path_holds (kind.DollarCrate k) = held.Crate k ∷ []
 path_holds _ = []
 
--- a local map holds its modules
-abbrev pub local_holds : LocalMap → List HeldId
+-- an extern prelude holds its modules
+abbrev pub local_holds : List (Name × (ModuleId × Option ExternCrateId)) → List HeldId
 local_holds L = map (λ e. held.Module e.0) (map (λ e. e.1) L)

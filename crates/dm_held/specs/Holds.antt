@@ -1,4 +1,4 @@
--- Which ids maps and modules hold. Impl blocks, extern blocks, extern crates, builtin derives, macro calls and places in
+-- Which ids preludes and scopes hold. Impl blocks, extern blocks, extern crates, builtin derives, macro calls and places in
 -- source text are opaque: they hold none.
 use Rattle.std.specs.Prelude.{List, [], ◌∷◌, ◌++◌, Option, map}
 use Rattle.std.specs.List.{flat_map}
@@ -21,8 +21,6 @@ use Rattle.dm_base.specs.Names.{Name}
 use Rattle.dm_scope.specs.Scope.{Scope}
 use Rattle.dm_held.specs.declared.held.HeldId.{HeldId}
 use Rattle.dm_held.specs.declared.held.HeldId.TheVariants as held
-use Rattle.dm_modules.specs.Maps.{Map, Module}
-use Rattle.dm_held.specs.TablesHold.{macro_defs_hold, helpers_hold, diagnostics_hold}
 use Rattle.dm_held.specs.Holding.{def_holds, vis_holds, import_holds, value_import_holds, type_holds, value_holds, macro_holds}
 
 -- a map's prelude holds its module, and the use that named it
@@ -31,14 +29,6 @@ prelude_holds p = held.Module p.0 ∷ option_map_or (λ u. held.Use u ∷ []) p.
 
 abbrev pub macro_uses_hold : {X : Type 0} → List (Name × (MacroId × X)) → List HeldId
 macro_uses_hold es = map (λ e. held.Macro e.0) (map (λ e. e.1) es)
-
--- a map holds its prelude's ids and the macros that `#[macro_use]` brings
-abbrev pub preludes_hold : Map → List HeldId
-preludes_hold m = option_map_or prelude_holds m.prelude [] ++ macro_uses_hold m.macro_use
-
--- and the macros of its definitions in syntax and of its derive helpers, and what its diagnostics hold
-abbrev pub map_holds : Map → List HeldId
-map_holds m = preludes_hold m ++ (macro_defs_hold m.macro_defs ++ (helpers_hold m.derive_helpers ++ diagnostics_hold m.diagnostics))
 
 -- what an import stands for holds the use of a further import, or the definition
 abbrev pub step_holds : ImportOrDef → List HeldId
@@ -87,7 +77,3 @@ lists_hold s = flat_map def_holds s.declarations ++ (flat_map unnamed_trait_hold
 -- what a scope holds
 abbrev pub scope_holds : Scope → List HeldId
 scope_holds s = bindings_hold s ++ (records_hold s ++ (legacies_hold s.legacy_macros ++ lists_hold s))
-
--- a module holds its visibility's ids and what its scope holds
-abbrev pub module_holds : Module → List HeldId
-module_holds d = vis_holds d.visibility ++ scope_holds d.scope

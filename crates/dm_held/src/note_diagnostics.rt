@@ -40,7 +40,7 @@ fn note_diagnostic<T: KnownIds>(
 
 /// With what the diagnostics of a map hold.
 #[tactic(auto, using(crate::proofs::Sets::parts))]
-pub(crate) fn note_diagnostics<T: KnownIds>(
+pub fn note_diagnostics<T: KnownIds>(
     world: &T,
     least: Option<HeldFault>,
     diagnostics: &[DefDiagnostic],

@@ -7,7 +7,7 @@ ghost use Rattle.dm_held.specs.Pushes.{push_holds};
 
 use crate::held::{HeldFault, HeldId};
 use crate::known_ids::KnownIds;
-use crate::note_modules::{note_macro, note_type, note_value};
+use crate::note_scopes::{note_macro, note_type, note_value};
 use crate::notes::{note, note_import};
 use dm_base::ids::ModuleId;
 use dm_base::imports::ImportOrExternCrate;

@@ -21,7 +21,7 @@ use indexmap::IndexMap;
 
 /// With the macros that items of the syntax define.
 #[tactic(auto, using(crate::proofs::Sets::parts))]
-pub(crate) fn note_macro_defs<T: KnownIds>(
+pub fn note_macro_defs<T: KnownIds>(
     world: &T,
     least: Option<HeldFault>,
     table: &IndexMap<AstId, MacroId>,
@@ -35,7 +35,7 @@ pub(crate) fn note_macro_defs<T: KnownIds>(
 
 /// With the macros of derive helpers.
 #[tactic(auto, using(crate::proofs::Sets::parts))]
-pub(crate) fn note_helpers<T: KnownIds>(
+pub fn note_helpers<T: KnownIds>(
     world: &T,
     least: Option<HeldFault>,
     table: &IndexMap<AstId, DeriveHelpers>,

@@ -70,7 +70,7 @@ pub(crate) fn note<T: KnownIds>(
 }
 
 /// With the ids that a visibility holds.
-pub(crate) fn note_vis<T: KnownIds>(
+pub fn note_vis<T: KnownIds>(
     world: &T,
     least: Option<HeldFault>,
     vis: Visibility,

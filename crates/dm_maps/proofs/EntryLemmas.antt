@@ -1,7 +1,6 @@
 -- Lists and entries that grow, or are written at a place.
-use Rattle.std.proofs.Common.{◌≡◌, ◌-◌, ℕ, zero, suc, List, [], ◌∷◌, ◌++◌, Some, length, take, set, map, slice_get, ◌⊎◌, inl, inr, sym, ap, ◌∙◌, refl, arith, length-append}
+use Rattle.std.proofs.Common.{◌≡◌, ◌-◌, ℕ, zero, suc, List, [], ◌∷◌, ◌++◌, Some, length, take, set, slice_get, ◌⊎◌, inl, inr, sym, ap, ◌∙◌, refl, arith, length-append}
 use Rattle.std.proofs.Math.Seq.{take-append_seam}
-use Rattle.indexmap.specs.IndexMap.{set_value_at}
 
 -- a list less the one that was added
 pub take-push : {X : Type 0} (xs : List X) (x : X) → take (length (xs ++ x ∷ []) - 1) (xs ++ x ∷ []) ≡ xs
@@ -10,11 +9,6 @@ take-push xs x =
     ap (λ i. take i (xs ++ x ∷ [])) n ∙ take-append_seam xs (x ∷ [])
 
 -- what stands at a place, written there again, changes nothing
-pub set_value_at-own : {K V : Type 0} (es : List (K × V)) (i : ℕ) (v : V) → slice_get (map (λ e. e.1) es) i ≡ Some v → set_value_at es i v ≡ es
-set_value_at-own [] i v h = refl
-set_value_at-own (e ∷ es) zero v h = let same : e.1 ≡ v = cc in ap (λ y. (e.0, y) ∷ es) (sym same)
-set_value_at-own (e ∷ es) (suc i) v h = ap (λ l. e ∷ l) (set_value_at-own es i v h)
-
 pub set-own : {X : Type 0} (xs : List X) (i : ℕ) (x : X) → slice_get xs i ≡ Some x → set xs i x ≡ xs
 set-own [] i x h = refl
 set-own (y ∷ ys) zero x h = let same : y ≡ x = cc in ap (λ z. z ∷ ys) (sym same)

@@ -1,14 +1,9 @@
 -- What holds after a refusal.
 use Rattle.std.proofs.Common.{◌≡◌, Result, Ok, Err, Option, None, Some}
-use Rattle.std.specs.Result.{OnErr, IsErrAnd}
+use Rattle.std.specs.Result.{IsErrAnd}
 use Rattle.dm_maps.specs.declared.build_fault.BuildFault.{BuildFault}
 use Rattle.dm_maps.specs.declared.build_fault.BuildFault.TheVariants.{OutOfMemory}
 use Rattle.dm_maps.specs.Faults.{Answers}
-
--- what holds in any case
-pub on-err : {T E P : Type 0} (r : Result T E) → P → OnErr r P
-on-err (Ok x) p = tt
-on-err (Err e) p = p
 
 -- want of memory, where there is no other fault
 pub out_of_memory : {A B : Type 0} (fault : Option BuildFault) (x : A) (r : Result B BuildFault) → Answers fault (Ok x) → IsErrAnd r (λ f. f ≡ OutOfMemory) → Answers fault r

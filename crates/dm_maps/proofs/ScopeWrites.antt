@@ -15,13 +15,15 @@ use Rattle.dm_modules.specs.Maps.{Map, Module, Modules, nth_module, put_scope, w
 use Rattle.dm_maps.specs.World.{World, place_of, module_in, module_of, scope_of, own_scope, numbered_map, put_map, maps_with_scope, with_scope_in, with_scope}
 use Rattle.dm_maps.specs.Known.{knows, KnowsAll}
 use Rattle.dm_held.specs.Holding.{vis_holds}
-use Rattle.dm_held.specs.Holds.{module_holds, scope_holds}
+use Rattle.dm_held.specs.Holds.{scope_holds}
+use Rattle.dm_maps.specs.Holds.{module_holds}
 use Rattle.dm_maps.specs.First.{Held, each_from, crate_holder, block_holder, module_holder, IsChecked}
 use Rattle.dm_maps.specs.LendingWorld.{crate_with_scope, block_with_scope}
 use Rattle.dm_maps.specs.Sound.{IsCheckedWorld}
 use Rattle.dm_maps.specs.Trees.{outline, IsWorld}
 use Rattle.dm_maps.proofs.AllLemmas.{all-left, all-right, all-append, all-weaker}
-use Rattle.dm_maps.proofs.EntryLemmas.{get-set_same, set-own, set_value_at-own}
+use Rattle.dm_maps.proofs.EntryLemmas.{get-set_same, set-own}
+use Rattle.dm_tables.proofs.TableLemmas.{set_value_at-own}
 use Rattle.dm_maps.proofs.ModuleGrowth.{map-set_own}
 use Rattle.dm_maps.proofs.SoundLemmas.{IsSound-checked, of_scope}
 use Rattle.dm_maps.proofs.WorldGrowth.{numbered-outlines}

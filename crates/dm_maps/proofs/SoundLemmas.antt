@@ -19,7 +19,8 @@ use Rattle.dm_modules.specs.Maps.{Map, Module, Modules, LocalMap, module_at}
 use Rattle.dm_maps.specs.World.{World, scope_of, module_in, numbered_map, map_of}
 use Rattle.dm_maps.specs.Known.{knows, KnowsAll}
 use Rattle.dm_held.specs.Holding.{res_holds, local_holds, type_holds, value_holds, macro_holds, vis_holds}
-use Rattle.dm_held.specs.Holds.{map_holds, preludes_hold, module_holds, scope_holds, prelude_holds, macro_uses_hold, types_hold, values_hold, macros_hold, legacies_hold, bindings_hold, records_hold, lists_hold}
+use Rattle.dm_maps.specs.Holds.{map_holds, preludes_hold, module_holds}
+use Rattle.dm_held.specs.Holds.{scope_holds, prelude_holds, macro_uses_hold, types_hold, values_hold, macros_hold, legacies_hold, bindings_hold, records_hold, lists_hold}
 use Rattle.dm_held.specs.TablesHold.{macro_defs_hold, helpers_hold, diagnostics_hold, data_holds}
 use Rattle.dm_maps.specs.First.{Held, each_from, crate_holder, block_holder, module_holder, tables_holder, local_at, IsChecked}
 use Rattle.dm_maps.specs.Readings.{macro_uses_of, prelude_in}

@@ -12,7 +12,7 @@ use Rattle.dm_modules.specs.Maps.{Map, LocalMap}
 use Rattle.dm_maps.specs.World.{World, module_in}
 use Rattle.dm_maps.specs.Known.{knows, KnowsAll}
 use Rattle.dm_held.specs.Holding.{local_holds}
-use Rattle.dm_held.specs.Holds.{map_holds, module_holds}
+use Rattle.dm_maps.specs.Holds.{map_holds, module_holds}
 use Rattle.dm_held.specs.TablesHold.{data_holds, tables_hold}
 use Rattle.dm_held.specs.Held.{IsLeast, noted}
 

@@ -11,6 +11,7 @@ pub mod Facts
 pub mod Faults
 pub mod ItemFaults
 pub mod First
+pub mod Holds
 pub mod Known
 pub mod LendingWorld
 pub mod Readings

@@ -9,13 +9,12 @@ ghost use Rattle.dm_held.specs.Holding.{local_holds};
 ghost use Rattle.dm_maps.specs.Trees.{IsWorld};
 
 use crate::builder::WorldBuilder;
+use crate::note_maps::{note_local_map, note_map, note_module};
 use crate::place::Place;
 use dm_base::ids::ModuleId;
 use dm_def_map::def_map::DefMap;
 use dm_held::fault::{Holder, WorldFault};
 use dm_held::held::HeldFault;
-use dm_held::note_maps::{note_local_map, note_map};
-use dm_held::note_modules::note_module;
 use dm_held::note_tables::{note_data, note_tables};
 use dm_modules::local_def_map::LocalDefMap;
 

@@ -6,6 +6,7 @@ ghost use Rattle.dm_maps.specs.Known.{knows, KnowsAll};
 ghost use Rattle.dm_held.specs.Holding.{def_holds, res_holds, local_holds, path_holds};
 
 use crate::builder::WorldBuilder;
+use crate::note_maps::note_local_map;
 use crate::world::World;
 use dm_base::ids::{BlockId, Crate, ModuleId};
 use dm_base::imports::ImportOrExternCrate;
@@ -14,7 +15,6 @@ use dm_base::mod_path::{ModPath, PathKind};
 use dm_base::per_ns::PerNs;
 use dm_held::held::HeldId;
 use dm_held::known_ids::KnownIds;
-use dm_held::note_maps::note_local_map;
 use dm_held::note_pushes::note_push;
 use dm_held::notes::note_def;
 use dm_modules::local_def_map::LocalDefMap;

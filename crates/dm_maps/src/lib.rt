@@ -18,6 +18,7 @@ mod item_modules;
 mod known_ids;
 mod knows;
 pub mod maps_of;
+mod note_maps;
 mod path_look_ups;
 mod path_tables;
 pub mod place;

@@ -1,3 +1,1 @@
-pub mod TableLemmas
 pub mod LocalSteps
-pub mod RunLemmas

@@ -3,9 +3,9 @@ use Rattle.std.proofs.Common.{◌≡◌, ◌∙◌, ◌++◌, List, [], ◌∷�
 use Rattle.std.specs.List.{filter_map, flat_map}
 use Rattle.smallvec.specs.SmallVec.{SmallVec}
 use Rattle.dm_base.specs.declared.source.AstId.{AstId}
-use Rattle.dm_lists.specs.Derives.{derive_of, derives_of}
-use Rattle.dm_lists.specs.MacroCalls.{call_in, calls_in, attribute_calls, item_calls}
-use Rattle.dm_lists.specs.declared.derives.DeriveMacroInvocation.{DeriveMacroInvocation}
+use Rattle.dm_scope.specs.Derives.{derive_of, derives_of}
+use Rattle.dm_scope.specs.MacroCalls.{call_in, calls_in, attribute_calls, item_calls}
+use Rattle.dm_scope.specs.declared.derives.DeriveMacroInvocation.{DeriveMacroInvocation}
 
 attribute_calls-is : (ds : List DeriveMacroInvocation) → attribute_calls ds ≡ calls_in (map derive_of ds)
 attribute_calls-is [] = refl

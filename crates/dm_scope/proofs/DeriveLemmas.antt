@@ -10,9 +10,9 @@ use Rattle.dm_ids.specs.declared.AttrId.{AttrId}
 use Rattle.dm_ids.specs.declared.MacroCallId.{MacroCallId}
 use Rattle.dm_ids.specs.declared.BuiltinDeriveImplId.{BuiltinDeriveImplId}
 use Rattle.dm_base.specs.declared.source.AstId.{AstId}
-use Rattle.dm_lists.specs.Derives.{derive_of, derives_of, has_id, find_derive, with_slot, fill_first, fill_slot}
-use Rattle.dm_lists.specs.Sameness.{same_ast}
-use Rattle.dm_lists.specs.declared.derives.DeriveMacroInvocation.{DeriveMacroInvocation}
+use Rattle.dm_scope.specs.Derives.{derive_of, derives_of, has_id, find_derive, with_slot, fill_first, fill_slot}
+use Rattle.dm_base.specs.Sameness.{same_ast}
+use Rattle.dm_scope.specs.declared.derives.DeriveMacroInvocation.{DeriveMacroInvocation}
 
 -- the first place that passes, or the length
 abbrev pub place : {X : Type 0} → (X → Bool) → List X → ℕ

@@ -1,6 +1,5 @@
 -- The flags of the entries of a table of sets, read and changed at one module.
 use Rattle.std.proofs.Common.{◌≡◌, ℕ, zero, suc, ◌-◌, Bool, true, false, cond, not, ◌||◌, ◌++◌, List, [], ◌∷◌, length, take, filter, Option, None, Some, refl, sym, ap, ◌∙◌, true≢false, arith, length-append}
-use Rattle.std.proofs.Math.Seq.{take-append_seam}
 use Rattle.std.specs.List.{list_any}
 use Rattle.std.specs.Map.{lookup, set_value}
 use Rattle.std.specs.Set.{remove_key}
@@ -9,13 +8,8 @@ use Rattle.indexmap.specs.IndexSet.{insert_key}
 use Rattle.dm_ids.specs.declared.ModuleId.{ModuleId}
 use Rattle.dm_base.specs.Names.{Name, same_name}
 use Rattle.dm_base.specs.Tree.{same_module}
+use Rattle.dm_scope.proofs.EntryLemmas.{take-last}
 use Rattle.dm_scope.specs.Flags.{Flags, flags_of, has_flag, change_names, add_flag, all_but_last, without_flag, added}
-
--- the last element taken off
-pub all_but_last-push : {X : Type 0} (xs : List X) (x : X) → all_but_last (xs ++ x ∷ []) ≡ xs
-all_but_last-push xs x =
-    let n : length (xs ++ x ∷ []) - 1 ≡ length xs = omega (arith, length-append xs (x ∷ [])) in
-    ap (λ i. take i (xs ++ x ∷ [])) n ∙ take-append_seam xs (x ∷ [])
 
 -- without the first key that passes, where no other passes
 pub remove_key-all : {K : Type 0} (t : K → Bool) (ks : List K) → list_any t (remove_key t ks) ≡ false → remove_key t ks ≡ filter (λ k. not (t k)) ks
@@ -156,4 +150,4 @@ module _ {S : Type 0} (m : ModuleId) where
       by true e = change_names-kept (λ ns. insert_key same_name ns name) es s h (ap (λ b. cond b s.keys (s.keys ++ name ∷ [])) e)
       by false e =
           change_names-twice m all_but_last (λ ns. insert_key same_name ns name) (flags_of es)
-          ∙ change_names-kept (λ ns. all_but_last (insert_key same_name ns name)) es s h (ap (λ b. all_but_last (cond b s.keys (s.keys ++ name ∷ []))) e ∙ all_but_last-push s.keys name)
+          ∙ change_names-kept (λ ns. all_but_last (insert_key same_name ns name)) es s h (ap (λ b. all_but_last (cond b s.keys (s.keys ++ name ∷ []))) e ∙ take-last s.keys name)

@@ -11,7 +11,6 @@ pub mod LookupLemmas
 pub mod Outcomes
 pub mod PushLemmas
 pub mod ReadingLemmas
-pub mod RecordLemmas
 pub mod RunLemmas
 pub mod SamenessLemmas
 pub mod SortLemmas

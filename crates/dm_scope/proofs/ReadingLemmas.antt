@@ -21,23 +21,21 @@ use Rattle.dm_base.specs.declared.item_ids.MacroId.TheVariants as macro
 use Rattle.dm_base.specs.declared.item_ids.ModuleDefId.{ModuleDefId}
 use Rattle.dm_base.specs.declared.item_ids.ModuleDefId.TheVariants as def
 use Rattle.dm_scope.specs.Push.{types_reading, values_reading, macros_reading}
-use Rattle.dm_lists.specs.Sameness.{same_import_id, same_glob_id, same_import, same_value_import, same_int, same_uint, same_float, same_builtin, same_adt, same_macro, same_def}
-use Rattle.dm_scope.proofs.PushLemmas.{IsReading, and_left, and_right}
-
-and-both : (a b : Bool) → a ≡ true → b ≡ true → (a && b) ≡ true
-and-both a b p q = ap (λ x. x && b) p ∙ q
+use Rattle.dm_base.specs.Sameness.{same_import_id, same_glob_id, same_import, same_value_import, same_int, same_uint, same_float, same_builtin, same_adt, same_macro, same_def}
+use Rattle.dm_scope.proofs.PushLemmas.{IsReading}
+use Rattle.std.proofs.lemmas.Bool.{and_parts, and_from}
 
 import_id_is : (i j : ImportId) → same_import_id i j ≡ true → i ≡ j
-import_id_is i j h = λ k. record { use_ = record { 0 = eqb-true i.use_.0 j.use_.0 (and_left _ _ h) k }; idx = record { 0 = eqb-true i.idx.0 j.idx.0 (and_right _ _ h) k } }
+import_id_is i j h = λ k. record { use_ = record { 0 = eqb-true i.use_.0 j.use_.0 ((and_parts _ _ h).0) k }; idx = record { 0 = eqb-true i.idx.0 j.idx.0 ((and_parts _ _ h).1) k } }
 
 import_id_refl : (i : ImportId) → same_import_id i i ≡ true
-import_id_refl i = and-both _ _ (eq-eqb i.use_.0 i.use_.0 refl) (eq-eqb i.idx.0 i.idx.0 refl)
+import_id_refl i = and_from _ _ (eq-eqb i.use_.0 i.use_.0 refl) (eq-eqb i.idx.0 i.idx.0 refl)
 
 glob_id_is : (i j : GlobId) → same_glob_id i j ≡ true → i ≡ j
-glob_id_is i j h = λ k. record { use_ = record { 0 = eqb-true i.use_.0 j.use_.0 (and_left _ _ h) k }; idx = record { 0 = eqb-true i.idx.0 j.idx.0 (and_right _ _ h) k } }
+glob_id_is i j h = λ k. record { use_ = record { 0 = eqb-true i.use_.0 j.use_.0 ((and_parts _ _ h).0) k }; idx = record { 0 = eqb-true i.idx.0 j.idx.0 ((and_parts _ _ h).1) k } }
 
 glob_id_refl : (i : GlobId) → same_glob_id i i ≡ true
-glob_id_refl i = and-both _ _ (eq-eqb i.use_.0 i.use_.0 refl) (eq-eqb i.idx.0 i.idx.0 refl)
+glob_id_refl i = and_from _ _ (eq-eqb i.use_.0 i.use_.0 refl) (eq-eqb i.idx.0 i.idx.0 refl)
 
 import_is : (x y : ImportOrExternCrate) → same_import x y ≡ true → x ≡ y
 unfolding same_import

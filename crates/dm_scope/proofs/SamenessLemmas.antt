@@ -29,7 +29,7 @@ use Rattle.dm_base.specs.contracts.item_ids.MacroIdPartialEq.TheImpl as macro_eq
 use Rattle.dm_base.specs.contracts.item_ids.ModuleDefIdPartialEq.TheImpl as def_eq
 use Rattle.dm_base.specs.Imports.{is_glob, is_glob_or_import, narrowed, widened}
 use Rattle.dm_base.specs.Definitions.{widened_macro}
-use Rattle.dm_lists.specs.Sameness.{same_import, same_value_import, same_int, same_uint, same_float, same_builtin, same_adt, same_macro, same_def}
+use Rattle.dm_base.specs.Sameness.{same_import, same_value_import, same_int, same_uint, same_float, same_builtin, same_adt, same_macro, same_def}
 use Rattle.dm_scope.specs.Bindings.{reading}
 use Rattle.dm_scope.specs.Push.{types_reading, values_reading, macros_reading}
 

@@ -2,7 +2,7 @@
 use Rattle.std.specs.Prelude.{◌++◌, List, map}
 use Rattle.std.specs.List.{flat_map}
 use Rattle.dm_ids.specs.declared.MacroCallId.{MacroCallId}
-use Rattle.dm_lists.specs.MacroCalls.{calls_in}
+use Rattle.dm_scope.specs.MacroCalls.{calls_in}
 use Rattle.dm_scope.specs.Scope.{Scope}
 
 -- The macro calls of a scope: of function-like macros, of attribute macros, and those in the slots of its derive attributes.

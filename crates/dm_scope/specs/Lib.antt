@@ -1,9 +1,12 @@
+pub mod AllCalls
 pub mod Bindings
 pub mod Changes
+pub mod Derives
 pub mod Entries
 pub mod Flags
+pub mod Iterators
 pub mod Lookups
-pub mod AllCalls
+pub mod MacroCalls
 pub mod Push
 pub mod Pushes
 pub mod Records
@@ -11,3 +14,4 @@ pub mod Rows
 pub mod Scope
 pub mod Shows
 pub mod Sorted
+pub mod TableLists

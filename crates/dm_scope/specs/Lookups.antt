@@ -8,7 +8,7 @@ use Rattle.dm_base.specs.declared.item_in_ns.ItemInNs.TheVariants.{Types, Values
 use Rattle.dm_base.specs.declared.per_ns.Item.{Item}
 use Rattle.dm_base.specs.declared.visibility.Visibility.{Visibility}
 use Rattle.dm_base.specs.Names.{Name}
-use Rattle.dm_lists.specs.Sameness.{same_def, same_macro}
+use Rattle.dm_base.specs.Sameness.{same_def, same_macro}
 use Rattle.dm_scope.specs.Scope.{Scope}
 
 abbrev pub def_and_vis : {D I : Type 0} → Item D I → D × Visibility

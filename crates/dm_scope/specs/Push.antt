@@ -13,7 +13,7 @@ use Rattle.dm_base.specs.declared.item_ids.ModuleDefId.{ModuleDefId}
 use Rattle.dm_base.specs.declared.item_ids.MacroId.{MacroId}
 use Rattle.dm_scope.specs.Bindings.{Reading, reading, is_effective_at, bound_after, flags_after}
 use Rattle.dm_scope.specs.Flags.{Globs}
-use Rattle.dm_lists.specs.Sameness.{same_import, same_value_import, same_def, same_macro}
+use Rattle.dm_base.specs.Sameness.{same_import, same_value_import, same_def, same_macro}
 use Rattle.dm_scope.specs.Scope.{Scope}
 
 -- types: any import brings one

@@ -18,7 +18,7 @@ use Rattle.dm_ids.specs.declared.ModuleId.{ModuleId}
 use Rattle.dm_scope.specs.Flags.{Globs, no_globs}
 use Rattle.dm_scope.specs.Push.{types_reading, values_reading, scope_after, globs_after, push_answer}
 use Rattle.dm_scope.specs.Pushes.{binding, record_of}
-use Rattle.dm_lists.specs.Sameness.{same_import, same_value_import, same_def}
+use Rattle.dm_base.specs.Sameness.{same_import, same_value_import, same_def}
 use Rattle.dm_scope.specs.Scope.{Scope, no_scope, bound_in}
 use Rattle.dm_scope.specs.Shows.{ScopePush, pushes_in, is_answered}
 

@@ -17,7 +17,7 @@ use Rattle.dm_base.specs.declared.per_ns.PerNs.{PerNs}
 use Rattle.dm_base.specs.declared.visibility.Visibility.{Visibility}
 use Rattle.dm_base.specs.Names.{Name, find_name}
 use Rattle.dm_scope.specs.Bindings.{Bound}
-use Rattle.dm_lists.specs.Derives.{Derive}
+use Rattle.dm_scope.specs.Derives.{Derive}
 
 -- A scope: what it binds in each namespace, the names that no import could resolve, its legacy macros by name, and the
 -- lists of what is defined in it.

@@ -6,7 +6,7 @@ ghost use Rattle.std.specs.Iterator.SizeHint.{IsWithinCount};
 ghost use Rattle.std.specs.Map.{lookup};
 ghost use Rattle.std.specs.Map.Iter.{TakesFirst, ShowsInOrder};
 ghost use Rattle.dm_base.specs.declared.per_ns.Item.{Item};
-ghost use Rattle.dm_lists.specs.Iterators.{deref_name};
+ghost use Rattle.dm_scope.specs.Iterators.{deref_name};
 ghost use Rattle.dm_ids.specs.declared.ModuleId.{ModuleId};
 ghost use Rattle.dm_base.specs.Names.{Name, same_name, find_name};
 ghost use Rattle.dm_base.specs.Tree.{same_module};

@@ -14,6 +14,7 @@ mod push;
 mod sorted;
 
 use crate::bindings::Bindings;
+use crate::derives::DeriveMacroInvocation;
 use crate::glob_imports::PerNsGlobImports;
 use dm_base::ids::{
     BuiltinDeriveImplId, ConstId, ExternBlockId, ExternCrateId, ImplId, MacroCallId, ModuleId,
@@ -25,7 +26,6 @@ use dm_base::name::Name;
 use dm_base::per_ns::PerNs;
 use dm_base::source::AstId;
 use dm_base::visibility::Visibility;
-use dm_lists::derives::DeriveMacroInvocation;
 use indexmap::{IndexMap, IndexSet};
 use smallvec::SmallVec;
 use std::alloc::{AllocError, Global};
@@ -76,9 +76,9 @@ impl Drop for ItemScope {
 }
 
 impl Model for ItemScope {
-    ghost use Rattle.dm_lists.specs.Derives.{derives_of};
+    ghost use Rattle.dm_scope.specs.Derives.{derives_of};
     ghost use Rattle.dm_scope.specs.Scope.{Scope};
-    ghost use Rattle.dm_lists.specs.TableLists.{lists_of};
+    ghost use Rattle.dm_scope.specs.TableLists.{lists_of};
 
     ghost Value = { Scope };
 

@@ -2,11 +2,14 @@
 #![tactic(auto)]
 
 pub mod bindings;
+pub mod derives;
 pub mod diagnostics;
 pub mod glob_imports;
 pub mod import_records;
 pub mod item_scope;
+pub mod iterators;
 mod keys;
+pub mod macro_calls;
+pub mod picked;
 mod steps;
-
-pub use dm_lists::{derives, iterators, macro_calls, picked};
+mod table_lists;

@@ -33,6 +33,3 @@ module _ {K X : Type 0} (eq : K → K → Bool) (es : List (K × List X)) (k : K
 pub none-by : {X : Type 0} (o : Option X) → is_some o ≡ false → o ≡ None
 none-by None g = refl
 none-by (Some x) g = absurd (true≢false g)
-
-pub none-listed : {K X : Type 0} (eq : K → K → Bool) (es : List (K × X)) (k : K) → position (eq k) (keys_of es) ≡ None → lookup (eq k) es ≡ None
-none-listed eq es k p = none-by (lookup (eq k) es) (sym (some_index (eq k) es) ∙ ap is_some p)

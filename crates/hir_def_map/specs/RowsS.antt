@@ -2,7 +2,7 @@
 use Rattle.std.specs.Prelude.{◌≡◌, [], ◌∷◌, Some, None, false, codes, refl}
 use Rattle.dm_base.specs.declared.mod_path.PathKind.TheVariants as kind
 use Rattle.dm_base.specs.declared.visibility.Visibility.TheVariants.{Public}
-use Rattle.dm_lists.specs.Sameness.{same_import, same_value_import, same_def, same_macro}
+use Rattle.dm_base.specs.Sameness.{same_import, same_value_import, same_def, same_macro}
 use Rattle.dm_modules.specs.declared.modes.BuiltinShadowMode.TheVariants as shadow
 use Rattle.dm_modules.specs.declared.modes.MacroSubNs.TheVariants.{Bang, Attr}
 use Rattle.hir_def_map.specs.declared.result.ResolveMode.TheVariants as mode

@@ -2,7 +2,7 @@
 ghost use Rattle.std.specs.Prelude.{◌≡◌, IsSome, map};
 ghost use Rattle.dm_base.specs.Names.{find_name};
 ghost use Rattle.dm_scope.specs.Changes.{without_binding, with_vis, with_def, change_all, censored, censored_macro, censored_trait};
-ghost use Rattle.dm_lists.specs.Sameness.{same_def};
+ghost use Rattle.dm_base.specs.Sameness.{same_def};
 
 use super::ItemScope;
 use dm_base::ids::{Crate, TraitId};

@@ -9,22 +9,22 @@ ghost use Rattle.dm_base.specs.declared.item_ids.ModuleDefId.{ModuleDefId};
 ghost use Rattle.dm_base.specs.declared.per_ns.Item.{Item};
 ghost use Rattle.dm_scope.specs.AllCalls.{all_calls};
 ghost use Rattle.dm_scope.specs.Records.{records_in};
-ghost use Rattle.dm_lists.specs.Iterators.{any_impl, trait_impl, inherent_impl, module_of, trait_of, deref_name};
+ghost use Rattle.dm_scope.specs.Iterators.{any_impl, trait_impl, inherent_impl, module_of, trait_of, deref_name};
 
 use super::ItemScope;
 use crate::bindings::Iter;
 use crate::import_records::ImportRecords;
+use crate::iterators::{
+    AnyImpl, AttrMacroInvocations, Impls, InherentImpl, InherentImpls, LegacyMacros, Listed,
+    MacroInvocations, ModuleType, ModulesInScope, TraitImpl, TraitImpls, Traits,
+};
+use crate::macro_calls::AllMacroCalls;
+use crate::picked::Picked;
 use dm_base::ids::{BuiltinDeriveImplId, ConstId, ExternBlockId, ExternCrateId, TraitId, UseId};
 use dm_base::imports::{ImportId, ImportOrExternCrate, ImportOrGlob};
 use dm_base::item_ids::{MacroId, ModuleDefId};
 use dm_base::per_ns::Namespace;
 use dm_base::visibility::Visibility;
-use dm_lists::iterators::{
-    AnyImpl, AttrMacroInvocations, Impls, InherentImpl, InherentImpls, LegacyMacros, Listed,
-    MacroInvocations, ModuleType, ModulesInScope, TraitImpl, TraitImpls, Traits,
-};
-use dm_lists::macro_calls::AllMacroCalls;
-use dm_lists::picked::Picked;
 
 impl ItemScope {
     /// What is declared in the scope, in order of definition. Takes no memory.

@@ -3,7 +3,7 @@ ghost use Rattle.std.specs.Prelude.{◌≡◌, option_map, option_copied, find};
 ghost use Rattle.std.specs.Map.{lookup};
 ghost use Rattle.dm_base.specs.Names.{find_name};
 ghost use Rattle.dm_scope.specs.Lookups.{def_and_vis, deref_named, first_of, names_for, AsksNames, trait_vis};
-ghost use Rattle.dm_lists.specs.Sameness.{same_ast};
+ghost use Rattle.dm_base.specs.Sameness.{same_ast};
 
 use super::ItemScope;
 use dm_base::ids::{MacroCallId, TraitId};
@@ -40,7 +40,7 @@ impl ItemScope {
     }
 
     /// The call of a function-like macro. Takes no memory: one look-up.
-    #[tactic(auto, using(dm_lists::specs::AstLaws::ast_test_is))]
+    #[tactic(auto, using(dm_base::specs::AstLaws::ast_test_is))]
     pub fn macro_invoc(&self, call: AstId) -> Option<MacroCallId>
         ensures { result ≡ lookup (same_ast call) self.now.macro_invocations }
     {

@@ -4,7 +4,8 @@ use Rattle.indexmap.proofs.CallerLemmas.{insert_entry-new}
 use Rattle.dm_base.specs.Names.{same_name}
 use Rattle.dm_base.specs.Tree.{same_module}
 use Rattle.dm_scope.specs.Flags.{flags_of, all_but_last}
-use Rattle.dm_scope.proofs.FlagLemmas.{add_flag-absent, flags_of-push, all_but_last-push}
+use Rattle.dm_scope.proofs.FlagLemmas.{add_flag-absent, flags_of-push}
+use Rattle.dm_scope.proofs.EntryLemmas.{take-last}
 use Rattle.dm_scope.proofs.glob_imports.add_first.Goals as goal
 
 pub returns-clause-ok : goal.returns-clause-ok
@@ -18,4 +19,4 @@ pub returns-clause-undo : goal.returns-clause-undo
 returns-clause-undo c =
     ap (λ es. all_but_last (flags_of es)) (c.in_ok-insert-2.ensures.entries ∙ insert_entry-new same_module c.args.flags.now c.args.m c.insert.new.self c.requires)
     ∙ ap all_but_last (flags_of-push c.args.flags.now.entries c.args.m c.insert.new.self)
-    ∙ all_but_last-push (flags_of c.args.flags.now.entries) (c.args.m, c.insert.new.self.keys)
+    ∙ take-last (flags_of c.args.flags.now.entries) (c.args.m, c.insert.new.self.keys)

@@ -1,6 +1,6 @@
 use Rattle.std.proofs.Common.{◌∙◌, ap, Some}
 use Rattle.std.specs.Map.{lookup}
-use Rattle.dm_lists.specs.AstLaws.{ast_test_is}
+use Rattle.dm_base.specs.AstLaws.{ast_test_is}
 use Rattle.dm_tables.proofs.keyed_tables.helpers_of.Goals as goal
 
 pub returns-in-None : goal.returns-in-None

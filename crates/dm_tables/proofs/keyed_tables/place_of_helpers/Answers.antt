@@ -1,7 +1,7 @@
 use Rattle.std.proofs.Common.{◌≡◌, ◌∙◌, ap, position, slice_get, map, subst}
 use Rattle.std.specs.Option.{IfSome}
 use Rattle.std.specs.Map.{lookup, keys_of}
-use Rattle.dm_lists.specs.AstLaws.{ast_test_is}
+use Rattle.dm_base.specs.AstLaws.{ast_test_is}
 use Rattle.dm_tables.proofs.keyed_tables.place_of_helpers.Goals as goal
 
 pub returns-clause-index : goal.returns-clause-index

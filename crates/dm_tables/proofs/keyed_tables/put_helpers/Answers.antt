@@ -1,6 +1,6 @@
 use Rattle.std.proofs.Common.{◌∙◌, ap}
 use Rattle.indexmap.specs.IndexMap.{insert_entry}
-use Rattle.dm_lists.specs.AstLaws.{ast_test_is}
+use Rattle.dm_base.specs.AstLaws.{ast_test_is}
 use Rattle.dm_tables.proofs.keyed_tables.put_helpers.Goals as goal
 
 pub returns-clause-ok : goal.returns-clause-ok

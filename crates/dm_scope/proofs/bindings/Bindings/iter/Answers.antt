@@ -1,4 +1,4 @@
-use Rattle.dm_lists.specs.Iterators.{deref_name}
+use Rattle.dm_scope.specs.Iterators.{deref_name}
 use Rattle.dm_scope.proofs.RunLemmas.{shows_in_order}
 use Rattle.dm_scope.proofs.bindings.Bindings.iter.Goals as goal
 

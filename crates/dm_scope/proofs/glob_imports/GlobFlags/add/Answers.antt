@@ -8,7 +8,7 @@ use Rattle.dm_scope.proofs.glob_imports.GlobFlags.add.Goals as goal
 
 pub returns-in_err-new-in-Some-clause-err : goal.returns-in_err-new-in-Some-clause-err
 returns-in_err-new-in-Some-clause-err c =
-    on-err _ _ (ap flags_of (c.get_mut.follows.holds c.add_name.new.names).0
+    on-err _ (ap flags_of (c.get_mut.follows.holds c.add_name.new.names).0
     ∙ flags_of-unchanged c.args.m c.self.inside.names.entries c.in-Some.names.now c.add_name.new.names (sym c.in-Some.ensures.value) c.in_err-new-in-Some.ensures.err
     ∙ c.self.view_is)
 

@@ -1,5 +1,5 @@
 use Rattle.std.proofs.Common.{◌∙◌, ◌++◌, ap}
-use Rattle.dm_lists.specs.MacroCalls.{item_calls}
+use Rattle.dm_scope.specs.MacroCalls.{item_calls}
 use Rattle.dm_scope.specs.AllCalls.{all_calls}
 use Rattle.dm_scope.proofs.CallLemmas.{item_calls_is}
 use Rattle.dm_scope.proofs.item_scope.ItemScope.all_macro_calls.Goals as goal

@@ -2,10 +2,10 @@ use Rattle.std.proofs.Common.{◌∙◌, sym, ap, map}
 use Rattle.std.specs.Option.{option_map, option_copied, option_and_then}
 use Rattle.std.specs.Map.{lookup}
 use Rattle.smallvec.specs.SmallVec.{SmallVec}
-use Rattle.dm_lists.specs.declared.derives.DeriveMacroInvocation.{DeriveMacroInvocation}
-use Rattle.dm_lists.specs.Derives.{derive_of, find_derive, derive_at}
+use Rattle.dm_scope.specs.declared.derives.DeriveMacroInvocation.{DeriveMacroInvocation}
+use Rattle.dm_scope.specs.Derives.{derive_of, find_derive, derive_at}
 use Rattle.dm_scope.proofs.DeriveLemmas.{lookup-derives_of}
-use Rattle.dm_lists.specs.AstLaws.{ast_test_is}
+use Rattle.dm_base.specs.AstLaws.{ast_test_is}
 use Rattle.dm_scope.proofs.item_scope.ItemScope.first_derive.Goals as goal
 
 pub returns-in_err-derives : goal.returns-in_err-derives

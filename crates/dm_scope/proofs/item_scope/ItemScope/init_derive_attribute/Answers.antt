@@ -1,10 +1,10 @@
 use Rattle.std.proofs.Common.{rules, ◌≡◌, ◌∙◌, List, None, replicate, ap, map}
 use Rattle.dm_base.specs.declared.source.AstId.{AstId}
-use Rattle.dm_lists.specs.Derives.{derive_of, derives_of, fresh_derive}
-use Rattle.dm_lists.specs.Sameness.{same_ast}
+use Rattle.dm_scope.specs.Derives.{derive_of, derives_of, fresh_derive}
+use Rattle.dm_base.specs.Sameness.{same_ast}
 use Rattle.dm_scope.specs.Scope.{Scope}
-use Rattle.dm_lists.specs.TableLists.{lists_of, add_to_list}
-use Rattle.dm_lists.specs.AstLaws.{ast_test_is}
+use Rattle.dm_scope.specs.TableLists.{lists_of, add_to_list}
+use Rattle.dm_base.specs.AstLaws.{ast_test_is}
 use Rattle.dm_scope.proofs.TableListLemmas.{add_to_list-map}
 use Rattle.dm_scope.proofs.item_scope.ItemScope.init_derive_attribute.Goals as goal
 

@@ -2,10 +2,10 @@ use Rattle.std.proofs.Common.{◌∙◌, sym, ap, map}
 use Rattle.std.specs.Option.{option_map, option_and_then}
 use Rattle.std.specs.Map.{lookup, set_value}
 use Rattle.smallvec.specs.SmallVec.{SmallVec}
-use Rattle.dm_lists.specs.declared.derives.DeriveMacroInvocation.{DeriveMacroInvocation}
-use Rattle.dm_lists.specs.Derives.{derive_of, derives_of, find_derive}
+use Rattle.dm_scope.specs.declared.derives.DeriveMacroInvocation.{DeriveMacroInvocation}
+use Rattle.dm_scope.specs.Derives.{derive_of, derives_of, find_derive}
 use Rattle.dm_scope.proofs.DeriveLemmas.{lookup-derives_of, fill_slot-present, fill_slot-absent}
-use Rattle.dm_lists.specs.AstLaws.{ast_test_is}
+use Rattle.dm_base.specs.AstLaws.{ast_test_is}
 use Rattle.dm_scope.proofs.item_scope.derive_attributes.fill_slot.Goals as goal
 
 pub fill_list-requires : goal.fill_list-requires

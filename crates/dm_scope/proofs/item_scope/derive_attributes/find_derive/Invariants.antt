@@ -1,5 +1,5 @@
 use Rattle.std.proofs.Common.{◌≡◌, drop, map}
-use Rattle.dm_lists.specs.Derives.{derive_of, find_derive}
+use Rattle.dm_scope.specs.Derives.{derive_of, find_derive}
 use Rattle.dm_scope.proofs.item_scope.derive_attributes.find_derive.Given as goal
 
 -- what is found among those that are left is what is found among all

@@ -1,2 +1,0 @@
-pub mod TableListLemmas
-pub mod Outcomes

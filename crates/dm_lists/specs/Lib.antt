@@ -1,6 +1,0 @@
-pub mod Sameness
-pub mod AstLaws
-pub mod TableLists
-pub mod Derives
-pub mod MacroCalls
-pub mod Iterators

@@ -1,0 +1,353 @@
+//! The iterators of a scope. Each is seen as the list of what it has left.
+ghost use Rattle.std.specs.Prelude.{◌≡◌, ◌++◌, Some, IfSome, length, map};
+ghost use Rattle.std.specs.Iterator.{at_most, UpTo};
+ghost use Rattle.std.specs.Iterator.SizeHint.{IsWithinCount};
+ghost use Rattle.std.specs.List.{filter_map};
+ghost use Rattle.std.specs.Map.Iter.{TakesFirst, deref_pair};
+ghost use Rattle.dm_scope.specs.Derives.{derives_of, deref_derives};
+ghost use Rattle.dm_scope.specs.Iterators.{any_impl, trait_impl, inherent_impl, module_of, trait_of, deref_legacy};
+ghost use Rattle.dm_scope.specs.TableLists.{lists_of};
+
+use crate::derives::DeriveMacroInvocation;
+use crate::picked::{Pick, Picked};
+use dm_base::ids::{ImplId, MacroCallId, ModuleId, TraitId};
+use dm_base::imports::ImportId;
+use dm_base::item_ids::{MacroId, ModuleDefId};
+use dm_base::name::Name;
+use dm_base::per_ns::TypesItem;
+use dm_base::source::AstId;
+use dm_base::visibility::Visibility;
+use indexmap::{IndexMap, map};
+use smallvec::SmallVec;
+use std::marker::Model;
+use std::slice;
+
+/// What a list of a scope has, in order.
+#[derive(Drop)]
+pub struct Listed<'a, T> {
+    rest: slice::Iter<'a, T>,
+}
+
+impl<'a, T> Model for Listed<'a, T> {
+    ghost use Rattle.std.specs.Prelude.{List};
+    ghost use Rattle.std.specs.Slice.Iter.{iter_rest};
+
+    ghost Value = { List T };
+
+    ghost view = { λ a. iter_rest a.rest };
+}
+
+impl<'a, T> Listed<'a, T> {
+    pub fn new(list: &'a [T]) -> Self
+        ensures { result ≡ list.now }
+    {
+        Listed { rest: list.iter() }
+    }
+}
+
+impl<'a, T: Copy> Iterator for Listed<'a, T> {
+    type Item = T;
+
+    ghost next_gives = { TakesFirst (λ x. x) };
+
+    ghost remaining = { λ s. at_most (length s) };
+
+    fn next(&mut self) -> Option<T> {
+        let item = self.rest.next()?;
+        Some(*item)
+    }
+
+    fn size_hint(&self) -> (usize, Option<usize>)
+        ensures lower { IsWithinCount result.0 (at_most (length self.now)) }
+        ensures upper { IfSome result.1 (UpTo (at_most (length self.now))) }
+        ensures exact { result ≡ (length self.now, Some (length self.now)) }
+    {
+        let left = self.rest.len();
+        (left, Some(left))
+    }
+}
+
+/// Shows each `impl` block.
+#[derive(Clone, Copy)]
+pub struct AnyImpl;
+
+impl Pick<(ImplId, bool)> for AnyImpl {
+    type Shown = ImplId;
+
+    ghost shown = { any_impl };
+
+    fn pick(&self, x: &(ImplId, bool)) -> Option<ImplId> {
+        let (id, _) = *x;
+        Some(id)
+    }
+}
+
+/// The `impl` blocks of a scope.
+pub type Impls<'a> = Picked<'a, (ImplId, bool), AnyImpl>;
+
+/// Shows each `impl` block of a trait.
+#[derive(Clone, Copy)]
+pub struct TraitImpl;
+
+impl Pick<(ImplId, bool)> for TraitImpl {
+    type Shown = ImplId;
+
+    ghost shown = { trait_impl };
+
+    fn pick(&self, x: &(ImplId, bool)) -> Option<ImplId> {
+        if x.1 { Some(x.0) } else { None }
+    }
+}
+
+/// The `impl` blocks of traits in a scope.
+pub type TraitImpls<'a> = Picked<'a, (ImplId, bool), TraitImpl>;
+
+/// Shows each `impl` block without a trait.
+#[derive(Clone, Copy)]
+pub struct InherentImpl;
+
+impl Pick<(ImplId, bool)> for InherentImpl {
+    type Shown = ImplId;
+
+    ghost shown = { inherent_impl };
+
+    fn pick(&self, x: &(ImplId, bool)) -> Option<ImplId> {
+        if x.1 { None } else { Some(x.0) }
+    }
+}
+
+/// The `impl` blocks without a trait in a scope.
+pub type InherentImpls<'a> = Picked<'a, (ImplId, bool), InherentImpl>;
+
+/// Shows the module that a type is, and who sees it.
+#[derive(Clone, Copy)]
+pub struct ModuleType;
+
+impl Pick<TypesItem> for ModuleType {
+    type Shown = (ModuleId, Visibility);
+
+    ghost shown = { module_of };
+
+    fn pick(&self, x: &TypesItem) -> Option<(ModuleId, Visibility)> {
+        match x.def {
+            ModuleDefId::ModuleId(m) => Some((m, x.vis)),
+            _ => None,
+        }
+    }
+}
+
+/// The modules among the types of a scope.
+pub type ModulesInScope<'a> = Picked<'a, TypesItem, ModuleType>;
+
+/// Shows the trait that a type is.
+#[derive(Clone, Copy)]
+pub struct TraitType;
+
+impl Pick<TypesItem> for TraitType {
+    type Shown = TraitId;
+
+    ghost shown = { trait_of };
+
+    fn pick(&self, x: &TypesItem) -> Option<TraitId> {
+        match x.def {
+            ModuleDefId::TraitId(tr) => Some(tr),
+            _ => None,
+        }
+    }
+}
+
+/// The traits of a scope: those among its types, then the unnamed ones.
+#[derive(Drop)]
+pub struct Traits<'a> {
+    types: Picked<'a, TypesItem, TraitType>,
+    unnamed: slice::Iter<'a, (TraitId, Visibility, Option<ImportId>)>,
+}
+
+impl<'a> Model for Traits<'a> {
+    ghost use Rattle.std.specs.Prelude.{List, ◌++◌, map};
+    ghost use Rattle.std.specs.Slice.Iter.{iter_rest};
+    ghost use Rattle.dm_ids.specs.declared.TraitId.{TraitId};
+
+    ghost Value = { List TraitId };
+
+    ghost view = { λ a. a.types ++ map (λ e. e.0) (iter_rest a.unnamed) };
+}
+
+impl<'a> Traits<'a> {
+    pub fn new(
+        types: &'a [TypesItem],
+        unnamed: &'a [(TraitId, Visibility, Option<ImportId>)],
+    ) -> Self
+        ensures { result ≡ filter_map trait_of types.now ++ map (λ e. e.0) unnamed.now }
+    {
+        Traits {
+            types: Picked::new(types, TraitType),
+            unnamed: unnamed.iter(),
+        }
+    }
+}
+
+impl<'a> Iterator for Traits<'a> {
+    type Item = TraitId;
+
+    ghost next_gives = { TakesFirst (λ x. x) };
+
+    ghost remaining = { λ s. at_most (length s) };
+
+    fn next(&mut self) -> Option<TraitId> {
+        if let Some(tr) = self.types.next() {
+            return Some(tr);
+        }
+        let unnamed = self.unnamed.next()?;
+        Some(unnamed.0)
+    }
+}
+
+/// The legacy macros of each name of a scope.
+#[derive(Drop)]
+pub struct LegacyMacros<'a> {
+    rest: map::Iter<'a, Name, SmallVec<MacroId, 1>>,
+}
+
+impl<'a> Model for LegacyMacros<'a> {
+    ghost use Rattle.std.specs.Prelude.{List};
+    ghost use Rattle.dm_base.specs.declared.item_ids.MacroId.{MacroId};
+    ghost use Rattle.dm_base.specs.Names.{Name};
+    ghost use Rattle.dm_scope.specs.TableLists.{lists_of};
+
+    ghost Value = { List (Name × List MacroId) };
+
+    ghost view = { λ a. lists_of a.rest };
+}
+
+impl<'a> LegacyMacros<'a> {
+    pub fn new(table: &'a IndexMap<Name, SmallVec<MacroId, 1>>) -> Self
+        ensures { result ≡ lists_of table.now.entries }
+    {
+        LegacyMacros { rest: table.iter() }
+    }
+}
+
+impl<'a> Iterator for LegacyMacros<'a> {
+    type Item = (&'a Name, &'a [MacroId]);
+
+    ghost next_gives = { TakesFirst deref_legacy };
+
+    ghost remaining = { λ s. at_most (length s) };
+
+    fn next(&mut self) -> Option<(&'a Name, &'a [MacroId])> {
+        let (name, macros) = self.rest.next()?;
+        Some((name, macros.as_slice()))
+    }
+}
+
+/// The calls of function-like macros in a scope, each with where it stands.
+#[derive(Drop)]
+pub struct MacroInvocations<'a> {
+    rest: map::Iter<'a, AstId, MacroCallId>,
+}
+
+impl<'a> Model for MacroInvocations<'a> {
+    ghost use Rattle.std.specs.Prelude.{List};
+    ghost use Rattle.dm_ids.specs.declared.MacroCallId.{MacroCallId};
+    ghost use Rattle.dm_base.specs.declared.source.AstId.{AstId};
+
+    ghost Value = { List (AstId × MacroCallId) };
+
+    ghost view = { λ a. a.rest };
+}
+
+impl<'a> MacroInvocations<'a> {
+    pub fn new(table: &'a IndexMap<AstId, MacroCallId>) -> Self
+        ensures { result ≡ table.now.entries }
+    {
+        MacroInvocations { rest: table.iter() }
+    }
+}
+
+impl<'a> Iterator for MacroInvocations<'a> {
+    type Item = (&'a AstId, &'a MacroCallId);
+
+    ghost next_gives = { TakesFirst deref_pair };
+
+    ghost remaining = { λ s. at_most (length s) };
+
+    fn next(&mut self) -> Option<(&'a AstId, &'a MacroCallId)> {
+        let (ast, call) = self.rest.next()?;
+        Some((ast, call))
+    }
+}
+
+/// The calls of attribute macros in a scope, each with the item that it stands on.
+#[derive(Drop)]
+pub struct AttrMacroInvocations<'a> {
+    rest: map::Iter<'a, AstId, MacroCallId>,
+}
+
+impl<'a> Model for AttrMacroInvocations<'a> {
+    ghost use Rattle.std.specs.Prelude.{List};
+    ghost use Rattle.dm_ids.specs.declared.MacroCallId.{MacroCallId};
+    ghost use Rattle.dm_base.specs.declared.source.AstId.{AstId};
+
+    ghost Value = { List (AstId × MacroCallId) };
+
+    ghost view = { λ a. a.rest };
+}
+
+impl<'a> AttrMacroInvocations<'a> {
+    pub fn new(table: &'a IndexMap<AstId, MacroCallId>) -> Self
+        ensures { result ≡ table.now.entries }
+    {
+        AttrMacroInvocations { rest: table.iter() }
+    }
+}
+
+impl<'a> Iterator for AttrMacroInvocations<'a> {
+    type Item = (AstId, MacroCallId);
+
+    ghost next_gives = { TakesFirst (λ x. x) };
+
+    ghost remaining = { λ s. at_most (length s) };
+
+    fn next(&mut self) -> Option<(AstId, MacroCallId)> {
+        let (ast, call) = self.rest.next()?;
+        Some((*ast, *call))
+    }
+}
+
+/// The derive attributes of each item of a scope.
+#[derive(Drop)]
+pub struct DeriveMacroInvocations<'a> {
+    rest: map::Iter<'a, AstId, SmallVec<DeriveMacroInvocation, 1>>,
+}
+
+impl<'a> Model for DeriveMacroInvocations<'a> {
+    ghost use Rattle.std.specs.Prelude.{List};
+    ghost use Rattle.dm_base.specs.declared.source.AstId.{AstId};
+    ghost use Rattle.dm_scope.specs.Derives.{Derive, derives_of};
+
+    ghost Value = { List (AstId × List Derive) };
+
+    ghost view = { λ a. derives_of a.rest };
+}
+
+impl<'a> DeriveMacroInvocations<'a> {
+    pub fn new(table: &'a IndexMap<AstId, SmallVec<DeriveMacroInvocation, 1>>) -> Self
+        ensures { result ≡ derives_of table.now.entries }
+    {
+        DeriveMacroInvocations { rest: table.iter() }
+    }
+}
+
+impl<'a> Iterator for DeriveMacroInvocations<'a> {
+    type Item = (AstId, &'a [DeriveMacroInvocation]);
+
+    ghost next_gives = { TakesFirst deref_derives };
+
+    ghost remaining = { λ s. at_most (length s) };
+
+    fn next(&mut self) -> Option<(AstId, &'a [DeriveMacroInvocation])> {
+        let (adt, derives) = self.rest.next()?;
+        Some((*adt, derives.as_slice()))
+    }
+}
