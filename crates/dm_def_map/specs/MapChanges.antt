@@ -2,7 +2,7 @@
 use Rattle.std.specs.Prelude.{[], ◌∷◌, ◌++◌, Bool, true, false}
 use Rattle.indexmap.specs.IndexMap.{insert_entry}
 use Rattle.dm_base.specs.Names.{same_name}
-use Rattle.dm_lists.specs.Sameness.{same_ast}
+use Rattle.dm_base.specs.Sameness.{same_ast}
 use Rattle.dm_def_map.specs.declared.map_change.MapChange.{MapChange}
 use Rattle.dm_def_map.specs.declared.map_change.MapChange.TheVariants.{Prelude, MacroUse, MacroDef, Helper, Diagnostic}
 use Rattle.dm_tables.specs.HelperChanges.{helpers_with}

@@ -4,7 +4,7 @@ ghost use Rattle.std.specs.Option.{option_copied, option_copied_mut};
 ghost use Rattle.std.specs.Borrow.{sem};
 ghost use Rattle.std.specs.Map.{lookup};
 ghost use Rattle.dm_base.specs.Names.{find_name};
-ghost use Rattle.dm_lists.specs.Sameness.{same_ast};
+ghost use Rattle.dm_base.specs.Sameness.{same_ast};
 ghost use Rattle.dm_modules.specs.Maps.{module_at, nth_module, scope_at, fresh_map, map_with_child};
 ghost use Rattle.dm_def_map.specs.LendingMap.{LendsMapScope};
 ghost use Rattle.dm_def_map.specs.MapChanges.{changed, grows};

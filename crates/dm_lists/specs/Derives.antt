@@ -9,7 +9,7 @@ use Rattle.dm_ids.specs.declared.BuiltinDeriveImplId.{BuiltinDeriveImplId}
 use Rattle.dm_base.specs.declared.source.AstId.{AstId}
 use Rattle.either.specs.declared.Either.{Either}
 use Rattle.smallvec.specs.SmallVec.{SmallVec}
-use Rattle.dm_lists.specs.Sameness.{same_ast}
+use Rattle.dm_base.specs.Sameness.{same_ast}
 use Rattle.dm_lists.specs.TableLists.{lists_of}
 use Rattle.dm_lists.specs.declared.derives.DeriveMacroInvocation.{DeriveMacroInvocation}
 

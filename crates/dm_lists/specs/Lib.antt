@@ -1,5 +1,3 @@
-pub mod Sameness
-pub mod AstLaws
 pub mod TableLists
 pub mod Derives
 pub mod MacroCalls

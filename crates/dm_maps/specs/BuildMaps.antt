@@ -11,7 +11,7 @@ use Rattle.dm_base.specs.declared.item_ids.MacroId.{MacroId}
 use Rattle.dm_base.specs.declared.source.AstId.{AstId}
 use Rattle.dm_base.specs.Names.{Name, same_name}
 use Rattle.dm_diagnostics.specs.declared.DefDiagnostic.{DefDiagnostic}
-use Rattle.dm_lists.specs.Sameness.{same_ast}
+use Rattle.dm_base.specs.Sameness.{same_ast}
 use Rattle.dm_maps.specs.declared.build_fault.BuildFault.{BuildFault}
 use Rattle.dm_maps.specs.declared.build_fault.BuildFault.TheVariants.{NoSuchCrate}
 use Rattle.dm_held.specs.declared.held.HeldId.TheVariants as held

@@ -11,7 +11,7 @@ use Rattle.dm_ids.specs.declared.MacroCallId.{MacroCallId}
 use Rattle.dm_ids.specs.declared.BuiltinDeriveImplId.{BuiltinDeriveImplId}
 use Rattle.dm_base.specs.declared.source.AstId.{AstId}
 use Rattle.dm_lists.specs.Derives.{derive_of, derives_of, has_id, find_derive, with_slot, fill_first, fill_slot}
-use Rattle.dm_lists.specs.Sameness.{same_ast}
+use Rattle.dm_base.specs.Sameness.{same_ast}
 use Rattle.dm_lists.specs.declared.derives.DeriveMacroInvocation.{DeriveMacroInvocation}
 
 -- the first place that passes, or the length

@@ -13,7 +13,6 @@ pub mod PushLemmas
 pub mod ReadingLemmas
 pub mod RecordLemmas
 pub mod RunLemmas
-pub mod SamenessLemmas
 pub mod SortLemmas
 pub mod TableListLemmas
 pub mod ShowLemmas

@@ -8,7 +8,7 @@ use Rattle.dm_base.specs.declared.item_in_ns.ItemInNs.TheVariants.{Types, Values
 use Rattle.dm_base.specs.declared.per_ns.Item.{Item}
 use Rattle.dm_base.specs.declared.visibility.Visibility.{Visibility}
 use Rattle.dm_base.specs.Names.{Name}
-use Rattle.dm_lists.specs.Sameness.{same_def, same_macro}
+use Rattle.dm_base.specs.Sameness.{same_def, same_macro}
 use Rattle.dm_scope.specs.Scope.{Scope}
 
 abbrev pub def_and_vis : {D I : Type 0} → Item D I → D × Visibility
@@ -28,11 +28,6 @@ abbrev pub names_for : ItemInNs → Scope → List (Name × Visibility × Bool)
 names_for (Types d) s = names_in same_def d s.types.items
 names_for (Values d) s = names_in same_def d s.values.items
 names_for (Macros m) s = names_in same_macro m s.macros.items
-
--- the first of a list
-abbrev pub first_of : {A : Type 0} → List A → Option A
-first_of [] = None
-first_of (x ∷ xs) = Some x
 
 -- a name as it is shown, behind a reference
 abbrev pub deref_named : Bor Name × Visibility × Bool → Name × Visibility × Bool

@@ -3,7 +3,7 @@ ghost use Rattle.std.specs.Prelude.{◌≡◌, OnOk, OnErr, IfSome, slice_get, p
 ghost use Rattle.std.specs.Map.{lookup, keys_of};
 ghost use Rattle.std.specs.Option.{option_copied};
 ghost use Rattle.indexmap.specs.IndexMap.{insert_entry};
-ghost use Rattle.dm_lists.specs.Sameness.{same_ast};
+ghost use Rattle.dm_base.specs.Sameness.{same_ast};
 ghost use Rattle.dm_tables.specs.Keys.{same_variant, same_assoc};
 
 use crate::derive_helpers::{DeriveHelper, DeriveHelpers};

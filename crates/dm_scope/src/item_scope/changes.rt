@@ -2,7 +2,7 @@
 ghost use Rattle.std.specs.Prelude.{◌≡◌, IsSome, map};
 ghost use Rattle.dm_base.specs.Names.{find_name};
 ghost use Rattle.dm_scope.specs.Changes.{without_binding, with_vis, with_def, change_all, censored, censored_macro, censored_trait};
-ghost use Rattle.dm_lists.specs.Sameness.{same_def};
+ghost use Rattle.dm_base.specs.Sameness.{same_def};
 
 use super::ItemScope;
 use dm_base::ids::{Crate, TraitId};
@@ -13,7 +13,6 @@ use dm_base::visibility::Visibility;
 
 impl ItemScope {
     /// Takes a value out, where the name is bound to that definition. The others close up; records and glob flags stay.
-    #[tactic(auto, using(crate::proofs::SamenessLemmas::def_test_is))]
     pub fn remove_from_value_ns(&mut self, name: &Name, def: ModuleDefId)
         ensures { self.new ≡ record self.old { values = without_binding same_def name.now def self.old.values } }
     {

@@ -2,7 +2,7 @@
 ghost use Rattle.std.specs.Prelude.{◌≡◌, ◌<◌, length, position, OnOk, OnErr, map};
 ghost use Rattle.std.specs.Option.{ForSome, option_map, option_copied};
 ghost use Rattle.dm_lists.specs.Derives.{fresh_derive, derive_of, derives_of, has_id, derive_at, find_derive, fill_slot, fill_first, with_slot};
-ghost use Rattle.dm_lists.specs.Sameness.{same_ast};
+ghost use Rattle.dm_base.specs.Sameness.{same_ast};
 ghost use Rattle.dm_lists.specs.TableLists.{add_to_list};
 
 use super::ItemScope;
@@ -18,7 +18,6 @@ use std::alloc::AllocError;
 
 impl ItemScope {
     /// Puts a derive attribute after those of an item, with so many empty slots. Where memory is short, nothing changes.
-    #[tactic(auto, using(dm_lists::specs::AstLaws::ast_test_is))]
     pub fn init_derive_attribute(
         &mut self,
         adt: AstId,

@@ -3,7 +3,7 @@ ghost use Rattle.std.specs.Prelude.{◌≡◌, [], ◌∷◌, ◌++◌, OnOk, On
 ghost use Rattle.indexmap.specs.IndexMap.{insert_entry};
 ghost use Rattle.dm_base.specs.Names.{same_name};
 ghost use Rattle.dm_lists.specs.TableLists.{add_to_list};
-ghost use Rattle.dm_lists.specs.Sameness.{same_ast};
+ghost use Rattle.dm_base.specs.Sameness.{same_ast};
 
 use super::ItemScope;
 use dm_base::ids::{
@@ -91,7 +91,6 @@ impl ItemScope {
 
     /// Sets the call of an attribute macro on an item, in place of one that was set. Where memory is short, nothing
     /// changes.
-    #[tactic(auto, using(dm_lists::specs::AstLaws::ast_test_is))]
     pub fn add_attr_macro_invoc(&mut self, item: AstId, call: MacroCallId) -> Result<(), AllocError>
         ensures ok { OnOk result (self.new ≡ record self.old { attr_macros = insert_entry same_ast self.old.attr_macros item call }) }
         ensures err { OnErr result (self.new ≡ self.old) }
@@ -101,7 +100,6 @@ impl ItemScope {
     }
 
     /// Sets the call of a function-like macro, in place of one that was set. Where memory is short, nothing changes.
-    #[tactic(auto, using(dm_lists::specs::AstLaws::ast_test_is))]
     pub fn add_macro_invoc(&mut self, call: AstId, call_id: MacroCallId) -> Result<(), AllocError>
         ensures ok { OnOk result (self.new ≡ record self.old { macro_invocations = insert_entry same_ast self.old.macro_invocations call call_id }) }
         ensures err { OnErr result (self.new ≡ self.old) }

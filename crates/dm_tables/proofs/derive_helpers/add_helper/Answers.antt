@@ -2,7 +2,7 @@ use Rattle.std.proofs.Common.{◌≡◌, ◌∙◌, ◌++◌, ◌∷◌, [], Non
 use Rattle.std.specs.Map.{lookup}
 use Rattle.std.proofs.lemmas.Result.{on_ok_weaker}
 use Rattle.indexmap.specs.IndexMap.{insert_entry}
-use Rattle.dm_lists.specs.Sameness.{same_ast}
+use Rattle.dm_base.specs.Sameness.{same_ast}
 use Rattle.dm_tables.proofs.TableLemmas.{listed-at, listed-new, none-listed}
 use Rattle.dm_tables.proofs.derive_helpers.add_helper.Goals as goal
 
