@@ -1,8 +1,7 @@
 -- What the words of the lines that build stand for. A word of another form stands for nothing.
 use Rattle.std.specs.Prelude.{ℕ, ◌==◌, nat_lt, List, [], ◌∷◌, Option, Some, None, if◌then◌else◌, codes}
-use Rattle.std.specs.Option.{option_map, option_map_or, option_and_then}
+use Rattle.std.specs.Option.{option_map, option_map_or, option_and_then, option_or}
 use Rattle.dm_base.specs.Names.{Name, same_name, find_name}
-use Rattle.dm_base.specs.Items.{first}
 use Rattle.dm_base.specs.declared.fields_shape.FieldsShape.{FieldsShape}
 use Rattle.dm_base.specs.declared.fields_shape.FieldsShape.TheVariants.{Record, Tuple, Unit}
 use Rattle.dm_ids.specs.declared.ExternCrateId.{ExternCrateId}
@@ -53,7 +52,7 @@ expander_forms =
 
 -- `builtin`, `eager`, `attr`, `derive`, `unimplemented`, or `declarative:B`
 abbrev pub expander : Name → Option MacroExpander
-expander w = first (find_name w expanders) (by_form expander_forms w)
+expander w = option_or (find_name w expanders) (by_form expander_forms w)
 
 abbrev pub proc_kinds : List (Name × ProcMacroKind)
 proc_kinds = (codes "custom_derive", proc.CustomDerive) ∷ (codes "bang", proc.Bang) ∷ (codes "attr", proc.Attr) ∷ []

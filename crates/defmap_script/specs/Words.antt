@@ -2,12 +2,11 @@
 use Rattle.std.specs.Prelude.{ℕ, ◌==◌, ◌&&◌, nat_lt, List, [], ◌∷◌, Option, Some, None, if◌then◌else◌, length, codes}
 use Rattle.std.specs.Char.{is_ascii_digit}
 use Rattle.std.specs.List.{list_all}
-use Rattle.std.specs.Option.{option_map, option_and_then}
+use Rattle.std.specs.Option.{option_map, option_and_then, option_or}
 use Rattle.std.specs.Str.Parse.{digits_value}
 use Rattle.dm_base.specs.Names.{Name, same_name, find_name}
 use Rattle.dm_base.specs.Builtins.{builtin_words}
 use Rattle.dm_base.specs.Imports.{narrowed}
-use Rattle.dm_base.specs.Items.{first}
 use Rattle.dm_ids.specs.declared.UseId.{UseId}
 use Rattle.dm_ids.specs.declared.UseTreeIdx.{UseTreeIdx}
 use Rattle.dm_base.specs.declared.item_ids.AdtId.TheVariants as adt
@@ -186,7 +185,7 @@ path_kind_forms =
 
 -- `plain`, `abs`, `crate`, `dollar:N`, or `super:K` with K at most 255
 abbrev pub path_kind : Name → Option PathKind
-path_kind w = first (find_name w path_kinds) (by_form path_kind_forms w)
+path_kind w = option_or (find_name w path_kinds) (by_form path_kind_forms w)
 
 abbrev pub modes : List (Name × ResolveMode)
 modes = (codes "import", mode.Import) ∷ (codes "other", mode.Other) ∷ []

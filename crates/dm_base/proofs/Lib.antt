@@ -1,4 +1,5 @@
-pub mod TreeLemmas
 pub mod HomeLemmas
+pub mod IdLemmas
+pub mod TreeLemmas
 pub mod PathLemmas
 pub mod SeesLemmas

@@ -1,47 +1,16 @@
 -- Who sees what, of modules of one map: what a module sees, each module of its map that contains it sees too.
-use Rattle.std.proofs.Common.{◌≡◌, ◌≤◌, ◌<◌, ℕ, zero, suc, Bool, true, false, ◌&&◌, ◌||◌, not, cond, [], List, Option, None, Some, find, unwrap_or, is_none, refl, sym, ap, ◌∙◌, arith, subst, true≢false, eqb-true, eq-eqb}
+use Rattle.std.proofs.Common.{◌≡◌, ◌≤◌, ◌<◌, ℕ, zero, suc, Bool, true, false, ◌&&◌, ◌||◌, not, cond, [], List, Option, None, Some, find, unwrap_or, is_none, refl, sym, ap, ◌∙◌, arith, subst, true≢false, eq-eqb}
 use Rattle.std.proofs.lemmas.Bool.{and_parts, and_from, or_right, ne_eqb}
 use Rattle.std.specs.Option.{option_map_or, option_and_then, ForSome}
 use Rattle.std.proofs.lemmas.Option.{same_Some}
 use Rattle.dm_ids.specs.declared.ModuleId.{ModuleId}
-use Rattle.dm_ids.specs.declared.BlockId.{BlockId}
-use Rattle.dm_ids.specs.declared.Crate.{Crate}
 use Rattle.dm_ids.specs.declared.MapId.{MapId}
 use Rattle.dm_base.specs.declared.visibility.VisibilityExplicitness.{VisibilityExplicitness}
 use Rattle.dm_base.specs.declared.visibility.Visibility.TheVariants.{Module}
-use Rattle.dm_base.specs.Tree.{Tree, IsTree, IsKnown, same_module, same_crate, same_block, same_map, crate_of, containing, outside, chain, is_among, is_ancestor, outward_within, outward, lies_in, is_lifted, lift_to, lift, sees}
+use Rattle.dm_base.specs.Tree.{Tree, IsTree, IsKnown, same_module, same_crate, same_map, crate_of, containing, outside, chain, is_among, is_ancestor, outward_within, outward, lies_in, is_lifted, lift_to, lift, sees}
 use Rattle.dm_base.specs.Visibility.{both_lie_in, max_of_modules, min_of_modules, IsUnion, IsIntersection}
+use Rattle.dm_base.proofs.IdLemmas.{same_module-true, same_map-true, same_map-refl}
 use Rattle.dm_base.proofs.TreeLemmas.{chain-step, outward-step}
-
--- tests of ids hold of the same id alone
-same_module-true : (a b : ModuleId) → same_module a b ≡ true → a ≡ b
-same_module-true a b e = ap (λ (n : ℕ). let m : ModuleId = record { 0 = n } in m) (eqb-true a.0 b.0 e)
-
-same_module-refl : (a : ModuleId) → same_module a a ≡ true
-same_module-refl a = eq-eqb a.0 a.0 refl
-
-same_crate-true : (a b : Crate) → same_crate a b ≡ true → a ≡ b
-same_crate-true a b e = ap (λ (n : ℕ). let k : Crate = record { 0 = n } in k) (eqb-true a.0 b.0 e)
-
-same_block-true : (a b : Option BlockId) → same_block a b ≡ true → a ≡ b
-same_block-true None None e = refl
-same_block-true None (Some b) e = absurd (true≢false (sym e))
-same_block-true (Some a) None e = absurd (true≢false (sym e))
-same_block-true (Some a) (Some b) e = ap (λ (n : ℕ). let o : Option BlockId = Some (record { 0 = n }) in o) (eqb-true a.0 b.0 e)
-
-same_map-true : (i j : MapId) → same_map i j ≡ true → i ≡ j
-same_map-true i j e =
-    let both = and_parts (same_crate i.krate j.krate) (same_block i.block j.block) e in
-    let krate = same_crate-true i.krate j.krate both.0 in
-    let block = same_block-true i.block j.block both.1 in
-    λ k. record { krate = krate k; block = block k }
-
-same_block-refl : (a : Option BlockId) → same_block a a ≡ true
-same_block-refl None = refl
-same_block-refl (Some a) = eq-eqb a.0 a.0 refl
-
-same_map-refl : (i : MapId) → same_map i i ≡ true
-same_map-refl i = and_from _ _ (eq-eqb i.krate.0 i.krate.0 refl) (same_block-refl i.block)
 
 -- one of two, by cases
 or_either : {P : Type 0} (x y : Bool) → (x || y) ≡ true → (x ≡ true → P) → (y ≡ true → P) → P

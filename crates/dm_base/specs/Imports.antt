@@ -5,7 +5,7 @@ use Rattle.dm_base.specs.declared.imports.ImportOrExternCrate.TheVariants as wid
 use Rattle.dm_base.specs.declared.imports.ImportOrGlob.{ImportOrGlob}
 use Rattle.dm_base.specs.declared.imports.ImportOrGlob.TheVariants as narrow
 use Rattle.dm_base.specs.declared.imports.ImportOrDef.{ImportOrDef}
-use Rattle.dm_base.specs.declared.imports.ImportOrDef.TheVariants as step
+use Rattle.dm_base.specs.declared.imports.ImportOrDef.TheVariants as target
 use Rattle.dm_base.specs.declared.imports.ImportId.{ImportId}
 use Rattle.dm_base.specs.declared.imports.GlobId.{GlobId}
 use Rattle.dm_ids.specs.declared.UseId.{UseId}
@@ -52,10 +52,10 @@ globs_stay (narrow.Glob i) = refl
 globs_stay (narrow.Import i) = refl
 
 -- the named import, the glob, and the use of an import; an extern crate has none of them
-abbrev pub import_of : ImportOrExternCrate → Option ImportId
-import_of (wide.Glob i) = None
-import_of (wide.Import i) = Some i
-import_of (wide.ExternCrate k) = None
+abbrev pub named_import : ImportOrExternCrate → Option ImportId
+named_import (wide.Glob i) = None
+named_import (wide.Import i) = Some i
+named_import (wide.ExternCrate k) = None
 
 abbrev pub glob_of : ImportOrExternCrate → Option GlobId
 glob_of (wide.Glob i) = Some i
@@ -67,8 +67,8 @@ use_of (wide.Glob i) = Some i.use_
 use_of (wide.Import i) = Some i.use_
 use_of (wide.ExternCrate k) = None
 
--- what an import stands for, where that is the import itself
-abbrev pub as_step : ImportOrExternCrate → ImportOrDef
-as_step (wide.Glob i) = step.Glob i
-as_step (wide.Import i) = step.Import i
-as_step (wide.ExternCrate k) = step.ExternCrate k
+-- an import as what another import stands for
+abbrev pub target_of : ImportOrExternCrate → ImportOrDef
+target_of (wide.Glob i) = target.Glob i
+target_of (wide.Import i) = target.Import i
+target_of (wide.ExternCrate k) = target.ExternCrate k

@@ -7,6 +7,7 @@ pub mod Definitions
 pub mod Imports
 pub mod Builtins
 pub mod Kinds
+pub mod Sameness
 pub mod Styles
 pub mod PerNs
 pub mod Overlays

@@ -1,20 +1,21 @@
 -- Values that are laid over one another, and the laws of that.
 use Rattle.std.specs.Prelude.{◌≡◌, ℕ, max, Option, Some, None, refl}
+use Rattle.std.specs.Option.{option_or}
 use Rattle.std.proofs.Common.{ap, arith}
 use Rattle.dm_base.specs.declared.per_ns.PerNs.{PerNs}
-use Rattle.dm_base.specs.Items.{nothing, first, over}
+use Rattle.dm_base.specs.Items.{nothing, over}
 
-pub first_associative : {A : Type 0} → (x y z : Option A) → first (first x y) z ≡ first x (first y z)
-first_associative None y z = refl
-first_associative (Some x) y z = refl
+pub option_or_associative : {A : Type 0} → (x y z : Option A) → option_or (option_or x y) z ≡ option_or x (option_or y z)
+option_or_associative None y z = refl
+option_or_associative (Some x) y z = refl
 
-pub first_none : {A : Type 0} → (x : Option A) → first x None ≡ x
-first_none None = refl
-first_none (Some x) = refl
+pub option_or_none : {A : Type 0} → (x : Option A) → option_or x None ≡ x
+option_or_none None = refl
+option_or_none (Some x) = refl
 
-pub first_same : {A : Type 0} → (x : Option A) → first x x ≡ x
-first_same None = refl
-first_same (Some x) = refl
+pub option_or_same : {A : Type 0} → (x : Option A) → option_or x x ≡ x
+option_or_same None = refl
+option_or_same (Some x) = refl
 
 -- the greatest number of those that are there
 abbrev pub greatest : Option ℕ → Option ℕ → Option ℕ
@@ -38,13 +39,13 @@ greatest_same (Some x) = let same : max x x ≡ x = omega arith in ap Some same
 
 pub over_associative : (x y z : PerNs) → over (over x y) z ≡ over x (over y z)
 over_associative x y z = λ i. record {
-  types = first_associative x.types y.types z.types i;
-  values = first_associative x.values y.values z.values i;
-  macros = first_associative x.macros y.macros z.macros i;
+  types = option_or_associative x.types y.types z.types i;
+  values = option_or_associative x.values y.values z.values i;
+  macros = option_or_associative x.macros y.macros z.macros i;
 }
 
 pub over_nothing : (x : PerNs) → over x nothing ≡ x
-over_nothing x = λ i. record { types = first_none x.types i; values = first_none x.values i; macros = first_none x.macros i }
+over_nothing x = λ i. record { types = option_or_none x.types i; values = option_or_none x.values i; macros = option_or_none x.macros i }
 
 pub over_same : (x : PerNs) → over x x ≡ x
-over_same x = λ i. record { types = first_same x.types i; values = first_same x.values i; macros = first_same x.macros i }
+over_same x = λ i. record { types = option_or_same x.types i; values = option_or_same x.values i; macros = option_or_same x.macros i }

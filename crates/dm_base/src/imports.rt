@@ -1,6 +1,6 @@
 //! What brings a name into a scope.
 ghost use Rattle.std.specs.Prelude.{◌≡◌};
-ghost use Rattle.dm_base.specs.Imports.{narrowed, widened, import_of, glob_of, use_of, as_step};
+ghost use Rattle.dm_base.specs.Imports.{narrowed, widened, named_import, glob_of, use_of, target_of};
 
 use crate::ids::{ExternCrateId, UseId, UseTreeIdx};
 use crate::item_ids::ModuleDefId;
@@ -41,7 +41,7 @@ impl ImportOrExternCrate {
 
     /// The named import, if it is one.
     pub fn import(self) -> Option<ImportId>
-        ensures { result ≡ import_of self }
+        ensures { result ≡ named_import self }
     {
         match self {
             ImportOrExternCrate::Import(id) => Some(id),
@@ -81,7 +81,7 @@ pub enum ImportOrGlob {
 impl ImportOrGlob {
     /// The named import, if it is one.
     pub fn into_import(self) -> Option<ImportId>
-        ensures { result ≡ import_of (widened self) }
+        ensures { result ≡ named_import (widened self) }
     {
         match self {
             ImportOrGlob::Import(id) => Some(id),
@@ -111,7 +111,7 @@ pub enum ImportOrDef {
 }
 
 impl From<ImportOrExternCrate> for ImportOrDef {
-    ghost from_gives = { λ import result. result ≡ as_step import };
+    ghost from_gives = { λ import result. result ≡ target_of import };
 
     fn from(import: ImportOrExternCrate) -> ImportOrDef {
         match import {
@@ -123,7 +123,7 @@ impl From<ImportOrExternCrate> for ImportOrDef {
 }
 
 impl From<ImportOrGlob> for ImportOrDef {
-    ghost from_gives = { λ import result. result ≡ as_step (widened import) };
+    ghost from_gives = { λ import result. result ≡ target_of (widened import) };
 
     fn from(import: ImportOrGlob) -> ImportOrDef {
         match import {

@@ -19,4 +19,5 @@ pub mod overlay;
 pub mod per_ns;
 pub mod source;
 pub mod symbol;
+mod text;
 pub mod visibility;

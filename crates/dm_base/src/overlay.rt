@@ -1,7 +1,8 @@
 //! Values that are laid over one another.
 ghost use Rattle.std.specs.Prelude.{◌≡◌, refl, None};
-ghost use Rattle.dm_base.specs.Items.{nothing, first, over};
-ghost use Rattle.dm_base.specs.Overlays.{first_associative, first_none, first_same, greatest, greatest_associative, greatest_none, greatest_same, over_associative, over_nothing, over_same};
+ghost use Rattle.std.specs.Option.{option_or};
+ghost use Rattle.dm_base.specs.Items.{nothing, over};
+ghost use Rattle.dm_base.specs.Overlays.{option_or_associative, option_or_none, option_or_same, greatest, greatest_associative, greatest_none, greatest_same, over_associative, over_nothing, over_same};
 
 use crate::per_ns::{Item, PerNs};
 
@@ -34,15 +35,15 @@ pub trait Overlay: Copy {
 impl<Def: Copy, Import: Copy> Overlay for Option<Item<Def, Import>> {
     ghost nothing = { None };
 
-    ghost overlaid = { first };
+    ghost overlaid = { option_or };
 
-    ghost associative = { first_associative };
+    ghost associative = { option_or_associative };
 
-    ghost over_nothing = { first_none };
+    ghost over_nothing = { option_or_none };
 
     ghost under_nothing = { λ _. refl };
 
-    ghost idempotent = { first_same };
+    ghost idempotent = { option_or_same };
 
     fn empty() -> Option<Item<Def, Import>> {
         None

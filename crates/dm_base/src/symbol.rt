@@ -1,31 +1,25 @@
 //! Texts that are no names: features, tools, and suffixes of literals.
-ghost use Rattle.std.specs.Prelude.{◌≡◌, IfOk, Some, nat_eq, refl};
-ghost use Rattle.std.specs.Hash as fed;
-ghost use Rattle.std.specs.Ordering.{nat_cmp};
-ghost use Rattle.std.specs.Cmp.Lexicographic.{pointwise, slice_cmp, nat_list_eq_equiv, nat_list_cmp_total, texts_po, texts_ties};
-ghost use Rattle.std.specs.Cmp.{partial_equiv_from_equiv};
-ghost use Rattle.std.specs.Cmp.Rules.{hashing};
-ghost use Rattle.std.proofs.Common.{rules};
+ghost use Rattle.std.specs.Prelude.{◌≡◌, IfOk, Some};
 
+use crate::text::Text;
 use std::alloc::{AllocError, Global};
-use std::cmp::Ordering;
 use std::fmt;
-use std::hash::{Hash, Hasher};
 use std::marker::Model;
 
 /// A text that is no name, which a contract sees as its bytes.
-#[derive(Drop)]
+#[derive(PartialEq, Eq, PartialOrd, Ord, Hash, Drop)]
 pub struct Symbol {
-    text: String,
+    text: Text,
 }
 
 impl Model for Symbol {
     ghost use Rattle.std.specs.Prelude.{ℕ, List};
-    ghost use Rattle.std.specs.String.{string_bytes};
 
     ghost Value = { List ℕ };
 
-    ghost view = { λ n. string_bytes n.text };
+    ghost view = { λ s. s.text };
+
+    ghost inverse = { λ bytes. record { text = bytes } };
 }
 
 impl Symbol {
@@ -36,7 +30,7 @@ impl Symbol {
         ensures { IfOk result (λ symbol. symbol ≡ text.now) }
     {
         Ok(Symbol {
-            text: String::from_str(alloc, text)?,
+            text: Text::new(alloc, text)?,
         })
     }
 
@@ -54,54 +48,6 @@ impl Symbol {
         ensures { IfOk result (λ symbol. symbol ≡ self.now) }
     {
         Symbol::new(alloc, self.as_str())
-    }
-}
-
-impl PartialEq for Symbol {
-    ghost eq = { pointwise nat_eq };
-
-    ghost laws = { partial_equiv_from_equiv nat_list_eq_equiv };
-
-    fn eq(&self, other: &Symbol) -> bool {
-        self.as_str() == other.as_str()
-    }
-}
-
-impl Eq for Symbol {
-    ghost laws = { nat_list_eq_equiv };
-}
-
-impl PartialOrd for Symbol {
-    ghost partial_cmp = { λ a b. Some (slice_cmp nat_cmp a b) };
-
-    ghost laws = { texts_po };
-
-    fn partial_cmp(&self, other: &Symbol) -> Option<Ordering> {
-        Some(self.cmp(other))
-    }
-}
-
-impl Ord for Symbol {
-    ghost cmp = { slice_cmp nat_cmp };
-
-    ghost total = { nat_list_cmp_total };
-
-    ghost matches_partial_cmp = { λ _ _. refl };
-
-    ghost matches_eq = { texts_ties };
-
-    fn cmp(&self, other: &Symbol) -> Ordering {
-        self.as_str().cmp(other.as_str())
-    }
-}
-
-impl Hash for Symbol {
-    ghost hash_input = { fed.str };
-
-    ghost respects_eq = { Prim.search (hashing, rules) };
-
-    fn hash<H: Hasher>(&self, state: &mut H) {
-        self.as_str().hash(state);
     }
 }
 

@@ -7,6 +7,7 @@ use Rattle.dm_ids.specs.declared.BlockId.{BlockId}
 use Rattle.dm_ids.specs.declared.Crate.{Crate}
 use Rattle.dm_ids.specs.declared.MapId.{MapId}
 use Rattle.dm_base.specs.Tree.{Tree, IsTree, IsKnown, same_crate, same_block, same_map, crate_of, containing, outside, in_block_map}
+use Rattle.dm_base.proofs.IdLemmas.{same_crate-true, same_map-true}
 use Rattle.dm_base_tests.specs.SmallTree.{tree_by, small_places, small_blocks}
 
 abbrev t : Tree
@@ -34,20 +35,6 @@ same-true false false e = refl
 
 lawful-each : (m : ModuleId) → IsKnown t m → is_lawful m ≡ true
 lawful-each m known = agree_below_at (λ n. is_lawful (record { 0 = n })) (λ n. true) 10 m.0 refl (ltb-true m.0 10 known)
-
--- a test of maps holds of the same map alone
-same_block-true : (a b : Option BlockId) → same_block a b ≡ true → a ≡ b
-same_block-true None None e = refl
-same_block-true None (Some b) e = absurd (true≢false (sym e))
-same_block-true (Some a) None e = absurd (true≢false (sym e))
-same_block-true (Some a) (Some b) e = ap (λ (n : ℕ). let o : Option BlockId = Some (record { 0 = n }) in o) (eqb-true a.0 b.0 e)
-
-same_map-true : (i j : MapId) → same_map i j ≡ true → i ≡ j
-same_map-true i j e =
-    let both = and_parts (same_crate i.krate j.krate) (same_block i.block j.block) e in
-    let krate : i.krate ≡ j.krate = ap (λ (n : ℕ). let k : Crate = record { 0 = n } in k) (eqb-true i.krate.0 j.krate.0 both.0) in
-    let block = same_block-true i.block j.block both.1 in
-    λ k. record { krate = krate k; block = block k }
 
 of-parent : (m p : ModuleId) → IsKnown t m → t.parent m ≡ Some p → t.map_of p ≡ t.map_of m
 of-parent m p known is =
@@ -77,9 +64,7 @@ module _ (m c : ModuleId) (may : may_contain m c ≡ true) where
   smaller = ltb-true c.0 m.0 ((and_parts (nat_lt c.0 m.0) (same_crate (crate_of t c) (crate_of t m)) rest).0)
 
   of-one-crate : crate_of t c ≡ crate_of t m
-  of-one-crate =
-      ap (λ (n : ℕ). let k : Crate = record { 0 = n } in k)
-      (eqb-true (crate_of t c).0 (crate_of t m).0 ((and_parts (nat_lt c.0 m.0) (same_crate (crate_of t c) (crate_of t m)) rest).1))
+  of-one-crate = same_crate-true (crate_of t c) (crate_of t m) ((and_parts (nat_lt c.0 m.0) (same_crate (crate_of t c) (crate_of t m)) rest).1)
 
 pub small-lawful : IsTree t
 small-lawful = record {

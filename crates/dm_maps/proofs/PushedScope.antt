@@ -15,7 +15,8 @@ use Rattle.dm_base.specs.declared.per_ns.Item.{Item}
 use Rattle.dm_base.specs.declared.per_ns.PerNs.{PerNs}
 use Rattle.dm_base.specs.Imports.{narrowed, widened}
 use Rattle.dm_base.specs.Names.{Name, same_name, find_name}
-use Rattle.dm_scope.specs.Bindings.{Bound, Reading, target_of, recorded_from, recorded, with_record, stored, import_of, writes, bound, bound_after}
+use Rattle.dm_base.specs.Imports.{target_of}
+use Rattle.dm_scope.specs.Bindings.{Bound, Reading, recorded_from, recorded, with_record, stored, import_of, writes, bound, bound_after}
 use Rattle.dm_scope.specs.Flags.{Flags, Globs, has_flag}
 use Rattle.dm_scope.specs.Push.{types_reading, values_reading, macros_reading, scope_after}
 use Rattle.dm_scope.specs.Scope.{Scope}

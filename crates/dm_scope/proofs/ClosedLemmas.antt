@@ -14,7 +14,8 @@ use Rattle.dm_base.specs.declared.per_ns.PerNs.{PerNs}
 use Rattle.dm_base.specs.declared.imports.ImportOrExternCrate.{ImportOrExternCrate}
 use Rattle.dm_scope.specs.Bindings.{Bound, Reading, import_of, is_effective_at, bound_after, flags_after}
 use Rattle.dm_scope.specs.Flags.{Flags, Globs, has_flag, no_globs}
-use Rattle.dm_scope.specs.Push.{types_reading, values_reading, macros_reading, is_empty, unresolved_after, scope_after, globs_after, push_answer}
+use Rattle.dm_base.specs.PerNs.{is_empty}
+use Rattle.dm_scope.specs.Push.{types_reading, values_reading, macros_reading, unresolved_after, scope_after, globs_after, push_answer}
 use Rattle.dm_scope.specs.Pushes.{Push, is_effective, ShowsIn}
 use Rattle.dm_scope.specs.Scope.{Scope, no_scope}
 use Rattle.dm_scope.specs.Shows.{ScopePush, push_in, pushes_in, is_effective_in, has_empty_push, is_answered, Shows}

@@ -1,5 +1,5 @@
 -- Which flags stand after one is set or cleared.
-use Rattle.std.proofs.Common.{◌≡◌, ℕ, Bool, true, false, cond, not, ◌||◌, ◌++◌, ◌&&◌, List, [], ◌∷◌, refl, sym, ap, ◌∙◌, if◌then◌else◌, Option, true≢false, eqb-true, eq-eqb}
+use Rattle.std.proofs.Common.{◌≡◌, ℕ, Bool, true, false, cond, not, ◌||◌, ◌++◌, ◌&&◌, List, [], ◌∷◌, refl, sym, ap, ◌∙◌, if◌then◌else◌, Option, true≢false}
 use Rattle.std.specs.List.{list_any}
 use Rattle.std.specs.Str.{bytes_eq}
 use Rattle.std.specs.Cmp.Lexicographic.{nat_list_eq_equiv}
@@ -9,14 +9,9 @@ use Rattle.std.proofs.lemmas.List.Folds.{list_any-append}
 use Rattle.indexmap.specs.IndexSet.{insert_key}
 use Rattle.dm_ids.specs.declared.ModuleId.{ModuleId}
 use Rattle.dm_base.specs.Tree.{same_module}
+use Rattle.dm_base.proofs.IdLemmas.{same_module-true, same_module-refl}
 use Rattle.dm_scope.specs.Bindings.{Reading, is_glob, flagged}
 use Rattle.dm_scope.specs.Flags.{Flags, has_flag, add_flag, clear_flag, without_name}
-
-same_module-is : (m k : ModuleId) → same_module m k ≡ true → m ≡ k
-same_module-is m k h = λ i. record { 0 = eqb-true m.0 k.0 h i }
-
-same_module-refl : (m : ModuleId) → same_module m m ≡ true
-same_module-refl m = eq-eqb m.0 m.0 refl
 
 pub list_any-insert_key : (ks : List (List ℕ)) (name n : List ℕ) → list_any (bytes_eq n) (insert_key bytes_eq ks name) ≡ cond (bytes_eq name n) true (list_any (bytes_eq n) ks)
 list_any-insert_key ks name n = by (list_any (bytes_eq name) ks) refl (bytes_eq name n) refl
@@ -45,14 +40,14 @@ has_flag-add m name (e ∷ es) k n = by (same_module m e.0) refl (has_flag-add m
     here : (c : Bool) → same_module k e.0 ≡ c → same_module m e.0 ≡ true → (d : Bool) → same_module m k ≡ d
         → cond c (list_any (bytes_eq n) (insert_key bytes_eq e.1 name)) (has_flag es k n) ≡ cond (d && bytes_eq name n) true (cond c (list_any (bytes_eq n) e.1) (has_flag es k n))
     here true p q true d = list_any-insert_key e.1 name n
-    here true p q false d = absurd (true≢false (sym (ap (same_module m) (same_module-is k e.0 p) ∙ q) ∙ d))
-    here false p q true d = absurd (true≢false (sym (ap (λ j. same_module j e.0) (sym (same_module-is m k d)) ∙ q) ∙ p))
+    here true p q false d = absurd (true≢false (sym (ap (same_module m) (same_module-true k e.0 p) ∙ q) ∙ d))
+    here false p q true d = absurd (true≢false (sym (ap (λ j. same_module j e.0) (sym (same_module-true m k d)) ∙ q) ∙ p))
     here false p q false d = refl
 
     later : (c : Bool) → same_module k e.0 ≡ c → same_module m e.0 ≡ false → (d : Bool) → same_module m k ≡ d
         → has_flag (add_flag es m name) k n ≡ cond (same_module m k && bytes_eq name n) true (has_flag es k n)
         → cond c (list_any (bytes_eq n) e.1) (has_flag (add_flag es m name) k n) ≡ cond (d && bytes_eq name n) true (cond c (list_any (bytes_eq n) e.1) (has_flag es k n))
-    later true p q true d rest = absurd (true≢false (sym (ap (same_module m) (sym (same_module-is k e.0 p)) ∙ d) ∙ q))
+    later true p q true d rest = absurd (true≢false (sym (ap (same_module m) (sym (same_module-true k e.0 p)) ∙ d) ∙ q))
     later true p q false d rest = refl
     later false p q d e' rest = rest ∙ ap (λ x. cond (x && bytes_eq name n) true (has_flag es k n)) e'
 
@@ -92,14 +87,14 @@ has_flag-clear m name (e ∷ es) k n = by (same_module m e.0) refl (has_flag-cle
     here : (c : Bool) → same_module k e.0 ≡ c → same_module m e.0 ≡ true → (d : Bool) → same_module m k ≡ d
         → cond c (list_any (bytes_eq n) (without_name name e.1)) (has_flag es k n) ≡ cond (d && bytes_eq name n) false (cond c (list_any (bytes_eq n) e.1) (has_flag es k n))
     here true p q true d = list_any-without_name e.1 name n
-    here true p q false d = absurd (true≢false (sym (ap (same_module m) (same_module-is k e.0 p) ∙ q) ∙ d))
-    here false p q true d = absurd (true≢false (sym (ap (λ j. same_module j e.0) (sym (same_module-is m k d)) ∙ q) ∙ p))
+    here true p q false d = absurd (true≢false (sym (ap (same_module m) (same_module-true k e.0 p) ∙ q) ∙ d))
+    here false p q true d = absurd (true≢false (sym (ap (λ j. same_module j e.0) (sym (same_module-true m k d)) ∙ q) ∙ p))
     here false p q false d = refl
 
     later : (c : Bool) → same_module k e.0 ≡ c → same_module m e.0 ≡ false → (d : Bool) → same_module m k ≡ d
         → has_flag (clear_flag es m name) k n ≡ cond (same_module m k && bytes_eq name n) false (has_flag es k n)
         → cond c (list_any (bytes_eq n) e.1) (has_flag (clear_flag es m name) k n) ≡ cond (d && bytes_eq name n) false (cond c (list_any (bytes_eq n) e.1) (has_flag es k n))
-    later true p q true d rest = absurd (true≢false (sym (ap (same_module m) (sym (same_module-is k e.0 p)) ∙ d) ∙ q))
+    later true p q true d rest = absurd (true≢false (sym (ap (same_module m) (sym (same_module-true k e.0 p)) ∙ d) ∙ q))
     later true p q false d rest = refl
     later false p q d e' rest = rest ∙ ap (λ x. cond (x && bytes_eq name n) false (has_flag es k n)) e'
 

@@ -12,7 +12,6 @@ pub mod Outcomes
 pub mod PushLemmas
 pub mod ReadingLemmas
 pub mod RunLemmas
-pub mod SamenessLemmas
 pub mod SortLemmas
 pub mod TableListLemmas
 pub mod ShowLemmas

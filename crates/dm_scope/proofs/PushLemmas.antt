@@ -1,11 +1,11 @@
 -- What one more push does to what a whole list of pushes names.
-use Rattle.std.proofs.Common.{◌≡◌, ℕ, Bool, true, false, cond, not, ◌&&◌, ◌||◌, List, [], ◌∷◌, ◌++◌, filter, append-nil, Option, None, Some, IfSome, refl, sym, ap, subst, ◌∙◌, true≢false}
+use Rattle.std.proofs.Common.{◌≡◌, ℕ, Bool, true, false, cond, not, ◌&&◌, ◌||◌, List, [], ◌∷◌, ◌++◌, filter, append-nil, slice_get, Option, None, Some, IfSome, refl, sym, ap, subst, ◌∙◌, true≢false}
 use Rattle.std.specs.List.{list_all}
 use Rattle.std.proofs.lemmas.List.Elements.{filter-append}
 use Rattle.std.proofs.lemmas.List.Folds.{list_all-append}
-use Rattle.std.proofs.lemmas.Bool.{and_parts}
 use Rattle.dm_scope.specs.Bindings.{Reading, is_glob, is_same, writes}
-use Rattle.dm_scope.specs.Pushes.{Push, first, last, is_explicit, is_by, has_same_def, last_run, named_explicit, named_of, named, item_of, is_glob_push}
+use Rattle.dm_scope.specs.Scope.{last_of}
+use Rattle.dm_scope.specs.Pushes.{Push, is_explicit, is_by, has_same_def, last_run, named_explicit, named_of, named, item_of, is_glob_push}
 
 -- that the tests of a namespace find equal values
 pub record IsReading {D I : Type 0} (r : Reading D I) : Type 0 where
@@ -17,6 +17,14 @@ not_not : (b : Bool) → not b ≡ true → b ≡ false
 not_not true h = absurd (true≢false (sym h))
 not_not false h = refl
 
+pub and_left : (a b : Bool) → (a && b) ≡ true → a ≡ true
+and_left true b h = refl
+and_left false b h = absurd (true≢false (sym h))
+
+pub and_right : (a b : Bool) → (a && b) ≡ true → b ≡ true
+and_right true b h = h
+and_right false b h = absurd (true≢false (sym h))
+
 and-true : (a : Bool) → (a && true) ≡ a
 and-true true = refl
 and-true false = refl
@@ -25,11 +33,11 @@ abbrev or_this : {X : Type 0} → Option X → X → Option X
 or_this None x = Some x
 or_this (Some q) x = Some q
 
-first-push : {X : Type 0} (xs : List X) (x : X) → first (xs ++ x ∷ []) ≡ or_this (first xs) x
+first-push : {X : Type 0} (xs : List X) (x : X) → slice_get (xs ++ x ∷ []) 0 ≡ or_this (slice_get xs 0) x
 first-push [] x = refl
 first-push (y ∷ ys) x = refl
 
-pub last-push : {X : Type 0} (xs : List X) (x : X) → last (xs ++ x ∷ []) ≡ Some x
+pub last-push : {X : Type 0} (xs : List X) (x : X) → last_of (xs ++ x ∷ []) ≡ Some x
 last-push [] x = refl
 last-push (y ∷ []) x = refl
 last-push (y ∷ z ∷ zs) x = last-push (z ∷ zs) x
@@ -38,10 +46,10 @@ module _ {D I : Type 0} (r : Reading D I) (law : IsReading r) where
   -- the last run's first push passes what every push passes
   pub last_run-all : (t : ℕ × Push D I → Bool) (ps : List (ℕ × Push D I)) → list_all t ps ≡ true → IfSome (last_run r ps) (λ q. t q ≡ true)
   last_run-all t [] h = tt
-  last_run-all t (p ∷ ps) h = by (list_all (λ q. has_same_def r p.1 q.1) ps) (last_run-all t ps (and_parts (t p) _ h).1)
+  last_run-all t (p ∷ ps) h = by (list_all (λ q. has_same_def r p.1 q.1) ps) (last_run-all t ps (and_right (t p) _ h))
     where
       by : (b : Bool) → IfSome (last_run r ps) (λ q. t q ≡ true) → IfSome (cond b (Some p) (last_run r ps)) (λ q. t q ≡ true)
-      by true rest = (and_parts (t p) _ h).0
+      by true rest = and_left (t p) _ h
       by false rest = rest
 
   abbrev after_run : Option (ℕ × Push D I) → ℕ × Push D I → Option (ℕ × Push D I)
@@ -201,7 +209,7 @@ module _ {D I : Type 0} (r : Reading D I) (law : IsReading r) where
       parted true = last_run-push (filter (λ p. is_by r i p.1) (e ∷ es)) x
       parted false = ap (last_run r) (append-nil (filter (λ p. is_by r i p.1) (e ∷ es)))
 
-  first_glob : (kept : List (ℕ × Push D I)) → filter (λ p. is_explicit r p.1) kept ≡ [] → IfSome (first kept) (λ q. is_glob r q.1.by ≡ true)
+  first_glob : (kept : List (ℕ × Push D I)) → filter (λ p. is_explicit r p.1) kept ≡ [] → IfSome (slice_get kept 0) (λ q. is_glob r q.1.by ≡ true)
   first_glob [] h = tt
   first_glob (q ∷ qs) h = by (is_glob r q.1.by) h
     where
@@ -212,11 +220,11 @@ module _ {D I : Type 0} (r : Reading D I) (law : IsReading r) where
   -- one more push of a name
   pub named-push : (kept : List (ℕ × Push D I)) (x : ℕ × Push D I) → named r (kept ++ x ∷ []) ≡ after (named r kept) x
   named-push kept x =
-      ap (named_of r (first (kept ++ x ∷ []))) (filter-append (λ p. is_explicit r p.1) kept (x ∷ []))
+      ap (named_of r (slice_get (kept ++ x ∷ []) 0)) (filter-append (λ p. is_explicit r p.1) kept (x ∷ []))
       ∙ ap (λ o. named_of r o (filter (λ p. is_explicit r p.1) kept ++ filter (λ p. is_explicit r p.1) (x ∷ []))) (first-push kept x)
       ∙ by (filter (λ p. is_explicit r p.1) kept) refl
     where
       by : (es : List (ℕ × Push D I)) → filter (λ p. is_explicit r p.1) kept ≡ es
-          → named_of r (or_this (first kept) x) (es ++ cond (is_explicit r x.1) (x ∷ []) []) ≡ after (named_of r (first kept) es) x
-      by [] h = none_explicit (first kept) x (first_glob kept h)
-      by (e ∷ es) h = some_explicit e es x ((and_parts _ _ (sym (ap (list_all (λ p. is_explicit r p.1)) h) ∙ list_all-filter (λ p. is_explicit r p.1) kept)).0) e.1.by refl
+          → named_of r (or_this (slice_get kept 0) x) (es ++ cond (is_explicit r x.1) (x ∷ []) []) ≡ after (named_of r (slice_get kept 0) es) x
+      by [] h = none_explicit (slice_get kept 0) x (first_glob kept h)
+      by (e ∷ es) h = some_explicit e es x (and_left _ _ (sym (ap (list_all (λ p. is_explicit r p.1)) h) ∙ list_all-filter (λ p. is_explicit r p.1) kept)) e.1.by refl

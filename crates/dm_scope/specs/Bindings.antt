@@ -3,13 +3,13 @@ use Rattle.std.specs.Prelude.{◌&&◌, ◌||◌, Bool, true, false, not, List, 
 use Rattle.std.specs.Option.{option_and_then}
 use Rattle.std.specs.Map.{set_value}
 use Rattle.indexmap.specs.IndexMap.{insert_entry}
+use Rattle.dm_base.specs.Imports.{target_of}
 use Rattle.dm_base.specs.Names.{Name, same_name, find_name}
 use Rattle.dm_ids.specs.declared.ModuleId.{ModuleId}
 use Rattle.dm_base.specs.declared.per_ns.Item.{Item}
 use Rattle.dm_base.specs.declared.imports.ImportOrDef.{ImportOrDef}
 use Rattle.dm_base.specs.declared.imports.ImportOrDef.TheVariants as target
 use Rattle.dm_base.specs.declared.imports.ImportOrExternCrate.{ImportOrExternCrate}
-use Rattle.dm_base.specs.declared.imports.ImportOrExternCrate.TheVariants as wide
 use Rattle.dm_base.specs.declared.item_ids.ModuleDefId.{ModuleDefId}
 use Rattle.dm_scope.specs.Entries.{add_entry, is_new, without_new}
 use Rattle.dm_scope.specs.Flags.{Flags, has_flag, add_flag, clear_flag, flags_finished}
@@ -31,12 +31,6 @@ pub record Reading (D I : Type 0) : Type 0 where
 abbrev pub reading : {D I : Type 0} → (I → I → Bool) → (D → D → Bool) → (I → Bool) → (ImportOrExternCrate → Option I) → (I → ImportOrExternCrate) → (D → ModuleDefId) → Reading D I
 reading same_import same_def globs narrowed widened widened_def =
     record { same_import = same_import; same_def = same_def; globs = globs; narrowed = narrowed; widened = widened; widened_def = widened_def }
-
--- an import as what another import stands for
-abbrev pub target_of : ImportOrExternCrate → ImportOrDef
-target_of (wide.Glob i) = target.Glob i
-target_of (wide.Import i) = target.Import i
-target_of (wide.ExternCrate k) = target.ExternCrate k
 
 abbrev pub is_glob_by : {I : Type 0} → (I → Bool) → Option I → Bool
 is_glob_by globs None = false

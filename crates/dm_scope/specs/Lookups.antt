@@ -29,11 +29,6 @@ names_for (Types d) s = names_in same_def d s.types.items
 names_for (Values d) s = names_in same_def d s.values.items
 names_for (Macros m) s = names_in same_macro m s.macros.items
 
--- the first of a list
-abbrev pub first_of : {A : Type 0} → List A → Option A
-first_of [] = None
-first_of (x ∷ xs) = Some x
-
 -- a name as it is shown, behind a reference
 abbrev pub deref_named : Bor Name × Visibility × Bool → Name × Visibility × Bool
 deref_named e = (e.0.now, e.1, e.2)

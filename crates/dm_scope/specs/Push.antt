@@ -1,8 +1,9 @@
 -- What one push does to a scope and to the glob table.
-use Rattle.std.specs.Prelude.{◌&&◌, ◌||◌, Bool, not, List, Option, Some, is_none, if◌then◌else◌}
+use Rattle.std.specs.Prelude.{◌&&◌, ◌||◌, Bool, not, List, Option, Some, if◌then◌else◌}
 use Rattle.std.specs.List.{list_any}
 use Rattle.indexmap.specs.IndexSet.{insert_key}
 use Rattle.dm_base.specs.Names.{Name, same_name}
+use Rattle.dm_base.specs.PerNs.{is_empty}
 use Rattle.dm_base.specs.Imports.{is_glob, is_glob_or_import, narrowed, widened}
 use Rattle.dm_base.specs.Definitions.{widened_macro}
 use Rattle.dm_ids.specs.declared.ModuleId.{ModuleId}
@@ -27,10 +28,6 @@ values_reading = reading same_value_import same_def is_glob_or_import narrowed w
 -- macros: any import brings one
 abbrev pub macros_reading : Reading MacroId ImportOrExternCrate
 macros_reading = reading same_import same_macro is_glob (λ i. Some i) (λ i. i) widened_macro
-
--- whether a push resolved to nothing
-abbrev pub is_empty : PerNs → Bool
-is_empty x = is_none x.types && (is_none x.values && is_none x.macros)
 
 -- an empty push puts its name among the unresolved ones, which keep their order
 abbrev pub unresolved_after : List Name → Name → PerNs → List Name

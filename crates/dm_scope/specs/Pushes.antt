@@ -1,11 +1,12 @@
 -- What a whole list of pushes binds and records in one namespace.
-use Rattle.std.specs.Prelude.{◌≡◌, ℕ, Bool, false, not, nat_eq, List, [], ◌∷◌, ◌++◌, Option, None, Some, if◌then◌else◌, length}
+use Rattle.std.specs.Prelude.{◌≡◌, ℕ, Bool, false, not, nat_eq, List, [], ◌∷◌, ◌++◌, slice_get, Option, None, Some, if◌then◌else◌, length}
 use Rattle.std.specs.Option.{option_map}
 use Rattle.std.specs.List.{filter, list_all, enumerate_from}
 use Rattle.std.specs.Map.{lookup}
 use Rattle.dm_base.specs.Names.{Name, same_name, find_name}
 use Rattle.dm_base.specs.declared.per_ns.Item.{Item}
 use Rattle.dm_base.specs.declared.imports.ImportOrDef.{ImportOrDef}
+use Rattle.dm_scope.specs.Scope.{last_of}
 use Rattle.dm_scope.specs.Bindings.{Bound, Reading, is_glob, is_same, stored, recorded}
 
 -- one push: the name, the pushed item, and the import by which it came, as the namespace reads it
@@ -13,15 +14,6 @@ pub record Push (D I : Type 0) : Type 0 where
   pub name : Name
   pub item : Item D I
   pub by : Option I
-
-abbrev pub first : {X : Type 0} → List X → Option X
-first [] = None
-first (x ∷ xs) = Some x
-
-abbrev pub last : {X : Type 0} → List X → Option X
-last [] = None
-last (x ∷ []) = Some x
-last (x ∷ y ∷ ys) = last (y ∷ ys)
 
 module _ {D I : Type 0} (r : Reading D I) where
   -- an explicit push comes by no glob
@@ -51,7 +43,7 @@ module _ {D I : Type 0} (r : Reading D I) where
 
   -- The push that the pushes of one name name, each with its place: the first of them where none is explicit.
   abbrev pub named : List (ℕ × Push D I) → Option (ℕ × Push D I)
-  named kept = named_of (first kept) (filter (λ p. is_explicit p.1) kept)
+  named kept = named_of (slice_get kept 0) (filter (λ p. is_explicit p.1) kept)
 
   -- the push that a whole list names for a name
   abbrev pub named_push : List (Push D I) → Name → Option (ℕ × Push D I)
@@ -83,7 +75,7 @@ module _ {D I : Type 0} (r : Reading D I) where
 
   -- what a whole list records for an import: what the last effective push by it carried
   abbrev pub record_of : List (Push D I) → I → Option ImportOrDef
-  record_of ps i = option_map (λ p. recorded r p.item) (last (filter (is_by i) (effective [] ps)))
+  record_of ps i = option_map (λ p. recorded r p.item) (last_of (filter (is_by i) (effective [] ps)))
 
   -- A namespace shows a list of pushes: what it binds and records is what the list does, and a name has the glob flag
   -- exactly if the list names a glob push for it.

@@ -18,7 +18,6 @@ use Rattle.dm_ids.specs.declared.ModuleId.{ModuleId}
 use Rattle.dm_scope.specs.Flags.{Globs, no_globs}
 use Rattle.dm_scope.specs.Push.{types_reading, values_reading, scope_after, globs_after, push_answer}
 use Rattle.dm_scope.specs.Pushes.{binding, record_of}
-use Rattle.dm_base.specs.Sameness.{same_import, same_value_import, same_def}
 use Rattle.dm_scope.specs.Scope.{Scope, no_scope, bound_in}
 use Rattle.dm_scope.specs.Shows.{ScopePush, pushes_in, is_answered}
 
@@ -78,15 +77,12 @@ abbrev glob_then_import : List ScopePush
 glob_then_import = of_type (struct 0) Public (Some (glob 0)) ∷ of_type (struct 1) Public (Some (import 1)) ∷ []
 
 glob_then_import_binds : type_of glob_then_import ≡ Some (record { def = struct 1; vis = Public; import = Some (import 1) })
-unfolding same_import same_def
 glob_then_import_binds = refl
 
 glob_then_import_answers : answers [] glob_then_import ≡ true ∷ true ∷ []
-unfolding same_import same_def
 glob_then_import_answers = refl
 
 glob_then_import_by_steps : bound_by_steps no_scope no_globs glob_then_import A ≡ type (struct 1) Public (Some (import 1))
-unfolding same_import same_def
 glob_then_import_by_steps = refl
 
 -- the first import keeps the name against a second one, and can change its own definition
@@ -94,24 +90,19 @@ abbrev two_imports : List ScopePush
 two_imports = of_type (struct 0) Public (Some (import 1)) ∷ of_type (struct 1) Public (Some (import 2)) ∷ of_type (struct 2) Public (Some (import 1)) ∷ []
 
 two_imports_bind : type_of two_imports ≡ Some (record { def = struct 2; vis = Public; import = Some (import 1) })
-unfolding same_import same_def
 two_imports_bind = refl
 
 two_imports_answer : answers [] two_imports ≡ true ∷ false ∷ true ∷ []
-unfolding same_import same_def
 two_imports_answer = refl
 
 two_imports_by_steps : answers_by_steps no_scope no_globs two_imports ≡ true ∷ false ∷ true ∷ []
-unfolding same_import same_def
 two_imports_by_steps = refl
 
 two_imports_record : type_record_of two_imports (import 1) ≡ Some (target.Def (struct 2))
-unfolding same_import same_def
 two_imports_record = refl
 
 -- the one that was never effective has no record
 no_record_of_the_second : type_record_of two_imports (import 2) ≡ None
-unfolding same_import same_def
 no_record_of_the_second = refl
 
 -- another visibility alone changes nothing, nor does a glob
@@ -120,15 +111,12 @@ visibility_then_glob =
     of_type (struct 0) Public (Some (import 1)) ∷ of_type (struct 0) (Module m0 Implicit) (Some (import 1)) ∷ of_type (struct 1) Public (Some (glob 0)) ∷ []
 
 visibility_then_glob_binds : type_of visibility_then_glob ≡ Some (record { def = struct 0; vis = Public; import = Some (import 1) })
-unfolding same_import same_def
 visibility_then_glob_binds = refl
 
 visibility_then_glob_answers : answers [] visibility_then_glob ≡ true ∷ false ∷ false ∷ []
-unfolding same_import same_def
 visibility_then_glob_answers = refl
 
 visibility_then_glob_by_steps : answers_by_steps no_scope no_globs visibility_then_glob ≡ true ∷ false ∷ false ∷ []
-unfolding same_import same_def
 visibility_then_glob_by_steps = refl
 
 -- an extern crate is stored and recorded as a type's import, and not as a value's
@@ -141,19 +129,15 @@ extern_crate =
     } ∷ []
 
 extern_crate_type : type_of extern_crate ≡ Some (record { def = struct 0; vis = Public; import = Some (extern 0) })
-unfolding same_import same_def
 extern_crate_type = refl
 
 extern_crate_value : value_of extern_crate ≡ Some (record { def = function 3; vis = Public; import = None })
-unfolding same_value_import same_def
 extern_crate_value = refl
 
 extern_crate_answers : answers [] extern_crate ≡ true ∷ []
-unfolding same_import same_def
 extern_crate_answers = refl
 
 extern_crate_records : type_record_of extern_crate (extern 0) ≡ Some (target.Def (struct 0))
-unfolding same_import same_def
 extern_crate_records = refl
 
 extern_crate_no_value_record : (scope_after no_scope no_globs m0 A (record (type (struct 0) Public None) { values = Some (record { def = function 3; vis = Public; import = None }) }) (Some (extern 0))).values.records ≡ []
@@ -164,11 +148,9 @@ abbrev two_declarations : List ScopePush
 two_declarations = of_type (struct 0) Public None ∷ of_type (struct 1) Public None ∷ []
 
 two_declarations_bind : type_of two_declarations ≡ Some (record { def = struct 0; vis = Public; import = None })
-unfolding same_import same_def
 two_declarations_bind = refl
 
 two_declarations_answer : answers [] two_declarations ≡ true ∷ false ∷ []
-unfolding same_import same_def
 two_declarations_answer = refl
 
 -- an empty push is answered once, and a glob can bind in two namespaces at once
@@ -183,9 +165,7 @@ unresolved_then_both =
     } ∷ []
 
 unresolved_then_both_answers : answers [] unresolved_then_both ≡ true ∷ false ∷ true ∷ []
-unfolding same_import same_value_import same_def
 unresolved_then_both_answers = refl
 
 unresolved_then_both_by_steps : answers_by_steps no_scope no_globs unresolved_then_both ≡ true ∷ false ∷ true ∷ []
-unfolding same_import same_value_import same_def
 unresolved_then_both_by_steps = refl

@@ -9,7 +9,8 @@ use Rattle.dm_base.specs.declared.per_ns.PerNs.{PerNs}
 use Rattle.dm_base.specs.declared.imports.ImportOrExternCrate.{ImportOrExternCrate}
 use Rattle.dm_scope.specs.Bindings.{Reading, import_of}
 use Rattle.dm_scope.specs.Flags.{Globs, has_flag}
-use Rattle.dm_scope.specs.Push.{types_reading, values_reading, macros_reading, is_empty}
+use Rattle.dm_scope.specs.Push.{types_reading, values_reading, macros_reading}
+use Rattle.dm_base.specs.PerNs.{is_empty}
 use Rattle.dm_scope.specs.Pushes.{Push, is_effective, ShowsIn}
 use Rattle.dm_scope.specs.Scope.{Scope}
 

@@ -9,12 +9,11 @@ use Rattle.std.specs.Cmp.Lexicographic.{slice_cmp}
 use Rattle.std.specs.Ordering.{nat_cmp}
 use Rattle.dm_ids.specs.declared.TraitId.{TraitId}
 use Rattle.dm_base.specs.declared.imports.ImportId.{ImportId}
-use Rattle.dm_base.specs.declared.imports.ImportOrExternCrate.{ImportOrExternCrate}
 use Rattle.dm_base.specs.declared.imports.ImportOrExternCrate.TheVariants as wide
 use Rattle.dm_base.specs.declared.item_ids.ModuleDefId.TheVariants as def
 use Rattle.dm_base.specs.declared.per_ns.PerNs.{PerNs}
 use Rattle.dm_base.specs.declared.visibility.Visibility.{Visibility}
-use Rattle.dm_base.specs.Imports.{widened}
+use Rattle.dm_base.specs.Imports.{widened, named_import}
 use Rattle.dm_base.specs.Names.{Name}
 use Rattle.dm_scope.specs.Scope.{Scope, bound_in}
 
@@ -38,12 +37,6 @@ deref_entry e = (e.0.now, e.1)
 -- Entries of a scope: its names in order, each with what it is bound to.
 abbrev pub AreEntries : List (Name × PerNs) → Scope → Type 0
 AreEntries es s = AreNames (map (λ e. e.0) es) s × (es ≡ map (λ n. (n, bound_in s n)) (map (λ e. e.0) es))
-
--- the named import that an import is
-abbrev pub named_import : ImportOrExternCrate → Option ImportId
-named_import (wide.Glob i) = None
-named_import (wide.Import i) = Some i
-named_import (wide.ExternCrate k) = None
 
 -- the named imports that have a record
 abbrev pub imports_of : Scope → List ImportId

@@ -13,7 +13,7 @@ ghost use Rattle.dm_base.specs.Tree.{same_module};
 ghost use Rattle.dm_scope.specs.Pushes.{Push, ShowsIn, is_effective};
 ghost use Rattle.dm_scope.specs.Entries.{is_new};
 ghost use Rattle.dm_scope.specs.Flags.{has_flag, without_flag};
-ghost use Rattle.dm_scope.specs.Bindings.{reading, import_of, is_glob_by, writes, stored, recorded, target_of, bound_after, flags_after, is_effective_at, with_keys, without_keys, is_new_record, written, is_new_import, add_import, set_import, finished, flags_done};
+ghost use Rattle.dm_scope.specs.Bindings.{reading, import_of, is_glob_by, writes, stored, recorded, bound_after, flags_after, is_effective_at, with_keys, without_keys, is_new_record, written, is_new_import, add_import, set_import, finished, flags_done};
 
 mod changes;
 mod names;
@@ -340,17 +340,7 @@ fn recorded<D: Definition, I: ImportSource>(item: &Item<D, I>) -> ImportOrDef
 {
     match item.import {
         None => ImportOrDef::Def(item.def.widen_def()),
-        Some(i) => target_of(i.widen()),
-    }
-}
-
-fn target_of(import: ImportOrExternCrate) -> ImportOrDef
-    ensures { result ≡ target_of import }
-{
-    match import {
-        ImportOrExternCrate::Glob(id) => ImportOrDef::Glob(id),
-        ImportOrExternCrate::Import(id) => ImportOrDef::Import(id),
-        ImportOrExternCrate::ExternCrate(id) => ImportOrDef::ExternCrate(id),
+        Some(i) => ImportOrDef::from(i.widen()),
     }
 }
 

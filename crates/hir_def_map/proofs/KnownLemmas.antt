@@ -1,6 +1,6 @@
 -- What is known of the parts of known items.
 use Rattle.std.proofs.Common.{◌≡◌, Bool, true, false, cond, List, [], ◌∷◌, ◌++◌, Option, Some, None, subst}
-use Rattle.std.specs.Option.{option_map_or}
+use Rattle.std.specs.Option.{option_map_or, option_or}
 use Rattle.dm_base.specs.declared.imports.ImportOrExternCrate.{ImportOrExternCrate}
 use Rattle.dm_base.specs.declared.imports.ImportOrGlob.{ImportOrGlob}
 use Rattle.dm_ids.specs.declared.ModuleId.{ModuleId}
@@ -12,7 +12,8 @@ use Rattle.dm_base.specs.declared.per_ns.PerNs.{PerNs}
 use Rattle.dm_base.specs.declared.visibility.Visibility.{Visibility}
 use Rattle.dm_base.specs.declared.visibility.Visibility.TheVariants.{Module, PubCrate, Public}
 use Rattle.dm_ids.specs.declared.ExternCrateId.{ExternCrateId}
-use Rattle.dm_base.specs.Items.{keep, seen_by, public_type, first, over}
+use Rattle.dm_base.specs.Items.{keep, seen_by, over}
+use Rattle.dm_base.specs.PerNs.{type_alone}
 use Rattle.dm_base.specs.Names.{Name, find_name, same_name}
 use Rattle.dm_base.specs.Tree.{IsKnown}
 use Rattle.dm_base.specs.Visibility.{NamesKnown}
@@ -115,11 +116,11 @@ local-known w (l ∷ L) n e k is = by (same_name n l.0) is (local-known w L n e 
     by false there rest = rest there
 
 -- a module of the extern prelude, public
-pub public_module-known : (w : World) (m : ModuleId) (e : Option ExternCrateId) → KnowsAll w (held.Module m ∷ []) → KnowsAll w (res_holds (public_type (def.ModuleId m) (by_crate e)))
+pub public_module-known : (w : World) (m : ModuleId) (e : Option ExternCrateId) → KnowsAll w (held.Module m ∷ []) → KnowsAll w (res_holds (type_alone (def.ModuleId m) Public (by_crate e)))
 public_module-known w m None k = k
 public_module-known w m (Some x) k = k
 
-first-known : (w : World) {A : Type 0} (holds : A → List HeldId) (a b : Option A) → KnowsAll w (option_map_or holds a []) → KnowsAll w (option_map_or holds b []) → KnowsAll w (option_map_or holds (first a b) [])
+first-known : (w : World) {A : Type 0} (holds : A → List HeldId) (a b : Option A) → KnowsAll w (option_map_or holds a []) → KnowsAll w (option_map_or holds b []) → KnowsAll w (option_map_or holds (option_or a b) [])
 first-known w holds None b k l = l
 first-known w holds (Some x) b k l = k
 
@@ -131,6 +132,6 @@ over-known w a b k l =
     (first-known w macro_holds a.macros b.macros (macros-known w a k) (macros-known w b l))
 
 -- a module of the tree is known
-pub root-known : (w : World) (m : ModuleId) → IsKnown (tree_of w) m → KnowsAll w (res_holds (public_type (def.ModuleId m) None))
+pub root-known : (w : World) (m : ModuleId) → IsKnown (tree_of w) m → KnowsAll w (res_holds (type_alone (def.ModuleId m) Public None))
 unfolding tree_of
 root-known w m k = (k, tt)

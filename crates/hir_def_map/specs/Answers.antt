@@ -1,5 +1,5 @@
 -- Answers of paths, and overlays of them.
-use Rattle.std.specs.Prelude.{ℕ, ◌+◌, ◌||◌, if◌then◌else◌, Bool, true, false, List, [], ◌∷◌, Option, Some, None, max}
+use Rattle.std.specs.Prelude.{ℕ, ◌+◌, ◌||◌, if◌then◌else◌, Bool, true, false, List, [], ◌∷◌, Option, Some, None}
 use Rattle.std.specs.Option.{option_map}
 use Rattle.dm_base.specs.declared.fields_shape.FieldsShape.{FieldsShape}
 use Rattle.dm_ids.specs.declared.EnumVariantId.{EnumVariantId}
@@ -9,6 +9,7 @@ use Rattle.dm_base.specs.declared.imports.ImportOrExternCrate.{ImportOrExternCra
 use Rattle.dm_base.specs.declared.per_ns.Item.{Item}
 use Rattle.dm_base.specs.declared.per_ns.PerNs.{PerNs}
 use Rattle.dm_base.specs.Items.{nothing, over}
+use Rattle.dm_base.specs.Overlays.{greatest}
 use Rattle.dm_base.specs.Kinds.{has_constructor}
 use Rattle.hir_def_map.specs.declared.result.ReachedFixedPoint.{ReachedFixedPoint}
 use Rattle.hir_def_map.specs.declared.result.ReachedFixedPoint.TheVariants.{Yes, No}
@@ -51,12 +52,6 @@ from_other_crate j a = record {
   reached_fixedpoint = Yes;
   prefix_info = record { differing_crate = true; enum_variant = a.prefix_info.enum_variant };
 }
-
--- the greatest index, none if none has one
-abbrev pub greatest : Option ℕ → Option ℕ → Option ℕ
-greatest None b = b
-greatest (Some a) None = Some a
-greatest (Some a) (Some b) = Some (max a b)
 
 -- yes if either is
 abbrev pub either_yes : ReachedFixedPoint → ReachedFixedPoint → ReachedFixedPoint

@@ -19,8 +19,11 @@ use Rattle.dm_base.specs.declared.mod_path.PathKind.TheVariants.{Plain, Abs, Dol
 use Rattle.dm_base.specs.declared.mod_path.PathKind.TheVariants as kind
 use Rattle.dm_base.specs.declared.per_ns.Item.{Item}
 use Rattle.dm_base.specs.declared.per_ns.PerNs.{PerNs}
+use Rattle.dm_base.specs.declared.visibility.Visibility.TheVariants.{Public}
 use Rattle.dm_base.specs.Names.{Name}
-use Rattle.dm_base.specs.Items.{nothing, overlay, keep, seen_by, public_type, public_macro}
+use Rattle.dm_base.specs.Items.{nothing, overlay, keep, seen_by}
+use Rattle.dm_base.specs.PerNs as per_ns
+use Rattle.dm_base.specs.PerNs.{type_alone, macro_alone}
 use Rattle.dm_base.specs.Styles.{has_styles, fn_like, attr, derive}
 use Rattle.dm_base.specs.Tree.{Tree, same_crate, same_map, crate_of, in_block_map, is_block_root, chain, sees, outer, home, up_to, block_of}
 use Rattle.dm_modules.specs.declared.modes.BuiltinShadowMode.TheVariants as shadow
@@ -104,7 +107,7 @@ abbrev pub stop : Entering → Tree → ModuleId → PerNs → ℕ → List Read
 stop enter t f x b S = option_map_or (at_stop enter) (find (is_stop t f) (stations t f x b S)) nothing_no
 
 abbrev pub root_item : ModuleId → PerNs
-root_item m = public_type (def.ModuleId m) None
+root_item m = type_alone (def.ModuleId m) Public None
 
 -- enter, for fewer than n segments
 abbrev pub enter_within : ℕ → Tree → Entering
@@ -148,20 +151,20 @@ by_crate e = option_map import.ExternCrate e
 
 -- the last legacy macro of the name, if it fits
 abbrev pub legacy : Setting → Option MacroSubNs → ModuleId → Reading → PerNs
-legacy w e m s = option_map_or (λ l. if fits w e l then public_macro l None else nothing) (s.legacy m) nothing
+legacy w e m s = option_map_or (λ l. if fits w e l then macro_alone l Public None else nothing) (s.legacy m) nothing
 
 abbrev pub extern_prelude : Reading → PerNs
-extern_prelude s = option_map_or (λ e. public_type (def.ModuleId e.0) (by_crate e.1)) s.extern nothing
+extern_prelude s = option_map_or (λ e. type_alone (def.ModuleId e.0) Public (by_crate e.1)) s.extern nothing
 
 abbrev pub macro_use_prelude : MapId → Reading → PerNs
-macro_use_prelude id s = option_map_or (λ e. public_macro e.0 (by_crate e.1)) (s.macro_use id) nothing
+macro_use_prelude id s = option_map_or (λ e. macro_alone e.0 Public (by_crate e.1)) (s.macro_use id) nothing
 
 -- what the scope of a map's prelude module binds
 abbrev pub prelude : Setting → MapId → Reading → PerNs
 prelude w id s = option_map_or s.bound (w.prelude id) nothing
 
 abbrev pub builtin : Reading → PerNs
-builtin s = option_map_or (λ b. public_type (def.BuiltinType b) None) s.builtin nothing
+builtin s = option_map_or (λ b. type_alone (def.BuiltinType b) Public None) s.builtin nothing
 
 -- the questions that edition 2015 answers from the crate's root: of imports, and of paths that begin with `::`
 abbrev pub asks_root : Ask → Bool
@@ -219,12 +222,9 @@ layers w q p s is_last =
     if by_2015_rule w q p then layers_by_2015_rule w p s
     else elim q.kind [ kind.Abs ↦ extern_prelude s ∷ [] | _ ↦ plain_layers w q p s is_last ]
 
-abbrev pub is_nothing : PerNs → Bool
-is_nothing x = is_none x.types && is_none x.values && is_none x.macros
-
 -- after `::`, where the 2015 rule does not hold, a name that no layer has is not there yet
 abbrev pub missed : Ask → Bool → PerNs → Bool
-missed q by_2015 x = elim q.kind [ kind.Abs ↦ not by_2015 && is_nothing x | _ ↦ false ]
+missed q by_2015 x = elim q.kind [ kind.Abs ↦ not by_2015 && per_ns.is_empty x | _ ↦ false ]
 
 -- by what the first segment selects; a path without segments is nothing
 abbrev pub by_first_segment : Setting → Ask → Place → List Reading → ResolvePathResult

@@ -1,7 +1,7 @@
 //! The names of a definition in a namespace. Nothing here takes memory.
-ghost use Rattle.std.specs.Prelude.{◌≡◌};
+ghost use Rattle.std.specs.Prelude.{◌≡◌, slice_get};
 ghost use Rattle.std.specs.Option.{option_map};
-ghost use Rattle.dm_scope.specs.Lookups.{names_in, first_of, deref_named, AsksNames};
+ghost use Rattle.dm_scope.specs.Lookups.{names_in, deref_named, AsksNames};
 
 use super::Bindings;
 use dm_base::definition::Definition;
@@ -12,7 +12,7 @@ use dm_base::visibility::Visibility;
 impl<D: Definition, I: ImportSource> Bindings<D, I> {
     /// The first name of a definition, with who sees it, and whether no import brought it.
     pub(crate) fn name_of(&self, def: D) -> Option<(&Name, Visibility, bool)>
-        ensures { option_map deref_named result ≡ first_of (names_in D.eq def self.now.items) }
+        ensures { option_map deref_named result ≡ slice_get (names_in D.eq def self.now.items) 0 }
     {
         let mut entries = self.items.iter();
         while let Some((name, bound)) = entries.next() {

@@ -13,7 +13,6 @@ use dm_base::visibility::Visibility;
 
 impl ItemScope {
     /// Takes a value out, where the name is bound to that definition. The others close up; records and glob flags stay.
-    #[tactic(auto, using(crate::proofs::SamenessLemmas::def_test_is))]
     pub fn remove_from_value_ns(&mut self, name: &Name, def: ModuleDefId)
         ensures { self.new ≡ record self.old { values = without_binding same_def name.now def self.old.values } }
     {

@@ -1,8 +1,8 @@
 //! What a scope says of one name, of one definition, or of one place in the syntax.
-ghost use Rattle.std.specs.Prelude.{◌≡◌, option_map, option_copied, find};
+ghost use Rattle.std.specs.Prelude.{◌≡◌, option_map, option_copied, find, slice_get};
 ghost use Rattle.std.specs.Map.{lookup};
 ghost use Rattle.dm_base.specs.Names.{find_name};
-ghost use Rattle.dm_scope.specs.Lookups.{def_and_vis, deref_named, first_of, names_for, AsksNames, trait_vis};
+ghost use Rattle.dm_scope.specs.Lookups.{def_and_vis, deref_named, names_for, AsksNames, trait_vis};
 ghost use Rattle.dm_base.specs.Sameness.{same_ast};
 
 use super::ItemScope;
@@ -40,7 +40,6 @@ impl ItemScope {
     }
 
     /// The call of a function-like macro. Takes no memory: one look-up.
-    #[tactic(auto, using(dm_base::specs::AstLaws::ast_test_is))]
     pub fn macro_invoc(&self, call: AstId) -> Option<MacroCallId>
         ensures { result ≡ lookup (same_ast call) self.now.macro_invocations }
     {
@@ -61,9 +60,8 @@ impl ItemScope {
 
     /// The first name of an item in its namespace, in order of first binding, with who sees it, and whether no import
     /// brought it. Takes no memory: it goes over the namespace.
-    #[tactic(auto, using(crate::proofs::SamenessLemmas::def_test_is, crate::proofs::SamenessLemmas::macro_test_is))]
     pub fn name_of(&self, item: ItemInNs) -> Option<(&Name, Visibility, bool)>
-        ensures { option_map deref_named result ≡ first_of (names_for item self.now) }
+        ensures { option_map deref_named result ≡ slice_get (names_for item self.now) 0 }
     {
         match item {
             ItemInNs::Types(def) => self.types.name_of(def),

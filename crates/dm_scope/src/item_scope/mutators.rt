@@ -6,7 +6,6 @@ ghost use Rattle.dm_scope.specs.TableLists.{add_to_list};
 ghost use Rattle.dm_base.specs.Sameness.{same_ast};
 
 use super::ItemScope;
-use crate::table_lists::add_to_list;
 use dm_base::ids::{
     BuiltinDeriveImplId, ConstId, ExternBlockId, ExternCrateId, ImplId, MacroCallId, TraitId,
 };
@@ -15,6 +14,7 @@ use dm_base::item_ids::{MacroId, ModuleDefId};
 use dm_base::name::Name;
 use dm_base::source::AstId;
 use dm_base::visibility::Visibility;
+use crate::table_lists::add_to_list;
 use std::alloc::AllocError;
 
 impl ItemScope {
@@ -91,7 +91,6 @@ impl ItemScope {
 
     /// Sets the call of an attribute macro on an item, in place of one that was set. Where memory is short, nothing
     /// changes.
-    #[tactic(auto, using(dm_base::specs::AstLaws::ast_test_is))]
     pub fn add_attr_macro_invoc(&mut self, item: AstId, call: MacroCallId) -> Result<(), AllocError>
         ensures ok { OnOk result (self.new ≡ record self.old { attr_macros = insert_entry same_ast self.old.attr_macros item call }) }
         ensures err { OnErr result (self.new ≡ self.old) }
@@ -101,7 +100,6 @@ impl ItemScope {
     }
 
     /// Sets the call of a function-like macro, in place of one that was set. Where memory is short, nothing changes.
-    #[tactic(auto, using(dm_base::specs::AstLaws::ast_test_is))]
     pub fn add_macro_invoc(&mut self, call: AstId, call_id: MacroCallId) -> Result<(), AllocError>
         ensures ok { OnOk result (self.new ≡ record self.old { macro_invocations = insert_entry same_ast self.old.macro_invocations call call_id }) }
         ensures err { OnErr result (self.new ≡ self.old) }

@@ -3,7 +3,7 @@ ghost use Rattle.std.specs.Prelude.{◌≡◌, false, List, [], ◌∷◌, ◌++
 ghost use Rattle.dm_ids.specs.declared.ModuleId.{ModuleId};
 ghost use Rattle.dm_base.specs.Tree.{same_module};
 ghost use Rattle.dm_scope.specs.Bindings.{bound_after, flags_after};
-ghost use Rattle.dm_scope.specs.Push.{macros_reading, is_empty, unresolved_after, is_new_unresolved, scope_after, globs_after, push_answer, push_answer_from_values, push_answer_from_macros};
+ghost use Rattle.dm_scope.specs.Push.{macros_reading, unresolved_after, is_new_unresolved, scope_after, globs_after, push_answer, push_answer_from_values, push_answer_from_macros};
 ghost use Rattle.dm_scope.specs.Scope.{Scope};
 ghost use Rattle.dm_scope.specs.Shows.{ScopePush, Shows, is_answered};
 
@@ -46,7 +46,6 @@ impl ItemScope {
     }
 
     /// The push, in all namespaces: the first step, then all that is below, then the second step, or all taken back.
-    #[tactic(auto, using(crate::proofs::SamenessLemmas::types_reading_is))]
     fn push_from_types(
         &mut self,
         globs: &mut PerNsGlobImports,
@@ -78,7 +77,6 @@ impl ItemScope {
     }
 
     /// The push from the values on.
-    #[tactic(auto, using(crate::proofs::SamenessLemmas::values_reading_is))]
     fn push_from_values(
         &mut self,
         globs: &mut PerNsGlobImports,
@@ -110,7 +108,6 @@ impl ItemScope {
     }
 
     /// The push from the macros on.
-    #[tactic(auto, using(crate::proofs::SamenessLemmas::macros_reading_is))]
     fn push_from_macros(
         &mut self,
         globs: &mut PerNsGlobImports,
@@ -147,18 +144,11 @@ impl ItemScope {
         ensures scope { OnOk result (self.new ≡ record self.old { unresolved = unresolved_after self.old.unresolved name.now def.now }) }
         ensures err { OnErr result (self.new ≡ self.old) }
     {
-        if !is_empty(def) || self.unresolved.contains(name) {
+        if !def.is_none() || self.unresolved.contains(name) {
             return Ok(false);
         }
         let key = name.copy(self.alloc)?;
         self.unresolved.insert(key)?;
         Ok(true)
     }
-}
-
-/// Whether a push resolved to nothing.
-fn is_empty(def: &PerNs) -> bool
-    ensures { result ≡ is_empty def.now }
-{
-    def.types.is_none() && def.values.is_none() && def.macros.is_none()
 }

@@ -6,7 +6,8 @@ ghost use Rattle.std.specs.List.Sorted.{IsSorted, IsStrictlySortedBy, IsPermutat
 ghost use Rattle.std.specs.Ordering.{nat_cmp};
 ghost use Rattle.dm_base.specs.Names.{Name};
 ghost use Rattle.dm_scope.specs.Scope.{bound_in};
-ghost use Rattle.dm_scope.specs.Sorted.{names_of, seen, deref_entry, AreEntries, named_import, imports_of, AreImports, deref_resolution, named_resolution, AreResolutions, unnamed_resolution, unnamed_type};
+ghost use Rattle.dm_base.specs.Imports.{named_import};
+ghost use Rattle.dm_scope.specs.Sorted.{names_of, seen, deref_entry, AreEntries, imports_of, AreImports, deref_resolution, named_resolution, AreResolutions, unnamed_resolution, unnamed_type};
 
 use super::ItemScope;
 use dm_base::ids::TraitId;

@@ -1,6 +1,6 @@
 use Rattle.std.proofs.Common.{◌∙◌, ap, sym}
 use Rattle.dm_base.specs.Items.{over}
-use Rattle.hir_def_map.proofs.OverlayLemmas.{over-nothing}
+use Rattle.dm_base.specs.Overlays.{over_nothing}
 use Rattle.hir_def_map.proofs.first_segment.six_layers.Goals as goal
 
 pub returns-clause-value : goal.returns-clause-value
@@ -10,7 +10,7 @@ returns-clause-value c =
     ∙ ap (over c.args.b) (c.over-3.ensures.value
     ∙ ap (over c.args.c) (c.over-2.ensures.value
     ∙ ap (over c.args.d) (c.over.ensures.value
-    ∙ ap (over c.args.e) (sym (over-nothing c.args.f))))))
+    ∙ ap (over c.args.e) (sym (over_nothing c.args.f))))))
 
 pub returns-clause-known : goal.returns-clause-known
 returns-clause-known c = λ w k1 k2 k3 k4 k5 k6.

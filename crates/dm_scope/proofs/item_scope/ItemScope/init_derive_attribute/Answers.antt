@@ -4,7 +4,6 @@ use Rattle.dm_scope.specs.Derives.{derive_of, derives_of, fresh_derive}
 use Rattle.dm_base.specs.Sameness.{same_ast}
 use Rattle.dm_scope.specs.Scope.{Scope}
 use Rattle.dm_scope.specs.TableLists.{lists_of, add_to_list}
-use Rattle.dm_base.specs.AstLaws.{ast_test_is}
 use Rattle.dm_scope.proofs.TableListLemmas.{add_to_list-map}
 use Rattle.dm_scope.proofs.item_scope.ItemScope.init_derive_attribute.Goals as goal
 
@@ -14,7 +13,7 @@ returns-clause-ok c =
     let added : derives_of c.add_to_list.new.table.entries ≡ add_to_list same_ast (derives_of c.self.inside.derive_macros.entries) c.args.adt (fresh_derive c.args.attr_id c.args.attr_call_id c.args.slots) =
     ap (λ (es : List (AstId × List _)). map (λ e. (e.0, map derive_of e.1)) es) c.in_ok-add_to_list.ensures.ok
     ∙ add_to_list-map _ derive_of (lists_of c.self.inside.derive_macros.entries) c.args.adt _
-    ∙ (λ k. add_to_list (ast_test_is k) (derives_of c.self.inside.derive_macros.entries) c.args.adt (record { attr_id = c.args.attr_id; attr_call_id = c.args.attr_call_id; slots = empty k })) in
+    ∙ (λ k. add_to_list same_ast (derives_of c.self.inside.derive_macros.entries) c.args.adt (record { attr_id = c.args.attr_id; attr_call_id = c.args.attr_call_id; slots = empty k })) in
     (λ k. record {
       types = c.self.inside.types;
       values = c.self.inside.values;

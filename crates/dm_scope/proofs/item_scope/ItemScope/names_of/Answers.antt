@@ -1,27 +1,23 @@
 use Rattle.std.proofs.Common.{◌∙◌, sym, ap}
 use Rattle.dm_base.specs.declared.item_in_ns.ItemInNs.TheVariants.{Types, Values, Macros}
-use Rattle.dm_scope.specs.Lookups.{names_in, names_for}
+use Rattle.dm_scope.specs.Lookups.{names_for}
 use Rattle.dm_scope.proofs.AskLemmas.{AsksNames-same}
-use Rattle.dm_scope.proofs.SamenessLemmas.{def_test_is, macro_test_is}
 use Rattle.dm_scope.proofs.item_scope.ItemScope.names_of.Goals as goal
 
 pub returns-in-Types : goal.returns-in-Types
 returns-in-Types g c =
     AsksNames-same _ _ _ c.args.f c.names_of.result
-    (ap (λ same. names_in same c.in-Types.def c.self.inside.types.items) def_test_is
-    ∙ ap (names_for (Types c.in-Types.def)) c.self.view_is ∙ ap (λ i. names_for i c.args.self.now) (sym c.in-Types.is))
+    (ap (names_for (Types c.in-Types.def)) c.self.view_is ∙ ap (λ i. names_for i c.args.self.now) (sym c.in-Types.is))
     c.names_of.ensures
 
 pub returns-in-Values : goal.returns-in-Values
 returns-in-Values g c =
     AsksNames-same _ _ _ c.args.f c.names_of-in-Values.result
-    (ap (λ same. names_in same c.in-Values.def c.self.inside.values.items) def_test_is
-    ∙ ap (names_for (Values c.in-Values.def)) c.self.view_is ∙ ap (λ i. names_for i c.args.self.now) (sym c.in-Values.is))
+    (ap (names_for (Values c.in-Values.def)) c.self.view_is ∙ ap (λ i. names_for i c.args.self.now) (sym c.in-Values.is))
     c.names_of-in-Values.ensures
 
 pub returns-in-Macros : goal.returns-in-Macros
 returns-in-Macros g c =
     AsksNames-same _ _ _ c.args.f c.names_of-in-Macros.result
-    (ap (λ same. names_in same c.in-Macros.def c.self.inside.macros.items) macro_test_is
-    ∙ ap (names_for (Macros c.in-Macros.def)) c.self.view_is ∙ ap (λ i. names_for i c.args.self.now) (sym c.in-Macros.is))
+    (ap (names_for (Macros c.in-Macros.def)) c.self.view_is ∙ ap (λ i. names_for i c.args.self.now) (sym c.in-Macros.is))
     c.names_of-in-Macros.ensures

@@ -1,0 +1,37 @@
+-- The tests of ids hold of the same id, and of it alone.
+use Rattle.std.proofs.Common.{◌≡◌, ℕ, true, Option, None, Some, refl, sym, ap, true≢false, eqb-true, eq-eqb}
+use Rattle.std.proofs.lemmas.Bool.{and_parts, and_from}
+use Rattle.dm_ids.specs.declared.ModuleId.{ModuleId}
+use Rattle.dm_ids.specs.declared.BlockId.{BlockId}
+use Rattle.dm_ids.specs.declared.Crate.{Crate}
+use Rattle.dm_ids.specs.declared.MapId.{MapId}
+use Rattle.dm_base.specs.Tree.{same_module, same_crate, same_block, same_map}
+
+pub same_module-true : (a b : ModuleId) → same_module a b ≡ true → a ≡ b
+same_module-true a b e = ap (λ (n : ℕ). let m : ModuleId = record { 0 = n } in m) (eqb-true a.0 b.0 e)
+
+pub same_module-refl : (a : ModuleId) → same_module a a ≡ true
+same_module-refl a = eq-eqb a.0 a.0 refl
+
+pub same_crate-true : (a b : Crate) → same_crate a b ≡ true → a ≡ b
+same_crate-true a b e = ap (λ (n : ℕ). let k : Crate = record { 0 = n } in k) (eqb-true a.0 b.0 e)
+
+pub same_block-true : (a b : Option BlockId) → same_block a b ≡ true → a ≡ b
+same_block-true None None e = refl
+same_block-true None (Some b) e = absurd (true≢false (sym e))
+same_block-true (Some a) None e = absurd (true≢false (sym e))
+same_block-true (Some a) (Some b) e = ap (λ (n : ℕ). let o : Option BlockId = Some (record { 0 = n }) in o) (eqb-true a.0 b.0 e)
+
+pub same_map-true : (i j : MapId) → same_map i j ≡ true → i ≡ j
+same_map-true i j e =
+    let both = and_parts (same_crate i.krate j.krate) (same_block i.block j.block) e in
+    let krate = same_crate-true i.krate j.krate both.0 in
+    let block = same_block-true i.block j.block both.1 in
+    λ k. record { krate = krate k; block = block k }
+
+pub same_block-refl : (a : Option BlockId) → same_block a a ≡ true
+same_block-refl None = refl
+same_block-refl (Some a) = eq-eqb a.0 a.0 refl
+
+pub same_map-refl : (i : MapId) → same_map i i ≡ true
+same_map-refl i = and_from _ _ (eq-eqb i.krate.0 i.krate.0 refl) (same_block-refl i.block)
