@@ -4,4 +4,3 @@ mod items;
 mod names;
 mod traits;
 mod tree;
-mod visibility;

@@ -1,60 +1,56 @@
-//! Steps outwards in a small tree of modules, by the calls that a tree has by default.
+//! What is generic over trees of modules, in a small one: each call once.
+ghost use Rattle.std.specs.Prelude.{◌≡◌};
+ghost use Rattle.dm_base.specs.declared.visibility.Visibility.TheVariants.{Module};
+ghost use Rattle.dm_base.specs.declared.visibility.VisibilityExplicitness.TheVariants.{Implicit};
+
 use crate::tree::SmallTree;
-use dm_base::ids::ModuleId;
+use dm_base::ids::{BlockId, Crate, MapId, ModuleId};
 use dm_base::module_tree::ModuleTree;
-use std::test::Fail;
+use dm_base::visibility::{Visibility, VisibilityExplicitness};
 
-#[test]
-fn chains_go_outwards_through_blocks(rt: HostRuntime) -> Result<(), Fail> {
-    let tree = SmallTree::new();
-    assert!(rt; tree.has(ModuleId(9)));
-    assert!(rt; !tree.has(ModuleId(10)));
-    assert!(rt; tree.contains(ModuleId(9), ModuleId(9)));
-    assert!(rt; tree.contains(ModuleId(0), ModuleId(9)));
-    assert!(rt; !tree.contains(ModuleId(3), ModuleId(9)));
-    assert_eq!(rt; tree.climb(ModuleId(9)), Some(ModuleId(6)));
-    assert_eq!(rt; tree.climb(ModuleId(4)), None);
-    Ok(())
+/// The root of block 2, which lies in module 6 of block 0.
+const INNERMOST: ModuleId = ModuleId(9);
+
+/// The map of block 0.
+const BLOCK_0: MapId = MapId {
+    krate: Crate(0),
+    block: Some(BlockId(0)),
+};
+
+fn inside(n: u32) -> Visibility
+    ensures { result ≡ Module (record { 0 = n }) Implicit }
+{
+    Visibility::Module(ModuleId(n), VisibilityExplicitness::Implicit)
 }
 
 #[test]
-fn blocks_have_one_root_each(rt: HostRuntime) -> Result<(), Fail> {
+fn steps_go_outwards_through_blocks(rt: HostRuntime) {
     let tree = SmallTree::new();
-    assert!(rt; tree.is_block_root(ModuleId(5)));
-    assert!(rt; tree.is_block_root(ModuleId(9)));
-    assert!(rt; !tree.is_block_root(ModuleId(6)));
-    assert!(rt; !tree.is_block_root(ModuleId(0)));
-    assert!(rt; !tree.is_block_root(ModuleId(2)));
-    Ok(())
+    assert!(rt; tree.contains(ModuleId(0), INNERMOST));
+    assert!(rt; tree.is_block_root(INNERMOST));
+    assert_eq!(rt;
+        [
+            tree.climb(INNERMOST),
+            tree.outside_root(INNERMOST),
+            Some(tree.home(INNERMOST)),
+            tree.outer_member(INNERMOST, 0),
+            tree.outer_member(INNERMOST, 2),
+        ],
+        [
+            Some(ModuleId(6)),
+            Some(ModuleId(6)),
+            Some(ModuleId(6)),
+            Some(ModuleId(6)),
+            Some(ModuleId(0)),
+        ]
+    );
 }
 
 #[test]
-fn roots_of_blocks_are_left_for_what_contains_the_block(rt: HostRuntime) -> Result<(), Fail> {
+fn modules_are_lifted_out_of_nested_blocks(rt: HostRuntime) {
     let tree = SmallTree::new();
-    assert_eq!(rt; tree.outside_root(ModuleId(9)), Some(ModuleId(6)));
-    assert_eq!(rt; tree.outside_root(ModuleId(8)), Some(ModuleId(0)));
-    assert_eq!(rt; tree.outside_root(ModuleId(6)), None);
-    assert_eq!(rt; tree.outside_root(ModuleId(2)), None);
-    Ok(())
-}
-
-#[test]
-fn home_is_the_nearest_module_that_is_no_root_of_a_block(rt: HostRuntime) -> Result<(), Fail> {
-    let tree = SmallTree::new();
-    assert_eq!(rt; tree.home(ModuleId(9)), ModuleId(6));
-    assert_eq!(rt; tree.home(ModuleId(5)), ModuleId(1));
-    assert_eq!(rt; tree.home(ModuleId(2)), ModuleId(2));
-    assert_eq!(rt; tree.home(ModuleId(4)), ModuleId(4));
-    Ok(())
-}
-
-#[test]
-fn outer_members_skip_roots_of_blocks(rt: HostRuntime) -> Result<(), Fail> {
-    let tree = SmallTree::new();
-    assert_eq!(rt; tree.outer_member(ModuleId(9), 0), Some(ModuleId(6)));
-    assert_eq!(rt; tree.outer_member(ModuleId(9), 1), Some(ModuleId(1)));
-    assert_eq!(rt; tree.outer_member(ModuleId(9), 2), Some(ModuleId(0)));
-    assert_eq!(rt; tree.outer_member(ModuleId(9), 3), None);
-    assert_eq!(rt; tree.outer_member(ModuleId(2), 1), Some(ModuleId(1)));
-    Ok(())
+    assert!(rt; inside(9).is_visible_from(&tree, ModuleId(2)));
+    assert!(rt; inside(1).is_visible_from_def_map(&tree, BLOCK_0, ModuleId(6)));
+    assert_eq!(rt; inside(6).max(&tree, inside(5), BLOCK_0), Some(inside(5)));
+    assert_eq!(rt; inside(6).min(&tree, inside(5), BLOCK_0), Some(inside(6)));
 }

@@ -1,208 +1,227 @@
-//! What dangles where no line of a script reaches.
-use super::{BLOCK_MAP, Building, CRATE_MAP, ast, seen_in, two_fields};
+//! What nobody has, where no line of a script puts it. Each entry names a 9.
+use super::calls::one_field;
+use super::{Building, CALL, CRATE_MAP, FILE, ROOT, ast};
 use dm_base::ids::{
-    ConstId, Crate, EnumVariantId, ExternBlockId, FunctionId, ImplId, Macro2Id, MacroCallId,
-    MacroRulesId, MapId, ModuleId, ProcMacroId, StructId, TraitId, TypeAliasId, UnionId,
+    Crate, ExpandErrorKind, FunctionId, ImplId, MacroCallKind, MacroRulesId, ModuleId, ProcMacroId,
+    StructId, TraitId,
 };
 use dm_base::item_ids::{AssocItemId, ItemContainerId, MacroId, VariantId};
-use dm_base::mod_path::PathKind;
+use dm_base::mod_path::{ModPath, PathKind};
 use dm_base::name::Name;
+use dm_base::source::Edition;
+use dm_base::visibility::{RawVisibility, VisibilityExplicitness};
 use dm_maps::build_fault::BuildFault;
 use dm_maps::fault::{Holder, WorldFault, WorldFaultKind};
+use dm_scope::diagnostics::DefDiagnostic;
 use either::Either;
 use std::alloc::Global;
 use std::test::Fail;
 
-/// An entry of one of these tables.
-#[derive(Clone, Copy, Debug)]
-enum Put {
-    DeriveHelper(MapId, MacroId),
-    MacroDef(MapId, MacroId),
-    ProcMacro(FunctionId, ProcMacroId),
-    Field(VariantId, PathKind),
-    Assoc(AssocItemId, ItemContainerId, PathKind),
-    TraitSeen(TraitId, PathKind),
+const RULES: MacroId = MacroId::MacroRulesId(MacroRulesId(9));
+
+/// An entry of a map.
+#[derive(Clone, Copy)]
+enum MapEntry {
+    MacroDef,
+    DeriveHelper,
+    PathOfCall,
+    PathOfError,
+    ProcMacro,
+    FunctionOfProcMacro,
 }
 
+/// An entry of the tables that belong to no map.
+#[derive(Clone, Copy)]
+enum TableEntry {
+    FieldsOf,
+    PathOfField,
+    Associated,
+    InTrait,
+    InModule,
+    PathOfAssociated,
+    Trait,
+    PathOfTrait,
+}
+
+/// The path `$crate` of a crate that nobody has.
+fn path(alloc: Global) -> ModPath {
+    ModPath::from_segments(PathKind::DollarCrate(Crate(9)), Vec::new(alloc))
+}
+
+/// `pub(in path)` for that path.
+fn seen_in(alloc: Global) -> RawVisibility {
+    RawVisibility::Module(path(alloc), VisibilityExplicitness::Explicit)
+}
+
+/// What an associated item is associated with.
+const IN_IMPL: ItemContainerId = ItemContainerId::ImplId(ImplId(9));
+
 impl Building {
-    /// Puts an entry.
-    fn put(&mut self, alloc: Global, put: Put) -> Result<(), BuildFault> {
-        match put {
-            Put::DeriveHelper(map, m) => self.put_helper(alloc, map, m),
-            Put::MacroDef(map, m) => self.builder.add_macro_def(map, ast(0), m),
-            Put::ProcMacro(f, m) => self.builder.set_proc_macro(Crate(0), f, m),
-            Put::Field(variant, kind) => self.put_field(alloc, variant, kind),
-            Put::Assoc(item, container, kind) => {
+    /// Puts an entry into the map of crate 0.
+    fn put_into_map(&mut self, alloc: Global, entry: MapEntry) -> Result<(), BuildFault> {
+        match entry {
+            MapEntry::MacroDef => self.builder.add_macro_def(CRATE_MAP, ast(0), RULES),
+            MapEntry::DeriveHelper => {
+                let name = Name::new(alloc, "helper")?;
                 self.builder
-                    .set_assoc(item, container, seen_in(alloc, kind))
+                    .add_derive_helper(CRATE_MAP, ast(0), name, RULES, Either::Left(CALL))
             }
-            Put::TraitSeen(tr, kind) => self.builder.set_trait_visibility(tr, seen_in(alloc, kind)),
+            MapEntry::PathOfCall => self.put_diagnostic(DefDiagnostic::unresolved_macro_call(
+                ROOT,
+                MacroCallKind(1),
+                path(alloc),
+            )),
+            MapEntry::PathOfError => self.put_diagnostic(DefDiagnostic::macro_error(
+                ROOT,
+                ast(1),
+                path(alloc),
+                ExpandErrorKind(1),
+            )),
+            MapEntry::ProcMacro => self.put_proc_macro(FunctionId(0), ProcMacroId(9)),
+            MapEntry::FunctionOfProcMacro => self.put_proc_macro(FunctionId(9), ProcMacroId(2)),
         }
     }
 
-    /// Puts a derive helper.
-    fn put_helper(&mut self, alloc: Global, map: MapId, m: MacroId) -> Result<(), BuildFault> {
-        let name = Name::new(alloc, "helper")?;
-        let call = Either::Left(MacroCallId(9));
-        self.builder.add_derive_helper(map, ast(0), name, m, call)
+    /// Puts a diagnostic.
+    fn put_diagnostic(&mut self, diagnostic: DefDiagnostic) -> Result<(), BuildFault> {
+        self.builder.add_diagnostic(CRATE_MAP, diagnostic)
     }
 
-    /// Puts a list of two fields, the second seen by that path.
+    /// Puts a procedural macro.
+    fn put_proc_macro(&mut self, f: FunctionId, m: ProcMacroId) -> Result<(), BuildFault> {
+        self.builder.set_proc_macro(Crate(0), f, m)
+    }
+
+    /// Puts an entry into the tables.
+    fn put_into_table(&mut self, alloc: Global, entry: TableEntry) -> Result<(), BuildFault> {
+        match entry {
+            TableEntry::FieldsOf => self.put_field(alloc, StructId(9), RawVisibility::Public),
+            TableEntry::PathOfField => self.put_field(alloc, StructId(1), seen_in(alloc)),
+            TableEntry::Associated => {
+                self.put_function(FunctionId(9), IN_IMPL, RawVisibility::Public)
+            }
+            TableEntry::InTrait => self.put_function(
+                FunctionId(0),
+                ItemContainerId::TraitId(TraitId(9)),
+                RawVisibility::Public,
+            ),
+            TableEntry::InModule => self.put_function(
+                FunctionId(0),
+                ItemContainerId::ModuleId(ModuleId(9)),
+                RawVisibility::Public,
+            ),
+            TableEntry::PathOfAssociated => {
+                self.put_function(FunctionId(0), IN_IMPL, seen_in(alloc))
+            }
+            TableEntry::Trait => self.put_trait(TraitId(9), RawVisibility::Public),
+            TableEntry::PathOfTrait => self.put_trait(TraitId(6), seen_in(alloc)),
+        }
+    }
+
+    /// Puts the only field of a struct.
     fn put_field(
         &mut self,
         alloc: Global,
-        variant: VariantId,
-        kind: PathKind,
+        id: StructId,
+        vis: RawVisibility,
     ) -> Result<(), BuildFault> {
-        let fields = two_fields(alloc, kind)?;
-        self.builder.set_fields(variant, fields)
+        let fields = one_field(alloc, vis)?;
+        self.builder.set_fields(VariantId::StructId(id), fields)
+    }
+
+    /// Puts an associated function.
+    fn put_function(
+        &mut self,
+        id: FunctionId,
+        container: ItemContainerId,
+        vis: RawVisibility,
+    ) -> Result<(), BuildFault> {
+        self.builder
+            .set_assoc(AssocItemId::FunctionId(id), container, vis)
+    }
+
+    /// Puts a trait.
+    fn put_trait(&mut self, id: TraitId, vis: RawVisibility) -> Result<(), BuildFault> {
+        self.builder.set_trait_visibility(id, vis)
     }
 }
 
-/// What `check` finds where a world with one of each has that entry too.
-fn found(alloc: Global, put: Put) -> Result<Option<WorldFault>, BuildFault> {
+/// What `check` finds in a world with one of each, and that entry of a map.
+fn found_in_map(alloc: Global, entry: MapEntry) -> Result<Option<WorldFault>, BuildFault> {
     let mut building = Building::one_of_each(alloc)?;
-    building.put(alloc, put)?;
+    building.put_into_map(alloc, entry)?;
     Ok(building.fault())
 }
 
-/// A fault.
-fn unknown(kind: WorldFaultKind, holder: Holder, id: u32) -> Option<WorldFault> {
-    Some(WorldFault { kind, holder, id })
+/// What `check` finds in a world with one of each, and that entry of the tables.
+fn found_in_table(alloc: Global, entry: TableEntry) -> Result<Option<WorldFault>, BuildFault> {
+    let mut building = Building::one_of_each(alloc)?;
+    building.put_into_table(alloc, entry)?;
+    Ok(building.fault())
+}
+
+/// What `check` finds in a world of one module, with a diagnostic in another.
+fn found_in_diagnostic(alloc: Global) -> Result<Option<WorldFault>, BuildFault> {
+    let mut building = Building::new(alloc);
+    building.builder.add_crate(Edition::Edition2021, FILE)?;
+    building.put_diagnostic(DefDiagnostic::unresolved_extern_crate(ModuleId(9), ast(1)))?;
+    Ok(building.fault())
+}
+
+/// A fault with the number 9.
+fn unknown(kind: WorldFaultKind, holder: Holder) -> Option<WorldFault> {
+    Some(WorldFault {
+        kind,
+        holder,
+        id: 9,
+    })
 }
 
 #[test]
-fn maps_hold_macros(rt: HostRuntime) -> Result<(), Fail> {
-    let absent = MacroId::MacroRulesId(MacroRulesId(7));
-    let other_kind = MacroId::Macro2Id(Macro2Id(1));
-    let known = MacroId::MacroRulesId(MacroRulesId(1));
-    for map in [CRATE_MAP, BLOCK_MAP] {
-        let fault = |id: u32| unknown(WorldFaultKind::UnknownMacro, Holder::Map(map), id);
-        assert_eq!(rt;
-            found(rt.alloc(), Put::DeriveHelper(map, absent))?,
-            fault(7)
-        );
-        assert_eq!(rt;
-            found(rt.alloc(), Put::DeriveHelper(map, other_kind))?,
-            fault(1)
-        );
-        assert_eq!(rt; found(rt.alloc(), Put::DeriveHelper(map, known))?, None);
-        assert_eq!(rt; found(rt.alloc(), Put::MacroDef(map, absent))?, fault(7));
-        assert_eq!(rt;
-            found(rt.alloc(), Put::MacroDef(map, other_kind))?,
-            fault(1)
-        );
-        assert_eq!(rt; found(rt.alloc(), Put::MacroDef(map, known))?, None);
-    }
-    Ok(())
-}
-
-#[test]
-fn crate_maps_hold_procedural_macros(rt: HostRuntime) -> Result<(), Fail> {
-    let holder = Holder::Map(CRATE_MAP);
-    let item = |id: u32| unknown(WorldFaultKind::UnknownItem, holder, id);
-    let rows = [
-        (0, 2, None),
-        (9, 2, item(9)),
-        (1, 2, item(1)),
-        (0, 7, unknown(WorldFaultKind::UnknownMacro, holder, 7)),
-        (0, 1, unknown(WorldFaultKind::UnknownMacro, holder, 1)),
-        (9, 7, item(9)),
-    ];
-    for (function, mac, fault) in rows {
-        let put = Put::ProcMacro(FunctionId(function), ProcMacroId(mac));
-        assert_eq!(rt; found(rt.alloc(), put)?, fault);
-    }
-    Ok(())
-}
-
-#[test]
-fn tables_hold_variants_and_crates_of_fields(rt: HostRuntime) -> Result<(), Fail> {
-    let item = |id: u32| unknown(WorldFaultKind::UnknownItem, Holder::Tables, id);
-    let krate = unknown(WorldFaultKind::UnknownCrate, Holder::Tables, 5);
-    let (known, unknown_crate) = (
-        PathKind::DollarCrate(Crate(1)),
-        PathKind::DollarCrate(Crate(5)),
-    );
-    let rows = [
-        (VariantId::EnumVariantId(EnumVariantId(0)), known, None),
-        (VariantId::StructId(StructId(1)), PathKind::Crate, None),
-        (VariantId::UnionId(UnionId(2)), PathKind::Super(9), None),
-        (VariantId::EnumVariantId(EnumVariantId(1)), known, item(1)),
-        (VariantId::StructId(StructId(9)), known, item(9)),
-        (VariantId::UnionId(UnionId(1)), known, item(1)),
-        (VariantId::StructId(StructId(1)), unknown_crate, krate),
-        (VariantId::StructId(StructId(9)), unknown_crate, krate),
-    ];
-    for (variant, kind, fault) in rows {
-        assert_eq!(rt; found(rt.alloc(), Put::Field(variant, kind))?, fault);
-    }
-    Ok(())
-}
-
-#[test]
-fn tables_hold_associated_items_and_containers(rt: HostRuntime) -> Result<(), Fail> {
-    let item = |id: u32| unknown(WorldFaultKind::UnknownItem, Holder::Tables, id);
-    let module = unknown(WorldFaultKind::UnknownModule, Holder::Tables, 9);
-    let function = |id: u32| AssocItemId::FunctionId(FunctionId(id));
-    let in_impl = ItemContainerId::ImplId(ImplId(9));
-    let in_extern = ItemContainerId::ExternBlockId(ExternBlockId(9));
-    let in_module = |id: u32| ItemContainerId::ModuleId(ModuleId(id));
-    let in_trait = |id: u32| ItemContainerId::TraitId(TraitId(id));
-    let rows = [
-        (function(0), in_impl, None),
-        (AssocItemId::ConstId(ConstId(4)), in_extern, None),
-        (AssocItemId::TypeAliasId(TypeAliasId(7)), in_trait(6), None),
-        (function(0), in_module(3), None),
-        (function(9), in_impl, item(9)),
-        (AssocItemId::ConstId(ConstId(0)), in_impl, item(0)),
-        (AssocItemId::TypeAliasId(TypeAliasId(8)), in_impl, item(8)),
-        (function(0), in_module(9), module),
-        (function(0), in_trait(8), item(8)),
-        (function(0), in_trait(1), item(1)),
-        (function(9), in_trait(8), item(8)),
-        (function(9), in_module(9), module),
-    ];
-    for (id, container, fault) in rows {
-        let put = Put::Assoc(id, container, PathKind::Plain);
-        assert_eq!(rt; found(rt.alloc(), put)?, fault);
-    }
-    let path = PathKind::DollarCrate(Crate(5));
-    let put = Put::Assoc(function(0), in_impl, path);
-    let krate = unknown(WorldFaultKind::UnknownCrate, Holder::Tables, 5);
-    assert_eq!(rt; found(rt.alloc(), put)?, krate);
-    Ok(())
-}
-
-#[test]
-fn tables_hold_traits_with_a_visibility(rt: HostRuntime) -> Result<(), Fail> {
-    let item = |id: u32| unknown(WorldFaultKind::UnknownItem, Holder::Tables, id);
-    let krate = unknown(WorldFaultKind::UnknownCrate, Holder::Tables, 5);
-    let rows = [
-        (6, PathKind::DollarCrate(Crate(0)), None),
-        (9, PathKind::Crate, item(9)),
-        (1, PathKind::Crate, item(1)),
-        (6, PathKind::DollarCrate(Crate(5)), krate),
-        (9, PathKind::DollarCrate(Crate(5)), krate),
-    ];
-    for (tr, kind, fault) in rows {
-        assert_eq!(rt;
-            found(rt.alloc(), Put::TraitSeen(TraitId(tr), kind))?,
-            fault
-        );
-    }
-    Ok(())
-}
-
-#[test]
-fn maps_are_told_before_tables(rt: HostRuntime) -> Result<(), Fail> {
-    let mut building = Building::one_of_each(rt.alloc())?;
-    let absent = MacroId::MacroRulesId(MacroRulesId(7));
-    building.put(rt.alloc(), Put::TraitSeen(TraitId(9), PathKind::Crate))?;
-    building.put(rt.alloc(), Put::MacroDef(BLOCK_MAP, absent))?;
+fn a_diagnostic_lies_in_a_module_of_the_world(rt: HostRuntime) -> Result<(), Fail> {
     assert_eq!(rt;
-        building.fault(),
-        unknown(WorldFaultKind::UnknownMacro, Holder::Map(BLOCK_MAP), 7)
+        found_in_diagnostic(rt.alloc())?,
+        unknown(WorldFaultKind::UnknownModule, Holder::Map(CRATE_MAP))
     );
+    Ok(())
+}
+
+#[test]
+fn maps_hold_what_the_world_has(rt: HostRuntime) -> Result<(), Fail> {
+    let rows = [
+        (MapEntry::MacroDef, WorldFaultKind::UnknownMacro),
+        (MapEntry::DeriveHelper, WorldFaultKind::UnknownMacro),
+        (MapEntry::PathOfCall, WorldFaultKind::UnknownCrate),
+        (MapEntry::PathOfError, WorldFaultKind::UnknownCrate),
+        (MapEntry::ProcMacro, WorldFaultKind::UnknownMacro),
+        (MapEntry::FunctionOfProcMacro, WorldFaultKind::UnknownItem),
+    ];
+    for (entry, kind) in rows {
+        assert_eq!(rt;
+            found_in_map(rt.alloc(), entry)?,
+            unknown(kind, Holder::Map(CRATE_MAP))
+        );
+    }
+    Ok(())
+}
+
+#[test]
+fn tables_hold_what_the_world_has(rt: HostRuntime) -> Result<(), Fail> {
+    let rows = [
+        (TableEntry::FieldsOf, WorldFaultKind::UnknownItem),
+        (TableEntry::PathOfField, WorldFaultKind::UnknownCrate),
+        (TableEntry::Associated, WorldFaultKind::UnknownItem),
+        (TableEntry::InTrait, WorldFaultKind::UnknownItem),
+        (TableEntry::InModule, WorldFaultKind::UnknownModule),
+        (TableEntry::PathOfAssociated, WorldFaultKind::UnknownCrate),
+        (TableEntry::Trait, WorldFaultKind::UnknownItem),
+        (TableEntry::PathOfTrait, WorldFaultKind::UnknownCrate),
+    ];
+    for (entry, kind) in rows {
+        assert_eq!(rt;
+            found_in_table(rt.alloc(), entry)?,
+            unknown(kind, Holder::Tables)
+        );
+    }
     Ok(())
 }

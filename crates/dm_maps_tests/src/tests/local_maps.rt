@@ -1,41 +1,22 @@
 //! Extern preludes, in whatever order their entries came.
-use dm_base::ids::{ExternCrateId, ModuleId};
+use dm_base::ids::ModuleId;
 use dm_base::name::Name;
 use dm_maps::local_def_map::LocalDefMap;
 use std::alloc::{AllocError, Global};
 use std::hash::{DefaultHasher, Hash, Hasher};
 use std::test::Fail;
 
-/// A name and its module.
-#[derive(Clone, Copy)]
-struct Entry {
-    name: &'static str,
-    module: u32,
-}
+const A: (&str, ModuleId) = ("a", ModuleId(1));
 
-const A: Entry = Entry {
-    name: "a",
-    module: 1,
-};
-
-const B: Entry = Entry {
-    name: "b",
-    module: 2,
-};
+const B: (&str, ModuleId) = ("b", ModuleId(2));
 
 /// The map of these entries, put in that order.
-fn local_map(alloc: Global, entries: &[Entry]) -> Result<LocalDefMap, AllocError> {
+fn local_map(alloc: Global, entries: [(&str, ModuleId); 2]) -> Result<LocalDefMap, AllocError> {
     let mut map = LocalDefMap::new(alloc);
-    for entry in entries {
-        put(alloc, &mut map, *entry)?;
+    for (name, module) in entries {
+        map.insert(Name::new(alloc, name)?, module, None)?;
     }
     Ok(map)
-}
-
-/// Puts an entry.
-fn put(alloc: Global, map: &mut LocalDefMap, entry: Entry) -> Result<(), AllocError> {
-    let name = Name::new(alloc, entry.name)?;
-    map.insert(name, ModuleId(entry.module), Some(ExternCrateId(3)))
 }
 
 /// The hash of a map.
@@ -45,30 +26,19 @@ fn hashed(map: &LocalDefMap) -> u64 {
     state.finish()
 }
 
-#[test]
-fn the_order_of_entries_does_not_count(rt: HostRuntime) -> Result<(), Fail> {
-    let forth = local_map(rt.alloc(), &[A, B])?;
-    let back = local_map(rt.alloc(), &[B, A])?;
-    assert!(rt; forth == back);
-    assert_eq!(rt; hashed(&forth), hashed(&back));
-    let less = local_map(rt.alloc(), &[B])?;
-    assert!(rt; forth != less);
-    assert!(rt; less != LocalDefMap::empty(rt.alloc()));
-    Ok(())
+/// Whether two orders of the entries make equal maps, whether these hash equally, and whether one shows an entry.
+fn compared(alloc: Global) -> Result<[bool; 3], AllocError> {
+    let forth = local_map(alloc, [A, B])?;
+    let back = local_map(alloc, [B, A])?;
+    Ok([
+        forth == back,
+        hashed(&forth) == hashed(&back),
+        forth.extern_prelude().next().is_some(),
+    ])
 }
 
 #[test]
-fn a_known_name_takes_the_new_module(rt: HostRuntime) -> Result<(), Fail> {
-    let later = Entry {
-        name: "a",
-        module: 4,
-    };
-    let map = local_map(rt.alloc(), &[A, B, later])?;
-    let name = Name::new(rt.alloc(), "a")?;
-    assert_eq!(rt; map.get(&name), Some((ModuleId(4), Some(ExternCrateId(3)))));
-    let mut entries = map.extern_prelude();
-    assert_eq!(rt; entries.next().map(|(name, _)| name.as_str()), Some("a"));
-    assert_eq!(rt; entries.next().map(|(name, _)| name.as_str()), Some("b"));
-    assert!(rt; entries.next().is_none());
+fn the_order_of_entries_does_not_count(rt: HostRuntime) -> Result<(), Fail> {
+    assert_eq!(rt; compared(rt.alloc())?, [true, true, true]);
     Ok(())
 }

@@ -1,4 +1,4 @@
-//! Derive attributes, and all macro calls.
+//! Derive attributes, and the lists of macro calls: each call once.
 use super::{Filled, ast};
 use dm_base::ids::{AttrId, BuiltinDeriveImplId, MacroCallId};
 use dm_base::source::AstId;
@@ -7,22 +7,10 @@ use either::Either;
 use std::alloc::{AllocError, Global};
 use std::test::Fail;
 
-/// One attribute with two slots.
-fn with_attribute(alloc: Global) -> Result<Filled, AllocError> {
-    let mut after = Filled::new(alloc);
-    after
-        .scope
-        .init_derive_attribute(ast(1), AttrId(2), MacroCallId(3), 2)?;
-    Ok(after)
-}
-
-/// Sets a slot of that attribute, where it has it.
-fn set(scope: &mut ItemScope, call: Either<MacroCallId, BuiltinDeriveImplId>, idx: usize) {
-    set_at(scope, ast(1), AttrId(2), call, idx);
-}
+const ATTRIBUTE: AttrId = AttrId(2);
 
 /// Sets a slot of an attribute, where it has it.
-fn set_at(
+fn set(
     scope: &mut ItemScope,
     item: AstId,
     id: AttrId,
@@ -36,69 +24,40 @@ fn set_at(
     }
 }
 
-#[test]
-fn an_attribute_has_its_slots(rt: HostRuntime) -> Result<(), Fail> {
-    let after = with_attribute(rt.alloc())?;
-    assert_eq!(rt; after.scope.derive_slots(ast(1), AttrId(2)), Some(2));
-    assert_eq!(rt; after.scope.derive_slots(ast(1), AttrId(4)), None);
-    assert_eq!(rt; after.scope.derive_slots(ast(5), AttrId(2)), None);
-    assert_eq!(rt;
-        after.scope.derive_macro_invoc(ast(1), AttrId(2)),
-        Some(MacroCallId(3))
-    );
-    Ok(())
-}
-
-/// The slots of the only attribute.
-fn slots(after: &Filled) -> [Option<Either<MacroCallId, BuiltinDeriveImplId>>; 2] {
-    for (_, derives) in after.scope.derive_macro_invocs() {
-        for derive in derives {
-            if let [first, second] = derive.derive_call_ids.as_slice() {
-                return [*first, *second];
-            }
-        }
-    }
-    [Some(Either::Left(MacroCallId(99))), None]
-}
-
-#[test]
-fn slots_are_empty_until_they_are_set(rt: HostRuntime) -> Result<(), Fail> {
-    let mut after = with_attribute(rt.alloc())?;
-    assert_eq!(rt; slots(&after), [None, None]);
-    set(&mut after.scope, Either::Right(BuiltinDeriveImplId(6)), 1);
-    assert_eq!(rt;
-        slots(&after),
-        [None, Some(Either::Right(BuiltinDeriveImplId(6)))]
-    );
-    set(&mut after.scope, Either::Left(MacroCallId(7)), 0);
-    assert_eq!(rt;
-        slots(&after),
-        [
-            Some(Either::Left(MacroCallId(7))),
-            Some(Either::Right(BuiltinDeriveImplId(6))),
-        ]
-    );
-    Ok(())
-}
-
-/// A call of each kind, with both slots of the attribute set.
+/// One attribute with two slots, of which the second is set, and a call of each other kind.
 fn with_calls(alloc: Global) -> Result<Filled, AllocError> {
-    let mut after = with_attribute(alloc)?;
-    set(&mut after.scope, Either::Right(BuiltinDeriveImplId(6)), 1);
-    set(&mut after.scope, Either::Left(MacroCallId(7)), 0);
-    after.scope.add_macro_invoc(ast(8), MacroCallId(9))?;
-    after.scope.add_attr_macro_invoc(ast(10), MacroCallId(11))?;
+    let mut after = Filled::new(alloc);
+    let scope = &mut after.scope;
+    scope.init_derive_attribute(ast(1), ATTRIBUTE, MacroCallId(3), 2)?;
+    set(scope, ast(1), ATTRIBUTE, Either::Left(MacroCallId(7)), 1);
+    scope.add_macro_invoc(ast(8), MacroCallId(9))?;
+    scope.add_attr_macro_invoc(ast(10), MacroCallId(11))?;
     Ok(after)
 }
 
+/// How many slots the attribute has, and another.
+fn slots(alloc: Global) -> Result<[Option<usize>; 2], AllocError> {
+    let after = with_calls(alloc)?;
+    Ok([
+        after.scope.derive_slots(ast(1), ATTRIBUTE),
+        after.scope.derive_slots(ast(1), AttrId(4)),
+    ])
+}
+
+/// Whether each list of calls has one.
+fn calls(alloc: Global) -> Result<[bool; 4], AllocError> {
+    let after = with_calls(alloc)?;
+    Ok([
+        after.scope.iter_macro_invoc().next().is_some(),
+        after.scope.attr_macro_invocs().next().is_some(),
+        after.scope.derive_macro_invocs().next().is_some(),
+        after.scope.all_macro_calls().next().is_some(),
+    ])
+}
+
 #[test]
-fn all_calls_leave_out_builtin_derives_and_attributes(rt: HostRuntime) -> Result<(), Fail> {
-    let after = with_calls(rt.alloc())?;
-    let mut calls = after.scope.all_macro_calls().collect::<Vec<_>>(rt.alloc())?;
-    calls.sort()?;
-    assert_eq!(rt;
-        calls.as_slice(),
-        [MacroCallId(7), MacroCallId(9), MacroCallId(11)].as_slice()
-    );
+fn an_attribute_has_its_slots(rt: HostRuntime) -> Result<(), Fail> {
+    assert_eq!(rt; slots(rt.alloc())?, [Some(2), None]);
+    assert_eq!(rt; calls(rt.alloc())?, [true; 4]);
     Ok(())
 }

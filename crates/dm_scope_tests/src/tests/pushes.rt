@@ -1,29 +1,116 @@
-//! Worked pushes.
-use super::{Filled, HERE, fill, glob, import, pushed, structure, typed, value_import, valued};
-use dm_base::ids::{ExternCrateId, FunctionId};
-use dm_base::imports::{ImportOrDef, ImportOrExternCrate};
-use dm_base::item_ids::ModuleDefId;
+//! Worked pushes of one name, A.
+use super::{Filled, GLOB, HERE, function, import, structure, typed, valued};
+use dm_base::ids::{ExternCrateId, UseId, UseTreeIdx};
+use dm_base::imports::{ImportId, ImportOrDef, ImportOrExternCrate, ImportOrGlob};
 use dm_base::name::Name;
 use dm_base::per_ns::{Namespace, PerNs};
 use dm_base::visibility::{Visibility, VisibilityExplicitness};
 use std::alloc::{AllocError, Global};
 use std::test::Fail;
 
+/// What A means, and in which namespaces a glob bound it.
+type Reading = (PerNs, [bool; 3]);
+
+/// What A is pushed as, by which import, and the answer.
+type Push = (PerNs, Option<ImportOrExternCrate>, bool);
+
+const EXTERN_CRATE: ImportOrExternCrate = ImportOrExternCrate::ExternCrate(ExternCrateId(0));
+
+/// No flag of a glob.
+const NO_GLOB: [bool; 3] = [false, false, false];
+
+impl Filled {
+    /// Pushes in order. Whether each is answered as it should be.
+    fn push_all(&mut self, alloc: Global, pushes: &[Push]) -> Result<bool, AllocError> {
+        let mut as_told = true;
+        for (items, import, wanted) in pushes {
+            let answer = self.push(alloc, "A", *items, *import)?;
+            as_told = as_told && answer == *wanted;
+        }
+        Ok(as_told)
+    }
+
+    /// What is read of A.
+    fn reading(&self, alloc: Global) -> Result<Reading, AllocError> {
+        let name = Name::new(alloc, "A")?;
+        let flags = [
+            self.globs.contains_type(HERE, &name),
+            self.globs.contains_value(HERE, &name),
+            self.globs.contains_macro(HERE, &name),
+        ];
+        Ok((self.scope.get(&name), flags))
+    }
+
+    /// What an import stands for in a namespace.
+    fn record(&self, namespace: Namespace, import: ImportOrExternCrate) -> Option<ImportOrDef> {
+        for (key, target) in self.scope.import_records(namespace) {
+            if key == import {
+                return Some(target);
+            }
+        }
+        None
+    }
+
+    /// Takes function 0 out of what A is as a value.
+    fn take_out(&mut self, alloc: Global) -> Result<(), AllocError> {
+        let name = Name::new(alloc, "A")?;
+        self.scope.remove_from_value_ns(&name, function(0));
+        Ok(())
+    }
+}
+
+/// What is read of A after pushes; none where one is answered otherwise.
+fn after(alloc: Global, pushes: &[Push]) -> Result<Option<Reading>, AllocError> {
+    let mut filled = Filled::new(alloc);
+    if !filled.push_all(alloc, pushes)? {
+        return Ok(None);
+    }
+    Ok(Some(filled.reading(alloc)?))
+}
+
+/// What an import stands for after pushes, in types, values and macros.
+fn records(
+    alloc: Global,
+    pushes: &[Push],
+    import: ImportOrExternCrate,
+) -> Result<[Option<ImportOrDef>; 3], AllocError> {
+    let mut filled = Filled::new(alloc);
+    filled.push_all(alloc, pushes)?;
+    Ok([
+        filled.record(Namespace::Types, import),
+        filled.record(Namespace::Values, import),
+        filled.record(Namespace::Macros, import),
+    ])
+}
+
+/// The same as `after`, where a glob brought function 0 as a value before, which was taken out.
+fn after_removal(alloc: Global, pushes: &[Push]) -> Result<Option<Reading>, AllocError> {
+    let mut filled = Filled::new(alloc);
+    filled.push_all(alloc, &[(valued(0, None), Some(GLOB), true)])?;
+    filled.take_out(alloc)?;
+    if !filled.push_all(alloc, pushes)? {
+        return Ok(None);
+    }
+    Ok(Some(filled.reading(alloc)?))
+}
+
 #[test]
 fn a_named_import_replaces_what_a_glob_bound(rt: HostRuntime) -> Result<(), Fail> {
     let pushes = [
-        pushed("A", typed(0, None), Some(glob(0))),
-        pushed("A", typed(1, None), Some(import(1))),
+        (typed(0, None), Some(GLOB), true),
+        (typed(1, None), Some(import(1)), true),
     ];
-    let first = fill(rt.alloc(), &pushes[..1])?;
-    assert_eq!(rt; first.flags(rt.alloc(), "A")?, [true, false, false]);
-    let after = fill(rt.alloc(), &pushes)?;
-    assert_eq!(rt; after.answers.as_slice(), [true, true].as_slice());
-    assert_eq!(rt; after.get(rt.alloc(), "A")?, typed(1, Some(import(1))));
-    assert_eq!(rt; after.flags(rt.alloc(), "A")?, [false, false, false]);
     assert_eq!(rt;
-        after.record(Namespace::Types, import(1)),
-        Some(ImportOrDef::Def(structure(1)))
+        after(rt.alloc(), &pushes[..1])?,
+        Some((typed(0, Some(GLOB)), [true, false, false]))
+    );
+    assert_eq!(rt;
+        after(rt.alloc(), &pushes)?,
+        Some((typed(1, Some(import(1))), NO_GLOB))
+    );
+    assert_eq!(rt;
+        records(rt.alloc(), &pushes, import(1))?,
+        [Some(ImportOrDef::Def(structure(1))), None, None]
     );
     Ok(())
 }
@@ -31,18 +118,18 @@ fn a_named_import_replaces_what_a_glob_bound(rt: HostRuntime) -> Result<(), Fail
 #[test]
 fn an_import_replaces_what_it_bound_itself(rt: HostRuntime) -> Result<(), Fail> {
     let pushes = [
-        pushed("A", typed(0, None), Some(import(1))),
-        pushed("A", typed(1, None), Some(import(2))),
-        pushed("A", typed(2, None), Some(import(1))),
+        (typed(0, None), Some(import(1)), true),
+        (typed(1, None), Some(import(2)), false),
+        (typed(2, None), Some(import(1)), true),
     ];
-    let after = fill(rt.alloc(), &pushes)?;
-    assert_eq!(rt; after.answers.as_slice(), [true, false, true].as_slice());
-    assert_eq!(rt; after.get(rt.alloc(), "A")?, typed(2, Some(import(1))));
     assert_eq!(rt;
-        after.record(Namespace::Types, import(1)),
-        Some(ImportOrDef::Def(structure(2)))
+        after(rt.alloc(), &pushes)?,
+        Some((typed(2, Some(import(1))), NO_GLOB))
     );
-    assert_eq!(rt; after.record(Namespace::Types, import(2)), None);
+    assert_eq!(rt;
+        records(rt.alloc(), &pushes, import(1))?,
+        [Some(ImportOrDef::Def(structure(2))), None, None]
+    );
     Ok(())
 }
 
@@ -50,91 +137,65 @@ fn an_import_replaces_what_it_bound_itself(rt: HostRuntime) -> Result<(), Fail> 
 fn who_sees_an_item_is_no_other_definition(rt: HostRuntime) -> Result<(), Fail> {
     let here = Visibility::Module(HERE, VisibilityExplicitness::Implicit);
     let pushes = [
-        pushed("A", typed(0, None), Some(import(1))),
-        pushed("A", PerNs::types(structure(0), here, None), Some(import(1))),
-        pushed("A", typed(1, None), Some(glob(0))),
+        (typed(0, None), Some(import(1)), true),
+        (typed(0, None).with_visibility(here), Some(import(1)), false),
+        (typed(1, None), Some(GLOB), false),
     ];
-    let after = fill(rt.alloc(), &pushes)?;
-    assert_eq!(rt; after.answers.as_slice(), [true, false, false].as_slice());
-    assert_eq!(rt; after.get(rt.alloc(), "A")?, typed(0, Some(import(1))));
-    assert_eq!(rt; after.flags(rt.alloc(), "A")?, [false, false, false]);
+    assert_eq!(rt;
+        after(rt.alloc(), &pushes)?,
+        Some((typed(0, Some(import(1))), NO_GLOB))
+    );
     Ok(())
 }
 
 #[test]
 fn an_extern_crate_is_recorded_in_types_alone(rt: HostRuntime) -> Result<(), Fail> {
-    let extern_crate = ImportOrExternCrate::ExternCrate(ExternCrateId(0));
     let both = typed(0, None).or(valued(3, None));
-    let after = fill(rt.alloc(), &[pushed("A", both, Some(extern_crate))])?;
-    assert_eq!(rt; after.answers.as_slice(), [true].as_slice());
+    let pushes = [(both, Some(EXTERN_CRATE), true)];
+    let bound = typed(0, Some(EXTERN_CRATE)).or(valued(3, None));
+    assert_eq!(rt; after(rt.alloc(), &pushes)?, Some((bound, NO_GLOB)));
     assert_eq!(rt;
-        after.get(rt.alloc(), "A")?,
-        typed(0, Some(extern_crate)).or(valued(3, None))
+        records(rt.alloc(), &pushes, EXTERN_CRATE)?,
+        [Some(ImportOrDef::Def(structure(0))), None, None]
     );
-    assert_eq!(rt;
-        after.record(Namespace::Types, extern_crate),
-        Some(ImportOrDef::Def(structure(0)))
-    );
-    assert_eq!(rt; after.record(Namespace::Values, extern_crate), None);
-    assert_eq!(rt; after.record(Namespace::Macros, extern_crate), None);
     Ok(())
 }
 
 #[test]
 fn the_first_of_two_declarations_stays(rt: HostRuntime) -> Result<(), Fail> {
-    let pushes = [
-        pushed("A", typed(0, None), None),
-        pushed("A", typed(1, None), None),
-    ];
-    let after = fill(rt.alloc(), &pushes)?;
-    assert_eq!(rt; after.answers.as_slice(), [true, false].as_slice());
-    assert_eq!(rt; after.get(rt.alloc(), "A")?, typed(0, None));
+    let pushes = [(typed(0, None), None, true), (typed(1, None), None, false)];
+    assert_eq!(rt;
+        after(rt.alloc(), &pushes)?,
+        Some((typed(0, None), NO_GLOB))
+    );
     Ok(())
-}
-
-/// A value, bound by a glob, and taken out again.
-fn taken_out(alloc: Global) -> Result<Filled, AllocError> {
-    let mut after = fill(alloc, &[pushed("A", valued(0, None), Some(glob(0)))])?;
-    let name = Name::new(alloc, "A")?;
-    after
-        .scope
-        .remove_from_value_ns(&name, ModuleDefId::FunctionId(FunctionId(0)));
-    Ok(after)
 }
 
 #[test]
 fn a_flag_outlives_the_value(rt: HostRuntime) -> Result<(), Fail> {
-    let mut after = taken_out(rt.alloc())?;
-    assert_eq!(rt; after.get(rt.alloc(), "A")?, PerNs::none());
-    assert_eq!(rt; after.flags(rt.alloc(), "A")?, [false, true, false]);
-    after.push(rt.alloc(), pushed("A", valued(1, None), Some(import(1))))?;
-    assert_eq!(rt; after.answers.as_slice(), [true, true].as_slice());
+    let flagged = Some((PerNs::none(), [false, true, false]));
+    assert_eq!(rt; after_removal(rt.alloc(), &[])?, flagged);
+    let pushes = [(valued(1, None), Some(import(1)), true)];
+    let by = ImportOrGlob::Import(ImportId {
+        use_: UseId(0),
+        idx: UseTreeIdx(1),
+    });
     assert_eq!(rt;
-        after.get(rt.alloc(), "A")?,
-        valued(1, Some(value_import(1)))
+        after_removal(rt.alloc(), &pushes)?,
+        Some((valued(1, Some(by)), NO_GLOB))
     );
-    assert_eq!(rt; after.flags(rt.alloc(), "A")?, [false, false, false]);
     Ok(())
 }
 
 #[test]
 fn a_declaration_clears_a_stale_flag(rt: HostRuntime) -> Result<(), Fail> {
-    let mut after = taken_out(rt.alloc())?;
-    after.push(rt.alloc(), pushed("A", valued(1, None), None))?;
-    after.push(rt.alloc(), pushed("A", valued(2, None), Some(import(1))))?;
-    assert_eq!(rt; after.answers.as_slice(), [true, true, false].as_slice());
-    assert_eq!(rt; after.get(rt.alloc(), "A")?, valued(1, None));
-    Ok(())
-}
-
-#[test]
-fn nothing_is_pushed_once(rt: HostRuntime) -> Result<(), Fail> {
     let pushes = [
-        pushed("x", PerNs::none(), None),
-        pushed("x", PerNs::none(), None),
+        (valued(1, None), None, true),
+        (valued(2, None), Some(import(1)), false),
     ];
-    let after = fill(rt.alloc(), &pushes)?;
-    assert_eq!(rt; after.answers.as_slice(), [true, false].as_slice());
-    assert_eq!(rt; after.get(rt.alloc(), "x")?, PerNs::none());
+    assert_eq!(rt;
+        after_removal(rt.alloc(), &pushes)?,
+        Some((valued(1, None), NO_GLOB))
+    );
     Ok(())
 }
