@@ -17,4 +17,3 @@ pub mod Reresolved
 pub mod Files
 pub mod VisibilityRows
 pub mod Sameness
-pub mod AstLaws

@@ -6,11 +6,11 @@ ghost use Rattle.dm_base.specs.Sameness.{same_ast};
 ghost use Rattle.dm_scope.specs.TableLists.{add_to_list};
 
 use super::ItemScope;
-use dm_base::ids::{AttrId, BuiltinDeriveImplId, MacroCallId};
-use dm_base::source::AstId;
 use crate::derives::DeriveMacroInvocation;
 use crate::iterators::DeriveMacroInvocations;
 use crate::table_lists::add_to_list;
+use dm_base::ids::{AttrId, BuiltinDeriveImplId, MacroCallId};
+use dm_base::source::AstId;
 use either::Either;
 use indexmap::IndexMap;
 use smallvec::SmallVec;

@@ -6,6 +6,7 @@ ghost use Rattle.dm_scope.specs.TableLists.{add_to_list};
 ghost use Rattle.dm_base.specs.Sameness.{same_ast};
 
 use super::ItemScope;
+use crate::table_lists::add_to_list;
 use dm_base::ids::{
     BuiltinDeriveImplId, ConstId, ExternBlockId, ExternCrateId, ImplId, MacroCallId, TraitId,
 };
@@ -14,7 +15,6 @@ use dm_base::item_ids::{MacroId, ModuleDefId};
 use dm_base::name::Name;
 use dm_base::source::AstId;
 use dm_base::visibility::Visibility;
-use crate::table_lists::add_to_list;
 use std::alloc::AllocError;
 
 impl ItemScope {
