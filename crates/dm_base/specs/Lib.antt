@@ -16,4 +16,3 @@ pub mod ItemList
 pub mod Reresolved
 pub mod Files
 pub mod VisibilityRows
-pub mod Sameness
