@@ -12,10 +12,10 @@ use dm_base::per_ns::PerNs;
 use dm_base::source::Edition;
 use dm_base::visibility::{Visibility, VisibilityExplicitness};
 use dm_maps::build_fault::BuildFault;
-use dm_maps::maps_of::{
+use dm_maps::module_origin::ModuleOrigin;
+use dm_maps::world::maps_of::{
     CrateRoot, block_def_map, crate_def_map, local_def_map, macro_styles_from_id,
 };
-use dm_maps::module_origin::ModuleOrigin;
 use dm_scope::glob_imports::PerNsGlobImports;
 use std::alloc::{AllocError, Global};
 use std::test::Fail;
