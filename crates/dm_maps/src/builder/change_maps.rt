@@ -1,7 +1,8 @@
 //! What is set in the maps of a builder, and in its extern preludes.
 ghost use Rattle.std.specs.Prelude.{◌≡◌, false, IsOk, OnOk, OnErr};
-ghost use Rattle.dm_maps.specs.BuildMaps.{AnswersFree, with_map, maps_with, crate_maps_with, block_maps_with, with_prelude, with_macro_use, with_macro_def, with_helper, locals_with, with_extern_of, lacks_map, map_fault, krate_fault};
+ghost use Rattle.dm_maps.specs.BuildMaps.{AnswersFree, with_map, crate_maps_with, block_maps_with, with_prelude, with_macro_use, with_macro_def, with_helper, locals_with, with_extern_of, lacks_map, map_fault, krate_fault};
 ghost use Rattle.dm_maps.specs.Faults.{Answers};
+ghost use Rattle.dm_maps.specs.World.{maps_with};
 ghost use Rattle.dm_modules.specs.Locals.{with_extern};
 ghost use Rattle.dm_def_map.specs.MapChanges.{changed, grows};
 

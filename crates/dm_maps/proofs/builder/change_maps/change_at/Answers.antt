@@ -1,21 +1,15 @@
-use Rattle.std.proofs.Common.{◌≡◌, ◌≤◌, ◌<◌, ◌∙◌, ap, sym, refl, rules, length, Some, slice_get, set}
-use Rattle.std.specs.Option.{option_map_or}
-use Rattle.std.proofs.lemmas.Bool.{ltb-false}
-use Rattle.std.proofs.lemmas.Option.{slice_get_past, slice_get_read}
-use Rattle.std.proofs.lemmas.Result.{on_ok_weaker}
+use Rattle.std.proofs.Common.{◌≡◌, ◌<◌, refl, rules, length, Some, slice_get}
+use Rattle.std.proofs.lemmas.Option.{slice_get_read}
 use Rattle.dm_def_map.specs.MapChanges.{changed}
+use Rattle.dm_maps.proofs.EntryChanges.{unchanged, entry-changed}
 use Rattle.dm_maps.proofs.builder.change_maps.change_at.Goals as goal
 
 pub returns-in-None-clause-ok : goal.returns-in-None-clause-ok
-returns-in-None-clause-ok c =
-    let ms = c.args.maps.now.items in
-    let past : length ms ≤ c.args.k = ltb-false c.args.k (length ms) (sym c.in-None.ensures.item.0) in
-    sym (ap (λ o. option_map_or (λ m. set ms c.args.k ((changed c.args.change) m)) o ms) (slice_get_past ms c.args.k past))
+returns-in-None-clause-ok c = unchanged c.args.maps.now.items c.args.k (changed c.args.change) c.in-None.ensures.item.0
 
 pub returns-in-Some-clause-ok : goal.returns-in-Some-clause-ok
 returns-in-Some-clause-ok c =
-    let ms = c.args.maps.now.items in
-    let lt : c.args.k < length ms = let h = c.in-Some.ensures.variant.0 refl in search rules in
-    let there : slice_get ms c.args.k ≡ Some c.in-Some.map.now = slice_get_read ms (length ms) c.args.k c.in-Some.map.now refl lt c.in-Some.ensures.value in
-    on_ok_weaker c.change.result
-    (λ same. ap (set ms c.args.k) same ∙ sym (ap (λ o. option_map_or (λ m. set ms c.args.k ((changed c.args.change) m)) o ms) there)) c.change.ensures.ok
+    let xs = c.args.maps.now.items in
+    let within : c.args.k < length xs = let h = c.in-Some.ensures.variant.0 refl in search rules in
+    let there : slice_get xs c.args.k ≡ Some c.in-Some.map.now = slice_get_read xs (length xs) c.args.k c.in-Some.map.now refl within c.in-Some.ensures.value in
+    entry-changed xs c.args.k (changed c.args.change) c.change.result c.in-Some.map.now _ there c.change.ensures.ok
