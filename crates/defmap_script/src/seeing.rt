@@ -9,8 +9,8 @@ use crate::seeing_lines::Sight;
 use dm_base::ids::MapId;
 use dm_base::module_tree::ModuleTree;
 use dm_base::visibility::Visibility;
-use dm_maps::maps_of::block_def_map;
 use dm_maps::world::World;
+use dm_maps::world::maps_of::block_def_map;
 
 /// What a question about visibilities answers, where all that it names is the world's.
 #[tactic(auto, unfolding(dm_maps::specs::Trees::tree_of))]

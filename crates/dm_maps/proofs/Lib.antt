@@ -1,4 +1,6 @@
 pub mod EntryLemmas
+pub mod Tables
+pub mod EntryChanges
 pub mod ResultLemmas
 pub mod GrowthLemmas
 pub mod ModuleGrowth

@@ -11,8 +11,8 @@ use Rattle.dm_def_map.specs.declared.map_change.MapChange.TheVariants.{Prelude, 
 use Rattle.dm_maps.specs.BuildCrateData.{map_with_shared, with_shared}
 use Rattle.dm_tables.specs.CrateData.{CrateData}
 use Rattle.dm_modules.specs.Maps.{Map, LocalMap}
-use Rattle.dm_maps.specs.World.{World}
-use Rattle.dm_maps.specs.BuildMaps.{maps_with, with_map, locals_with}
+use Rattle.dm_maps.specs.World.{World, maps_with}
+use Rattle.dm_maps.specs.BuildMaps.{with_map, locals_with}
 use Rattle.dm_def_map.specs.MapChanges.{changed}
 use Rattle.dm_maps.specs.Trees.{Outline, outline, outlines, containers_of, IsWorldOf, IsWorld}
 use Rattle.dm_maps.proofs.ModuleGrowth.{map-set_own}
@@ -22,14 +22,14 @@ pub record Keeps (f : Map → Map) : Type 0 where
   pub shape : (m : Map) → outline (f m) ≡ outline m
   pub around : (m : Map) → (f m).parent ≡ m.parent
 
-outlines-with : (f : Map → Map) → Keeps f → (ms : List Map) (k : ℕ) → outlines (maps_with ms k f) ≡ outlines ms
+pub outlines-with : (f : Map → Map) → Keeps f → (ms : List Map) (k : ℕ) → outlines (maps_with ms k f) ≡ outlines ms
 outlines-with f keeps ms k = by (slice_get ms k) refl
   where
     by : (o : Option Map) → slice_get ms k ≡ o → outlines (option_map_or (λ m. set ms k (f m)) o ms) ≡ outlines ms
     by None e = refl
     by (Some x) e = map-set_own outline ms k x (f x) e (keeps.shape x)
 
-containers-with : (f : Map → Map) → Keeps f → (ms : List Map) (k : ℕ) → containers_of (maps_with ms k f) ≡ containers_of ms
+pub containers-with : (f : Map → Map) → Keeps f → (ms : List Map) (k : ℕ) → containers_of (maps_with ms k f) ≡ containers_of ms
 containers-with f keeps ms k = by (slice_get ms k) refl
   where
     by : (o : Option Map) → slice_get ms k ≡ o → containers_of (option_map_or (λ m. set ms k (f m)) o ms) ≡ containers_of ms

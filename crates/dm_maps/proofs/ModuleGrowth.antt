@@ -10,7 +10,7 @@ use Rattle.dm_ids.specs.declared.MapId.{MapId}
 use Rattle.dm_base.specs.Names.{Name}
 use Rattle.dm_maps.specs.declared.place.Place.{Place}
 use Rattle.dm_modules.specs.Maps.{Map, Module, Modules, nth_module, put_child, with_child_at, map_with_child}
-use Rattle.dm_maps.specs.Build.{put_child_in, maps_with_child, crate_maps_with_child, block_maps_with_child}
+use Rattle.dm_maps.specs.Build.{maps_with_child, crate_maps_with_child, block_maps_with_child}
 use Rattle.dm_maps.specs.Trees.{no_map, Outline, outline, outlines, containers_of, IsPlaced, IsWorldOf, Stands, AreMaps, is_crate_id, is_block_id, map_id_in, numbered_outline}
 use Rattle.dm_maps.proofs.EntryLemmas.{get-push, get-last, get-set_same, set-own}
 use Rattle.dm_maps.proofs.GrowthLemmas.{longer, place_below, after, map_id_in-append, IsPlaced-append, IsTree-placed, AreMaps-append, AreMaps-longer, Grows, Grows-same, Grows-longer, Stands-grows}
@@ -62,7 +62,7 @@ outline-map_with_child o i n m d =
 outlines-with_child : (ms : List Map) (k i : ℕ) (n : Name) (m : ModuleId) (d : Module) → outlines (maps_with_child ms k i n m d) ≡ longer_in (outlines ms) k m d.parent
 outlines-with_child ms k i n m d = by (slice_get ms k) refl
   where
-    by : (o : Option Map) → slice_get ms k ≡ o → outlines (put_child_in ms k o i n m d) ≡ longer_in (outlines ms) k m d.parent
+    by : (o : Option Map) → slice_get ms k ≡ o → outlines (option_map_or (λ x. set ms k (map_with_child x i n m d)) o ms) ≡ longer_in (outlines ms) k m d.parent
     by None e = sym (ap (λ o. option_map_or (λ x. set (outlines ms) k (longer x m d.parent)) o (outlines ms)) (slice_get-map outline ms k ∙ ap (option_map outline) e))
     by (Some x) e =
         map-set outline ms k (map_with_child x i n m d)
@@ -72,7 +72,7 @@ outlines-with_child ms k i n m d = by (slice_get ms k) refl
 containers-with_child : (ms : List Map) (k i : ℕ) (n : Name) (m : ModuleId) (d : Module) → containers_of (maps_with_child ms k i n m d) ≡ containers_of ms
 containers-with_child ms k i n m d = by (slice_get ms k) refl
   where
-    by : (o : Option Map) → slice_get ms k ≡ o → containers_of (put_child_in ms k o i n m d) ≡ containers_of ms
+    by : (o : Option Map) → slice_get ms k ≡ o → containers_of (option_map_or (λ x. set ms k (map_with_child x i n m d)) o ms) ≡ containers_of ms
     by None e = refl
     by (Some x) e = map-set_own (λ (y : Map). y.parent) ms k x (map_with_child x i n m d) e refl
 

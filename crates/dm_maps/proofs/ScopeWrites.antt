@@ -12,7 +12,7 @@ use Rattle.dm_held.specs.declared.held.HeldId.{HeldId}
 use Rattle.dm_held.specs.declared.held.HeldId.TheVariants as held
 use Rattle.dm_maps.specs.declared.place.Place.{Place}
 use Rattle.dm_modules.specs.Maps.{Map, Module, Modules, nth_module, put_scope, with_scope_at, map_with_scope}
-use Rattle.dm_maps.specs.World.{World, place_of, module_in, module_of, scope_of, own_scope, numbered_map, put_map, maps_with_scope, with_scope_in, with_scope}
+use Rattle.dm_maps.specs.World.{World, place_of, module_in, module_of, scope_of, own_scope, numbered_map, maps_with_scope, with_scope_in, with_scope}
 use Rattle.dm_maps.specs.Known.{knows, KnowsAll}
 use Rattle.dm_held.specs.Holding.{vis_holds}
 use Rattle.dm_held.specs.Holds.{scope_holds}
@@ -77,7 +77,7 @@ module _ (s : Scope) where
   kept-map : (ms : List Map) (k i a j : ℕ) → Kept ((a ≡ k) × (j ≡ i)) (nth_of (slice_get ms a) j) (nth_of (slice_get (maps_with_scope ms k i s) a) j)
   kept-map ms k i a j = by (slice_get ms k) refl
     where
-      by : (o : Option Map) → slice_get ms k ≡ o → Kept ((a ≡ k) × (j ≡ i)) (nth_of (slice_get ms a) j) (nth_of (slice_get (put_map ms k i o s) a) j)
+      by : (o : Option Map) → slice_get ms k ≡ o → Kept ((a ≡ k) × (j ≡ i)) (nth_of (slice_get ms a) j) (nth_of (slice_get (option_map_or (λ x. set ms k (map_with_scope x i s)) o ms) a) j)
       by None e = inl refl
       by (Some x) e = elim (at-set ms k a x (map_with_scope x i s) e) [
         | inl h ↦ inl (ap (λ o. nth_of o j) h)
@@ -114,7 +114,7 @@ module _ (s : Scope) where
   map-own : (ms : List Map) (k i : ℕ) (d : Module) → nth_of (slice_get ms k) i ≡ Some d → nth_of (slice_get (maps_with_scope ms k i s) k) i ≡ Some (scoped d)
   map-own ms k i d h = by (slice_get ms k) refl h
     where
-      by : (o : Option Map) → slice_get ms k ≡ o → nth_of o i ≡ Some d → nth_of (slice_get (put_map ms k i o s) k) i ≡ Some (scoped d)
+      by : (o : Option Map) → slice_get ms k ≡ o → nth_of o i ≡ Some d → nth_of (slice_get (option_map_or (λ x. set ms k (map_with_scope x i s)) o ms) k) i ≡ Some (scoped d)
       by None e g = cc
       by (Some x) e g = ap (λ o. nth_of o i) (get-set_same ms k x (map_with_scope x i s) e) ∙ nth-own x.modules i d g
 
@@ -188,7 +188,7 @@ module _ (s : Scope) where
   map-again : (ms : List Map) (k i : ℕ) (d : Module) → nth_of (slice_get ms k) i ≡ Some d → d.scope ≡ s → maps_with_scope ms k i s ≡ ms
   map-again ms k i d h same = by (slice_get ms k) refl h
     where
-      by : (o : Option Map) → slice_get ms k ≡ o → nth_of o i ≡ Some d → put_map ms k i o s ≡ ms
+      by : (o : Option Map) → slice_get ms k ≡ o → nth_of o i ≡ Some d → option_map_or (λ x. set ms k (map_with_scope x i s)) o ms ≡ ms
       by None e g = refl
       by (Some x) e g = ap (λ es. set ms k (record x { modules = es })) (nth-again x.modules i d g same) ∙ set-own ms k x e
 
@@ -261,7 +261,7 @@ module _ (w v : World) (same : (h : HeldId) → knows v h ≡ knows w h) (s : Sc
 length-scoped : (ms : List Map) (k i : ℕ) (s : Scope) → length (maps_with_scope ms k i s) ≡ length ms
 length-scoped ms k i s = by (slice_get ms k)
   where
-    by : (o : Option Map) → length (put_map ms k i o s) ≡ length ms
+    by : (o : Option Map) → length (option_map_or (λ x. set ms k (map_with_scope x i s)) o ms) ≡ length ms
     by None = refl
     by (Some x) = length-set ms k (map_with_scope x i s)
 
@@ -283,7 +283,7 @@ module _ (w : World) (q : Place) (s : Scope) where
   crates-kept : (b : Option BlockId) → each_from (crate_holder (made w q s b).local_maps) 0 (made w q s b).crate_maps ≡ each_from (crate_holder w.local_maps) 0 w.crate_maps
   crates-kept None = by (slice_get w.crate_maps q.map.krate.0) refl
     where
-      by : (o : Option Map) → slice_get w.crate_maps q.map.krate.0 ≡ o → each_from (crate_holder w.local_maps) 0 (put_map w.crate_maps q.map.krate.0 q.index o s) ≡ each_from (crate_holder w.local_maps) 0 w.crate_maps
+      by : (o : Option Map) → slice_get w.crate_maps q.map.krate.0 ≡ o → each_from (crate_holder w.local_maps) 0 (option_map_or (λ x. set w.crate_maps q.map.krate.0 (map_with_scope x q.index s)) o w.crate_maps) ≡ each_from (crate_holder w.local_maps) 0 w.crate_maps
       by None e = refl
       by (Some x) e = each-set (crate_holder w.local_maps) 0 q.map.krate.0 w.crate_maps x (map_with_scope x q.index s) e (λ j. refl)
   crates-kept (Some b) = refl
@@ -292,7 +292,7 @@ module _ (w : World) (q : Place) (s : Scope) where
   blocks-kept None = refl
   blocks-kept (Some b) = by (slice_get w.block_maps b.0) refl
     where
-      by : (o : Option Map) → slice_get w.block_maps b.0 ≡ o → map block_holder (put_map w.block_maps b.0 q.index o s) ≡ map block_holder w.block_maps
+      by : (o : Option Map) → slice_get w.block_maps b.0 ≡ o → map block_holder (option_map_or (λ x. set w.block_maps b.0 (map_with_scope x q.index s)) o w.block_maps) ≡ map block_holder w.block_maps
       by None e = refl
       by (Some x) e = map-set_own block_holder w.block_maps b.0 x (map_with_scope x q.index s) e refl
 

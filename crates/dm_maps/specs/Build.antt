@@ -1,5 +1,5 @@
 -- What builder calls change.
-use Rattle.std.specs.Prelude.{◌≡◌, IfSome, ℕ, List, [], ◌∷◌, ◌++◌, Option, Some, None, length, slice_get, slice_set}
+use Rattle.std.specs.Prelude.{◌≡◌, IfSome, ℕ, List, [], ◌∷◌, ◌++◌, Option, Some, None, length, slice_get}
 use Rattle.std.specs.Option.{option_map_or}
 use Rattle.dm_ids.specs.declared.ModuleId.{ModuleId}
 use Rattle.dm_ids.specs.declared.Crate.{Crate}
@@ -19,7 +19,7 @@ use Rattle.dm_modules.specs.declared.module_origin.ModuleOrigin.{ModuleOrigin}
 use Rattle.dm_modules.specs.declared.module_origin.ModuleOrigin.TheVariants.{CrateRoot}
 use Rattle.dm_modules.specs.Maps.{Map, Module, fresh_module, fresh_map, map_with_child, module_at}
 use Rattle.dm_tables.specs.ItemTables.{no_tables}
-use Rattle.dm_maps.specs.World.{World, place_of, numbered_map}
+use Rattle.dm_maps.specs.World.{World, place_of, numbered_map, maps_with}
 
 -- a builder of nothing
 abbrev pub no_world : World
@@ -55,13 +55,9 @@ with_crate w e f = record w {
   local_maps = w.local_maps ++ [] ∷ [];
 }
 
-abbrev pub put_child_in : List Map → ℕ → Option Map → ℕ → Name → ModuleId → Module → List Map
-put_child_in ms k None i n m d = ms
-put_child_in ms k (Some map) i n m d = slice_set ms k (map_with_child map i n m d)
-
 -- the maps, of which the one of number k has a module more, a child of the module at place i
 abbrev pub maps_with_child : List Map → ℕ → ℕ → Name → ModuleId → Module → List Map
-maps_with_child ms k i n m d = put_child_in ms k (slice_get ms k) i n m d
+maps_with_child ms k i n m d = maps_with ms k (λ map. map_with_child map i n m d)
 
 abbrev pub crate_maps_with_child : List Map → MapId → ℕ → Name → ModuleId → Module → List Map
 crate_maps_with_child ms id i n m d = elim id.block [ None ↦ maps_with_child ms id.krate.0 i n m d | Some b ↦ ms ]

@@ -16,16 +16,12 @@ use Rattle.dm_maps.specs.declared.build_fault.BuildFault.{BuildFault}
 use Rattle.dm_maps.specs.declared.build_fault.BuildFault.TheVariants.{NoSuchCrate}
 use Rattle.dm_held.specs.declared.held.HeldId.TheVariants as held
 use Rattle.dm_modules.specs.Maps.{Map, LocalMap}
-use Rattle.dm_maps.specs.World.{World, numbered_map}
+use Rattle.dm_maps.specs.World.{World, numbered_map, maps_with}
 use Rattle.dm_maps.specs.Known.{knows}
 use Rattle.dm_maps.specs.Faults.{first_fault}
 use Rattle.dm_tables.specs.HelperChanges.{helpers_with}
 use Rattle.dm_tables.specs.Helpers.{Helper}
 use Rattle.dm_modules.specs.Locals.{with_extern}
-
--- the maps, with f of the one of number k
-abbrev pub maps_with : List Map → ℕ → (Map → Map) → List Map
-maps_with ms k f = option_map_or (λ m. slice_set ms k (f m)) (slice_get ms k) ms
 
 abbrev pub crate_maps_with : List Map → MapId → (Map → Map) → List Map
 crate_maps_with ms id f = elim id.block [ None ↦ maps_with ms id.krate.0 f | Some b ↦ ms ]

@@ -64,13 +64,13 @@ scope_of w m = option_map_or (λ d. d.scope) (module_of w m) no_scope
 abbrev pub crate_map : World → Crate → Option Map
 crate_map w k = slice_get w.crate_maps k.0
 
-abbrev pub put_map : List Map → ℕ → ℕ → Option Map → Scope → List Map
-put_map ms k i None s = ms
-put_map ms k i (Some m) s = slice_set ms k (map_with_scope m i s)
+-- the maps, with f of the one of number k
+abbrev pub maps_with : List Map → ℕ → (Map → Map) → List Map
+maps_with ms k f = option_map_or (λ m. slice_set ms k (f m)) (slice_get ms k) ms
 
 -- the maps with s as the scope at place i of map k
 abbrev pub maps_with_scope : List Map → ℕ → ℕ → Scope → List Map
-maps_with_scope ms k i s = put_map ms k i (slice_get ms k) s
+maps_with_scope ms k i s = maps_with ms k (λ m. map_with_scope m i s)
 
 abbrev pub with_scope_in : World → Option Place → Scope → World
 with_scope_in w None s = w

@@ -2,6 +2,20 @@
 ghost use Rattle.std.specs.Prelude.{◌≡◌};
 ghost use Rattle.dm_maps.specs.Build.{no_world};
 
+mod add_blocks;
+mod add_diagnostics;
+mod add_items;
+mod add_modules;
+mod add_uses;
+mod add_variants;
+mod change_maps;
+mod growth;
+mod scopes;
+mod set_crate_data;
+mod set_tables;
+mod share;
+mod tables;
+
 use crate::place::Place;
 use dm_base::ids::{EnumId, ModuleId};
 use dm_base::item_ids::ItemKind;

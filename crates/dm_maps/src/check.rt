@@ -2,6 +2,10 @@
 ghost use Rattle.std.specs.Prelude.{◌≡◌, ◌↔◌, IsOk, IfOk, IfErr};
 ghost use Rattle.dm_maps.specs.First.{holders, IsChecked, IsFirstFault};
 
+mod first_fault;
+mod known_ids;
+pub(crate) mod note_maps;
+
 use crate::builder::WorldBuilder;
 use crate::world::World;
 use dm_held::fault::WorldFault;

@@ -11,9 +11,18 @@ ghost use Rattle.dm_modules.specs.Maps.{module_at};
 ghost use Rattle.dm_maps.specs.Sound.{IsCheckedWorld};
 ghost use Rattle.dm_maps.specs.Trees.{IsWorld};
 
+mod in_order;
+mod item_modules;
+mod knows;
+pub mod maps_of;
+mod path_look_ups;
+mod path_tables;
+mod push_res;
+mod thin;
+mod tree;
+
 use crate::builder::WorldBuilder;
-use dm_base::ids::{BlockId, Crate, MapId, ModuleId};
-use dm_base::module_tree::ModuleTree;
+use dm_base::ids::{MapId, ModuleId};
 use dm_base::name::Name;
 use dm_base::per_ns::PerNs;
 use dm_def_map::def_map::DefMap;
@@ -99,37 +108,5 @@ impl World {
         ensures known { KnowsAll self.now (res_holds result) }
     {
         self.tables.bound_in(m, name)
-    }
-}
-
-#[tactic(auto, unfolding(crate::specs::Trees::tree_of))]
-impl ModuleTree for World {
-    ghost use Rattle.dm_maps.specs.Trees.{tree_of};
-
-    ghost tree = { tree_of };
-
-    fn has(&self, m: ModuleId) -> bool {
-        self.tables.has(m)
-    }
-
-    fn krate(&self, m: ModuleId) -> Crate {
-        self.tables.map_id_of(m).krate
-    }
-
-    fn block(&self, m: ModuleId) -> Option<BlockId> {
-        self.tables.map_id_of(m).block
-    }
-
-    fn containing(&self, m: ModuleId) -> Option<ModuleId> {
-        let parent = self.tables.parent_of(m);
-        parent.or(self.outside(m))
-    }
-
-    fn outside(&self, m: ModuleId) -> Option<ModuleId> {
-        self.tables.container_of(self.tables.map_id_of(m).block)
-    }
-
-    fn is_block_root(&self, m: ModuleId) -> bool {
-        self.tables.map_id_of(m).block.is_some() && self.tables.parent_of(m).is_none()
     }
 }

@@ -5,22 +5,12 @@ use Rattle.dm_def_map.specs.MapChanges.{changed}
 use Rattle.dm_maps.specs.Trees.{IsWorld}
 use Rattle.dm_maps.proofs.ResultLemmas.{on-ok_two, on-err_two, either-way_two}
 use Rattle.dm_maps.proofs.MapsKept.{IsWorld-with_map, Keeps-changed}
+use Rattle.dm_maps.proofs.Tables.{tables_of}
 use Rattle.dm_maps.proofs.builder.WorldBuilder.change_map.Goals as goal
 
 -- the tables as they were
 abbrev before : goal.After-change_in → World
-before c = record {
-  crate_maps = c.self.inside.crate_maps.items;
-  block_maps = c.self.inside.block_maps.items;
-  places = c.self.inside.places.items;
-  local_maps = c.self.inside.local_maps.items;
-  uses = c.self.inside.uses.items;
-  items = c.self.inside.items.items;
-  enums = c.self.inside.enums.entries;
-  variants = c.self.inside.variants.items;
-  macros = c.self.inside.macros.items;
-  item_tables = c.self.inside.item_tables;
-}
+before c = tables_of c.self.inside
 
 -- and as they are
 abbrev made : goal.After-change_in → World

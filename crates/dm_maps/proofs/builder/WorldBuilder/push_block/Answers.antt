@@ -6,6 +6,7 @@ use Rattle.dm_maps.specs.BuildBlocks.{with_block, with_block_of, crate_in}
 use Rattle.dm_maps.specs.Trees.{IsWorld}
 use Rattle.dm_maps.proofs.ResultLemmas.{on-ok_two, either-way_two}
 use Rattle.dm_maps.proofs.BlockMade.{IsWorld-block, block-made}
+use Rattle.dm_maps.proofs.Tables.{tables_of}
 use Rattle.dm_maps.proofs.builder.WorldBuilder.push_block.Goals as goal
 
 pub returns-in-None-clause-ok : goal.returns-in-None-clause-ok
@@ -16,18 +17,7 @@ returns-in-None-clause-ok c =
 
 -- the tables as they were
 abbrev before : goal.After-add_map → World
-before c = record {
-  crate_maps = c.self.inside.crate_maps.items;
-  block_maps = c.self.inside.block_maps.items;
-  places = c.self.inside.places.items;
-  local_maps = c.self.inside.local_maps.items;
-  uses = c.self.inside.uses.items;
-  items = c.self.inside.items.items;
-  enums = c.self.inside.enums.entries;
-  variants = c.self.inside.variants.items;
-  macros = c.self.inside.macros.items;
-  item_tables = c.self.inside.item_tables;
-}
+before c = tables_of c.self.inside
 
 -- and as they are
 abbrev made : goal.After-add_map → World

@@ -4,23 +4,13 @@ use Rattle.dm_maps.specs.Build.{with_crate}
 use Rattle.dm_maps.specs.Trees.{IsWorld}
 use Rattle.dm_maps.proofs.ResultLemmas.{on-ok_three, on-err_three, either-way}
 use Rattle.dm_maps.proofs.WorldGrowth.{IsWorld-crate, crate-made}
+use Rattle.dm_maps.proofs.Tables.{tables_of}
 use Rattle.dm_maps.proofs.builder.WorldBuilder.push_crate.Goals as goal
 use Rattle.dm_maps.proofs.builder.WorldBuilder.push_crate.Goals.{After-add_crate_map}
 
 -- the tables as they were
 abbrev before : After-add_crate_map → World
-before c = record {
-  crate_maps = c.self.inside.crate_maps.items;
-  block_maps = c.self.inside.block_maps.items;
-  places = c.self.inside.places.items;
-  local_maps = c.self.inside.local_maps.items;
-  uses = c.self.inside.uses.items;
-  items = c.self.inside.items.items;
-  enums = c.self.inside.enums.entries;
-  variants = c.self.inside.variants.items;
-  macros = c.self.inside.macros.items;
-  item_tables = c.self.inside.item_tables;
-}
+before c = tables_of c.self.inside
 
 -- and as they are
 abbrev made : After-add_crate_map → World

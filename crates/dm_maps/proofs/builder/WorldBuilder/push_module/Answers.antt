@@ -5,22 +5,12 @@ use Rattle.dm_maps.specs.Build.{IsFree, with_child_of, next_module, crate_maps_w
 use Rattle.dm_maps.specs.Trees.{IsWorld}
 use Rattle.dm_maps.proofs.ResultLemmas.{on-ok_three, on-err_three, either-way}
 use Rattle.dm_maps.proofs.WorldGrowth.{IsWorld-child, IsFree-crates, IsFree-blocks, child-made}
+use Rattle.dm_maps.proofs.Tables.{tables_of}
 use Rattle.dm_maps.proofs.builder.WorldBuilder.push_module.Goals as goal
 
 -- the tables as they were
 abbrev before : goal.After-add_child → World
-before c = record {
-  crate_maps = c.self.inside.crate_maps.items;
-  block_maps = c.self.inside.block_maps.items;
-  places = c.self.inside.places.items;
-  local_maps = c.self.inside.local_maps.items;
-  uses = c.self.inside.uses.items;
-  items = c.self.inside.items.items;
-  enums = c.self.inside.enums.entries;
-  variants = c.self.inside.variants.items;
-  macros = c.self.inside.macros.items;
-  item_tables = c.self.inside.item_tables;
-}
+before c = tables_of c.self.inside
 
 -- and as they are
 abbrev made : goal.After-add_child → World
@@ -56,18 +46,7 @@ returns c =
 
 pub add_child-requires : goal.add_child-requires
 add_child-requires c =
-    let w : World = record {
-      crate_maps = c.self.inside.crate_maps.items;
-      block_maps = c.self.inside.block_maps.items;
-      places = c.self.inside.places.items;
-      local_maps = c.self.inside.local_maps.items;
-      uses = c.self.inside.uses.items;
-      items = c.self.inside.items.items;
-      enums = c.self.inside.enums.entries;
-      variants = c.self.inside.variants.items;
-      macros = c.self.inside.macros.items;
-      item_tables = c.self.inside.item_tables;
-    } in
+    let w : World = tables_of c.self.inside in
     let m : next_module w ≡ c.next_module-m.result = ap next_module c.self.view_is ∙ sym c.next_module-m.ensures in record {
       crate_free = subst (IsFree w.crate_maps c.index-at.result.now.map.krate.0) m (IsFree-crates w c.self.invariant c.index-at.result.now.map.krate.0);
       block_free = elim c.index-at.result.now.map.block as (λ block. IfSome block (λ b. IsFree w.block_maps b.0 c.next_module-m.result)) [

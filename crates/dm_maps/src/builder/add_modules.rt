@@ -1,0 +1,212 @@
+//! Crates and modules, added to a builder.
+ghost use Rattle.std.specs.Prelude.{◌≡◌, ◌<◌, IsTrue, IfOk, OnOk, OnErr, None, Some, length};
+ghost use Rattle.dm_maps.specs.Build.{with_crate, with_module, with_child_of, next_crate, next_module, next_place, fresh_crate};
+ghost use Rattle.dm_maps.specs.Faults.{Answers, crate_fault, child_fault, has_child, is_full};
+ghost use Rattle.dm_modules.specs.Origins.{is_child};
+
+use crate::build_fault::BuildFault;
+use crate::builder::WorldBuilder;
+use crate::builder::growth::{NewChild, add_child, add_crate_map};
+use crate::builder::share::share;
+use crate::place::Place;
+use dm_base::ids::{Crate, MapId, ModuleId};
+use dm_base::name::Name;
+use dm_base::source::{Edition, EditionedFileId};
+use dm_base::visibility::Visibility;
+use dm_def_map::def_map::DefMap;
+use dm_modules::module_data::ModuleData;
+use dm_modules::module_origin::ModuleOrigin;
+use dm_tables::crate_data::CrateData;
+use std::alloc::{AllocError, Global};
+
+/// The numbers of a list's entries are below this, so that the list's length is one too.
+pub(crate) const LAST_NUMBER: usize = 4_294_967_295;
+
+impl WorldBuilder {
+    /// Adds a crate, whose root lies in that file and is seen by everyone, and answers its number.
+    ///
+    /// Its map and its extern prelude are numbered with it. Refused are `OutOfNumbers`, where there are 4,294,967,295
+    /// modules, and `OutOfMemory`; the builder is then as it was.
+    pub fn add_crate(
+        &mut self,
+        edition: Edition,
+        file: EditionedFileId,
+    ) -> Result<Crate, BuildFault>
+        ensures ok { OnOk result (self.new ≡ with_crate self.old edition file) }
+        ensures number { IfOk result (λ krate. krate ≡ next_crate self.old) }
+        ensures fault { Answers (crate_fault self.old) result }
+        ensures err { OnErr result (self.new ≡ self.old) }
+    {
+        if self.is_full() {
+            return Err(BuildFault::OutOfNumbers);
+        }
+        let krate = Crate(self.crate_maps.len() as u32);
+        self.push_crate(krate, edition, file)?;
+        Ok(krate)
+    }
+
+    /// Adds the map of a crate, with its root, and its extern prelude.
+    fn push_crate(
+        &mut self,
+        krate: Crate,
+        edition: Edition,
+        file: EditionedFileId,
+    ) -> Result<(), AllocError>
+        requires number { krate ≡ next_crate self.old }
+        requires room { length self.old.places < 4294967295 }
+        ensures ok { OnOk result (self.new ≡ with_crate self.old edition file) }
+        ensures err { OnErr result (self.new ≡ self.old) }
+    {
+        let root = self.next_module();
+        let map = fresh_crate(krate, edition, file, root, self.alloc)?;
+        let id = MapId { krate, block: None };
+        let place = Place {
+            map: id,
+            index: 0,
+            parent: None,
+        };
+        add_crate_map(
+            &mut self.places,
+            place,
+            &mut self.local_maps,
+            &mut self.crate_maps,
+            map,
+            self.alloc,
+        )
+    }
+
+    /// Adds a module below `parent`, and answers its number.
+    ///
+    /// Refused are, in this order, `NoSuchModule` of a parent that is not the builder's, `TakenChild` where the parent
+    /// has a child of that name, `OutOfNumbers` and `OutOfMemory`; the builder is then as it was. The visibility may name
+    /// what is not the builder's: `check` finds that.
+    pub fn add_module(
+        &mut self,
+        parent: ModuleId,
+        name: Name,
+        origin: ModuleOrigin,
+        visibility: Visibility,
+    ) -> Result<ModuleId, BuildFault>
+        requires child { IsTrue (is_child origin) }
+        ensures ok { OnOk result (self.new ≡ with_module self.old parent name origin visibility) }
+        ensures number { IfOk result (λ m. m ≡ next_module self.old) }
+        ensures fault { Answers (child_fault self.old parent name) result }
+        ensures err { OnErr result (self.new ≡ self.old) }
+    {
+        match self.child_fault(parent, &name) {
+            Some(fault) => Err(fault),
+            None => {
+                let m = self.next_module();
+                let added = ModuleData::fresh(origin, visibility, Some(parent), self.alloc);
+                self.push_module(parent, name, added)?;
+                Ok(m)
+            }
+        }
+    }
+
+    /// Why a child of that name is refused, if it is.
+    #[tactic(auto, unfolding(crate::specs::Faults::child_fault))]
+    fn child_fault(&self, parent: ModuleId, name: &Name) -> Option<BuildFault>
+        ensures { result ≡ child_fault self.now parent name.now }
+    {
+        if !self.has(parent) {
+            return Some(BuildFault::NoSuchModule);
+        }
+        if self.has_child(parent, name) {
+            return Some(BuildFault::TakenChild);
+        }
+        if self.is_full() {
+            return Some(BuildFault::OutOfNumbers);
+        }
+        None
+    }
+
+    /// Whether a module has a child of that name.
+    fn has_child(&self, m: ModuleId, name: &Name) -> bool
+        ensures { result ≡ has_child self.now m name.now }
+    {
+        match self.module_of(m) {
+            None => false,
+            Some(parent) => parent.child(name).is_some(),
+        }
+    }
+
+    /// Whether there is no number for another module.
+    pub(crate) fn is_full(&self) -> bool
+        ensures { result ≡ is_full self.now.places }
+    {
+        !(self.places.len() < LAST_NUMBER)
+    }
+
+    /// The number of the next module.
+    pub(crate) fn next_module(&self) -> ModuleId
+        requires { length self.now.places < 4294967295 }
+        ensures { result ≡ next_module self.now }
+    {
+        ModuleId(self.places.len() as u32)
+    }
+
+    /// The place of the next module, in the map of that id.
+    fn next_place(&self, id: MapId, parent: ModuleId) -> Place
+        ensures { result ≡ next_place self.now id parent }
+    {
+        let index = match self.numbered_map(id) {
+            None => 0,
+            Some(map) => map.modules().len(),
+        };
+        Place {
+            map: id,
+            index,
+            parent: Some(parent),
+        }
+    }
+
+    /// Adds a child of the module `parent`.
+    fn push_module(
+        &mut self,
+        parent: ModuleId,
+        name: Name,
+        added: ModuleData,
+    ) -> Result<(), AllocError>
+        requires known { parent.0 < length self.old.places }
+        requires parent { added.parent ≡ Some parent }
+        requires room { length self.old.places < 4294967295 }
+        ensures ok { OnOk result (self.new ≡ with_child_of self.old parent name added) }
+        ensures err { OnErr result (self.new ≡ self.old) }
+    {
+        let at = self.places[parent.0 as usize];
+        let place = self.next_place(at.map, parent);
+        let m = self.next_module();
+        let child = NewChild {
+            at,
+            place,
+            name,
+            m,
+            added,
+        };
+        add_child(
+            &mut self.places,
+            &mut self.crate_maps,
+            &mut self.block_maps,
+            child,
+        )
+    }
+}
+
+/// The map of a new crate.
+fn fresh_crate(
+    krate: Crate,
+    edition: Edition,
+    file: EditionedFileId,
+    root: ModuleId,
+    alloc: Global,
+) -> Result<DefMap, AllocError>
+    ensures { IfOk result (λ map. map ≡ fresh_crate krate edition file root) }
+{
+    let origin = ModuleOrigin::CrateRoot { definition: file };
+    let id = MapId { krate, block: None };
+    let added = ModuleData::fresh(origin, Visibility::Public, None, alloc);
+    let shared = share(CrateData::fresh(alloc)?, alloc)?;
+    let map = DefMap::with_root(id, edition, None, root, added, shared, alloc)?;
+    Ok(map)
+}

@@ -1,0 +1,223 @@
+//! What is set in the maps of a builder, and in its extern preludes.
+ghost use Rattle.std.specs.Prelude.{◌≡◌, false, IsOk, OnOk, OnErr};
+ghost use Rattle.dm_maps.specs.BuildMaps.{AnswersFree, with_map, crate_maps_with, block_maps_with, with_prelude, with_macro_use, with_macro_def, with_helper, locals_with, with_extern_of, lacks_map, map_fault, krate_fault};
+ghost use Rattle.dm_maps.specs.Faults.{Answers};
+ghost use Rattle.dm_maps.specs.World.{maps_with};
+ghost use Rattle.dm_modules.specs.Locals.{with_extern};
+ghost use Rattle.dm_def_map.specs.MapChanges.{changed, grows};
+
+use crate::build_fault::BuildFault;
+use crate::builder::WorldBuilder;
+use dm_base::ids::{
+    BuiltinDeriveImplId, Crate, ExternCrateId, MacroCallId, MapId, ModuleId, UseId,
+};
+use dm_base::item_ids::MacroId;
+use dm_base::name::Name;
+use dm_base::source::AstId;
+use dm_def_map::def_map::DefMap;
+use dm_def_map::map_change::MapChange;
+use dm_held::held::HeldId;
+use dm_held::known_ids::KnownIds;
+use dm_modules::local_def_map::LocalDefMap;
+use either::Either;
+use std::alloc::{AllocError, Global};
+
+impl WorldBuilder {
+    /// Sets the prelude module of a map, with the use that named it, or none. Takes no memory.
+    ///
+    /// Refused is `NoSuchCrate` alone, of a map that is not the builder's, which is then as it was. The module and the use
+    /// may not be the builder's: `check` finds that.
+    pub fn set_prelude(
+        &mut self,
+        map: MapId,
+        prelude: Option<(ModuleId, Option<UseId>)>,
+    ) -> Result<(), BuildFault>
+        ensures ok { OnOk result (self.new ≡ with_prelude self.old map prelude) }
+        ensures fault { AnswersFree (map_fault self.old map) result }
+        ensures err { OnErr result (self.new ≡ self.old) }
+    {
+        if self.lacks_map(map) {
+            return Err(BuildFault::NoSuchCrate);
+        }
+        self.change_map(map, MapChange::Prelude(prelude))?;
+        Ok(())
+    }
+
+    /// Adds a macro to those that `#[macro_use]` brings into a map, with the item that brought it. A name that is there
+    /// takes the new macro.
+    ///
+    /// Refused are, in this order, `NoSuchCrate` of a map that is not the builder's, and `OutOfMemory`; the builder is then
+    /// as it was. The macro may not be the builder's: `check` finds that.
+    pub fn add_macro_use(
+        &mut self,
+        map: MapId,
+        name: Name,
+        m: MacroId,
+        brought_by: Option<ExternCrateId>,
+    ) -> Result<(), BuildFault>
+        ensures ok { OnOk result (self.new ≡ with_macro_use self.old map name m brought_by) }
+        ensures fault { Answers (map_fault self.old map) result }
+        ensures err { OnErr result (self.new ≡ self.old) }
+    {
+        if self.lacks_map(map) {
+            return Err(BuildFault::NoSuchCrate);
+        }
+        self.change_map(map, MapChange::MacroUse(name, (m, brought_by)))?;
+        Ok(())
+    }
+
+    /// Sets the macro that an item of the syntax defines, in a map. What is there is replaced.
+    ///
+    /// Refused are, in this order, `NoSuchCrate` of a map that is not the builder's, and `OutOfMemory`; the builder is then
+    /// as it was. The macro may not be the builder's: `check` finds that.
+    pub fn add_macro_def(&mut self, map: MapId, ast: AstId, m: MacroId) -> Result<(), BuildFault>
+        ensures ok { OnOk result (self.new ≡ with_macro_def self.old map ast m) }
+        ensures fault { Answers (map_fault self.old map) result }
+        ensures err { OnErr result (self.new ≡ self.old) }
+    {
+        if self.lacks_map(map) {
+            return Err(BuildFault::NoSuchCrate);
+        }
+        self.change_map(map, MapChange::MacroDef(ast, m))?;
+        Ok(())
+    }
+
+    /// Adds a helper attribute of a derive at an item of the syntax, in a map, the last of that item: its name, the macro of
+    /// the derive, and the call of the derive, or what a builtin derive writes.
+    ///
+    /// Refused are, in this order, `NoSuchCrate` of a map that is not the builder's, and `OutOfMemory`; the builder is then
+    /// as it was. The macro may not be the builder's: `check` finds that.
+    pub fn add_derive_helper(
+        &mut self,
+        map: MapId,
+        ast: AstId,
+        name: Name,
+        m: MacroId,
+        call: Either<MacroCallId, BuiltinDeriveImplId>,
+    ) -> Result<(), BuildFault>
+        ensures ok { OnOk result (self.new ≡ with_helper self.old map ast (name, m, call)) }
+        ensures fault { Answers (map_fault self.old map) result }
+        ensures err { OnErr result (self.new ≡ self.old) }
+    {
+        if self.lacks_map(map) {
+            return Err(BuildFault::NoSuchCrate);
+        }
+        self.change_map(map, MapChange::Helper(ast, (name, m, call)))?;
+        Ok(())
+    }
+
+    /// Adds a module to the extern prelude of a crate, with the item that named it. A name that is there takes the new
+    /// module.
+    ///
+    /// Refused are, in this order, `NoSuchCrate` of a crate that is not the builder's, and `OutOfMemory`; the builder is
+    /// then as it was. The module may not be the builder's: `check` finds that.
+    pub fn add_extern(
+        &mut self,
+        krate: Crate,
+        name: Name,
+        m: ModuleId,
+        named_by: Option<ExternCrateId>,
+    ) -> Result<(), BuildFault>
+        ensures ok { OnOk result (self.new ≡ with_extern_of self.old krate name m named_by) }
+        ensures fault { Answers (krate_fault self.old krate) result }
+        ensures err { OnErr result (self.new ≡ self.old) }
+    {
+        if !self.knows(HeldId::Crate(krate)) {
+            return Err(BuildFault::NoSuchCrate);
+        }
+        self.put_extern(krate, name, m, named_by)?;
+        Ok(())
+    }
+
+    fn put_extern(
+        &mut self,
+        krate: Crate,
+        name: Name,
+        m: ModuleId,
+        named_by: Option<ExternCrateId>,
+    ) -> Result<(), AllocError>
+        ensures ok { OnOk result (self.new ≡ with_extern_of self.old krate name m named_by) }
+        ensures err { OnErr result (self.new ≡ self.old) }
+    {
+        put_extern_at(&mut self.local_maps, krate.0 as usize, name, m, named_by)
+    }
+
+    /// Whether there is no map of that number, or it is another crate's.
+    pub(crate) fn lacks_map(&self, id: MapId) -> bool
+        ensures { result ≡ lacks_map self.now id }
+    {
+        match self.numbered_map(id) {
+            None => true,
+            Some(map) => map.krate() != id.krate,
+        }
+    }
+
+    /// Makes a change in the map of that id.
+    pub(crate) fn change_map(&mut self, id: MapId, change: MapChange) -> Result<(), AllocError>
+        ensures ok { OnOk result (self.new ≡ with_map self.old id (changed change)) }
+        ensures err { OnErr result (self.new ≡ self.old) }
+        ensures free { grows change ≡ false → IsOk result }
+    {
+        change_in(
+            &mut self.crate_maps,
+            &mut self.block_maps,
+            id,
+            change,
+            self.alloc,
+        )
+    }
+}
+
+/// Makes a change in the map of that id.
+fn change_in(
+    crate_maps: &mut Vec<DefMap>,
+    block_maps: &mut Vec<DefMap>,
+    id: MapId,
+    change: MapChange,
+    alloc: Global,
+) -> Result<(), AllocError>
+    ensures crate_maps { OnOk result (crate_maps.new.items ≡ crate_maps_with crate_maps.old.items id (changed change)) }
+    ensures block_maps { OnOk result (block_maps.new.items ≡ block_maps_with block_maps.old.items id (changed change)) }
+    ensures old_crates { OnErr result (crate_maps.new.items ≡ crate_maps.old.items) }
+    ensures old_blocks { OnErr result (block_maps.new.items ≡ block_maps.old.items) }
+    ensures free { grows change ≡ false → IsOk result }
+{
+    match id.block {
+        None => change_at(crate_maps, id.krate.0 as usize, change, alloc),
+        Some(b) => change_at(block_maps, b.0 as usize, change, alloc),
+    }
+}
+
+/// Makes a change in the map of number `k`.
+fn change_at(
+    maps: &mut Vec<DefMap>,
+    k: usize,
+    change: MapChange,
+    alloc: Global,
+) -> Result<(), AllocError>
+    ensures ok { OnOk result (maps.new.items ≡ maps_with maps.old.items k (changed change)) }
+    ensures err { OnErr result (maps.new.items ≡ maps.old.items) }
+    ensures free { grows change ≡ false → IsOk result }
+{
+    match maps.get_mut(k) {
+        None => Ok(()),
+        Some(map) => map.change(change, alloc),
+    }
+}
+
+/// Adds a module to the extern prelude of number `k`.
+fn put_extern_at(
+    locals: &mut Vec<LocalDefMap>,
+    k: usize,
+    name: Name,
+    m: ModuleId,
+    named_by: Option<ExternCrateId>,
+) -> Result<(), AllocError>
+    ensures ok { OnOk result (locals.new.items ≡ locals_with locals.old.items k (λ L. with_extern L name m named_by)) }
+    ensures err { OnErr result (locals.new.items ≡ locals.old.items) }
+{
+    match locals.get_mut(k) {
+        None => Ok(()),
+        Some(local) => local.insert(name, m, named_by),
+    }
+}

@@ -1,0 +1,135 @@
+//! What is set for all maps of a crate.
+ghost use Rattle.std.specs.Prelude.{◌≡◌, ◌++◌, ◌∷◌, [], true, Some, IfOk, OnOk, OnErr};
+ghost use Rattle.dm_maps.specs.BuildCrateData.{sharing, data_of, with_data};
+ghost use Rattle.dm_maps.specs.BuildMaps.{krate_fault};
+ghost use Rattle.dm_tables.specs.CrateData.{with_feature, with_proc_macro};
+ghost use Rattle.dm_maps.specs.Faults.{Answers};
+
+use crate::build_fault::BuildFault;
+use crate::builder::WorldBuilder;
+use crate::builder::share::{hand_out, handles, share};
+use dm_base::ids::{Crate, FunctionId, MapId, ProcMacroId};
+use dm_base::symbol::Symbol;
+use dm_tables::crate_data::CrateData;
+use std::alloc::AllocError;
+
+/// Each call refuses, in this order, `NoSuchCrate` of a crate that is not the builder's, and `OutOfMemory`; the builder is
+/// then as it was. What is set reaches the maps of the crate and of all its blocks, also of those that are added later.
+impl WorldBuilder {
+    /// Says that a crate goes without `std`.
+    pub fn set_no_std(&mut self, krate: Crate) -> Result<(), BuildFault>
+        ensures ok { OnOk result (self.new ≡ with_data self.old krate (λ d. record d { no_std = true })) }
+        ensures fault { Answers (krate_fault self.old krate) result }
+        ensures err { OnErr result (self.new ≡ self.old) }
+    {
+        let mut data = self.copy_data(krate)?;
+        data.set_no_std();
+        self.share_data(krate, data)?;
+        Ok(())
+    }
+
+    /// Says that a crate goes without `core`.
+    pub fn set_no_core(&mut self, krate: Crate) -> Result<(), BuildFault>
+        ensures ok { OnOk result (self.new ≡ with_data self.old krate (λ d. record d { no_core = true })) }
+        ensures fault { Answers (krate_fault self.old krate) result }
+        ensures err { OnErr result (self.new ≡ self.old) }
+    {
+        let mut data = self.copy_data(krate)?;
+        data.set_no_core();
+        self.share_data(krate, data)?;
+        Ok(())
+    }
+
+    /// Says that a crate counts as `core` where traits are implemented.
+    pub fn set_coherence_is_core(&mut self, krate: Crate) -> Result<(), BuildFault>
+        ensures ok { OnOk result (self.new ≡ with_data self.old krate (λ d. record d { coherence_is_core = true })) }
+        ensures fault { Answers (krate_fault self.old krate) result }
+        ensures err { OnErr result (self.new ≡ self.old) }
+    {
+        let mut data = self.copy_data(krate)?;
+        data.set_coherence_is_core();
+        self.share_data(krate, data)?;
+        Ok(())
+    }
+
+    /// Sets how deep macros of a crate may expand.
+    pub fn set_recursion_limit(&mut self, krate: Crate, limit: u32) -> Result<(), BuildFault>
+        ensures ok { OnOk result (self.new ≡ with_data self.old krate (λ d. record d { recursion_limit = Some limit })) }
+        ensures fault { Answers (krate_fault self.old krate) result }
+        ensures err { OnErr result (self.new ≡ self.old) }
+    {
+        let mut data = self.copy_data(krate)?;
+        data.set_recursion_limit(limit);
+        self.share_data(krate, data)?;
+        Ok(())
+    }
+
+    /// Adds a tool whose attributes a crate may have, the last.
+    pub fn add_tool(&mut self, krate: Crate, tool: Symbol) -> Result<(), BuildFault>
+        ensures ok { OnOk result (self.new ≡ with_data self.old krate (λ d. record d { tools = d.tools ++ tool ∷ [] })) }
+        ensures fault { Answers (krate_fault self.old krate) result }
+        ensures err { OnErr result (self.new ≡ self.old) }
+    {
+        let mut data = self.copy_data(krate)?;
+        data.add_tool(tool)?;
+        self.share_data(krate, data)?;
+        Ok(())
+    }
+
+    /// Adds an unstable feature that a crate asks for. One that is there stays at its place.
+    pub fn add_feature(&mut self, krate: Crate, feature: Symbol) -> Result<(), BuildFault>
+        ensures ok { OnOk result (self.new ≡ with_data self.old krate (λ d. with_feature d feature)) }
+        ensures fault { Answers (krate_fault self.old krate) result }
+        ensures err { OnErr result (self.new ≡ self.old) }
+    {
+        let mut data = self.copy_data(krate)?;
+        data.add_feature(feature)?;
+        self.share_data(krate, data)?;
+        Ok(())
+    }
+
+    /// Sets the procedural macro that a function of a crate defines, in a table each way. What is there is replaced.
+    ///
+    /// The function and the macro may not be the builder's: `check` finds that.
+    pub fn set_proc_macro(
+        &mut self,
+        krate: Crate,
+        f: FunctionId,
+        m: ProcMacroId,
+    ) -> Result<(), BuildFault>
+        ensures ok { OnOk result (self.new ≡ with_data self.old krate (λ d. with_proc_macro d f m)) }
+        ensures fault { Answers (krate_fault self.old krate) result }
+        ensures err { OnErr result (self.new ≡ self.old) }
+    {
+        let data = self.copy_data(krate)?.with_proc_macro(f, m)?;
+        self.share_data(krate, data)?;
+        Ok(())
+    }
+
+    /// The data of a crate, to be changed.
+    fn copy_data(&self, krate: Crate) -> Result<CrateData, BuildFault>
+        ensures value { IfOk result (λ d. d ≡ data_of self.now krate) }
+        ensures fault { Answers (krate_fault self.now krate) result }
+    {
+        match self.numbered_map(MapId { krate, block: None }) {
+            None => Err(BuildFault::NoSuchCrate),
+            Some(map) => {
+                let data = map.shared().copy(self.alloc)?;
+                Ok(data)
+            }
+        }
+    }
+
+    /// All maps of a crate share that data from now on.
+    fn share_data(&mut self, krate: Crate, new: CrateData) -> Result<(), AllocError>
+        ensures ok { OnOk result (self.new ≡ sharing self.old krate new) }
+        ensures err { OnErr result (self.new ≡ self.old) }
+    {
+        let shared = share(new, self.alloc)?;
+        let for_crates = handles(&shared, self.crate_maps.len(), self.alloc)?;
+        let for_blocks = handles(&shared, self.block_maps.len(), self.alloc)?;
+        hand_out(&mut self.crate_maps, krate, for_crates, &shared);
+        hand_out(&mut self.block_maps, krate, for_blocks, &shared);
+        Ok(())
+    }
+}
