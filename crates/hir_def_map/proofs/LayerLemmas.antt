@@ -14,7 +14,9 @@ use Rattle.hir_def_map.specs.Answers.{nothing_no}
 use Rattle.hir_def_map.proofs.WalkLemmas.{empty-map}
 use Rattle.hir_def_map.specs.declared.question.Ask.{Ask}
 use Rattle.hir_def_map.specs.declared.result.ResolvePathResult.{ResolvePathResult}
-use Rattle.hir_def_map.specs.Paths.{Place, In, from_root, from_super, single, by_2015_rule, layers_by_2015_rule, extern_prelude, plain_layers, layers, missed, by_first_segment, stop, enter, seen_from}
+use Rattle.hir_def_map.specs.Paths.{from_root, from_super, single, by_2015_rule, layers_by_2015_rule, extern_prelude, plain_layers, layers, missed, by_first_segment, stop, enter, seen_from}
+use Rattle.hir_def_map.specs.declared.place.Place.{Place}
+use Rattle.hir_def_map.specs.declared.place.Place.TheVariants.{In}
 
 abbrev later_layers : Setting → Ask → Place → Reading → Bool → PathKind → List PerNs
 later_layers w q p s is_last k = elim k [ kind.Abs ↦ extern_prelude s ∷ [] | _ ↦ plain_layers w q p s is_last ]
@@ -51,5 +53,5 @@ single_by w q S m k = elim k [
   | _ ↦ by_first_segment w q (In m) S
 ]
 
-pub single-kind : (w : Setting) (q : Ask) (S : List Reading) (m : ModuleId) (k : PathKind) → q.kind ≡ k → single w q S (In m) ≡ single_by w q S m k
-single-kind w q S m k is = ap (single_by w q S m) is
+pub single-kind : (w : Setting) (q : Ask) (S : List Reading) (p : Place) (m : ModuleId) (k : PathKind) → p ≡ In m → q.kind ≡ k → single w q S p ≡ single_by w q S m k
+single-kind w q S p m k at is = ap (single w q S) at ∙ ap (single_by w q S m) is

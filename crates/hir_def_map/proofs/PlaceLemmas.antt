@@ -3,7 +3,9 @@ use Rattle.std.proofs.Common.{◌≡◌, ◌++◌, List, [], ◌∷◌, map}
 use Rattle.dm_ids.specs.declared.ModuleId.{ModuleId}
 use Rattle.dm_base.specs.Tree.{Tree, home, homeward}
 use Rattle.dm_maps.specs.Readings.{Setting}
-use Rattle.hir_def_map.specs.Paths.{Place, In, prelude_place}
+use Rattle.hir_def_map.specs.Paths.{prelude_place}
+use Rattle.hir_def_map.specs.declared.place.Place.{Place}
+use Rattle.hir_def_map.specs.declared.place.Place.TheVariants.{In}
 
 -- the places that a question from m asks, by the tree of the setting
 abbrev pub places_in : Tree → Setting → ModuleId → List Place

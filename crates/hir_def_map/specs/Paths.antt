@@ -25,13 +25,15 @@ use Rattle.dm_base.specs.Items.{nothing, overlay, keep, seen_by}
 use Rattle.dm_base.specs.PerNs as per_ns
 use Rattle.dm_base.specs.PerNs.{type_alone, macro_alone}
 use Rattle.dm_base.specs.Styles.{has_styles, fn_like, attr, derive}
-use Rattle.dm_base.specs.Tree.{Tree, same_crate, same_map, crate_of, in_block_map, is_block_root, chain, sees, outer, home, up_to, block_of}
+use Rattle.dm_base.specs.Tree.{Tree, IsKnown, same_crate, same_map, crate_of, in_block_map, is_block_root, chain, sees, outer, home, up_to, block_of}
 use Rattle.dm_modules.specs.declared.modes.BuiltinShadowMode.TheVariants as shadow
 use Rattle.dm_modules.specs.declared.modes.MacroSubNs.{MacroSubNs}
 use Rattle.dm_modules.specs.declared.modes.MacroSubNs.TheVariants.{Bang, Attr}
 use Rattle.dm_modules.specs.Maps.{LocalMap}
 use Rattle.dm_maps.specs.World.{World}
 use Rattle.dm_maps.specs.Readings.{Setting, Reading, setting_of, read}
+use Rattle.hir_def_map.specs.declared.place.Place.{Place}
+use Rattle.hir_def_map.specs.declared.place.Place.TheVariants.{In, Preludes}
 use Rattle.hir_def_map.specs.declared.question.Ask.{Ask}
 use Rattle.hir_def_map.specs.declared.result.ResolveMode.TheVariants as mode
 use Rattle.hir_def_map.specs.declared.result.ResolvePathResult.{ResolvePathResult}
@@ -123,11 +125,6 @@ enter t m S = enter_within (suc (length S)) t m S
 
 -- ---- The first segment
 
--- what asks: a module, or the preludes of a map, seen from a module
-pub data Place : Type 0 where
-  In : ModuleId → Place
-  Preludes : MapId → ModuleId → Place
-
 abbrev pub map_at : Tree → Place → MapId
 map_at t (In m) = t.map_of m
 map_at t (Preludes id f) = id
@@ -135,6 +132,10 @@ map_at t (Preludes id f) = id
 abbrev pub seen_from : Place → ModuleId
 seen_from (In m) = m
 seen_from (Preludes id f) = f
+
+-- a place of the tree: it sees from one of its modules
+abbrev pub IsKnownPlace : Tree → Place → Type 0
+IsKnownPlace t p = IsKnown t (seen_from p)
 
 -- whether a macro may be called as is expected
 abbrev pub fits : Setting → Option MacroSubNs → MacroId → Bool

@@ -1,6 +1,7 @@
 //! What a first segment selects.
-ghost use Rattle.std.specs.Prelude.{◌≡◌, ◌&&◌, Bool, not, ◌∷◌, []};
-ghost use Rattle.dm_base.specs.Items.{over, overlay};
+ghost use Rattle.std.specs.Prelude.{◌≡◌, ◌&&◌};
+ghost use Rattle.std.specs.List.{AllByRecursion};
+ghost use Rattle.dm_base.specs.Items.{overlay};
 ghost use Rattle.dm_base.specs.Tree.{IsKnown};
 ghost use Rattle.dm_maps.specs.Known.{KnowsAll};
 ghost use Rattle.dm_held.specs.Holding.{res_holds, local_holds};
@@ -9,13 +10,13 @@ ghost use Rattle.dm_maps.specs.Readings.{setting_of, read, is_2015_in};
 ghost use Rattle.dm_maps.specs.Trees.{tree_of};
 ghost use Rattle.dm_maps.specs.World.{World, scope_of};
 ghost use Rattle.dm_scope.specs.Scope.{bound_in};
-ghost use Rattle.dm_ids.specs.declared.ModuleId.{ModuleId};
-ghost use Rattle.hir_def_map.specs.declared.question.Ask.{Ask};
-ghost use Rattle.hir_def_map.specs.Paths.{asks_root, are_builtins_first, builtins_of, builtins_or_scope, unless_block_root, layers_by_2015_rule, extern_prelude, prelude, plain_layers, layers, In, Preludes};
+ghost use Rattle.hir_def_map.specs.Paths.{asks_root, are_builtins_first, builtins_of, builtins_or_scope, unless_block_root, layers_by_2015_rule, extern_prelude, prelude, plain_layers, layers, missed, IsKnownPlace};
+ghost use Rattle.hir_def_map.specs.declared.place.Place.TheVariants.{In};
 
 use crate::layers::{
     builtin, extern_prelude, fitting, legacy, macro_use_prelude, prelude, root_scope,
 };
+use crate::place::Place;
 use crate::question::Ask;
 use crate::result::ResolveMode;
 use dm_base::ids::{Crate, MapId, ModuleId};
@@ -29,7 +30,7 @@ use dm_maps::modes::BuiltinShadowMode;
 use dm_maps::world::World;
 
 /// Whether edition 2015 answers the question from the crate's root.
-pub(crate) fn asks_root(ask: &Ask) -> bool
+fn asks_root(ask: &Ask) -> bool
     ensures { result ≡ asks_root ask.now }
 {
     match ask.kind {
@@ -50,12 +51,18 @@ fn are_builtins_first(ask: &Ask, own: &PerNs, is_last: bool) -> bool
     matches!(ask.shadow, BuiltinShadowMode::Other) && is_last && is_module
 }
 
-/// The items of `a`, then those of `b`.
-fn over(a: PerNs, b: PerNs) -> PerNs
-    ensures value { result ≡ over a b }
-    ensures known { (w : World) → KnowsAll w (res_holds a) → KnowsAll w (res_holds b) → KnowsAll w (res_holds result) }
+/// The layers, one over the other: in each namespace the first item that is there.
+fn overlay(layers: &[PerNs]) -> PerNs
+    ensures value { result ≡ overlay layers.now }
+    ensures known { (w : World) → AllByRecursion (λ x. KnowsAll w (res_holds x)) layers.now → KnowsAll w (res_holds result) }
 {
-    a.or(b)
+    let mut found = PerNs::none();
+    let mut rest = layers;
+    'layers: while let Some((layer, lower)) = rest.split_first() {
+        found = found.or(*layer);
+        rest = lower;
+    }
+    found
 }
 
 /// The builtin type of a name, which no block's map has.
@@ -108,18 +115,6 @@ fn extern_layer(world: &World, local: &LocalDefMap, m: ModuleId, segment: &Name)
     extern_prelude(world, local, segment)
 }
 
-/// The map that a module lies in.
-#[tactic(auto, unfolding(dm_maps::specs::Readings::setting_of))]
-fn map_id_of(world: &World, m: ModuleId) -> MapId
-    requires { IsKnown (tree_of world.now) m }
-    ensures { result ≡ (setting_of world.now).tree.map_of m }
-{
-    MapId {
-        krate: world.krate(m),
-        block: world.block(m),
-    }
-}
-
 /// What the prelude module of a module's map binds, which a block's root skips.
 #[tactic(auto, unfolding(dm_maps::specs::Readings::setting_of))]
 fn prelude_layer(world: &World, m: ModuleId, id: MapId, segment: &Name) -> PerNs
@@ -133,9 +128,9 @@ fn prelude_layer(world: &World, m: ModuleId, id: MapId, segment: &Name) -> PerNs
     prelude(world, id, segment)
 }
 
-/// What the layers of a path without `::` select at a module.
-#[tactic(auto, unfolding(dm_maps::specs::Readings::read))]
-fn plain_layers(
+/// What the layers of a path without `::` select at a module of the map `id`.
+#[tactic(auto, unfolding(dm_maps::specs::Readings::read, dm_maps::specs::Readings::setting_of))]
+fn plain_layers_at(
     world: &World,
     local: &LocalDefMap,
     ask: &Ask,
@@ -148,24 +143,42 @@ fn plain_layers(
     ensures value { result ≡ overlay (plain_layers (setting_of world.now) ask.now (In m) (read world.now local.now segment.now) is_last) }
     ensures known { KnowsAll world.now (res_holds result) }
 {
+    let id = Place::In(m).map(world);
     let bound = world.bound_in(m, segment);
     let builtins_first = are_builtins_first(ask, &bound, is_last);
-    let id = map_id_of(world, m);
-    let legacies = legacy(world, ask.expected, m, segment);
-    let first = builtins_or_scope(world, ask, m, segment, bound, builtins_first);
-    let second = builtins_or_scope(world, ask, m, segment, bound, !builtins_first);
-    let externs = extern_layer(world, local, m, segment);
-    let macro_uses = macro_use_prelude(world, id, segment);
-    let preludes = prelude_layer(world, m, id, segment);
-    six_layers(legacies, first, second, externs, macro_uses, preludes)
+    overlay(&[
+        legacy(world, ask.expected, m, segment),
+        builtins_or_scope(world, ask, m, segment, bound, builtins_first),
+        builtins_or_scope(world, ask, m, segment, bound, !builtins_first),
+        extern_layer(world, local, m, segment),
+        macro_use_prelude(world, id, segment),
+        prelude_layer(world, m, id, segment),
+    ])
 }
 
-/// Six layers, one over the other.
-fn six_layers(a: PerNs, b: PerNs, c: PerNs, d: PerNs, e: PerNs, f: PerNs) -> PerNs
-    ensures value { result ≡ overlay (a ∷ b ∷ c ∷ d ∷ e ∷ f ∷ []) }
-    ensures known { (w : World) → KnowsAll w (res_holds a) → KnowsAll w (res_holds b) → KnowsAll w (res_holds c) → KnowsAll w (res_holds d) → KnowsAll w (res_holds e) → KnowsAll w (res_holds f) → KnowsAll w (res_holds result) }
+/// What the layers of a path without `::` select.
+#[tactic(auto, unfolding(dm_maps::specs::Readings::read, dm_maps::specs::Readings::setting_of))]
+fn plain_layers(
+    world: &World,
+    local: &LocalDefMap,
+    ask: &Ask,
+    place: Place,
+    segment: &Name,
+    is_last: bool,
+) -> PerNs
+    requires place_known { IsKnownPlace (tree_of world.now) place }
+    requires local_known { KnowsAll world.now (local_holds local.now) }
+    ensures value { result ≡ overlay (plain_layers (setting_of world.now) ask.now place (read world.now local.now segment.now) is_last) }
+    ensures known { KnowsAll world.now (res_holds result) }
 {
-    over(a, over(b, over(c, over(d, over(e, f)))))
+    match place {
+        Place::In(m) => plain_layers_at(world, local, ask, m, segment, is_last),
+        Place::Preludes(id, _) => overlay(&[
+            extern_prelude(world, local, segment),
+            macro_use_prelude(world, id, segment),
+            prelude(world, id, segment),
+        ]),
+    }
 }
 
 /// Whether the question is answered by the rule of edition 2015, in a crate.
@@ -176,74 +189,51 @@ fn by_2015_rule(world: &World, ask: &Ask, krate: Crate) -> bool
 }
 
 /// What edition 2015 selects: the scope of the crate's root, and the extern prelude.
-fn root_layers(world: &World, local: &LocalDefMap, m: ModuleId, segment: &Name) -> PerNs
-    requires module_known { IsKnown (tree_of world.now) m }
+fn layers_by_2015_rule(world: &World, local: &LocalDefMap, place: Place, segment: &Name) -> PerNs
+    requires place_known { IsKnownPlace (tree_of world.now) place }
     requires local_known { KnowsAll world.now (local_holds local.now) }
-    ensures value { result ≡ overlay (layers_by_2015_rule (setting_of world.now) (In m) (read world.now local.now segment.now)) }
+    ensures value { result ≡ overlay (layers_by_2015_rule (setting_of world.now) place (read world.now local.now segment.now)) }
     ensures known { KnowsAll world.now (res_holds result) }
 {
-    let root = root_scope(world, m, segment);
-    let externs = extern_layer(world, local, m, segment);
-    over(root, externs)
+    match place {
+        Place::In(m) => overlay(&[
+            root_scope(world, m, segment),
+            extern_layer(world, local, m, segment),
+        ]),
+        Place::Preludes(..) => overlay(&[extern_prelude(world, local, segment)]),
+    }
 }
 
-/// What the preludes of a map select for a path without `::`.
-fn plain_preludes(world: &World, local: &LocalDefMap, id: MapId, segment: &Name) -> PerNs
-    requires { KnowsAll world.now (local_holds local.now) }
-    ensures value { (q : Ask) (f : ModuleId) (is_last : Bool) → result ≡ overlay (plain_layers (setting_of world.now) q (Preludes id f) (read world.now local.now segment.now) is_last) }
-    ensures known { KnowsAll world.now (res_holds result) }
-{
-    let externs = extern_prelude(world, local, segment);
-    let macro_uses = macro_use_prelude(world, id, segment);
-    let preludes = prelude(world, id, segment);
-    over(externs, over(macro_uses, preludes))
-}
-
-/// What the layers of a first segment select at a module.
+/// What the layers of a first segment select.
 #[tactic(auto, unfolding(dm_maps::specs::Readings::read, dm_maps::specs::Readings::setting_of))]
-pub(crate) fn layers_at(
+pub(crate) fn layers(
     world: &World,
     local: &LocalDefMap,
     ask: &Ask,
-    m: ModuleId,
+    place: Place,
     segment: &Name,
     is_last: bool,
 ) -> PerNs
-    requires module_known { IsKnown (tree_of world.now) m }
+    requires place_known { IsKnownPlace (tree_of world.now) place }
     requires local_known { KnowsAll world.now (local_holds local.now) }
-    ensures value { result ≡ overlay (layers (setting_of world.now) ask.now (In m) (read world.now local.now segment.now) is_last) }
+    ensures value { result ≡ overlay (layers (setting_of world.now) ask.now place (read world.now local.now segment.now) is_last) }
     ensures known { KnowsAll world.now (res_holds result) }
 {
-    if by_2015_rule(world, ask, world.krate(m)) {
-        return root_layers(world, local, m, segment);
+    if by_2015_rule(world, ask, place.map(world).krate) {
+        return layers_by_2015_rule(world, local, place, segment);
     }
     match ask.kind {
-        PathKind::Abs => extern_prelude(world, local, segment),
-        _ => plain_layers(world, local, ask, m, segment, is_last),
+        PathKind::Abs => overlay(&[extern_prelude(world, local, segment)]),
+        _ => plain_layers(world, local, ask, place, segment, is_last),
     }
 }
 
-/// What the layers of a first segment select in the preludes of a map.
-#[tactic(auto, unfolding(dm_maps::specs::Readings::read, dm_maps::specs::Readings::setting_of))]
-pub(crate) fn layers_in_preludes(
-    world: &World,
-    local: &LocalDefMap,
-    ask: &Ask,
-    id: MapId,
-    from: ModuleId,
-    segment: &Name,
-    is_last: bool,
-) -> PerNs
-    requires { KnowsAll world.now (local_holds local.now) }
-    ensures value { result ≡ overlay (layers (setting_of world.now) ask.now (Preludes id from) (read world.now local.now segment.now) is_last) }
-    ensures known { KnowsAll world.now (res_holds result) }
+/// Whether a path that begins with `::` finds nothing, where the rule of edition 2015 does not hold.
+pub(crate) fn is_missed(world: &World, ask: &Ask, krate: Crate, found: &PerNs) -> bool
+    ensures { result ≡ missed ask.now (is_2015_in world.now krate && asks_root ask.now) found.now }
 {
-    let externs = extern_prelude(world, local, segment);
-    if by_2015_rule(world, ask, id.krate) {
-        return externs;
-    }
     match ask.kind {
-        PathKind::Abs => externs,
-        _ => plain_preludes(world, local, id, segment),
+        PathKind::Abs => !by_2015_rule(world, ask, krate) && found.is_none(),
+        _ => false,
     }
 }

@@ -9,9 +9,10 @@ ghost use Rattle.hir_def_map.specs.Answers.{merged};
 ghost use Rattle.hir_def_map.specs.Paths.{single, prelude_place, places};
 
 use crate::answers::{merge, nothing_no};
+use crate::place::Place;
 use crate::question::Ask;
 use crate::result::ResolvePathResult;
-use crate::single::{single_at, single_in_preludes};
+use crate::single::single;
 use dm_base::ids::{MapId, ModuleId};
 use dm_base::module_tree::ModuleTree;
 use dm_base::name::Name;
@@ -40,10 +41,7 @@ fn preludes_of(
     };
     match world.block_root_of(block) {
         None => nothing_no(),
-        Some(root) => merge(
-            single_in_preludes(world, local, ask, id, root, segments),
-            nothing_no(),
-        ),
+        Some(root) => single(world, local, ask, Place::Preludes(id, root), segments),
     }
 }
 
@@ -62,10 +60,10 @@ pub(crate) fn answer_outwards(
     let mut answer = nothing_no();
     let mut at = ask.origin;
     'roots: while let Some(outside) = world.outside_root(at) {
-        answer = merge(answer, single_at(world, local, ask, at, segments));
+        answer = merge(answer, single(world, local, ask, Place::In(at), segments));
         at = outside;
     }
-    let own = single_at(world, local, ask, at, segments);
+    let own = single(world, local, ask, Place::In(at), segments);
     merge(
         answer,
         merge(own, preludes_of(world, local, ask, at, segments)),

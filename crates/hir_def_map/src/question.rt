@@ -7,10 +7,10 @@ use dm_maps::modes::{BuiltinShadowMode, MacroSubNs};
 /// A question but for its segments: from where it is asked, for an import or not, whether builtin types may go before
 /// modules, what macro is expected, and where its path begins.
 #[derive(Clone, Copy)]
-pub struct Ask {
-    pub origin: ModuleId,
-    pub mode: ResolveMode,
-    pub shadow: BuiltinShadowMode,
-    pub expected: Option<MacroSubNs>,
-    pub kind: PathKind,
+pub(crate) struct Ask {
+    pub(crate) origin: ModuleId,
+    pub(crate) mode: ResolveMode,
+    pub(crate) shadow: BuiltinShadowMode,
+    pub(crate) expected: Option<MacroSubNs>,
+    pub(crate) kind: PathKind,
 }

@@ -1,20 +1,21 @@
 //! What one place answers.
-ghost use Rattle.std.specs.Prelude.{◌≡◌, ◌≤◌, ◌&&◌, if◌then◌else◌, map};
+ghost use Rattle.std.specs.Prelude.{◌≡◌, ◌≤◌, if◌then◌else◌, map};
 ghost use Rattle.dm_base.specs.Tree.{IsKnown};
 ghost use Rattle.dm_maps.specs.Known.{KnowsAll};
 ghost use Rattle.dm_held.specs.Holding.{res_holds, local_holds};
 ghost use Rattle.dm_modules.specs.Maps.{LocalMap};
-ghost use Rattle.dm_maps.specs.Readings.{setting_of, read, is_2015_in};
+ghost use Rattle.dm_maps.specs.Readings.{setting_of, read};
 ghost use Rattle.dm_maps.specs.Trees.{tree_of};
 ghost use Rattle.hir_def_map.specs.Answers.{nothing_no};
-ghost use Rattle.hir_def_map.specs.Paths.{stop, enter, root_item, from_root, from_super, by_first_segment, missed, asks_root, single, In, Preludes};
+ghost use Rattle.hir_def_map.specs.Paths.{stop, enter, root_item, from_root, from_super, by_first_segment, single, IsKnownPlace};
 
 use crate::answers::{nothing_no, nothing_yes, settled};
-use crate::first_segment::{asks_root, layers_at, layers_in_preludes};
+use crate::first_segment::{is_missed, layers};
+use crate::place::Place;
 use crate::question::Ask;
 use crate::result::ResolvePathResult;
 use crate::segments::{Stand, walk};
-use dm_base::ids::{Crate, MapId, ModuleId};
+use dm_base::ids::{Crate, ModuleId};
 use dm_base::item_ids::ModuleDefId;
 use dm_base::mod_path::PathKind;
 use dm_base::module_tree::ModuleTree;
@@ -112,101 +113,50 @@ fn after_first(
     }
 }
 
-/// By what the first segment selects, at a module.
+/// By what the first segment selects.
 #[tactic(auto, unfolding(dm_maps::specs::Readings::setting_of))]
 fn by_first_segment(
     world: &World,
     local: &LocalDefMap,
     ask: &Ask,
-    m: ModuleId,
+    place: Place,
     segments: &[Name],
 ) -> ResolvePathResult
-    requires module_known { IsKnown (tree_of world.now) m }
+    requires place_known { IsKnownPlace (tree_of world.now) place }
     requires local_known { KnowsAll world.now (local_holds local.now) }
-    ensures { result ≡ by_first_segment (setting_of world.now) ask.now (In m) (map (read world.now local.now) segments.now) }
+    ensures { result ≡ by_first_segment (setting_of world.now) ask.now place (map (read world.now local.now) segments.now) }
 {
     match segments.split_first() {
         None => nothing_yes(),
         Some((segment, rest)) => {
             let is_last = rest.is_empty();
-            let found = layers_at(world, local, ask, m, segment, is_last);
-            let missed = is_missed(world, ask, world.krate(m), &found);
-            after_first(world, m, found, missed, rest)
+            let found = layers(world, local, ask, place, segment, is_last);
+            let missed = is_missed(world, ask, place.map(world).krate, &found);
+            after_first(world, place.seen_from(), found, missed, rest)
         }
     }
 }
 
-/// By what the first segment selects, in the preludes of a map.
+/// What one place answers.
 #[tactic(auto, unfolding(dm_maps::specs::Readings::setting_of))]
-fn by_first_in_preludes(
+pub(crate) fn single(
     world: &World,
     local: &LocalDefMap,
     ask: &Ask,
-    id: MapId,
-    from: ModuleId,
+    place: Place,
     segments: &[Name],
 ) -> ResolvePathResult
-    requires module_known { IsKnown (tree_of world.now) from }
+    requires place_known { IsKnownPlace (tree_of world.now) place }
     requires local_known { KnowsAll world.now (local_holds local.now) }
-    ensures { result ≡ by_first_segment (setting_of world.now) ask.now (Preludes id from) (map (read world.now local.now) segments.now) }
+    ensures { result ≡ single (setting_of world.now) ask.now (map (read world.now local.now) segments.now) place }
 {
-    match segments.split_first() {
-        None => nothing_yes(),
-        Some((segment, rest)) => {
-            let is_last = rest.is_empty();
-            let found = layers_in_preludes(world, local, ask, id, from, segment, is_last);
-            let missed = is_missed(world, ask, id.krate, &found);
-            after_first(world, from, found, missed, rest)
-        }
-    }
-}
-
-/// What a module answers alone.
-#[tactic(auto, unfolding(dm_maps::specs::Readings::setting_of))]
-pub(crate) fn single_at(
-    world: &World,
-    local: &LocalDefMap,
-    ask: &Ask,
-    m: ModuleId,
-    segments: &[Name],
-) -> ResolvePathResult
-    requires module_known { IsKnown (tree_of world.now) m }
-    requires local_known { KnowsAll world.now (local_holds local.now) }
-    ensures { result ≡ single (setting_of world.now) ask.now (map (read world.now local.now) segments.now) (In m) }
-{
-    match ask.kind {
-        PathKind::Crate => from_root(world, m, world.krate(m), segments),
-        PathKind::DollarCrate(krate) => from_root(world, m, krate, segments),
-        PathKind::Super(k) => from_super(world, m, k, segments),
-        _ => by_first_segment(world, local, ask, m, segments),
-    }
-}
-
-/// What the preludes of a map answer alone, seen from a module.
-pub(crate) fn single_in_preludes(
-    world: &World,
-    local: &LocalDefMap,
-    ask: &Ask,
-    id: MapId,
-    from: ModuleId,
-    segments: &[Name],
-) -> ResolvePathResult
-    requires module_known { IsKnown (tree_of world.now) from }
-    requires local_known { KnowsAll world.now (local_holds local.now) }
-    ensures { result ≡ single (setting_of world.now) ask.now (map (read world.now local.now) segments.now) (Preludes id from) }
-{
-    match ask.kind {
-        PathKind::Crate | PathKind::DollarCrate(_) | PathKind::Super(_) => nothing_yes(),
-        _ => by_first_in_preludes(world, local, ask, id, from, segments),
-    }
-}
-
-/// Whether a path that begins with `::` finds nothing, where the rule of edition 2015 does not hold.
-fn is_missed(world: &World, ask: &Ask, krate: Crate, found: &PerNs) -> bool
-    ensures { result ≡ missed ask.now (is_2015_in world.now krate && asks_root ask.now) found.now }
-{
-    match ask.kind {
-        PathKind::Abs => !(world.is_2015(krate) && asks_root(ask)) && found.is_none(),
-        _ => false,
+    match (place, ask.kind) {
+        (Place::In(m), PathKind::Crate) => from_root(world, m, world.krate(m), segments),
+        (Place::In(m), PathKind::DollarCrate(krate)) => from_root(world, m, krate, segments),
+        (Place::In(m), PathKind::Super(k)) => from_super(world, m, k, segments),
+        (_, PathKind::Plain | PathKind::Abs) => by_first_segment(
+            world, local, ask, place, segments,
+        ),
+        _ => nothing_yes(),
     }
 }

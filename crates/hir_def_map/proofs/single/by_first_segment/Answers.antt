@@ -1,6 +1,8 @@
-use Rattle.std.proofs.Common.{◌∙◌, ap, sym, ◌&&◌}
-use Rattle.dm_maps.specs.Readings.{is_2015_in, setting_of}
-use Rattle.hir_def_map.specs.Paths.{In, missed, asks_root}
+use Rattle.std.proofs.Common.{◌∙◌, ◌&&◌, ap, sym, map, cond}
+use Rattle.dm_ids.specs.declared.ModuleId.{ModuleId}
+use Rattle.dm_maps.specs.Readings.{setting_of, read, is_2015_in}
+use Rattle.hir_def_map.specs.Answers.{nothing_no}
+use Rattle.hir_def_map.specs.Paths.{asks_root, enter, missed, stop}
 use Rattle.hir_def_map.proofs.LayerLemmas.{first-names}
 use Rattle.hir_def_map.proofs.single.by_first_segment.Goals as goal
 
@@ -10,6 +12,9 @@ returns-in-Some c =
     let w = c.args.world.now in
     let L = c.args.local.now in
     let q = c.args.ask.now in
-    let missed_is = c.is_missed-missed.ensures ∙ ap (λ k. missed q (is_2015_in w k && asks_root q) c.layers_at-found.result) c.krate.ensures in
+    let t = (setting_of w).tree in
+    let S = map (read w L) c.in-Some.rest.now in
+    let missed_is = c.is_missed-missed.ensures ∙ ap (λ id. missed q (is_2015_in w id.krate && asks_root q) c.layers-found.result) c.map.ensures in
     c.after_first.ensures L
-    ∙ sym (first-names w L q (In c.args.m) c.in-Some.segment.now c.in-Some.rest.now c.args.segments.now c.layers_at-found.result c.is_empty-is_last.result c.is_missed-missed.result c.in-Some.ensures.cases.0 c.is_empty-is_last.ensures c.layers_at-found.ensures.value missed_is)
+    ∙ ap (λ (f : ModuleId). cond c.is_missed-missed.result nothing_no (stop (enter t) t f c.layers-found.result 1 S)) c.seen_from.ensures
+    ∙ sym (first-names w L q c.args.place c.in-Some.segment.now c.in-Some.rest.now c.args.segments.now c.layers-found.result c.is_empty-is_last.result c.is_missed-missed.result c.in-Some.ensures.cases.0 c.is_empty-is_last.ensures c.layers-found.ensures.value missed_is)
