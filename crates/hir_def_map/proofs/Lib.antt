@@ -2,5 +2,4 @@ pub mod StopLemmas
 pub mod WalkLemmas
 pub mod KnownLemmas
 pub mod LayerLemmas
-pub mod MergeLemmas
 pub mod PlaceLemmas

@@ -58,16 +58,17 @@ abbrev pub either_yes : ReachedFixedPoint → ReachedFixedPoint → ReachedFixed
 either_yes Yes b = Yes
 either_yes No b = b
 
+-- each flag if either has it
+abbrev pub either_flags : ResolvePathResultPrefixInfo → ResolvePathResultPrefixInfo → ResolvePathResultPrefixInfo
+either_flags a b = record { differing_crate = a.differing_crate || b.differing_crate; enum_variant = a.enum_variant || b.enum_variant }
+
 -- in each namespace the first item; yes if either is; each flag if either has it; the greatest index
 abbrev pub over_answer : ResolvePathResult → ResolvePathResult → ResolvePathResult
 over_answer a b = record {
   resolved_def = over a.resolved_def b.resolved_def;
   segment_index = greatest a.segment_index b.segment_index;
   reached_fixedpoint = either_yes a.reached_fixedpoint b.reached_fixedpoint;
-  prefix_info = record {
-    differing_crate = a.prefix_info.differing_crate || b.prefix_info.differing_crate;
-    enum_variant = a.prefix_info.enum_variant || b.prefix_info.enum_variant;
-  };
+  prefix_info = either_flags a.prefix_info b.prefix_info;
 }
 
 -- an answer of a module that lies in a block, or does not: a block's is yes

@@ -1,4 +1,5 @@
 pub mod Answers
+pub mod Overlays
 pub mod Paths
 pub mod Walk
 pub mod Written

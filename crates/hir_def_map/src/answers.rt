@@ -105,39 +105,3 @@ pub(crate) fn settled(in_block: bool, answer: ResolvePathResult) -> ResolvePathR
         answer
     }
 }
-
-/// An answer over another.
-pub(crate) fn merge(a: ResolvePathResult, b: ResolvePathResult) -> ResolvePathResult
-    ensures { result ≡ over_answer a b }
-{
-    ResolvePathResult {
-        resolved_def: a.resolved_def.or(b.resolved_def),
-        segment_index: greatest(a.segment_index, b.segment_index),
-        reached_fixedpoint: either_yes(a.reached_fixedpoint, b.reached_fixedpoint),
-        prefix_info: ResolvePathResultPrefixInfo {
-            differing_crate: a.prefix_info.differing_crate || b.prefix_info.differing_crate,
-            enum_variant: a.prefix_info.enum_variant || b.prefix_info.enum_variant,
-        },
-    }
-}
-
-/// The greatest of two indices.
-fn greatest(a: Option<usize>, b: Option<usize>) -> Option<usize>
-    ensures { result ≡ greatest a b }
-{
-    match (a, b) {
-        (None, _) => b,
-        (Some(_), None) => a,
-        (Some(i), Some(j)) => Some(i.max(j)),
-    }
-}
-
-/// Yes if either is.
-fn either_yes(a: ReachedFixedPoint, b: ReachedFixedPoint) -> ReachedFixedPoint
-    ensures { result ≡ either_yes a b }
-{
-    match a {
-        ReachedFixedPoint::Yes => ReachedFixedPoint::Yes,
-        ReachedFixedPoint::No => b,
-    }
-}

@@ -4,6 +4,7 @@
 mod answers;
 mod first_segment;
 mod layers;
+mod overlays;
 pub mod path_resolution;
 mod place;
 mod places;

@@ -8,7 +8,7 @@ ghost use Rattle.dm_maps.specs.Trees.{tree_of};
 ghost use Rattle.hir_def_map.specs.Answers.{merged};
 ghost use Rattle.hir_def_map.specs.Paths.{single, prelude_place, places};
 
-use crate::answers::{merge, nothing_no};
+use crate::answers::nothing_no;
 use crate::place::Place;
 use crate::question::Ask;
 use crate::result::ResolvePathResult;
@@ -16,6 +16,7 @@ use crate::single::single;
 use dm_base::ids::{MapId, ModuleId};
 use dm_base::module_tree::ModuleTree;
 use dm_base::name::Name;
+use dm_base::overlay::Overlay;
 use dm_maps::local_def_map::LocalDefMap;
 use dm_maps::world::World;
 
@@ -60,12 +61,9 @@ pub(crate) fn answer_outwards(
     let mut answer = nothing_no();
     let mut at = ask.origin;
     'roots: while let Some(outside) = world.outside_root(at) {
-        answer = merge(answer, single(world, local, ask, Place::In(at), segments));
+        answer = answer.over(single(world, local, ask, Place::In(at), segments));
         at = outside;
     }
     let own = single(world, local, ask, Place::In(at), segments);
-    merge(
-        answer,
-        merge(own, preludes_of(world, local, ask, at, segments)),
-    )
+    answer.over(own.over(preludes_of(world, local, ask, at, segments)))
 }

@@ -4,7 +4,7 @@ use Rattle.dm_maps.specs.Trees.{tree_of}
 use Rattle.hir_def_map.specs.Answers.{over_answer, merged}
 use Rattle.hir_def_map.specs.Paths.{single}
 use Rattle.hir_def_map.specs.declared.place.Place.TheVariants.{In}
-use Rattle.hir_def_map.proofs.MergeLemmas.{over_answer-assoc}
+use Rattle.hir_def_map.specs.Overlays.{answers_associative}
 use Rattle.hir_def_map.proofs.PlaceLemmas.{places_in, places-root, places-home}
 use Rattle.hir_def_map.proofs.places.answer_outwards.Goals as goal
 
@@ -20,8 +20,8 @@ roots-preserved c =
     record {
       known = c.in-Some.ensures.known o refl;
       same =
-          ap (λ a. over_answer a rest) (c.merge-answer.ensures ∙ ap (over_answer c.roots.answer) c.single.ensures)
-          ∙ over_answer-assoc c.roots.answer (asked (In at)) rest
+          ap (λ a. over_answer a rest) (c.over-answer.ensures ∙ ap (over_answer c.roots.answer) c.single.ensures)
+          ∙ answers_associative c.roots.answer (asked (In at)) rest
           ∙ ap (λ ps. over_answer c.roots.answer (merged (map asked ps))) (sym (places-root t g at o c.in-Some.ensures.way c.in-Some.ensures.home))
           ∙ c.roots.invariant.same;
     }
@@ -34,7 +34,7 @@ returns c =
     let g = setting_of w in
     let asked = single g c.args.ask.now (map (read w c.args.local.now) c.args.segments.now) in
     let at = c.roots.at in
-    c.merge-2.ensures
-    ∙ ap (over_answer c.roots.answer) (c.merge.ensures ∙ (λ i. over_answer (c.single-own.ensures i) (c.preludes_of.ensures i)))
+    c.over-2.ensures
+    ∙ ap (over_answer c.roots.answer) (c.over.ensures ∙ (λ i. over_answer (c.single-own.ensures i) (c.preludes_of.ensures i)))
     ∙ ap (λ ps. over_answer c.roots.answer (merged (map asked ps))) (sym (places-home t g at c.in_default.ensures.way c.in_default.ensures.home))
     ∙ c.roots.invariant.same

@@ -5,7 +5,7 @@ use Rattle.dm_maps.specs.Readings.{setting_of, read}
 use Rattle.hir_def_map.specs.Answers.{merged}
 use Rattle.hir_def_map.specs.declared.place.Place.TheVariants.{Preludes}
 use Rattle.hir_def_map.specs.Paths.{single}
-use Rattle.hir_def_map.proofs.MergeLemmas.{over_answer-nothing}
+use Rattle.hir_def_map.specs.Overlays.{answer_over_nothing}
 use Rattle.hir_def_map.proofs.places.preludes_of.Goals as goal
 
 pub returns-in-Some-block_root_of : goal.returns-in-Some-block_root_of
@@ -18,5 +18,5 @@ returns-in-Some-block_root_of c =
     let root_is = ap (option_and_then g.block_root) (sym c.block.ensures ∙ c.in-Some.is) ∙ sym c.block_root_of.ensures.value ∙ c.in-Some-block_root_of.is in
     c.single.ensures
     ∙ ap (λ n. asked (Preludes (record { krate = n; block = None }) c.in-Some-block_root_of.root)) c.krate.ensures
-    ∙ sym (over_answer-nothing (asked (Preludes (record { krate = k; block = None }) c.in-Some-block_root_of.root)))
+    ∙ sym (answer_over_nothing (asked (Preludes (record { krate = k; block = None }) c.in-Some-block_root_of.root)))
     ∙ ap (λ r. merged (map asked (option_map_or (λ f. Preludes (record { krate = k; block = None }) f ∷ []) r []))) (sym root_is)
