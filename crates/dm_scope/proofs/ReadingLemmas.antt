@@ -1,5 +1,5 @@
 -- The tests of imports and definitions hold of the same value alone.
-use Rattle.std.proofs.Common.{◌≡◌, Bool, true, ◌&&◌, refl, sym, ap, ◌∙◌, true≢false, eqb-true, eq-eqb}
+use Rattle.std.proofs.Common.{◌≡◌, Bool, true, refl, sym, ap, true≢false, eqb-true, eq-eqb}
 use Rattle.dm_base.specs.declared.builtin_type.BuiltinInt.{BuiltinInt}
 use Rattle.dm_base.specs.declared.builtin_type.BuiltinInt.TheVariants as int
 use Rattle.dm_base.specs.declared.builtin_type.BuiltinUint.{BuiltinUint}
