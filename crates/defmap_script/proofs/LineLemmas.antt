@@ -1,5 +1,6 @@
 -- The words of a line, one by one.
 use Rattle.std.proofs.Common.{◌≡◌, ℕ, ◌<◌, Bool, true, false, not, List, [], ◌∷◌, Option, Some, None, length, arith, refl, ◌∙◌, ap, cond, eqb, filter, suc}
+use Rattle.std.proofs.lemmas.Option.{same_Some}
 use Rattle.std.specs.Option.{option_map}
 use Rattle.std.specs.List.{slice_split, onto_first}
 use Rattle.defmap_script.specs.Lines.{words}
@@ -41,12 +42,8 @@ words-skip bs w r e h = words-pieces bs (Some (w, r)) e ∙ rw h
 pub words-first : (bs w r : List ℕ) → cut 32 bs ≡ Some (w, r) → eqb (length w) 0 ≡ false → words bs ≡ w ∷ words r
 words-first bs w r e h = words-pieces bs (Some (w, r)) e ∙ rw h
 
--- the parts of two cuts that are the same
-parts_same : (p q : List ℕ × List ℕ) → Some p ≡ Some q → p ≡ q
-parts_same p q e = cc
-
 behind : (v q w r : List ℕ) → ◌≡◌ {A = Option (List ℕ × List ℕ)} (Some (v, q)) (Some (w, r)) → q ≡ r
-behind v q w r e = ap (λ (p : List ℕ × List ℕ). p.1) (parts_same (v, q) (w, r) e)
+behind v q w r e = ap (λ (p : List ℕ × List ℕ). p.1) (same_Some (v, q) (w, r) e)
 
 -- what is behind a cut is shorter
 pub cut-shorter : (c : ℕ) (bs w r : List ℕ) → cut c bs ≡ Some (w, r) → length r < length bs

@@ -19,6 +19,12 @@ fn ran(alloc: Global, script: &[u8], lines: &[u8]) -> Result<(Vec<u8>, RunEnd), 
     Ok((out, end))
 }
 
+/// Whether a script prints these bytes, and ends so.
+fn does(alloc: Global, script: &[u8], printed: &[u8], wanted: RunEnd) -> Result<bool, AllocError> {
+    let (out, end) = ran(alloc, script, b"")?;
+    Ok(end == wanted && out.as_slice() == printed)
+}
+
 fn push_line(text: &mut String, line: &str) -> Result<(), AllocError> {
     text.push_str(line)?;
     text.push_str("\n")

@@ -1,5 +1,6 @@
 -- A block more keeps what holds of every world.
 use Rattle.std.proofs.Common.{◌≡◌, ◌<◌, ℕ, List, [], ◌∷◌, ◌++◌, Option, Some, None, length, map, sym, ap, ◌∙◌, subst, refl}
+use Rattle.std.proofs.lemmas.List.{map_push}
 use Rattle.std.specs.Option.{option_map_or}
 use Rattle.std.proofs.lemmas.List.{length-map}
 use Rattle.dm_ids.specs.declared.ModuleId.{ModuleId}
@@ -12,7 +13,6 @@ use Rattle.dm_maps.specs.World.{World, crate_map}
 use Rattle.dm_maps.specs.Build.{next_module}
 use Rattle.dm_maps.specs.BuildBlocks.{next_block, crate_in, fresh_block, with_block_of, with_block}
 use Rattle.dm_maps.specs.Trees.{Outline, outline, outlines, containers_of, IsWorldOf, IsWorld}
-use Rattle.dm_maps.proofs.ModuleGrowth.{map-push}
 use Rattle.dm_maps.proofs.BlockGrowth.{IsWorldOf-block}
 
 -- the world of a block more is lawful
@@ -23,8 +23,8 @@ IsWorld-block_of w m a c is known room =
     let count : length (outlines b) ≡ length b = length-map b outline in
     let inside : length (containers_of b) ≡ length b = length-map b (λ (x : Map). x.parent) in
     let grown = IsWorldOf-block w.places (outlines w.crate_maps) (outlines b) (containers_of b) (length w.local_maps) is room m known (crate_in w m) refl (inside ∙ sym count) in
-    let maps : outlines b ++ outline new ∷ [] ≡ outlines (b ++ new ∷ []) = sym (map-push outline b new) in
-    let containers : containers_of b ++ Some m ∷ [] ≡ containers_of (b ++ new ∷ []) = sym (map-push (λ (x : Map). x.parent) b new) in
+    let maps : outlines b ++ outline new ∷ [] ≡ outlines (b ++ new ∷ []) = sym (map_push outline b new) in
+    let containers : containers_of b ++ Some m ∷ [] ≡ containers_of (b ++ new ∷ []) = sym (map_push (λ (x : Map). x.parent) b new) in
     let P : ℕ → List Outline → List (Option ModuleId) → Type 0 = λ n bs cs. IsWorldOf (w.places ++ (record { map = record { krate = crate_in w m; block = Some (record { 0 = n }) }; index = 0; parent = None }) ∷ []) (outlines w.crate_maps) bs cs (length w.local_maps) in
     let Q : ℕ → Type 0 = λ n. P n (outlines b ++ (record { id = record { krate = crate_in w m; block = Some (record { 0 = n }) }; root = next_module w; modules = (next_module w, None) ∷ [] }) ∷ []) (containers_of b ++ Some m ∷ []) in
     subst (P (length b) (outlines (b ++ new ∷ []))) containers

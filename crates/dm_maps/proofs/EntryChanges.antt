@@ -1,5 +1,5 @@
 -- An entry of a list, changed by a call that may be refused.
-use Rattle.std.proofs.Common.{◌≡◌, ◌<◌, ◌∙◌, ap, sym, refl, false, length, ℕ, List, Option, Some, slice_get, set, Result, nat_lt}
+use Rattle.std.proofs.Common.{◌≡◌, ◌∙◌, ap, sym, false, length, ℕ, List, Option, Some, slice_get, set, Result, nat_lt}
 use Rattle.std.specs.Option.{option_map_or}
 use Rattle.std.specs.Result.{OnOk}
 use Rattle.std.proofs.lemmas.Bool.{ltb-false}

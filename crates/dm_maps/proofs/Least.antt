@@ -1,5 +1,5 @@
 -- The fold over a holder's ids gives its least fault, and the search over holders the first.
-use Rattle.std.proofs.Common.{◌≡◌, Bool, true, false, cond, List, [], ◌∷◌, ◌++◌, refl, sym, ap, subst, inl, inr, ◌⊎◌, Option, None, Some, append_assoc, suc, ◌∙◌, true≢false, is_some, not, IsTrue, ◌↔◌}
+use Rattle.std.proofs.Common.{◌≡◌, Bool, true, false, cond, List, [], ◌∷◌, ◌++◌, refl, sym, ap, subst, inl, inr, ◌⊎◌, Option, None, Some, append_assoc, append-nil, suc, ◌∙◌, true≢false, is_some, not, IsTrue, ◌↔◌}
 use Rattle.std.specs.List.{fold, AllByRecursion}
 use Rattle.std.specs.Option.{option_or, option_map}
 use Rattle.std.proofs.lemmas.List.Elements.{Contains-append_left, Contains-push, All-contains, All-from_recursion}
@@ -59,10 +59,6 @@ IsLeastFault-noted w hs h r is = by (knows w h) refl r is
       least = all-push (NotBefore w (fault_at h)) hs h (all-weaker (Known w) (NotBefore w (fault_at h)) (λ x k. inl k) hs all) (inr (comes_before-irrefl (fault_at h)));
     }
     by false e (Some old) is = order old (comes_before (fault_at h) old) refl e is
-
-append-nil : {X : Type 0} (xs : List X) → xs ++ [] ≡ xs
-append-nil [] = refl
-append-nil (x ∷ xs) = ap (λ l. x ∷ l) (append-nil xs)
 
 IsLeastFault-fold : (w : World) (ks hs : List HeldId) (r : Option HeldFault) → IsLeastFault (knows w) ks r → IsLeastFault (knows w) (ks ++ hs) (fold (noted (knows w)) r hs)
 IsLeastFault-fold w ks [] r is = subst (λ l. IsLeastFault (knows w) l r) (sym (append-nil ks)) is

@@ -2,6 +2,7 @@
 use Rattle.std.proofs.Common.{◌≡◌, ◌<◌, ◌≤◌, ◌+◌, ℕ, zero, suc, List, [], ◌∷◌, ◌++◌, Option, Some, None, length, map, set, slice_get, inl, inr, sym, ap, ◌∙◌, refl, subst, arith, length-append}
 use Rattle.std.proofs.Math.ListN.{length-set}
 use Rattle.std.specs.Option.{option_map, option_map_or}
+use Rattle.std.proofs.lemmas.List.{map-set, map_push}
 use Rattle.std.proofs.lemmas.Option.{slice_get_within, slice_get-map}
 use Rattle.indexmap.specs.IndexMap.{set_value_at}
 use Rattle.dm_ids.specs.declared.ModuleId.{ModuleId}
@@ -26,19 +27,10 @@ crates_longer cs id m q = elim id.block [ None ↦ longer_in cs id.krate.0 m q |
 abbrev pub blocks_longer : List Outline → MapId → ModuleId → Option ModuleId → List Outline
 blocks_longer bs id m q = elim id.block [ None ↦ bs | Some b ↦ longer_in bs b.0 m q ]
 
-pub map-set : {X Y : Type 0} (f : X → Y) (xs : List X) (k : ℕ) (x : X) → map f (set xs k x) ≡ set (map f xs) k (f x)
-map-set f [] k x = refl
-map-set f (y ∷ ys) zero x = refl
-map-set f (y ∷ ys) (suc k) x = ap (λ l. f y ∷ l) (map-set f ys k x)
-
 -- what a write leaves of an element stays
 pub map-set_own : {X Y : Type 0} (f : X → Y) (xs : List X) (k : ℕ) (x y : X) → slice_get xs k ≡ Some x → f y ≡ f x → map f (set xs k y) ≡ map f xs
 map-set_own f xs k x y at same =
     map-set f xs k y ∙ ap (set (map f xs) k) same ∙ set-own (map f xs) k (f x) (slice_get-map f xs k ∙ ap (option_map f) at)
-
-pub map-push : {X Y : Type 0} (f : X → Y) (xs : List X) (x : X) → map f (xs ++ x ∷ []) ≡ map f xs ++ f x ∷ []
-map-push f [] x = refl
-map-push f (y ∷ ys) x = ap (λ l. f y ∷ l) (map-push f ys x)
 
 abbrev pub entry : (ModuleId × Module) → ModuleId × Option ModuleId
 entry e = (e.0, e.1.parent)
@@ -57,7 +49,7 @@ entries-with_child_at es i n m = by (nth_module es i) refl
 
 outline-map_with_child : (o : Map) (i : ℕ) (n : Name) (m : ModuleId) (d : Module) → outline (map_with_child o i n m d) ≡ longer (outline o) m d.parent
 outline-map_with_child o i n m d =
-    ap (λ es. record (outline o) { modules = es }) (entries-with_child_at (o.modules ++ (m, d) ∷ []) i n m ∙ map-push entry o.modules (m, d))
+    ap (λ es. record (outline o) { modules = es }) (entries-with_child_at (o.modules ++ (m, d) ∷ []) i n m ∙ map_push entry o.modules (m, d))
 
 outlines-with_child : (ms : List Map) (k i : ℕ) (n : Name) (m : ModuleId) (d : Module) → outlines (maps_with_child ms k i n m d) ≡ longer_in (outlines ms) k m d.parent
 outlines-with_child ms k i n m d = by (slice_get ms k) refl

@@ -1,5 +1,6 @@
 -- Builder calls keep what holds of every world.
 use Rattle.std.proofs.Common.{◌≡◌, ◌<◌, ◌+◌, ℕ, suc, Bool, true, false, cond, List, [], ◌∷◌, ◌++◌, Option, Some, None, length, map, slice_get, nat_eq, sym, ap, ◌∙◌, refl, subst, arith, length-append, IfSome}
+use Rattle.std.proofs.lemmas.List.{map_push}
 use Rattle.std.specs.Option.{option_map, option_map_or}
 use Rattle.std.proofs.lemmas.Option.{slice_get_within, slice_get-map}
 use Rattle.std.proofs.lemmas.List.{length-map}
@@ -16,7 +17,7 @@ use Rattle.dm_maps.specs.World.{World, numbered_map}
 use Rattle.dm_maps.specs.Build.{crate_maps_with_child, block_maps_with_child, with_child_of, with_child_at_place, next_module, next_crate, next_place, IsFree, with_crate, fresh_crate}
 use Rattle.dm_maps.specs.Trees.{Outline, outline, outlines, containers_of, IsWorldOf, IsWorld, AreMaps, is_crate_id, is_block_id, numbered_outline}
 use Rattle.dm_maps.proofs.GrowthLemmas.{get-within, after, place_below}
-use Rattle.dm_maps.proofs.ModuleGrowth.{entry, map-push, IsWorldOf-longer, crates_longer, blocks_longer, outlines-crate_child, outlines-block_child, containers-block_child}
+use Rattle.dm_maps.proofs.ModuleGrowth.{entry, IsWorldOf-longer, crates_longer, blocks_longer, outlines-crate_child, outlines-block_child, containers-block_child}
 use Rattle.dm_maps.proofs.CrateGrowth.{IsWorldOf-crate}
 
 -- ---- The number of the next module is free.
@@ -83,7 +84,7 @@ pub IsWorld-crate : (w : World) (e : Edition) (f : EditionedFileId) → IsWorld 
 IsWorld-crate w e f is room =
     let grown = IsWorldOf-crate w.places (outlines w.crate_maps) (outlines w.block_maps) (containers_of w.block_maps) (length w.local_maps) is room in
     let count : length (outlines w.crate_maps) ≡ length w.crate_maps = length-map w.crate_maps outline in
-    let maps : (k : ℕ) → outlines w.crate_maps ++ outline (fresh_crate (record { 0 = k }) e f (next_module w)) ∷ [] ≡ outlines (w.crate_maps ++ fresh_crate (record { 0 = k }) e f (next_module w) ∷ []) = λ k. sym (map-push outline w.crate_maps (fresh_crate (record { 0 = k }) e f (next_module w))) in
+    let maps : (k : ℕ) → outlines w.crate_maps ++ outline (fresh_crate (record { 0 = k }) e f (next_module w)) ∷ [] ≡ outlines (w.crate_maps ++ fresh_crate (record { 0 = k }) e f (next_module w) ∷ []) = λ k. sym (map_push outline w.crate_maps (fresh_crate (record { 0 = k }) e f (next_module w))) in
     let locals : length w.local_maps + 1 ≡ length (w.local_maps ++ [] ∷ []) = sym (length-append w.local_maps ([] ∷ [])) in
     let P : ℕ → List Outline → ℕ → Type 0 = λ k cs n. IsWorldOf (w.places ++ (record { map = record { krate = record { 0 = k }; block = None }; index = 0; parent = None }) ∷ []) cs (outlines w.block_maps) (containers_of w.block_maps) n in
     subst (P (length w.crate_maps) (outlines (w.crate_maps ++ fresh_crate (next_crate w) e f (next_module w) ∷ []))) locals

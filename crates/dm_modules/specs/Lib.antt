@@ -4,6 +4,5 @@ pub mod Locals
 pub mod LendingModule
 pub mod LendingModules
 pub mod LocalHash
-pub mod LocalOrder
 pub mod LocalLaws
 pub mod Queries

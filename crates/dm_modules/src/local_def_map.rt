@@ -1,6 +1,7 @@
 //! The extern prelude of a crate.
-ghost use Rattle.std.specs.Prelude.{◌≡◌, [], length, OnOk, OnErr};
-ghost use Rattle.std.specs.Iterator.{at_most};
+ghost use Rattle.std.specs.Prelude.{◌≡◌, [], Some, IfSome, length, OnOk, OnErr};
+ghost use Rattle.std.specs.Iterator.{at_most, UpTo};
+ghost use Rattle.std.specs.Iterator.SizeHint.{IsWithinCount};
 ghost use Rattle.std.specs.Map.Iter.{TakesFirst, ShowsInOrder};
 ghost use Rattle.dm_base.specs.Names.{find_name};
 ghost use Rattle.dm_modules.specs.Locals.{with_extern};
@@ -60,8 +61,13 @@ impl<'a> Iterator for ExternPrelude<'a> {
         Some((name, *entry))
     }
 
-    fn size_hint(&self) -> (usize, Option<usize>) {
-        self.rest.size_hint()
+    fn size_hint(&self) -> (usize, Option<usize>)
+        ensures lower { IsWithinCount result.0 (at_most (length self.now)) }
+        ensures upper { IfSome result.1 (UpTo (at_most (length self.now))) }
+        ensures exact { result ≡ (length self.now, Some (length self.now)) }
+    {
+        let left = self.rest.len();
+        (left, Some(left))
     }
 }
 

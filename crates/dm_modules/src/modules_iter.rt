@@ -1,7 +1,9 @@
 //! Iterators over the modules of a map. Each is seen as the list of what it has left.
-ghost use Rattle.std.specs.Prelude.{◌≡◌, Bool, length};
-ghost use Rattle.std.specs.Iterator.{at_most};
+ghost use Rattle.std.specs.Prelude.{◌≡◌, Bool, Some, IfSome, length};
+ghost use Rattle.std.specs.Iterator.{at_most, UpTo};
+ghost use Rattle.std.specs.Iterator.SizeHint.{IsWithinCount};
 ghost use Rattle.std.specs.Map.Iter.{TakesFirst, ShowsInOrder};
+ghost use Rattle.dm_ids.specs.declared.ModuleId.{ModuleId};
 ghost use Rattle.dm_modules.specs.declared.module_origin.ModuleOrigin.{ModuleOrigin};
 ghost use Rattle.dm_modules.specs.Queries.{deref_module, fills, is_inline_in, modules_with};
 
@@ -38,8 +40,13 @@ impl<'a> Iterator for Iter<'a> {
         Some((*m, data))
     }
 
-    fn size_hint(&self) -> (usize, Option<usize>) {
-        self.rest.size_hint()
+    fn size_hint(&self) -> (usize, Option<usize>)
+        ensures lower { IsWithinCount result.0 (at_most (length self.now)) }
+        ensures upper { IfSome result.1 (UpTo (at_most (length self.now))) }
+        ensures exact { result ≡ (length self.now, Some (length self.now)) }
+    {
+        let left = self.rest.len();
+        (left, Some(left))
     }
 }
 
@@ -52,6 +59,19 @@ impl ModulesMap {
         Iter {
             rest: self.entries().iter(),
         }
+    }
+}
+
+impl<'a> IntoIterator for &'a ModulesMap {
+    type Item = (ModuleId, &'a ModuleData);
+
+    type IntoIter = Iter<'a>;
+
+    ghost into_iter_gives = { λ m r. (r ≡ m.now) × ShowsInOrder deref_module };
+
+    /// The modules, in order of number. Takes no memory.
+    fn into_iter(self) -> Iter<'a> {
+        self.iter()
     }
 }
 
@@ -117,8 +137,10 @@ impl<'a, P: Origins> Model for ModulesWith<'a, P> {
 }
 
 impl<'a, P: Origins> ModulesWith<'a, P> {
+    /// The modules whose origins pass, in order of number. Takes no memory.
     pub fn new(modules: &'a ModulesMap, origins: P) -> Self
-        ensures { result ≡ modules_with (P.passes origins) modules.now }
+        ensures rest { result ≡ modules_with (P.passes origins) modules.now }
+        ensures runs { ShowsInOrder (λ (m : ModuleId). m) }
     {
         ModulesWith {
             rest: modules.entries().iter(),

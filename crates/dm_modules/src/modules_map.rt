@@ -1,5 +1,5 @@
 //! The modules of a map, by number.
-ghost use Rattle.std.specs.Prelude.{◌≡◌, [], ◌∷◌, None, IfOk, OnOk, OnErr, length};
+ghost use Rattle.std.specs.Prelude.{◌≡◌, ◌↔◌, [], ◌∷◌, None, IfOk, IsTrue, OnOk, OnErr, length};
 ghost use Rattle.std.specs.Option.{option_copied, option_copied_mut};
 ghost use Rattle.std.specs.Borrow.{sem};
 ghost use Rattle.dm_modules.specs.Maps.{module_at, nth_module, scope_at, with_new_child};
@@ -48,6 +48,13 @@ impl ModulesMap {
         ensures { result ≡ length self.now }
     {
         self.entries.len()
+    }
+
+    /// Whether there is no module.
+    pub fn is_empty(&self) -> bool
+        ensures { IsTrue result ↔ (self.now ≡ []) }
+    {
+        self.entries.is_empty()
     }
 
     /// The module of that number.

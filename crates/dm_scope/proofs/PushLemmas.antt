@@ -1,5 +1,6 @@
 -- What one more push does to what a whole list of pushes names.
 use Rattle.std.proofs.Common.{◌≡◌, ℕ, Bool, true, false, cond, not, ◌&&◌, ◌||◌, List, [], ◌∷◌, ◌++◌, filter, append-nil, slice_get, Option, None, Some, IfSome, refl, sym, ap, subst, ◌∙◌, true≢false}
+use Rattle.std.proofs.lemmas.Bool.{and_parts}
 use Rattle.std.specs.List.{list_all}
 use Rattle.std.proofs.lemmas.List.Elements.{filter-append}
 use Rattle.std.proofs.lemmas.List.Folds.{list_all-append}
@@ -16,14 +17,6 @@ pub record IsReading {D I : Type 0} (r : Reading D I) : Type 0 where
 not_not : (b : Bool) → not b ≡ true → b ≡ false
 not_not true h = absurd (true≢false (sym h))
 not_not false h = refl
-
-pub and_left : (a b : Bool) → (a && b) ≡ true → a ≡ true
-and_left true b h = refl
-and_left false b h = absurd (true≢false (sym h))
-
-pub and_right : (a b : Bool) → (a && b) ≡ true → b ≡ true
-and_right true b h = h
-and_right false b h = absurd (true≢false (sym h))
 
 and-true : (a : Bool) → (a && true) ≡ a
 and-true true = refl
@@ -46,10 +39,10 @@ module _ {D I : Type 0} (r : Reading D I) (law : IsReading r) where
   -- the last run's first push passes what every push passes
   pub last_run-all : (t : ℕ × Push D I → Bool) (ps : List (ℕ × Push D I)) → list_all t ps ≡ true → IfSome (last_run r ps) (λ q. t q ≡ true)
   last_run-all t [] h = tt
-  last_run-all t (p ∷ ps) h = by (list_all (λ q. has_same_def r p.1 q.1) ps) (last_run-all t ps (and_right (t p) _ h))
+  last_run-all t (p ∷ ps) h = by (list_all (λ q. has_same_def r p.1 q.1) ps) (last_run-all t ps ((and_parts (t p) _ h).1))
     where
       by : (b : Bool) → IfSome (last_run r ps) (λ q. t q ≡ true) → IfSome (cond b (Some p) (last_run r ps)) (λ q. t q ≡ true)
-      by true rest = and_left (t p) _ h
+      by true rest = (and_parts (t p) _ h).0
       by false rest = rest
 
   abbrev after_run : Option (ℕ × Push D I) → ℕ × Push D I → Option (ℕ × Push D I)
@@ -227,4 +220,4 @@ module _ {D I : Type 0} (r : Reading D I) (law : IsReading r) where
       by : (es : List (ℕ × Push D I)) → filter (λ p. is_explicit r p.1) kept ≡ es
           → named_of r (or_this (slice_get kept 0) x) (es ++ cond (is_explicit r x.1) (x ∷ []) []) ≡ after (named_of r (slice_get kept 0) es) x
       by [] h = none_explicit (slice_get kept 0) x (first_glob kept h)
-      by (e ∷ es) h = some_explicit e es x (and_left _ _ (sym (ap (list_all (λ p. is_explicit r p.1)) h) ∙ list_all-filter (λ p. is_explicit r p.1) kept)) e.1.by refl
+      by (e ∷ es) h = some_explicit e es x ((and_parts _ _ (sym (ap (list_all (λ p. is_explicit r p.1)) h) ∙ list_all-filter (λ p. is_explicit r p.1) kept)).0) e.1.by refl

@@ -1,5 +1,5 @@
 -- The tests of imports and definitions hold of the same value alone.
-use Rattle.std.proofs.Common.{◌≡◌, Bool, true, ◌&&◌, refl, sym, ap, ◌∙◌, true≢false, eqb-true, eq-eqb}
+use Rattle.std.proofs.Common.{◌≡◌, true, refl, sym, ap, true≢false, eqb-true, eq-eqb}
 use Rattle.dm_base.specs.declared.builtin_type.BuiltinInt.{BuiltinInt}
 use Rattle.dm_base.specs.declared.builtin_type.BuiltinInt.TheVariants as int
 use Rattle.dm_base.specs.declared.builtin_type.BuiltinUint.{BuiltinUint}
@@ -29,22 +29,20 @@ use Rattle.dm_base.specs.contracts.builtin_type.BuiltinUintPartialEq.TheImpl as 
 use Rattle.dm_base.specs.contracts.builtin_type.BuiltinFloatPartialEq.TheImpl as float_eq
 use Rattle.dm_base.specs.contracts.builtin_type.BuiltinTypePartialEq.TheImpl as builtin_eq
 use Rattle.dm_base.specs.contracts.item_ids.AdtIdPartialEq.TheImpl as adt_eq
-use Rattle.dm_scope.proofs.PushLemmas.{IsReading, and_left, and_right}
-
-and-both : (a b : Bool) → a ≡ true → b ≡ true → (a && b) ≡ true
-and-both a b p q = ap (λ x. x && b) p ∙ q
+use Rattle.dm_scope.proofs.PushLemmas.{IsReading}
+use Rattle.std.proofs.lemmas.Bool.{and_parts, and_from}
 
 import_id_is : (i j : ImportId) → import_id_eq.ghosts.eq i j ≡ true → i ≡ j
-import_id_is i j h = λ k. record { use_ = record { 0 = eqb-true i.use_.0 j.use_.0 (and_left _ _ h) k }; idx = record { 0 = eqb-true i.idx.0 j.idx.0 (and_right _ _ h) k } }
+import_id_is i j h = λ k. record { use_ = record { 0 = eqb-true i.use_.0 j.use_.0 ((and_parts _ _ h).0) k }; idx = record { 0 = eqb-true i.idx.0 j.idx.0 ((and_parts _ _ h).1) k } }
 
 import_id_refl : (i : ImportId) → import_id_eq.ghosts.eq i i ≡ true
-import_id_refl i = and-both _ _ (eq-eqb i.use_.0 i.use_.0 refl) (eq-eqb i.idx.0 i.idx.0 refl)
+import_id_refl i = and_from _ _ (eq-eqb i.use_.0 i.use_.0 refl) (eq-eqb i.idx.0 i.idx.0 refl)
 
 glob_id_is : (i j : GlobId) → glob_id_eq.ghosts.eq i j ≡ true → i ≡ j
-glob_id_is i j h = λ k. record { use_ = record { 0 = eqb-true i.use_.0 j.use_.0 (and_left _ _ h) k }; idx = record { 0 = eqb-true i.idx.0 j.idx.0 (and_right _ _ h) k } }
+glob_id_is i j h = λ k. record { use_ = record { 0 = eqb-true i.use_.0 j.use_.0 ((and_parts _ _ h).0) k }; idx = record { 0 = eqb-true i.idx.0 j.idx.0 ((and_parts _ _ h).1) k } }
 
 glob_id_refl : (i : GlobId) → glob_id_eq.ghosts.eq i i ≡ true
-glob_id_refl i = and-both _ _ (eq-eqb i.use_.0 i.use_.0 refl) (eq-eqb i.idx.0 i.idx.0 refl)
+glob_id_refl i = and_from _ _ (eq-eqb i.use_.0 i.use_.0 refl) (eq-eqb i.idx.0 i.idx.0 refl)
 
 import_is : (x y : ImportOrExternCrate) → same_import x y ≡ true → x ≡ y
 import_is (wide.Glob i) (wide.Glob j) h = ap wide.Glob (glob_id_is i j h)

@@ -1,5 +1,6 @@
 -- What a namespace shows of a list of pushes, and of one push more.
 use Rattle.std.proofs.Common.{◌≡◌, ℕ, ◌+◌, ◌≤◌, Bool, true, false, cond, not, ◌&&◌, List, [], ◌∷◌, ◌++◌, length, filter, append-nil, append_assoc, slice_get, Option, None, Some, IfSome, refl, sym, ap, subst, ◌∙◌, true≢false, nat_eq, ne_eqb, eq-eqb, arith}
+use Rattle.std.proofs.lemmas.Bool.{and_parts}
 use Rattle.std.specs.List.{list_all, enumerate_from}
 use Rattle.std.specs.Option.{option_map}
 use Rattle.std.specs.Str.{bytes_eq}
@@ -12,7 +13,7 @@ use Rattle.dm_base.specs.declared.imports.ImportOrDef.{ImportOrDef}
 use Rattle.dm_scope.specs.Bindings.{Bound, Reading, is_glob, is_same, writes, stored, recorded, with_record, bound, pushed}
 use Rattle.dm_scope.specs.Scope.{last_of}
 use Rattle.dm_scope.specs.Pushes.{Push, is_explicit, is_by, named_explicit, named_of, named, named_push, item_of, binding, is_glob_push, is_at, is_effective, effective, record_of, ShowsIn}
-use Rattle.dm_scope.proofs.PushLemmas.{IsReading, after, named-push, last_run-all, last-push, and_left, and_right}
+use Rattle.dm_scope.proofs.PushLemmas.{IsReading, after, named-push, last_run-all, last-push}
 
 enumerate_from-push : {X : Type 0} (n : ℕ) (xs : List X) (x : X) → enumerate_from n (xs ++ x ∷ []) ≡ enumerate_from n xs ++ (n + length xs, x) ∷ []
 enumerate_from-push n [] x = ap (λ k. (k, x) ∷ []) (omega arith)
@@ -26,15 +27,15 @@ places_before m n (x ∷ xs) h =
 
 list_all-kept : {X : Type 0} (t u : X → Bool) (xs : List X) → list_all t xs ≡ true → list_all t (filter u xs) ≡ true
 list_all-kept t u [] h = refl
-list_all-kept {X} t u (x ∷ xs) h = by (u x) (list_all-kept t u xs (and_right (t x) _ h))
+list_all-kept {X} t u (x ∷ xs) h = by (u x) (list_all-kept t u xs ((and_parts (t x) _ h).1))
   where
     by : (b : Bool) → list_all t (filter u xs) ≡ true → list_all t (cond b (x ∷ filter u xs) (filter u xs)) ≡ true
-    by true rest = ap (λ b. b && list_all t (filter u xs)) (and_left (t x) _ h) ∙ rest
+    by true rest = ap (λ b. b && list_all t (filter u xs)) ((and_parts (t x) _ h).0) ∙ rest
     by false rest = rest
 
 first-all : {X : Type 0} (t : X → Bool) (xs : List X) → list_all t xs ≡ true → IfSome (slice_get xs 0) (λ x. t x ≡ true)
 first-all t [] h = tt
-first-all t (x ∷ xs) h = and_left (t x) _ h
+first-all t (x ∷ xs) h = (and_parts (t x) _ h).0
 
 module _ {D I : Type 0} (r : Reading D I) (law : IsReading r) where
   -- what every kept push passes the named one passes
@@ -42,7 +43,7 @@ module _ {D I : Type 0} (r : Reading D I) (law : IsReading r) where
   named-all t kept h = by (filter (λ p. is_explicit r p.1) kept) (list_all-kept t (λ p. is_explicit r p.1) kept h)
     where
       explicit : (e : ℕ × Push D I) (es : List (ℕ × Push D I)) (o : Option I) → list_all t (e ∷ es) ≡ true → IfSome (named_explicit r e o (e ∷ es)) (λ q. t q ≡ true)
-      explicit e es None h = and_left (t e) _ h
+      explicit e es None h = (and_parts (t e) _ h).0
       explicit e es (Some i) h = last_run-all r law t (filter (λ p. is_by r i p.1) (e ∷ es)) (list_all-kept t (λ p. is_by r i p.1) (e ∷ es) h)
 
       by : (es : List (ℕ × Push D I)) → list_all t es ≡ true → IfSome (named_of r (slice_get kept 0) es) (λ q. t q ≡ true)

@@ -1,6 +1,7 @@
 //! Lines of every form.
-use super::{assert_transcript, ran};
+use super::{assert_transcript, does};
 use defmap_script::script::RunEnd;
+use std::alloc::{AllocError, Global};
 use std::test::Fail;
 
 #[test]
@@ -22,9 +23,7 @@ fn lines_that_say_nothing_are_counted(rt: HostRuntime) -> Result<(), Fail> {
         (b"check\n".as_slice(), b"".as_slice(), RunEnd::Done),
     ];
     for (script, printed, wanted) in rows {
-        let (out, end) = ran(rt.alloc(), script, b"")?;
-        assert_eq!(rt; end, wanted);
-        assert_eq!(rt; out.as_slice(), printed);
+        assert!(rt; does(rt.alloc(), script, printed, wanted)?);
     }
     Ok(())
 }
@@ -43,18 +42,12 @@ fn spaces_alone_part_words(rt: HostRuntime) -> Result<(), Fail> {
         b"check \xff\n".as_slice(),
     ];
     for script in refused {
-        let (out, end) = ran(rt.alloc(), script, b"")?;
-        assert_eq!(rt; end, RunEnd::Refused);
-        assert_eq!(rt; out.as_slice(), b"refused 1 BadLine\n".as_slice());
+        assert!(rt; does(rt.alloc(), script, b"refused 1 BadLine\n", RunEnd::Refused)?);
     }
     let script =
         b"  crate   2021  0  \n item struct 0\n  push 0 S\r struct:0/pub/none  -  - none \ncheck  \n   path 0 other module any plain S\r";
-    let (out, end) = ran(rt.alloc(), script.as_slice(), b"")?;
-    assert_eq!(rt; end, RunEnd::Done);
-    assert_eq!(rt;
-        out.as_slice(),
-        b"true\nstruct:0/pub/none - - yes - -\n".as_slice()
-    );
+    let printed = b"true\nstruct:0/pub/none - - yes - -\n";
+    assert!(rt; does(rt.alloc(), script, printed, RunEnd::Done)?);
     Ok(())
 }
 
@@ -75,45 +68,63 @@ path 00000000000000000000000000000000 other module any crate
     Ok(())
 }
 
+/// Adds a struct and its push, and what the push prints.
+fn push_struct(
+    alloc: Global,
+    script: &mut String,
+    printed: &mut String,
+    number: u32,
+) -> Result<(), AllocError> {
+    let push = format!(in alloc; "push 0 n{number} struct:{number}/pub/none - - none\n")?;
+    script.push_str("item struct 0\n")?;
+    script.push_str(push.as_str())?;
+    printed.push_str("true\n")
+}
+
 #[test]
 fn a_script_may_be_long(rt: HostRuntime) -> Result<(), Fail> {
     let mut script = String::from_str(rt.alloc(), "crate 2021 0\n")?;
     let mut printed = String::new(rt.alloc());
     for number in 0..9_998u32 {
-        script.push_str("item struct 0\n")?;
-        let push = format!(in rt.alloc(); "push 0 n{number} struct:{number}/pub/none - - none\n")?;
-        script.push_str(push.as_str())?;
-        printed.push_str("true\n")?;
+        push_struct(rt.alloc(), &mut script, &mut printed, number)?;
     }
     script.push_str("check\npath 0 other module any plain n9997\nnonsense\n")?;
     printed.push_str("struct:9997/pub/none - - yes - -\nrefused 20000 BadLine\n")?;
-    let (out, end) = ran(rt.alloc(), script.as_bytes(), b"")?;
-    assert_eq!(rt; end, RunEnd::Refused);
-    assert_eq!(rt; out.as_slice(), printed.as_bytes());
+    let (script, printed) = (script.as_bytes(), printed.as_bytes());
+    assert!(rt; does(rt.alloc(), script, printed, RunEnd::Refused)?);
     Ok(())
 }
 
-#[test]
-fn noise_is_refused(rt: HostRuntime) -> Result<(), Fail> {
-    for byte in 0..=255u8 {
-        let (out, end) = ran(rt.alloc(), b"\n", &[byte, 0x80, byte])?;
-        if byte == b'#' {
-            assert_eq!(rt; end, RunEnd::Done);
-            continue;
-        }
-        assert_eq!(rt; end, RunEnd::Refused, "{byte}");
-        let line = if byte == b'\n' { 3 } else { 2 };
-        let printed = format!(in rt.alloc(); "refused {line} BadLine\n")?;
-        assert_eq!(rt; out.as_slice(), printed.as_bytes(), "{byte}");
-    }
-    let mut noise = Vec::new(rt.alloc());
+/// Whether an empty line, and then one of these bytes twice around one that is no text, is refused, or is a comment.
+fn refuses_noise(alloc: Global, byte: u8) -> Result<bool, AllocError> {
+    let script = [b'\n', byte, 0x80, byte];
+    let (printed, end) = match byte {
+        b'#' => (b"".as_slice(), RunEnd::Done),
+        b'\n' => (b"refused 3 BadLine\n".as_slice(), RunEnd::Refused),
+        _ => (b"refused 2 BadLine\n".as_slice(), RunEnd::Refused),
+    };
+    does(alloc, script.as_slice(), printed, end)
+}
+
+/// A script whose second line begins with a byte that is no letter, and then has bytes at random.
+fn noise(alloc: Global) -> Result<Vec<u8>, AllocError> {
+    let mut noise = Vec::new(alloc);
+    noise.extend_from_slice(b"check\n\x01")?;
     let mut state = 0x2545_f491u32;
     for _ in 0..65_536u32 {
         state = state.wrapping_mul(1_664_525).wrapping_add(1_013_904_223);
         noise.push((state >> 24) as u8)?;
     }
-    let (out, end) = ran(rt.alloc(), b"check\n\x01", noise.as_slice())?;
-    assert_eq!(rt; end, RunEnd::Refused);
-    assert_eq!(rt; out.as_slice(), b"refused 2 BadLine\n".as_slice());
+    Ok(noise)
+}
+
+#[test]
+fn noise_is_refused(rt: HostRuntime) -> Result<(), Fail> {
+    for byte in 0..=255u8 {
+        assert!(rt; refuses_noise(rt.alloc(), byte)?, "{byte}");
+    }
+    let noise = noise(rt.alloc())?;
+    let printed = b"refused 2 BadLine\n";
+    assert!(rt; does(rt.alloc(), noise.as_slice(), printed, RunEnd::Refused)?);
     Ok(())
 }

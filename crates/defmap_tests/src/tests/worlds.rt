@@ -1,6 +1,8 @@
 //! Whole worlds, built line by line.
-use super::{assert_transcript, assert_transcripts, ran};
+use super::{assert_transcript, assert_transcripts, does, ran};
 use defmap_script::script::RunEnd;
+use std::alloc::{AllocError, Global};
+use std::process::Abort;
 use std::test::Fail;
 
 /// Two crates, two blocks, an enum with a variant, a macro, uses, pushes by import and without.
@@ -329,9 +331,8 @@ path 9 other module any crate
 
 #[test]
 fn two_crates_with_blocks_and_macros_are_built(rt: HostRuntime) -> Result<(), Fail> {
-    let (out, end) = ran(rt.alloc(), WORLD_A.as_bytes(), b"")?;
-    assert_eq!(rt; end, RunEnd::Done);
-    assert_eq!(rt; out.as_slice(), PUSHED.as_bytes());
+    let (script, printed) = (WORLD_A.as_bytes(), PUSHED.as_bytes());
+    assert!(rt; does(rt.alloc(), script, printed, RunEnd::Done)?);
     Ok(())
 }
 
@@ -374,13 +375,18 @@ path 0 other module any crate a S
     Ok(())
 }
 
+/// Runs pushes into the builder of that world, and asks its path behind a check.
+fn assert_built_on(rt: &impl Abort, alloc: Global, rows: &str) -> Result<(), AllocError> {
+    let (pushes, path) = rows.split_once("path ").unwrap_or((rows, ""));
+    let transcript = format!(in alloc; "{WORLD_B}build\n{pushes}check\npath {path}")?;
+    assert_transcript(rt, alloc, transcript.as_str())
+}
+
 #[test]
 fn pushes_by_imports_take_turns(rt: HostRuntime) -> Result<(), Fail> {
     assert_transcripts(&rt, rt.alloc(), WORLD_B, TURNS)?;
     for rows in TURNS.split("\n\n") {
-        let (pushes, path) = rows.split_once("path ").unwrap_or((rows, ""));
-        let transcript = format!(in rt.alloc(); "{WORLD_B}build\n{pushes}check\npath {path}")?;
-        assert_transcript(&rt, rt.alloc(), transcript.as_str())?;
+        assert_built_on(&rt, rt.alloc(), rows)?;
     }
     Ok(())
 }
@@ -451,9 +457,8 @@ raw match
 raw raw
 check
 ";
-    let (out, end) = ran(rt.alloc(), script.as_bytes(), b"")?;
-    assert_eq!(rt; out.as_slice(), b"true\ntrue\n".as_slice());
-    assert_eq!(rt; end, RunEnd::Done);
+    let script = script.as_bytes();
+    assert!(rt; does(rt.alloc(), script, b"true\ntrue\n", RunEnd::Done)?);
     Ok(())
 }
 

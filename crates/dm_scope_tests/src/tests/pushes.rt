@@ -6,6 +6,7 @@ use dm_base::name::Name;
 use dm_base::per_ns::{Namespace, PerNs};
 use dm_base::visibility::{Visibility, VisibilityExplicitness};
 use std::alloc::{AllocError, Global};
+use std::mem::swap;
 use std::test::Fail;
 
 /// What A means, and in which namespaces a glob bound it.
@@ -197,5 +198,24 @@ fn a_declaration_clears_a_stale_flag(rt: HostRuntime) -> Result<(), Fail> {
         after_removal(rt.alloc(), &pushes)?,
         Some((valued(1, None), NO_GLOB))
     );
+    Ok(())
+}
+
+/// What pushes of A as a value answer over one table of flags: by a glob into a scope, by an import into another under the
+/// same module, and by another import into the first.
+fn under_two_scopes(alloc: Global) -> Result<[bool; 3], AllocError> {
+    let mut first = Filled::new(alloc);
+    let mut second = Filled::new(alloc);
+    let by_glob = first.push(alloc, "A", valued(0, None), Some(GLOB))?;
+    swap(&mut first.globs, &mut second.globs);
+    let elsewhere = second.push(alloc, "A", valued(1, None), Some(import(1)))?;
+    swap(&mut first.globs, &mut second.globs);
+    let by_import = first.push(alloc, "A", valued(2, None), Some(import(2)))?;
+    Ok([by_glob, elsewhere, by_import])
+}
+
+#[test]
+fn a_flag_is_one_for_two_scopes_of_a_module(rt: HostRuntime) -> Result<(), Fail> {
+    assert_eq!(rt; under_two_scopes(rt.alloc())?, [true, true, false]);
     Ok(())
 }
