@@ -3,3 +3,4 @@ pub mod WalkLemmas
 pub mod KnownLemmas
 pub mod LayerLemmas
 pub mod PlaceLemmas
+pub mod AnswerLaws

@@ -1,6 +1,8 @@
 pub mod Answers
 pub mod Overlays
 pub mod Paths
+pub mod Questions
+pub mod Laws
 pub mod Walk
 pub mod Written
 pub mod WorldA

@@ -15,6 +15,7 @@ use Rattle.dm_base.specs.declared.item_ids.AdtId.TheVariants as adt
 use Rattle.dm_base.specs.declared.item_ids.MacroId.{MacroId}
 use Rattle.dm_base.specs.declared.imports.ImportOrExternCrate.{ImportOrExternCrate}
 use Rattle.dm_base.specs.declared.imports.ImportOrExternCrate.TheVariants as import
+use Rattle.dm_base.specs.declared.mod_path.PathKind.{PathKind}
 use Rattle.dm_base.specs.declared.mod_path.PathKind.TheVariants.{Plain, Abs, DollarCrate, Super}
 use Rattle.dm_base.specs.declared.mod_path.PathKind.TheVariants as kind
 use Rattle.dm_base.specs.declared.per_ns.Item.{Item}
@@ -26,6 +27,7 @@ use Rattle.dm_base.specs.PerNs as per_ns
 use Rattle.dm_base.specs.PerNs.{type_alone, macro_alone}
 use Rattle.dm_base.specs.Styles.{has_styles, fn_like, attr, derive}
 use Rattle.dm_base.specs.Tree.{Tree, IsKnown, same_crate, same_map, crate_of, in_block_map, is_block_root, chain, sees, outer, home, up_to, block_of}
+use Rattle.dm_modules.specs.declared.modes.BuiltinShadowMode.{BuiltinShadowMode}
 use Rattle.dm_modules.specs.declared.modes.BuiltinShadowMode.TheVariants as shadow
 use Rattle.dm_modules.specs.declared.modes.MacroSubNs.{MacroSubNs}
 use Rattle.dm_modules.specs.declared.modes.MacroSubNs.TheVariants.{Bang, Attr}
@@ -35,6 +37,7 @@ use Rattle.dm_maps.specs.Readings.{Setting, Reading, setting_of, read}
 use Rattle.hir_def_map.specs.declared.place.Place.{Place}
 use Rattle.hir_def_map.specs.declared.place.Place.TheVariants.{In, Preludes}
 use Rattle.hir_def_map.specs.declared.question.Ask.{Ask}
+use Rattle.hir_def_map.specs.declared.result.ResolveMode.{ResolveMode}
 use Rattle.hir_def_map.specs.declared.result.ResolveMode.TheVariants as mode
 use Rattle.hir_def_map.specs.declared.result.ResolvePathResult.{ResolvePathResult}
 use Rattle.hir_def_map.specs.Answers.{reached, nothing_yes, nothing_no, stopped, variant_answer, from_other_crate, settled, merged}
@@ -42,6 +45,10 @@ use Rattle.hir_def_map.specs.Answers.{reached, nothing_yes, nothing_no, stopped,
 -- What segments answer from a module of another crate.
 abbrev pub Entering : Type 0
 Entering = ModuleId → List Reading → ResolvePathResult
+
+-- a question but for its segments
+abbrev pub asked : ModuleId → ResolveMode → BuiltinShadowMode → Option MacroSubNs → PathKind → Ask
+asked m by s e k = record { origin = m; mode = by; shadow = s; expected = e; kind = k }
 
 -- ---- Stations and stop: the segments one after another
 
@@ -283,3 +290,13 @@ answer_of w q S = merged (map (single w q S) (places w q.origin))
 unfoldable pub answer : World → LocalMap → Ask → List Name → ResolvePathResult
 unfolding answer_of setting_of read
 answer w L q segments = answer_of (setting_of w) q (map (read w L) segments)
+
+-- what the origin answers alone
+unfoldable pub answer_alone : World → LocalMap → Ask → List Name → ResolvePathResult
+unfolding setting_of read
+answer_alone w L q segments = single (setting_of w) q (map (read w L) segments) (In q.origin)
+
+-- what the preludes of a map answer alone, seen from the origin
+unfoldable pub prelude_answer : World → LocalMap → MapId → Ask → List Name → ResolvePathResult
+unfolding setting_of read
+prelude_answer w L id q segments = single (setting_of w) q (map (read w L) segments) (Preludes id q.origin)

@@ -1,15 +1,16 @@
 //! Paths, resolved over a checked world.
-ghost use Rattle.std.specs.Prelude.{◌≡◌, Some, IsSome};
-ghost use Rattle.dm_maps.specs.Known.{KnowsAll};
-ghost use Rattle.dm_held.specs.Holding.{local_holds, path_holds};
-ghost use Rattle.dm_modules.specs.Maps.{Map, module_at};
-ghost use Rattle.dm_maps.specs.World.{numbered_map};
+ghost use Rattle.std.specs.Prelude.{◌≡◌, None, length};
+ghost use Rattle.dm_modules.specs.Maps.{Map};
 ghost use Rattle.hir_def_map.specs.declared.result.ResolveMode.TheVariants.{Other};
-ghost use Rattle.hir_def_map.specs.Paths.{answer};
+ghost use Rattle.hir_def_map.specs.Laws.{IsAnswer};
+ghost use Rattle.hir_def_map.specs.Paths.{asked, answer, answer_alone, prelude_answer};
+ghost use Rattle.hir_def_map.specs.Questions.{IsKnownQuestion, IsKnownInCrate};
 
+use crate::place::Place;
 use crate::places::answer_outwards;
 use crate::question::Ask;
-use crate::result::{ResolveMode, ResolvePathResult};
+use crate::result::{ResolveMode, ResolvePathResult, ResolvePathResultPrefixInfo};
+use crate::single::single;
 use dm_base::ids::ModuleId;
 use dm_base::mod_path::ModPath;
 use dm_base::per_ns::PerNs;
@@ -19,15 +20,15 @@ use dm_maps::modes::{BuiltinShadowMode, MacroSubNs};
 use dm_maps::world::World;
 
 /// What a map resolves. No call takes memory (docs/RULES.md, "Paths").
+///
+/// A question has to be one that the world knows: the map is the world's of its id, the origin lies in it, and local map and path
+/// name only what the world has (`World::knows_local`, `World::knows_path`).
 pub trait ResolvePath {
     /// The map, as contracts see it.
     ghost map: { Self → Map };
 
     /// What a path means from a module of this map: definitions per namespace, the first segment that is left unresolved, whether
     /// the answer is for good, and what the path went through.
-    ///
-    /// The map has to be the world's of its id, and the local map and the path may name only what the world has
-    /// (`World::knows_local`, `World::knows_path`).
     fn resolve_path_fp_with_macro(
         &self,
         local: &LocalDefMap,
@@ -38,13 +39,40 @@ pub trait ResolvePath {
         shadow: BuiltinShadowMode,
         expected_macro_subns: Option<MacroSubNs>,
     ) -> ResolvePathResult
-        requires map { numbered_map world.now (map self.now).id ≡ Some (map self.now) }
-        requires origin { IsSome (module_at (map self.now).modules original_module) }
-        requires local_known { KnowsAll world.now (local_holds local.now) }
-        requires path_known { KnowsAll world.now (path_holds path.now.kind) }
-        ensures { result ≡ answer world.now local.now (record { origin = original_module; mode = mode; shadow = shadow; expected = expected_macro_subns; kind = path.now.kind }) path.now.segments };
+        requires { IsKnownQuestion world.now (map self.now) local.now original_module path.now.kind }
+        ensures value { result ≡ answer world.now local.now (asked original_module mode shadow expected_macro_subns path.now.kind) path.now.segments }
+        ensures lawful { IsAnswer (length path.now.segments) result };
 
-    /// The definitions of a path that is no import, where nothing is expected of a macro, and the first segment that is left.
+    /// What the origin alone answers, without the modules outside its block and without the preludes.
+    fn resolve_path_fp_with_macro_single(
+        &self,
+        local: &LocalDefMap,
+        world: &World,
+        mode: ResolveMode,
+        original_module: ModuleId,
+        path: &ModPath,
+        shadow: BuiltinShadowMode,
+        expected_macro_subns: Option<MacroSubNs>,
+    ) -> ResolvePathResult
+        requires { IsKnownQuestion world.now (map self.now) local.now original_module path.now.kind }
+        ensures value { result ≡ answer_alone world.now local.now (asked original_module mode shadow expected_macro_subns path.now.kind) path.now.segments }
+        ensures lawful { IsAnswer (length path.now.segments) result };
+
+    /// What the preludes of this map alone answer, seen from a module, which may lie in any map of the crate.
+    fn resolve_path_fp_in_all_preludes(
+        &self,
+        local: &LocalDefMap,
+        world: &World,
+        mode: ResolveMode,
+        original_module: ModuleId,
+        path: &ModPath,
+        shadow: BuiltinShadowMode,
+    ) -> ResolvePathResult
+        requires { IsKnownInCrate world.now (map self.now) local.now original_module path.now.kind }
+        ensures value { result ≡ prelude_answer world.now local.now (map self.now).id (asked original_module mode shadow None path.now.kind) path.now.segments }
+        ensures lawful { IsAnswer (length path.now.segments) result };
+
+    /// The definitions of a path that is no import, and the first segment that is left.
     fn resolve_path(
         &self,
         local: &LocalDefMap,
@@ -54,12 +82,24 @@ pub trait ResolvePath {
         shadow: BuiltinShadowMode,
         expected_macro_subns: Option<MacroSubNs>,
     ) -> (PerNs, Option<usize>)
-        requires map { numbered_map world.now (map self.now).id ≡ Some (map self.now) }
-        requires origin { IsSome (module_at (map self.now).modules original_module) }
-        requires local_known { KnowsAll world.now (local_holds local.now) }
-        requires path_known { KnowsAll world.now (path_holds path.now.kind) }
-        ensures found { result.0 ≡ (answer world.now local.now (record { origin = original_module; mode = Other; shadow = shadow; expected = expected_macro_subns; kind = path.now.kind }) path.now.segments).resolved_def }
-        ensures left { result.1 ≡ (answer world.now local.now (record { origin = original_module; mode = Other; shadow = shadow; expected = expected_macro_subns; kind = path.now.kind }) path.now.segments).segment_index };
+        requires { IsKnownQuestion world.now (map self.now) local.now original_module path.now.kind }
+        ensures found { result.0 ≡ (answer world.now local.now (asked original_module Other shadow expected_macro_subns path.now.kind) path.now.segments).resolved_def }
+        ensures left { result.1 ≡ (answer world.now local.now (asked original_module Other shadow expected_macro_subns path.now.kind) path.now.segments).segment_index };
+
+    /// The definitions that the origin alone gives a path that is no import, where nothing is expected of a macro, the first segment
+    /// that is left, and what the path went through.
+    fn resolve_path_locally(
+        &self,
+        local: &LocalDefMap,
+        world: &World,
+        original_module: ModuleId,
+        path: &ModPath,
+        shadow: BuiltinShadowMode,
+    ) -> (PerNs, Option<usize>, ResolvePathResultPrefixInfo)
+        requires { IsKnownQuestion world.now (map self.now) local.now original_module path.now.kind }
+        ensures found { result.0 ≡ (answer_alone world.now local.now (asked original_module Other shadow None path.now.kind) path.now.segments).resolved_def }
+        ensures left { result.1 ≡ (answer_alone world.now local.now (asked original_module Other shadow None path.now.kind) path.now.segments).segment_index }
+        ensures through { result.2 ≡ (answer_alone world.now local.now (asked original_module Other shadow None path.now.kind) path.now.segments).prefix_info };
 }
 
 impl ResolvePath for DefMap {
@@ -87,6 +127,55 @@ impl ResolvePath for DefMap {
         answer_outwards(world, local, &ask, path.segments())
     }
 
+    #[tactic(auto, unfolding(crate::specs::Paths::answer_alone))]
+    fn resolve_path_fp_with_macro_single(
+        &self,
+        local: &LocalDefMap,
+        world: &World,
+        mode: ResolveMode,
+        original_module: ModuleId,
+        path: &ModPath,
+        shadow: BuiltinShadowMode,
+        expected_macro_subns: Option<MacroSubNs>,
+    ) -> ResolvePathResult {
+        let _known = world.has_module_of(self, original_module);
+        let ask = Ask {
+            origin: original_module,
+            mode,
+            shadow,
+            expected: expected_macro_subns,
+            kind: path.kind(),
+        };
+        single(
+            world,
+            local,
+            &ask,
+            Place::In(original_module),
+            path.segments(),
+        )
+    }
+
+    #[tactic(auto, unfolding(crate::specs::Paths::prelude_answer))]
+    fn resolve_path_fp_in_all_preludes(
+        &self,
+        local: &LocalDefMap,
+        world: &World,
+        mode: ResolveMode,
+        original_module: ModuleId,
+        path: &ModPath,
+        shadow: BuiltinShadowMode,
+    ) -> ResolvePathResult {
+        let ask = Ask {
+            origin: original_module,
+            mode,
+            shadow,
+            expected: None,
+            kind: path.kind(),
+        };
+        let preludes = Place::Preludes(self.id(), original_module);
+        single(world, local, &ask, preludes, path.segments())
+    }
+
     fn resolve_path(
         &self,
         local: &LocalDefMap,
@@ -106,5 +195,29 @@ impl ResolvePath for DefMap {
             expected_macro_subns,
         );
         (answer.resolved_def, answer.segment_index)
+    }
+
+    fn resolve_path_locally(
+        &self,
+        local: &LocalDefMap,
+        world: &World,
+        original_module: ModuleId,
+        path: &ModPath,
+        shadow: BuiltinShadowMode,
+    ) -> (PerNs, Option<usize>, ResolvePathResultPrefixInfo) {
+        let answer = self.resolve_path_fp_with_macro_single(
+            local,
+            world,
+            ResolveMode::Other,
+            original_module,
+            path,
+            shadow,
+            None,
+        );
+        (
+            answer.resolved_def,
+            answer.segment_index,
+            answer.prefix_info,
+        )
     }
 }

@@ -1,0 +1,14 @@
+use Rattle.std.proofs.Common.{length, subst, sym}
+use Rattle.dm_maps.specs.Readings.{setting_of}
+use Rattle.hir_def_map.specs.Laws.{IsAnswer}
+use Rattle.hir_def_map.specs.Paths.{asked, places}
+use Rattle.hir_def_map.proofs.AnswerLaws.{merged-names}
+use Rattle.hir_def_map.proofs.path_resolution.DefMapResolvePath.resolve_path_fp_with_macro.Goals as goal
+
+pub returns-clause-lawful : goal.returns-clause-lawful
+returns-clause-lawful c =
+    let w = c.args.world.now in
+    let names = c.segments.result.now in
+    let q = asked c.args.original_module c.args.mode c.args.shadow c.args.expected_macro_subns c.kind.result in
+    subst (λ ns. IsAnswer (length ns) c.answer_outwards.result) c.segments.ensures
+    (subst (IsAnswer (length names)) (sym c.answer_outwards.ensures) (merged-names w c.args.local.now q names (places (setting_of w) c.args.original_module)))
