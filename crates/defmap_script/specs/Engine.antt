@@ -17,9 +17,8 @@ use Rattle.dm_held.specs.Holding.{local_holds, path_holds}
 use Rattle.dm_modules.specs.Maps.{Map, LocalMap, module_at}
 use Rattle.dm_held.specs.Pushes.{push_holds}
 use Rattle.dm_maps.specs.Asked.{with_push}
-use Rattle.dm_maps.specs.Thin.{is_thin}
 use Rattle.dm_maps.specs.World.{World, map_of, numbered_map, own_scope, scope_of, with_scope}
-use Rattle.hir_def_map.specs.Paths.{answer}
+use Rattle.hir_def_map.specs.Paths.{asked, answer, answer_alone}
 use Rattle.defmap_script.specs.declared.engine.Reply.{Reply}
 use Rattle.defmap_script.specs.declared.engine.Reply.TheVariants.{Nothing, Pushed, Answered, Sees, Compared}
 use Rattle.defmap_script.specs.declared.engine.Stage.{Stage}
@@ -27,6 +26,7 @@ use Rattle.defmap_script.specs.declared.engine.Stage.TheVariants.{Building, Chec
 use Rattle.defmap_script.specs.declared.fault.Fault.{Fault}
 use Rattle.defmap_script.specs.declared.fault.Fault.TheVariants as faults
 use Rattle.defmap_script.specs.declared.lines.Pushing.{Pushing}
+use Rattle.defmap_script.specs.declared.lines.Reach.TheVariants.{Outwards, Alone}
 use Rattle.defmap_script.specs.Building.{added_to}
 use Rattle.defmap_script.specs.Lines.{Asked, Asking, Said, said, Adds, Pushes, Checks, Reopens, Asks, Looks, Silence, Sense, Nonsense}
 use Rattle.defmap_script.specs.Seeing.{sight}
@@ -91,16 +91,17 @@ pub record IsKnownQuestion (w : World) (q : Asking) (map : Map) (local : LocalMa
   pub prelude : slice_get w.local_maps map.id.krate.0 ≡ Some local
   pub path : KnowsAll w (path_holds q.path.kind)
 
--- a path's answer
+-- a path's answer, by the places that are asked
 abbrev pub answer_of : World → Asking → LocalMap → Reply
 answer_of w q local =
-    Answered (answer w local (record { origin = q.from; mode = q.mode; shadow = q.shadow; expected = q.expected; kind = q.path.kind }) q.path.segments)
+    let question = asked q.from q.mode q.shadow q.expected q.path.kind in
+    elim q.reach [ Outwards ↦ Answered (answer w local question q.path.segments) | Alone ↦ Answered (answer_alone w local question q.path.segments) ]
 
--- a question that is not known is refused for it, and so far one that is not thin
+-- a question that is not known is refused for it
 abbrev pub IsAnswered : World → Asking → Result Reply Fault → Type 0
 IsAnswered w q r =
     ((r ≡ Err faults.Unknown) × ((map : Map) (local : LocalMap) → ¬ (IsKnownQuestion w q map local)))
-    ⊎ ((map : Map) × (local : LocalMap) × IsKnownQuestion w q map local × (r ≡ (if is_thin w local q.path.kind then Ok (answer_of w q local) else Err faults.BadLine)))
+    ⊎ ((map : Map) × (local : LocalMap) × IsKnownQuestion w q map local × (r ≡ Ok (answer_of w q local)))
 
 abbrev pub held_on : Stage → Globs → Result Reply Fault → Result (Tool × Reply) Fault
 held_on s g (Ok reply) = Ok (record { stage = s; globs = g }, reply)

@@ -20,6 +20,8 @@ use Rattle.defmap_script.specs.declared.lines.BadLine.{BadLine}
 use Rattle.defmap_script.specs.declared.lines.Command.{Command}
 use Rattle.defmap_script.specs.declared.lines.Command.TheVariants as commands
 use Rattle.defmap_script.specs.declared.lines.Question.{Question}
+use Rattle.defmap_script.specs.declared.lines.Reach.{Reach}
+use Rattle.defmap_script.specs.declared.lines.Reach.TheVariants.{Outwards, Alone}
 use Rattle.defmap_script.specs.declared.lines.Words.{Words}
 use Rattle.defmap_script.specs.declared.seeing_lines.Sight.{Sight}
 use Rattle.defmap_script.specs.BuildLines.{Added, added, addition}
@@ -35,6 +37,7 @@ words_left w = words w.text.now
 
 -- a path, and how it is asked for
 pub record Asking : Type 0 where
+  pub reach : Reach
   pub from : ModuleId
   pub mode : ResolveMode
   pub shadow : BuiltinShadowMode
@@ -52,6 +55,7 @@ pub data Asked : Type 0 where
 
 abbrev pub asking : Question → Asking
 asking q = record {
+  reach = q.reach;
   from = q.from;
   mode = q.mode;
   shadow = q.shadow;
@@ -91,19 +95,19 @@ build_line [] = Some Reopens
 build_line _ = None
 
 -- any words may be segments
-abbrev pub path_parts : Option ℕ → Option ResolveMode → Option BuiltinShadowMode → Option (Option MacroSubNs) → Option PathKind → List Name → Option Asked
-path_parts (Some m) (Some o) (Some s) (Some e) (Some k) names =
-    Some (Asks (record { from = record { 0 = m }; mode = o; shadow = s; expected = e; path = record { kind = k; segments = names } }))
-path_parts _ _ _ _ _ names = None
+abbrev pub path_parts : Reach → Option ℕ → Option ResolveMode → Option BuiltinShadowMode → Option (Option MacroSubNs) → Option PathKind → List Name → Option Asked
+path_parts reach (Some m) (Some o) (Some s) (Some e) (Some k) names =
+    Some (Asks (record { reach = reach; from = record { 0 = m }; mode = o; shadow = s; expected = e; path = record { kind = k; segments = names } }))
+path_parts reach _ _ _ _ _ names = None
 
-abbrev pub path_line : List Name → Option Asked
-path_line (m ∷ mode ∷ shadow ∷ expected ∷ kind ∷ segments) = path_parts (number m) (find_name mode modes) (find_name shadow shadow_modes) (find_name expected expectations) (path_kind kind) segments
-path_line _ = None
+abbrev pub path_line : Reach → List Name → Option Asked
+path_line reach (m ∷ mode ∷ shadow ∷ expected ∷ kind ∷ segments) = path_parts reach (number m) (find_name mode modes) (find_name shadow shadow_modes) (find_name expected expectations) (path_kind kind) segments
+path_line reach _ = None
 
 -- what reads the words behind each first word; behind every other, the line adds
 abbrev pub line_forms : List (Name × (List Name → Option Asked))
 line_forms =
-    (codes "push", push_line) ∷ (codes "check", check_line) ∷ (codes "build", build_line) ∷ (codes "path", path_line)
+    (codes "push", push_line) ∷ (codes "check", check_line) ∷ (codes "build", build_line) ∷ (codes "path", path_line Outwards) ∷ (codes "single", path_line Alone)
     ∷ (codes "max", λ ws. option_map (λ s. Looks s) (max_line ws)) ∷ (codes "min", λ ws. option_map (λ s. Looks s) (min_line ws))
     ∷ (codes "sees", λ ws. option_map (λ s. Looks s) (sees_line ws)) ∷ []
 

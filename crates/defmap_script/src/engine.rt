@@ -5,7 +5,7 @@ ghost use Rattle.defmap_script.specs.Lines.{asked, asking, Checks, Reopens, word
 
 use crate::building::add;
 use crate::fault::Fault;
-use crate::lines::{Command, Pushing, Question, Words};
+use crate::lines::{Command, Pushing, Question, Reach, Words};
 use crate::print::{AnswerWords, VisibilityWord};
 use crate::seeing::sight;
 use dm_base::mod_path::ModPath;
@@ -182,20 +182,27 @@ fn answer(world: &World, alloc: Global, question: Question<'_>) -> Result<Reply,
     let Some((map, local)) = known(world, alloc, question) else {
         return Err(Fault::Unknown);
     };
-    let beginning = ModPath::from_segments(question.kind, Vec::new(alloc));
-    if !world.is_thin(local, &beginning) {
-        return Err(Fault::BadLine);
-    }
     let path = ModPath::from_segments(question.kind, names(alloc, question.segments)?);
-    Ok(Reply::Answered(map.resolve_path_fp_with_macro(
-        local,
-        world,
-        question.mode,
-        question.from,
-        &path,
-        question.shadow,
-        question.expected,
-    )))
+    Ok(Reply::Answered(match question.reach {
+        Reach::Outwards => map.resolve_path_fp_with_macro(
+            local,
+            world,
+            question.mode,
+            question.from,
+            &path,
+            question.shadow,
+            question.expected,
+        ),
+        Reach::Alone => map.resolve_path_fp_with_macro_single(
+            local,
+            world,
+            question.mode,
+            question.from,
+            &path,
+            question.shadow,
+            question.expected,
+        ),
+    }))
 }
 
 /// The map that a question is about and the extern prelude of its crate, where all that the question names is the world's.

@@ -39,9 +39,17 @@ pub(crate) struct Pushing<'a> {
     pub(crate) import: Option<ImportOrExternCrate>,
 }
 
+/// Which places a question asks: the origin and those outside, or the origin alone.
+#[derive(Clone, Copy)]
+pub(crate) enum Reach {
+    Outwards,
+    Alone,
+}
+
 /// A path, and how it is asked for.
 #[derive(Clone, Copy)]
 pub(crate) struct Question<'a> {
+    pub(crate) reach: Reach,
     pub(crate) from: ModuleId,
     pub(crate) mode: ResolveMode,
     pub(crate) shadow: BuiltinShadowMode,
@@ -150,7 +158,8 @@ fn command_of<'a>(first: &str, words: Words<'a>) -> Option<Command<'a>>
         "push" => push_line(words),
         "check" => check_line(words),
         "build" => build_line(words),
-        "path" => path_line(words),
+        "path" => path_line(Reach::Outwards, words),
+        "single" => path_line(Reach::Alone, words),
         "max" => Some(Command::See(max_line(words)?)),
         "min" => Some(Command::See(min_line(words)?)),
         "sees" => Some(Command::See(sees_line(words)?)),
@@ -208,11 +217,12 @@ fn build_line(words: Words<'_>) -> Option<Command<'_>>
     Some(Command::Build)
 }
 
-/// `path MODULE MODE SHADOW EXPECT PATH`, behind its first word. Any words may be segments.
-fn path_line(mut words: Words<'_>) -> Option<Command<'_>>
-    ensures { option_map asked result ≡ path_line (words_left words.entry) }
+/// `path MODULE MODE SHADOW EXPECT PATH`, or `single` with the same, behind its first word. Any words may be segments.
+fn path_line(reach: Reach, mut words: Words<'_>) -> Option<Command<'_>>
+    ensures { option_map asked result ≡ path_line reach (words_left words.entry) }
 {
     Some(Command::Path(Question {
+        reach,
         from: ModuleId(number(words.next()?)?),
         mode: resolve_mode(words.next()?)?,
         shadow: shadow_mode(words.next()?)?,
