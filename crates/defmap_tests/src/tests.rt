@@ -2,6 +2,7 @@
 mod forms;
 mod paths;
 mod refusals;
+mod scoping;
 mod seeing;
 mod worlds;
 

@@ -16,5 +16,4 @@ pub mod Known
 pub mod LendingWorld
 pub mod Readings
 pub mod Sound
-pub mod Thin
 pub mod Trees

@@ -18,7 +18,6 @@ pub mod maps_of;
 mod path_look_ups;
 mod path_tables;
 mod push_res;
-mod thin;
 mod tree;
 
 use crate::builder::WorldBuilder;

@@ -63,20 +63,20 @@ path 0 other module bang plain a
 => mod:1/pub/none - - yes - -
 
 path 0 other module attr plain a
+=> mod:1/pub/none - - yes - -
+
+path 0 other module any abs a
+=> - - - no - -
+
+path 0 other module any super:0 a
+=> mod:1/pub/none - - yes - -
+
+path 0 other module any dollar:0 a
 => mod:1/pub/none - - yes - -";
 
 /// Questions that it does not answer.
 const REFUSALS: &str = "path 9 other module any plain a
 => refused 11 Unknown
-
-path 0 other module any abs a
-=> refused 11 BadLine
-
-path 0 other module any super:0 a
-=> refused 11 BadLine
-
-path 0 other module any dollar:0 a
-=> refused 11 BadLine
 
 path 0 other module any dollar:1 a
 => refused 11 Unknown

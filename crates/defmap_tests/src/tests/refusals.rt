@@ -220,17 +220,6 @@ check
 path 0 other module any plain
 => refused 2 Unknown
 
-crate 2021 0
-crate 2021 0
-check
-path 0 other module any plain
-=> refused 4 BadLine
-
-crate 2015 0
-check
-path 0 other module any plain
-=> refused 3 BadLine
-
 module 0 a pub
 => refused 1 NoSuchModule
 

@@ -6,7 +6,7 @@ use std::process::Abort;
 use std::test::Fail;
 
 /// Two crates, two blocks, an enum with a variant, a macro, uses, pushes by import and without.
-const WORLD_A: &str = "crate 2021 0
+pub(crate) const WORLD_A: &str = "crate 2021 0
 module 0 a pub
 module 1 b pub
 module 0 c pub
@@ -48,7 +48,7 @@ check
 ";
 
 /// What the fifteen pushes of that world print.
-const PUSHED: &str = "true
+pub(crate) const PUSHED: &str = "true
 true
 true
 true
@@ -256,79 +256,6 @@ push 0 z builtin:u8/pub/none - - none
 push 0 z - - - glob:0:4294967295
 => true";
 
-/// What makes a world of one crate too great for questions about paths.
-const GREATER: &str = "use 0
-crate 2021 0
-check
-path 0 other module any crate
-=> refused 5 BadLine
-
-use 0
-crate 2021 0
-check
-path 9 other module any crate
-=> refused 5 Unknown
-
-use 0
-block 0 0
-check
-path 0 other module any crate
-=> refused 5 BadLine
-
-use 0
-block 0 0
-check
-path 9 other module any crate
-=> refused 5 Unknown
-
-item enum 0
-variant 0 V unit
-check
-path 0 other module any crate
-=> refused 5 BadLine
-
-item enum 0
-variant 0 V unit
-check
-path 9 other module any crate
-=> refused 5 Unknown
-
-use 0
-macro rules 0 builtin
-check
-path 0 other module any crate
-=> refused 5 BadLine
-
-use 0
-macro rules 0 builtin
-check
-path 9 other module any crate
-=> refused 5 Unknown
-
-use 0
-prelude c0 0
-check
-path 0 other module any crate
-=> refused 5 BadLine
-
-use 0
-prelude c0 0
-check
-path 9 other module any crate
-=> refused 5 Unknown
-
-use 0
-extern 0 d 0 none
-check
-path 0 other module any crate
-=> refused 5 BadLine
-
-use 0
-extern 0 d 0 none
-check
-path 9 other module any crate
-=> refused 5 Unknown";
-
 #[test]
 fn two_crates_with_blocks_and_macros_are_built(rt: HostRuntime) -> Result<(), Fail> {
     let (script, printed) = (WORLD_A.as_bytes(), PUSHED.as_bytes());
@@ -472,19 +399,5 @@ fn tables_that_name_what_is_not_there_fail_the_check(rt: HostRuntime) -> Result<
 fn pushes_into_a_world_name_what_it_has(rt: HostRuntime) -> Result<(), Fail> {
     assert_transcripts(&rt, rt.alloc(), WORLD_C, UNKNOWN)?;
     assert_transcripts(&rt, rt.alloc(), WORLD_C, KNOWN)?;
-    Ok(())
-}
-
-#[test]
-fn paths_of_greater_worlds_are_refused(rt: HostRuntime) -> Result<(), Fail> {
-    assert_transcripts(&rt, rt.alloc(), "crate 2021 0\n", GREATER)?;
-    let small = "crate 2024 0
-use 0
-item trait 0
-check
-path 0 other module any crate
-=> mod:0/pub/none - - yes - -
-";
-    assert_transcript(&rt, rt.alloc(), small)?;
     Ok(())
 }
