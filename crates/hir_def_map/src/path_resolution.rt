@@ -146,13 +146,8 @@ impl ResolvePath for DefMap {
             expected: expected_macro_subns,
             kind: path.kind(),
         };
-        single(
-            world,
-            local,
-            &ask,
-            Place::In(original_module),
-            path.segments(),
-        )
+        let origin = Place::In(original_module);
+        single(world, local, &ask, origin, path.segments())
     }
 
     #[tactic(auto, unfolding(crate::specs::Paths::prelude_answer))]
