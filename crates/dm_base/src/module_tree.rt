@@ -40,7 +40,8 @@ pub trait ModuleTree {
         ensures value { result ≡ outside (tree self.now) m }
         ensures lawful { IsTree (tree self.now) };
 
-    /// The containing module, with what a climb along the chain needs of it.
+    /// The containing module, with what a climb along the chain needs of it: a step of `outer_member`, for no other caller.
+    #[doc(hidden)]
     fn climb(&self, m: ModuleId) -> Option<ModuleId>
         requires { IsKnown (tree self.now) m }
         ensures value { result ≡ containing (tree self.now) m }
@@ -110,10 +111,7 @@ pub trait ModuleTree {
     {
         let mut at = self.home(m);
         'members: for _ in 0..k {
-            match self.climb(at) {
-                None => return None,
-                Some(container) => at = self.home(container),
-            }
+            at = self.home(self.climb(at)?);
         }
         Some(at)
     }

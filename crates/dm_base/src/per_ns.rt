@@ -179,10 +179,13 @@ impl PerNs {
         let value_import = import.and_then(ImportOrExternCrate::import_or_glob);
         match def {
             ModuleDefId::AdtId(AdtId::StructId(_)) | ModuleDefId::EnumVariantId(_) => {
-                let types = PerNs::types(def, vis, import);
-                match value_ns_ctor_vis {
-                    Some(ctor_vis) => types.or(PerNs::values(def, ctor_vis, value_import)),
-                    None => types,
+                PerNs {
+                    values: value_ns_ctor_vis.map(|vis| Item {
+                        def,
+                        vis,
+                        import: value_import,
+                    }),
+                    ..PerNs::types(def, vis, import)
                 }
             }
             ModuleDefId::FunctionId(_) | ModuleDefId::ConstId(_) | ModuleDefId::StaticId(_) => {

@@ -30,7 +30,7 @@ fn steps_go_outwards_through_blocks(rt: HostRuntime) {
     assert!(rt; tree.is_block_root(INNERMOST));
     assert_eq!(rt;
         [
-            tree.climb(INNERMOST),
+            tree.containing(INNERMOST),
             tree.outside_root(INNERMOST),
             Some(tree.home(INNERMOST)),
             tree.outer_member(INNERMOST, 0),
