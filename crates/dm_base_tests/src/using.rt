@@ -1,8 +1,6 @@
 //! The callers that docs/USING.md shows.
 ghost use Rattle.std.specs.Prelude.{◌≡◌, ◌↔◌, ◌&&◌, IsTrue, IfOk, None, map, true};
-ghost use Rattle.dm_base.specs.ItemList.{items_of};
-ghost use Rattle.dm_base.specs.Items.{over};
-ghost use Rattle.dm_base.specs.PerNs.{type_alone};
+ghost use Rattle.dm_base.specs.PerNs.{items_of, over, type_alone};
 ghost use Rattle.dm_base.specs.Tree.{IsKnown, sees};
 ghost use Rattle.dm_base.specs.Visibility.{NamesKnown};
 ghost use Rattle.dm_ids.specs.declared.ModuleId.{ModuleId};
