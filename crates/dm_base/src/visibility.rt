@@ -211,7 +211,8 @@ fn is_ancestor<T: ModuleTree>(tree: &T, a: ModuleId, m: ModuleId) -> bool
     ensures value { result ≡ is_ancestor (T.tree tree.now) a m }
     ensures lawful { IsTree (T.tree tree.now) }
 {
-    tree.containing(m).is_some_and(|outer| tree.contains(a, outer))
+    tree.containing(m)
+        .is_some_and(|outer| tree.contains(a, outer))
 }
 
 /// Whether the module `from` of a map sees what the module `to` sees.

@@ -60,7 +60,14 @@ fn modules_are_lifted_out_of_nested_blocks(rt: HostRuntime) {
 fn the_callers_of_the_page_see_what_it_says(rt: HostRuntime) {
     let tree = SmallTree::new();
     assert!(rt; is_seen_around_its_block());
-    assert!(rt; is_reached(&tree, inside(1), Visibility::PubCrate(Crate(0)), ModuleId(2)));
+    assert!(rt;
+        is_reached(
+            &tree,
+            inside(1),
+            Visibility::PubCrate(Crate(0)),
+            ModuleId(2)
+        )
+    );
     assert!(rt; !is_reached(&tree, inside(1), inside(2), ModuleId(1)));
     assert_eq!(rt; widened_by(&tree, BLOCK_0, inside(6), inside(5)), inside(5));
     assert_eq!(rt; widened_by(&tree, BLOCK_0, inside(1), inside(5)), inside(1));
