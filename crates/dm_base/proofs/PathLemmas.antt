@@ -1,7 +1,8 @@
 -- Equality of paths is equality of what contracts see of them.
-use Rattle.std.proofs.Common.{◌≡◌, ◌∙◌, ◌&&◌, Bool, true, false, refl, sym, ap}
+use Rattle.std.proofs.Common.{◌≡◌, ◌∙◌, true, refl, sym, ap}
 use Rattle.std.specs.Bool.{Decides}
 use Rattle.std.specs.Cmp.Lexicographic.{bytes_decides, pointwise_decides}
+use Rattle.std.proofs.lemmas.Bool.{and_parts}
 use Rattle.std.proofs.lemmas.Bool.Decides.{Decides-eqb}
 use Rattle.dm_base.specs.declared.mod_path.PathKind.{PathKind}
 use Rattle.dm_base.specs.declared.mod_path.PathKind.TheVariants as kind
@@ -19,13 +20,9 @@ same_kind-is (kind.DollarCrate k) b e = cc
 same_kind-is (kind.Super k) (kind.Super l) e = ap kind.Super ((Decides-eqb k l).0 e)
 same_kind-is (kind.Super k) b e = cc
 
-both : (a b : Bool) → (a && b) ≡ true → (a ≡ true) × (b ≡ true)
-both true b e = (refl, e)
-both false b e = (e, cc)
-
 same_path-is : (x y : Path) → same_path x y ≡ true → x ≡ y
 same_path-is x y e =
-    let parts = both (same_kind x.kind y.kind) _ e in
+    let parts = and_parts (same_kind x.kind y.kind) _ e in
     λ i. record { kind = same_kind-is x.kind y.kind parts.0 i; segments = (pointwise_decides bytes_decides x.segments y.segments).0 parts.1 i }
 
 -- `==` holds of the same path alone

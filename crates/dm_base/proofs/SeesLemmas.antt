@@ -8,7 +8,7 @@ use Rattle.dm_ids.specs.declared.MapId.{MapId}
 use Rattle.dm_base.specs.declared.visibility.VisibilityExplicitness.{VisibilityExplicitness}
 use Rattle.dm_base.specs.declared.visibility.Visibility.TheVariants.{Module}
 use Rattle.dm_base.specs.Tree.{Tree, IsTree, IsKnown, same_module, same_crate, same_map, crate_of, containing, outside, chain, is_among, is_ancestor, outward_within, outward, lies_in, is_lifted, lift_to, lift, sees}
-use Rattle.dm_base.specs.Visibility.{both_lie_in, max_of_modules, min_of_modules, IsUnion, IsIntersection}
+use Rattle.dm_base.specs.Visibility.{both_lie_in, max_of_modules, min_of_modules, IsUnion, IsIntersection, AreMostAndLeast}
 use Rattle.dm_base.proofs.IdLemmas.{same_module-true, same_map-true, same_map-refl}
 use Rattle.dm_base.proofs.TreeLemmas.{chain-step, outward-step}
 
@@ -44,11 +44,14 @@ and-absorbed x true then = refl
 and-absorbed true false then = sym (then refl)
 and-absorbed false false then = refl
 
--- the fourth of four tests
+-- the third of three tests, and the fourth of four
+third : {A : Type 0} (p q r : Bool) (u v z e : A) → p ≡ false → q ≡ true → r ≡ true → z ≡ cond p u (cond (not q) v (cond r z e))
+third p q r u v z e not_p is_q is_r = rw (not_p, is_q, is_r) refl
+
 fourth : {A : Type 0} (p q r s : Bool) (u v w z e : A) → p ≡ false → q ≡ true → r ≡ false → s ≡ true → z ≡ cond p u (cond (not q) v (cond r w (cond s z e)))
 fourth p q r s u v w z e not_p is_q not_r is_s = rw (not_p, is_q, not_r, is_s) refl
 
-pub of-some : {A : Type 0} (P : A → Type 0) (v : A) → P v → ForSome (Some v) P
+of-some : {A : Type 0} (P : A → Type 0) (v : A) → P v → ForSome (Some v) P
 of-some P v p w e = subst P (same_Some v w e) p
 
 pub lie-turned : (t : Tree) (map : MapId) (a b : ModuleId) → both_lie_in t map a b ≡ true → both_lie_in t map b a ≡ true
@@ -163,23 +166,45 @@ module _ (t : Tree) (tree : IsTree t) where
 
   -- who sees one of them or the other, and who sees both, where b contains a
   module _ (map : MapId) (a b : ModuleId) (x y : VisibilityExplicitness) (known_a : IsKnown t a) (known_b : IsKnown t b) (lie : both_lie_in t map a b ≡ true) (above : is_ancestor t b a ≡ true) where
-    pub union-with-outer : IsUnion t (Module a x) (Module b y) (Module b y)
+    union-with-outer : IsUnion t (Module a x) (Module b y) (Module b y)
     union-with-outer f known = or-absorbs _ _ (sees-within a b f x y known_a known_b known (one-map map a b lie) above)
 
-    pub union-of-outer : IsUnion t (Module b y) (Module a x) (Module b y)
+    union-of-outer : IsUnion t (Module b y) (Module a x) (Module b y)
     union-of-outer f known = or-absorbed _ _ (sees-within a b f x y known_a known_b known (one-map map a b lie) above)
 
-    pub intersection-with-outer : IsIntersection t (Module a x) (Module b y) (Module a x)
+    intersection-with-outer : IsIntersection t (Module a x) (Module b y) (Module a x)
     intersection-with-outer f known = and-absorbs _ _ (sees-within a b f x y known_a known_b known (one-map map a b lie) above)
 
-    pub intersection-of-outer : IsIntersection t (Module b y) (Module a x) (Module a x)
+    intersection-of-outer : IsIntersection t (Module b y) (Module a x) (Module a x)
     intersection-of-outer f known = and-absorbed _ _ (sees-within a b f x y known_a known_b known (one-map map a b lie) above)
 
     apart : same_module b a ≡ false
     apart = let down = ancestor-smaller b a known_a above in ne_eqb b.0 a.0 (λ e. absurd (omega arith))
 
-    pub max-turned : Some (Module b y) ≡ max_of_modules t map b y a x
+    apart-straight : same_module a b ≡ false
+    apart-straight = let down = ancestor-smaller b a known_a above in ne_eqb a.0 b.0 (λ e. absurd (omega arith))
+
+    max-turned : Some (Module b y) ≡ max_of_modules t map b y a x
     max-turned = fourth (same_module b a) (both_lie_in t map b a) (is_ancestor t a b) (is_ancestor t b a) _ _ _ _ _ apart (lie-turned t map a b lie) (ancestor-turned a b known_a known_b above) above
 
-    pub min-turned : Some (Module a x) ≡ min_of_modules t map b y a x
+    min-turned : Some (Module a x) ≡ min_of_modules t map b y a x
     min-turned = fourth (same_module b a) (both_lie_in t map b a) (is_ancestor t a b) (is_ancestor t b a) _ _ _ _ _ apart (lie-turned t map a b lie) (ancestor-turned a b known_a known_b above) above
+
+    max-straight : Some (Module b y) ≡ max_of_modules t map a x b y
+    max-straight = third (same_module a b) (both_lie_in t map a b) (is_ancestor t b a) _ _ _ _ apart-straight lie above
+
+    min-straight : Some (Module a x) ≡ min_of_modules t map a x b y
+    min-straight = third (same_module a b) (both_lie_in t map a b) (is_ancestor t b a) _ _ _ _ apart-straight lie above
+
+    -- the outer module's is the most, the inner one's the least, in either order
+    pub with-outer : AreMostAndLeast t map (Module a x) (Module b y) (Some (Module b y, Module a x))
+    with-outer = record {
+      most = record { table = max-straight; either_order = max-turned; union = of-some (IsUnion t (Module a x) (Module b y)) _ union-with-outer };
+      least = record { table = min-straight; either_order = min-turned; intersection = of-some (IsIntersection t (Module a x) (Module b y)) _ intersection-with-outer };
+    }
+
+    pub of-outer : AreMostAndLeast t map (Module b y) (Module a x) (Some (Module b y, Module a x))
+    of-outer = record {
+      most = record { table = max-turned; either_order = max-straight; union = of-some (IsUnion t (Module b y) (Module a x)) _ union-of-outer };
+      least = record { table = min-turned; either_order = min-straight; intersection = of-some (IsIntersection t (Module b y) (Module a x)) _ intersection-of-outer };
+    }

@@ -1,5 +1,9 @@
 -- Imports of the namespaces, and how one is seen as another.
 use Rattle.std.specs.Prelude.{◌≡◌, Bool, true, false, Option, None, Some, refl}
+use Rattle.std.specs.Cmp.{IsTotalOrder, then_total, on_total, nat_cmp_total}
+use Rattle.std.specs.Ordering.{then_cmp, on, nat_cmp}
+use Rattle.std.specs.declared.cmp.Ordering.{Ordering}
+use Rattle.std.specs.declared.cmp.Ordering.TheVariants.{Less, Greater}
 use Rattle.dm_base.specs.declared.imports.ImportOrExternCrate.{ImportOrExternCrate}
 use Rattle.dm_base.specs.declared.imports.ImportOrExternCrate.TheVariants as wide
 use Rattle.dm_base.specs.declared.imports.ImportOrGlob.{ImportOrGlob}
@@ -66,6 +70,27 @@ abbrev pub use_of : ImportOrExternCrate → Option UseId
 use_of (wide.Glob i) = Some i.use_
 use_of (wide.Import i) = Some i.use_
 use_of (wide.ExternCrate k) = None
+
+-- imports stand in order of their uses, and in one use in order of their places
+abbrev pub import_cmp : ImportId → ImportId → Ordering
+import_cmp = then_cmp (on (λ i. i.use_.0) nat_cmp) (on (λ i. i.idx.0) nat_cmp)
+
+pub import_cmp_total : IsTotalOrder import_cmp
+import_cmp_total = then_total (on_total (λ i. i.use_.0) nat_cmp_total) (on_total (λ i. i.idx.0) nat_cmp_total)
+
+-- so do globs
+abbrev pub glob_cmp : GlobId → GlobId → Ordering
+glob_cmp = then_cmp (on (λ g. g.use_.0) nat_cmp) (on (λ g. g.idx.0) nat_cmp)
+
+pub glob_cmp_total : IsTotalOrder glob_cmp
+glob_cmp_total = then_total (on_total (λ g. g.use_.0) nat_cmp_total) (on_total (λ g. g.idx.0) nat_cmp_total)
+
+-- place 5 of use 0 stands before place 0 of use 1, and after place 0 of its own
+earlier_use_first : import_cmp (record { use_ = record { 0 = 0 }; idx = record { 0 = 5 } }) (record { use_ = record { 0 = 1 }; idx = record { 0 = 0 } }) ≡ Less
+earlier_use_first = refl
+
+later_place_last : import_cmp (record { use_ = record { 0 = 0 }; idx = record { 0 = 5 } }) (record { use_ = record { 0 = 0 }; idx = record { 0 = 0 } }) ≡ Greater
+later_place_last = refl
 
 -- an import as what another import stands for
 abbrev pub target_of : ImportOrExternCrate → ImportOrDef

@@ -1,5 +1,4 @@
 pub mod Names
-pub mod Items
 pub mod Path
 pub mod Tree
 pub mod Visibility
@@ -12,7 +11,5 @@ pub mod Styles
 pub mod PerNs
 pub mod Overlays
 pub mod ItemHomes
-pub mod ItemList
-pub mod Reresolved
 pub mod Files
 pub mod VisibilityRows

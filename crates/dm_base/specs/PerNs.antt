@@ -1,5 +1,7 @@
--- What a name means in each namespace: how such a set of items is made, read and asked about.
-use Rattle.std.specs.Prelude.{◌≡◌, ℕ, ◌+◌, Bool, ◌&&◌, Option, Some, None, is_some, is_none, option_and_then, option_map, if◌then◌else◌}
+-- What a name means in each namespace: how such a set of items is made, laid over another, read, asked about and listed, and when an item's
+-- import now stands for something else.
+use Rattle.std.specs.Prelude.{◌≡◌, ℕ, ◌+◌, Bool, false, ◌&&◌, not, List, [], ◌∷◌, Option, Some, None, is_some, is_none, option_and_then, option_map, if◌then◌else◌}
+use Rattle.std.specs.Option.{option_or}
 use Rattle.dm_base.specs.declared.per_ns.Item.{Item}
 use Rattle.dm_base.specs.declared.per_ns.PerNs.{PerNs}
 use Rattle.dm_base.specs.declared.visibility.Visibility.{Visibility}
@@ -8,9 +10,32 @@ use Rattle.dm_base.specs.declared.item_ids.AdtId.TheVariants as adts
 use Rattle.dm_base.specs.declared.item_ids.ModuleDefId.{ModuleDefId}
 use Rattle.dm_base.specs.declared.item_ids.ModuleDefId.TheVariants as defs
 use Rattle.dm_base.specs.declared.item_ids.MacroId.{MacroId}
+use Rattle.dm_base.specs.declared.item_in_ns.ItemInNs.{ItemInNs}
+use Rattle.dm_base.specs.declared.item_in_ns.ItemInNs.TheVariants.{Types, Values, Macros}
 use Rattle.dm_base.specs.declared.imports.ImportOrExternCrate.{ImportOrExternCrate}
 use Rattle.dm_base.specs.declared.imports.ImportOrGlob.{ImportOrGlob}
-use Rattle.dm_base.specs.Imports.{narrowed}
+use Rattle.dm_base.specs.Imports.{narrowed, widened}
+
+-- nothing in any namespace
+abbrev pub nothing : PerNs
+nothing = record { types = None; values = None; macros = None }
+
+-- in each namespace the first item that is there
+abbrev pub over : PerNs → PerNs → PerNs
+over a b = record { types = option_or a.types b.types; values = option_or a.values b.values; macros = option_or a.macros b.macros }
+
+abbrev pub overlay : List PerNs → PerNs
+overlay [] = nothing
+overlay (x ∷ xs) = over x (overlay xs)
+
+-- what is there and passes a test
+abbrev pub keep : {A : Type 0} → (A → Bool) → Option A → Option A
+keep p None = None
+keep p (Some x) = if p x then Some x else None
+
+-- each item kept where its visibility passes
+abbrev pub seen_by : (Visibility → Bool) → PerNs → PerNs
+seen_by p x = record { types = keep (λ i. p i.vis) x.types; values = keep (λ i. p i.vis) x.values; macros = keep (λ i. p i.vis) x.macros }
 
 abbrev pub type_alone : ModuleDefId → Visibility → Option ImportOrExternCrate → PerNs
 type_alone d v i = record { types = Some (record { def = d; vis = v; import = i }); values = None; macros = None }
@@ -86,3 +111,35 @@ AsksItem step (Some x) f r g = (b : Bool) × step f x.vis b g × (r ≡ (if b th
 abbrev pub AsksInOrder : {F : Type 0} → (F → Visibility → Bool → F → Type 0) → PerNs → F → PerNs → Type 0
 AsksInOrder {F} step n f r =
     (g : F) × (h : F) × (k : F) × AsksItem step n.types f r.types g × AsksItem step n.values g r.values h × AsksItem step n.macros h r.macros k
+
+-- an item in its namespace, with the import that brought it
+abbrev pub Listed : Type 0
+Listed = ItemInNs × Option ImportOrExternCrate
+
+-- an item before others, if there is one
+abbrev pub type_before : Option (Item ModuleDefId ImportOrExternCrate) → List Listed → List Listed
+type_before None rest = rest
+type_before (Some i) rest = (Types i.def, i.import) ∷ rest
+
+abbrev pub value_before : Option (Item ModuleDefId ImportOrGlob) → List Listed → List Listed
+value_before None rest = rest
+value_before (Some i) rest = (Values i.def, option_map widened i.import) ∷ rest
+
+abbrev pub macro_before : Option (Item MacroId ImportOrExternCrate) → List Listed → List Listed
+macro_before None rest = rest
+macro_before (Some i) rest = (Macros i.def, i.import) ∷ rest
+
+-- the type, the value and the macro, in that order
+abbrev pub items_of : PerNs → List Listed
+items_of n = type_before n.types (value_before n.values (macro_before n.macros []))
+
+module _ {D I : Type 0} (same_import : I → I → Bool) (same_def : D → D → Bool) where
+  -- an import is given, and it is the one that is there
+  abbrev pub is_import_of : Option I → Option I → Bool
+  is_import_of None j = false
+  is_import_of (Some i) None = false
+  is_import_of (Some i) (Some j) = same_import i j
+
+  -- the item's import is given again, with another definition
+  abbrev pub is_reresolved : Item D I → D → Option I → Bool
+  is_reresolved item def import = is_import_of item.import import && not (same_def item.def def)

@@ -69,6 +69,10 @@ chain_within (suc n) t m = m ∷ option_map_or (chain_within n t) (containing t 
 abbrev pub chain : Tree → ModuleId → List ModuleId
 chain t m = chain_within m.0 t m
 
+-- a module, then the list of the next one, if there is a next one
+abbrev pub begun_by : ModuleId → (ModuleId → List ModuleId) → Option ModuleId → List ModuleId
+begun_by m list next = m ∷ option_map_or list next []
+
 abbrev pub is_among : ModuleId → List ModuleId → Bool
 is_among a ms = list_any (same_module a) ms
 

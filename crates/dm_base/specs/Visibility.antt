@@ -1,5 +1,6 @@
 -- Visibilities, alone and over a tree of modules: the most and the least of two, and what that says of who sees.
-use Rattle.std.specs.Prelude.{◌≡◌, ◌&&◌, ◌||◌, not, if◌then◌else◌, Bool, true, false, Option, Some, None}
+use Rattle.std.specs.Prelude.{◌≡◌, ◌&&◌, ◌||◌, not, if◌then◌else◌, Bool, true, false, IsTrue, Option, Some, None, is_none}
+use Rattle.std.specs.Option.{ForSome, option_map}
 use Rattle.dm_ids.specs.declared.ModuleId.{ModuleId}
 use Rattle.dm_ids.specs.declared.MapId.{MapId}
 use Rattle.dm_base.specs.declared.visibility.VisibilityExplicitness.{VisibilityExplicitness}
@@ -89,3 +90,25 @@ are_apart t (Module a x) (PubCrate l) = false
 are_apart t (Module a x) Public = false
 are_apart t (PubCrate k) v = false
 are_apart t Public v = false
+
+-- of two modules of the map there is none exactly where neither is the other or its ancestor
+abbrev pub IsNoneWhereApart : Tree → MapId → Visibility → Visibility → Option Visibility → Type 0
+IsNoneWhereApart t map a b answer = IsTrue (are_of_map t map a b) → is_none answer ≡ are_apart t a b
+
+-- What is said of the most of two visibilities, if there is one: which it is, also of them in the other order, and that it
+-- sees all that either sees.
+pub record IsMost (t : Tree) (map : MapId) (a b : Visibility) (most : Option Visibility) : Type 0 where
+  pub table : most ≡ max_of t map a b
+  pub either_order : most ≡ max_of t map b a
+  pub union : ForSome most (IsUnion t a b)
+
+-- The same of the least, which sees what both see.
+pub record IsLeast (t : Tree) (map : MapId) (a b : Visibility) (least : Option Visibility) : Type 0 where
+  pub table : least ≡ min_of t map a b
+  pub either_order : least ≡ min_of t map b a
+  pub intersection : ForSome least (IsIntersection t a b)
+
+-- Both, in order.
+pub record AreMostAndLeast (t : Tree) (map : MapId) (a b : Visibility) (both : Option (Visibility × Visibility)) : Type 0 where
+  pub most : IsMost t map a b (option_map (λ o. o.0) both)
+  pub least : IsLeast t map a b (option_map (λ o. o.1) both)

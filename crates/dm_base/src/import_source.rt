@@ -86,18 +86,11 @@ impl ImportSource for ImportOrGlob {
     ghost same = { Prim.search rules };
 
     fn narrow(import: ImportOrExternCrate) -> Option<Self> {
-        match import {
-            ImportOrExternCrate::Glob(id) => Some(ImportOrGlob::Glob(id)),
-            ImportOrExternCrate::Import(id) => Some(ImportOrGlob::Import(id)),
-            ImportOrExternCrate::ExternCrate(_) => None,
-        }
+        import.import_or_glob()
     }
 
     fn widen(self) -> ImportOrExternCrate {
-        match self {
-            ImportOrGlob::Glob(id) => ImportOrExternCrate::Glob(id),
-            ImportOrGlob::Import(id) => ImportOrExternCrate::Import(id),
-        }
+        ImportOrExternCrate::from(self)
     }
 
     fn is_glob(self) -> bool {

@@ -1,22 +1,76 @@
 //! What brings a name into a scope.
-ghost use Rattle.std.specs.Prelude.{◌≡◌};
-ghost use Rattle.dm_base.specs.Imports.{narrowed, widened, named_import, glob_of, use_of, target_of};
+ghost use Rattle.std.specs.Prelude.{◌≡◌, refl};
+ghost use Rattle.std.specs.Cmp.Rules.{comparing};
+ghost use Rattle.std.specs.Ordering.{as_partial_cmp};
+ghost use Rattle.std.proofs.Common.{rules};
+ghost use Rattle.dm_base.specs.Imports.{narrowed, widened, named_import, glob_of, use_of, target_of, import_cmp, import_cmp_total, glob_cmp, glob_cmp_total};
 
 use crate::ids::{ExternCrateId, UseId, UseTreeIdx};
 use crate::item_ids::ModuleDefId;
+use std::cmp::Ordering;
 
 /// A named import: a leaf of a `use` tree.
-#[derive(Clone, Copy, PartialEq, Eq, PartialOrd, Ord, Hash, Debug)]
+#[derive(Clone, Copy, PartialEq, Eq, Hash, Debug)]
 pub struct ImportId {
     pub use_: UseId,
     pub idx: UseTreeIdx,
 }
 
+impl PartialOrd for ImportId {
+    ghost partial_cmp = { as_partial_cmp import_cmp };
+
+    ghost laws = { Prim.search (comparing, rules) };
+
+    fn partial_cmp(&self, other: &ImportId) -> Option<Ordering> {
+        Some(self.cmp(other))
+    }
+}
+
+/// By use, then by place in it.
+impl Ord for ImportId {
+    ghost cmp = { import_cmp };
+
+    ghost total = { import_cmp_total };
+
+    ghost matches_partial_cmp = { λ _ _. refl };
+
+    ghost matches_eq = { Prim.search (comparing, rules) };
+
+    fn cmp(&self, other: &ImportId) -> Ordering {
+        self.use_.cmp(&other.use_).then(self.idx.cmp(&other.idx))
+    }
+}
+
 /// A glob import: a `*` of a `use` tree.
-#[derive(Clone, Copy, PartialEq, Eq, PartialOrd, Ord, Hash, Debug)]
+#[derive(Clone, Copy, PartialEq, Eq, Hash, Debug)]
 pub struct GlobId {
     pub use_: UseId,
     pub idx: UseTreeIdx,
+}
+
+impl PartialOrd for GlobId {
+    ghost partial_cmp = { as_partial_cmp glob_cmp };
+
+    ghost laws = { Prim.search (comparing, rules) };
+
+    fn partial_cmp(&self, other: &GlobId) -> Option<Ordering> {
+        Some(self.cmp(other))
+    }
+}
+
+/// By use, then by place in it.
+impl Ord for GlobId {
+    ghost cmp = { glob_cmp };
+
+    ghost total = { glob_cmp_total };
+
+    ghost matches_partial_cmp = { λ _ _. refl };
+
+    ghost matches_eq = { Prim.search (comparing, rules) };
+
+    fn cmp(&self, other: &GlobId) -> Ordering {
+        self.use_.cmp(&other.use_).then(self.idx.cmp(&other.idx))
+    }
 }
 
 /// What brings a type or a macro.

@@ -16,7 +16,7 @@ pub struct IterItems {
 
 impl Model for IterItems {
     ghost use Rattle.std.specs.Prelude.{List};
-    ghost use Rattle.dm_base.specs.ItemList.{Listed, items_of};
+    ghost use Rattle.dm_base.specs.PerNs.{Listed, items_of};
 
     ghost Value = { List Listed };
 
@@ -25,7 +25,7 @@ impl Model for IterItems {
 
 impl IterItems {
     ghost use Rattle.std.specs.Prelude.{◌≡◌};
-    ghost use Rattle.dm_base.specs.ItemList.{items_of};
+    ghost use Rattle.dm_base.specs.PerNs.{items_of};
 
     /// The items of a set, none of them taken yet.
     pub(crate) fn new(items: PerNs) -> IterItems

@@ -20,4 +20,5 @@ pub mod per_ns;
 pub mod source;
 pub mod symbol;
 mod text;
+pub mod value_eq;
 pub mod visibility;

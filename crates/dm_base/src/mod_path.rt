@@ -25,7 +25,7 @@ impl PathKind {
 /// A path, which contracts see as its kind and the list of its segments.
 #[derive(Drop, Debug)]
 pub struct ModPath {
-    kind: PathKind,
+    pub kind: PathKind,
     segments: Vec<Name>,
 }
 

@@ -1,8 +1,8 @@
 //! Trees of modules, whoever keeps them.
-ghost use Rattle.std.specs.Prelude.{◌≡◌, ◌↔◌, ◌<◌, ◌-◌, IsTrue, Bool, true, false, is_some, ◌∷◌, [], slice_get};
+ghost use Rattle.std.specs.Prelude.{◌≡◌, ◌↔◌, ◌<◌, ◌-◌, IsTrue, Bool, true, false, is_some, slice_get};
 ghost use Rattle.std.specs.Option.{option_map_or, ForSome, ForNone};
 ghost use Rattle.dm_ids.specs.declared.ModuleId.{ModuleId};
-ghost use Rattle.dm_base.specs.Tree.{Tree, IsKnown, IsTree, crate_of, block_of, containing, outside, chain, is_among, in_block_map, is_block_root, outside_root, home, homeward, outer};
+ghost use Rattle.dm_base.specs.Tree.{Tree, IsKnown, IsTree, crate_of, block_of, containing, outside, chain, is_among, in_block_map, is_block_root, outside_root, home, homeward, outer, begun_by};
 
 use crate::ids::{BlockId, Crate, ModuleId};
 
@@ -40,13 +40,14 @@ pub trait ModuleTree {
         ensures value { result ≡ outside (tree self.now) m }
         ensures lawful { IsTree (tree self.now) };
 
-    /// The containing module, with what a climb along the chain needs of it.
+    /// The containing module, with what a climb along the chain needs of it: a step of `outer_member`, for no other caller.
+    #[doc(hidden)]
     fn climb(&self, m: ModuleId) -> Option<ModuleId>
         requires { IsKnown (tree self.now) m }
         ensures value { result ≡ containing (tree self.now) m }
 
         // The chain of a module is the module, then the chain of its containing module.
-        ensures chain { chain (tree self.now) m ≡ m ∷ option_map_or (chain (tree self.now)) result [] }
+        ensures chain { chain (tree self.now) m ≡ begun_by m (chain (tree self.now)) result }
         ensures known { ForSome result (IsKnown (tree self.now)) }
         ensures smaller { ForSome result (λ c. c.0 < m.0) }
 
@@ -76,7 +77,7 @@ pub trait ModuleTree {
 
         // The way home is the module, then the way home from the one outside; what is home to that is home to the
         // module, and the chains of both are the same but for roots of blocks.
-        ensures way { homeward (tree self.now) m ≡ m ∷ option_map_or (homeward (tree self.now)) result [] }
+        ensures way { homeward (tree self.now) m ≡ begun_by m (homeward (tree self.now)) result }
         ensures home { home (tree self.now) m ≡ option_map_or (home (tree self.now)) result m }
         ensures outer { ForSome result (λ o. outer (tree self.now) m ≡ outer (tree self.now) o) }
     {
@@ -110,10 +111,7 @@ pub trait ModuleTree {
     {
         let mut at = self.home(m);
         'members: for _ in 0..k {
-            match self.climb(at) {
-                None => return None,
-                Some(container) => at = self.home(container),
-            }
+            at = self.home(self.climb(at)?);
         }
         Some(at)
     }

@@ -1,7 +1,7 @@
 //! Values that are laid over one another.
 ghost use Rattle.std.specs.Prelude.{◌≡◌, refl, None};
 ghost use Rattle.std.specs.Option.{option_or};
-ghost use Rattle.dm_base.specs.Items.{nothing, over};
+ghost use Rattle.dm_base.specs.PerNs.{nothing, over};
 ghost use Rattle.dm_base.specs.Overlays.{option_or_associative, option_or_none, option_or_same, greatest, greatest_associative, greatest_none, greatest_same, over_associative, over_nothing, over_same};
 
 use crate::per_ns::{Item, PerNs};

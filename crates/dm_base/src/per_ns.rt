@@ -1,9 +1,6 @@
 //! What a name means: one item in each namespace at most.
 ghost use Rattle.std.specs.Prelude.{◌≡◌, ⊤, [], ◌∷◌, codes, true, false};
-ghost use Rattle.dm_base.specs.Items.{nothing, over};
-ghost use Rattle.dm_base.specs.ItemList.{items_of};
-ghost use Rattle.dm_base.specs.Reresolved.{is_reresolved};
-ghost use Rattle.dm_base.specs.PerNs.{type_alone, value_alone, macro_alone, type_and_value, of_def, is_empty, is_full, definition, seen_as, availability, AsksItem, AsksInOrder};
+ghost use Rattle.dm_base.specs.PerNs.{nothing, over, items_of, is_reresolved, type_alone, value_alone, macro_alone, type_and_value, of_def, is_empty, is_full, definition, seen_as, availability, AsksItem, AsksInOrder};
 
 use crate::imports::{ImportId, ImportOrExternCrate, ImportOrGlob};
 use crate::item_ids::{AdtId, MacroId, ModuleDefId};
@@ -179,10 +176,13 @@ impl PerNs {
         let value_import = import.and_then(ImportOrExternCrate::import_or_glob);
         match def {
             ModuleDefId::AdtId(AdtId::StructId(_)) | ModuleDefId::EnumVariantId(_) => {
-                let types = PerNs::types(def, vis, import);
-                match value_ns_ctor_vis {
-                    Some(ctor_vis) => types.or(PerNs::values(def, ctor_vis, value_import)),
-                    None => types,
+                PerNs {
+                    values: value_ns_ctor_vis.map(|vis| Item {
+                        def,
+                        vis,
+                        import: value_import,
+                    }),
+                    ..PerNs::types(def, vis, import)
                 }
             }
             ModuleDefId::FunctionId(_) | ModuleDefId::ConstId(_) | ModuleDefId::StaticId(_) => {

@@ -1,10 +1,9 @@
 //! Who sees an item.
-ghost use Rattle.std.specs.Prelude.{◌≡◌, IsTrue, is_none, true};
-ghost use Rattle.std.specs.Option.{ForSome, option_map};
+ghost use Rattle.std.specs.Prelude.{◌≡◌};
 ghost use Rattle.dm_base.specs.declared.visibility.Visibility.TheVariants.{Module};
 ghost use Rattle.dm_base.specs.declared.visibility.VisibilityExplicitness.TheVariants as explicitness;
 ghost use Rattle.dm_base.specs.Tree.{Tree, IsKnown, IsTree, lies_in, is_ancestor, is_lifted, lift_to, sees};
-ghost use Rattle.dm_base.specs.Visibility.{NamesKnown, is_public, either_explicit, both_lie_in, max_of_modules, max_of, min_of_modules, min_of, IsUnion, IsIntersection, are_of_map, are_apart};
+ghost use Rattle.dm_base.specs.Visibility.{NamesKnown, is_public, either_explicit, both_lie_in, IsMost, IsLeast, AreMostAndLeast, IsNoneWhereApart};
 
 use crate::ids::{Crate, MapId, ModuleId};
 use crate::mod_path::ModPath;
@@ -91,10 +90,8 @@ impl Visibility {
     pub fn max<T: ModuleTree>(self, tree: &T, other: Visibility, map: MapId) -> Option<Visibility>
         requires one { NamesKnown (T.tree tree.now) self }
         requires two { NamesKnown (T.tree tree.now) other }
-        ensures table { result ≡ max_of (T.tree tree.now) map self other }
-        ensures either_order { result ≡ max_of (T.tree tree.now) map other self }
-        ensures union { ForSome result (IsUnion (T.tree tree.now) self other) }
-        ensures none { IsTrue (are_of_map (T.tree tree.now) map self other) → is_none result ≡ are_apart (T.tree tree.now) self other }
+        ensures most { IsMost (T.tree tree.now) map self other result }
+        ensures none { IsNoneWhereApart (T.tree tree.now) map self other result }
     {
         let (most, _) = most_and_least(tree, map, self, other)?;
         Some(most)
@@ -106,10 +103,8 @@ impl Visibility {
     pub fn min<T: ModuleTree>(self, tree: &T, other: Visibility, map: MapId) -> Option<Visibility>
         requires one { NamesKnown (T.tree tree.now) self }
         requires two { NamesKnown (T.tree tree.now) other }
-        ensures table { result ≡ min_of (T.tree tree.now) map self other }
-        ensures either_order { result ≡ min_of (T.tree tree.now) map other self }
-        ensures intersection { ForSome result (IsIntersection (T.tree tree.now) self other) }
-        ensures none { IsTrue (are_of_map (T.tree tree.now) map self other) → is_none result ≡ are_apart (T.tree tree.now) self other }
+        ensures least { IsLeast (T.tree tree.now) map self other result }
+        ensures none { IsNoneWhereApart (T.tree tree.now) map self other result }
     {
         let (_, least) = most_and_least(tree, map, self, other)?;
         Some(least)
@@ -125,12 +120,7 @@ fn most_and_least<T: ModuleTree>(
 ) -> Option<(Visibility, Visibility)>
     requires one { NamesKnown (T.tree tree.now) one }
     requires two { NamesKnown (T.tree tree.now) two }
-    ensures most { option_map (λ o. o.0) result ≡ max_of (T.tree tree.now) map one two }
-    ensures most_turned { option_map (λ o. o.0) result ≡ max_of (T.tree tree.now) map two one }
-    ensures least { option_map (λ o. o.1) result ≡ min_of (T.tree tree.now) map one two }
-    ensures least_turned { option_map (λ o. o.1) result ≡ min_of (T.tree tree.now) map two one }
-    ensures union { ForSome (option_map (λ o. o.0) result) (IsUnion (T.tree tree.now) one two) }
-    ensures intersection { ForSome (option_map (λ o. o.1) result) (IsIntersection (T.tree tree.now) one two) }
+    ensures { AreMostAndLeast (T.tree tree.now) map one two result }
 {
     match (one, two) {
         (Visibility::Public, least) | (least, Visibility::Public) => {
@@ -168,12 +158,7 @@ fn most_and_least_of_modules<T: ModuleTree>(
 ) -> Option<(Visibility, Visibility)>
     requires one { IsKnown (T.tree tree.now) one.0 }
     requires two { IsKnown (T.tree tree.now) two.0 }
-    ensures most { option_map (λ o. o.0) result ≡ max_of_modules (T.tree tree.now) map one.0 one.1 two.0 two.1 }
-    ensures most_turned { option_map (λ o. o.0) result ≡ max_of_modules (T.tree tree.now) map two.0 two.1 one.0 one.1 }
-    ensures least { option_map (λ o. o.1) result ≡ min_of_modules (T.tree tree.now) map one.0 one.1 two.0 two.1 }
-    ensures least_turned { option_map (λ o. o.1) result ≡ min_of_modules (T.tree tree.now) map two.0 two.1 one.0 one.1 }
-    ensures union { ForSome (option_map (λ o. o.0) result) (IsUnion (T.tree tree.now) (Module one.0 one.1) (Module two.0 two.1)) }
-    ensures intersection { ForSome (option_map (λ o. o.1) result) (IsIntersection (T.tree tree.now) (Module one.0 one.1) (Module two.0 two.1)) }
+    ensures { AreMostAndLeast (T.tree tree.now) map (Module one.0 one.1) (Module two.0 two.1) result }
 {
     let (a, x) = one;
     let (b, y) = two;
@@ -226,10 +211,8 @@ fn is_ancestor<T: ModuleTree>(tree: &T, a: ModuleId, m: ModuleId) -> bool
     ensures value { result ≡ is_ancestor (T.tree tree.now) a m }
     ensures lawful { IsTree (T.tree tree.now) }
 {
-    match tree.containing(m) {
-        None => false,
-        Some(outer) => tree.contains(a, outer),
-    }
+    tree.containing(m)
+        .is_some_and(|outer| tree.contains(a, outer))
 }
 
 /// Whether the module `from` of a map sees what the module `to` sees.

@@ -1,12 +1,9 @@
 -- The small tree is a tree: its laws are tested at each of its modules.
-use Rattle.std.proofs.Common.{◌≡◌, ◌<◌, ℕ, Bool, true, false, ◌&&◌, Option, None, Some, is_some, nat_lt, refl, sym, ap, ◌∙◌, eqb-true, true≢false}
+use Rattle.std.proofs.Common.{◌≡◌, ◌<◌, Bool, true, false, ◌&&◌, Option, Some, is_some, nat_lt, refl, sym, ap, ◌∙◌}
 use Rattle.std.proofs.lemmas.Bool.{and_parts, ltb-true, agree_below_at}
 use Rattle.std.specs.Option.{option_map_or}
 use Rattle.dm_ids.specs.declared.ModuleId.{ModuleId}
-use Rattle.dm_ids.specs.declared.BlockId.{BlockId}
-use Rattle.dm_ids.specs.declared.Crate.{Crate}
-use Rattle.dm_ids.specs.declared.MapId.{MapId}
-use Rattle.dm_base.specs.Tree.{Tree, IsTree, IsKnown, same_crate, same_block, same_map, crate_of, containing, outside, in_block_map}
+use Rattle.dm_base.specs.Tree.{Tree, IsTree, IsKnown, same_crate, same_map, crate_of, containing, outside, in_block_map}
 use Rattle.dm_base.proofs.IdLemmas.{same_crate-true, same_map-true}
 use Rattle.dm_base_tests.specs.SmallTree.{tree_by, small_places, small_blocks}
 

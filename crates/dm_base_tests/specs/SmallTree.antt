@@ -1,5 +1,5 @@
 -- A tree of modules in two tables, and a small one.
-use Rattle.std.specs.Prelude.{ℕ, List, [], ◌∷◌, Option, Some, None, nat_lt, length, slice_get}
+use Rattle.std.specs.Prelude.{ℕ, List, [], ◌∷◌, Some, None, nat_lt, length, slice_get}
 use Rattle.std.specs.Option.{option_map_or, option_and_then}
 use Rattle.dm_ids.specs.declared.ModuleId.{ModuleId}
 use Rattle.dm_ids.specs.declared.MapId.{MapId}

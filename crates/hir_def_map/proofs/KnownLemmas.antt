@@ -12,8 +12,7 @@ use Rattle.dm_base.specs.declared.per_ns.PerNs.{PerNs}
 use Rattle.dm_base.specs.declared.visibility.Visibility.{Visibility}
 use Rattle.dm_base.specs.declared.visibility.Visibility.TheVariants.{Module, PubCrate, Public}
 use Rattle.dm_ids.specs.declared.ExternCrateId.{ExternCrateId}
-use Rattle.dm_base.specs.Items.{keep, seen_by, over}
-use Rattle.dm_base.specs.PerNs.{type_alone}
+use Rattle.dm_base.specs.PerNs.{keep, seen_by, over, type_alone}
 use Rattle.dm_base.specs.Names.{Name, find_name, same_name}
 use Rattle.dm_base.specs.Tree.{IsKnown}
 use Rattle.dm_base.specs.Visibility.{NamesKnown}

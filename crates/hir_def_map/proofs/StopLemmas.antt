@@ -9,7 +9,7 @@ use Rattle.dm_base.specs.declared.item_ids.ModuleDefId.TheVariants as def
 use Rattle.dm_base.specs.declared.item_ids.AdtId.TheVariants as adt
 use Rattle.dm_base.specs.declared.per_ns.Item.{Item}
 use Rattle.dm_base.specs.declared.per_ns.PerNs.{PerNs}
-use Rattle.dm_base.specs.Items.{nothing}
+use Rattle.dm_base.specs.PerNs.{nothing}
 use Rattle.dm_base.specs.Tree.{Tree, crate_of, in_block_map, home}
 use Rattle.dm_maps.specs.Readings.{Reading}
 use Rattle.hir_def_map.specs.declared.result.ResolvePathResult.{ResolvePathResult}

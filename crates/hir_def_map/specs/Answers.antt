@@ -8,7 +8,7 @@ use Rattle.dm_base.specs.declared.item_ids.ModuleDefId.TheVariants as def
 use Rattle.dm_base.specs.declared.imports.ImportOrExternCrate.{ImportOrExternCrate}
 use Rattle.dm_base.specs.declared.per_ns.Item.{Item}
 use Rattle.dm_base.specs.declared.per_ns.PerNs.{PerNs}
-use Rattle.dm_base.specs.Items.{nothing, over}
+use Rattle.dm_base.specs.PerNs.{nothing, over}
 use Rattle.dm_base.specs.Overlays.{greatest}
 use Rattle.dm_base.specs.Kinds.{has_constructor}
 use Rattle.hir_def_map.specs.declared.result.ReachedFixedPoint.{ReachedFixedPoint}

@@ -22,9 +22,8 @@ use Rattle.dm_base.specs.declared.per_ns.Item.{Item}
 use Rattle.dm_base.specs.declared.per_ns.PerNs.{PerNs}
 use Rattle.dm_base.specs.declared.visibility.Visibility.TheVariants.{Public}
 use Rattle.dm_base.specs.Names.{Name}
-use Rattle.dm_base.specs.Items.{nothing, overlay, keep, seen_by}
+use Rattle.dm_base.specs.PerNs.{nothing, overlay, keep, seen_by, type_alone, macro_alone}
 use Rattle.dm_base.specs.PerNs as per_ns
-use Rattle.dm_base.specs.PerNs.{type_alone, macro_alone}
 use Rattle.dm_base.specs.Styles.{has_styles, fn_like, attr, derive}
 use Rattle.dm_base.specs.Tree.{Tree, IsKnown, same_crate, same_map, crate_of, in_block_map, is_block_root, chain, sees, outer, home, up_to, block_of}
 use Rattle.dm_modules.specs.declared.modes.BuiltinShadowMode.{BuiltinShadowMode}

@@ -1,7 +1,7 @@
 //! What a first segment selects.
 ghost use Rattle.std.specs.Prelude.{◌≡◌, ◌&&◌};
 ghost use Rattle.std.specs.List.{AllByRecursion};
-ghost use Rattle.dm_base.specs.Items.{overlay};
+ghost use Rattle.dm_base.specs.PerNs.{overlay};
 ghost use Rattle.dm_base.specs.Tree.{IsKnown};
 ghost use Rattle.dm_maps.specs.Known.{KnowsAll};
 ghost use Rattle.dm_held.specs.Holding.{res_holds, local_holds};

@@ -1,7 +1,7 @@
 //! What a first segment selects, layer by layer.
 ghost use Rattle.std.specs.Prelude.{◌≡◌, IsTrue, None};
 ghost use Rattle.std.specs.Option.{ForSome};
-ghost use Rattle.dm_base.specs.Items.{keep};
+ghost use Rattle.dm_base.specs.PerNs.{keep};
 ghost use Rattle.dm_base.specs.Tree.{IsKnown};
 ghost use Rattle.dm_maps.specs.Trees.{tree_of};
 ghost use Rattle.dm_held.specs.declared.held.HeldId.TheVariants as held;

@@ -1,7 +1,7 @@
 //! The segments of a path after the first, one after another.
 ghost use Rattle.std.specs.Prelude.{◌≡◌, ◌+◌, ◌≤◌, Bool, Some, IfSome, map, length};
 ghost use Rattle.std.specs.Option.{ForSome};
-ghost use Rattle.dm_base.specs.Items.{keep, seen_by};
+ghost use Rattle.dm_base.specs.PerNs.{keep, seen_by};
 ghost use Rattle.dm_base.specs.Tree.{IsKnown, sees};
 ghost use Rattle.dm_base.specs.Visibility.{NamesKnown};
 ghost use Rattle.dm_scope.specs.Scope.{bound_in};

@@ -2,7 +2,7 @@
 ghost use Rattle.std.specs.Prelude.{◌≡◌, Some, None};
 ghost use Rattle.dm_base.specs.ItemHomes.{Homes};
 
-use crate::using::layered;
+use crate::using::{are_one, layered};
 use dm_base::definition::Definition;
 use dm_base::ids::{
     Crate, EnumId, EnumVariantId, ExternCrateId, FunctionId, Macro2Id, ModuleId, UseId, UseTreeIdx,
@@ -101,4 +101,14 @@ fn items_lie_where_they_were_declared(rt: HostRuntime) {
     let mac = MacroId::Macro2Id(Macro2Id(12));
     assert_eq!(rt; ItemInNs::Macros(mac).module(&place), None);
     assert_eq!(rt; ItemInNs::Values(FUNCTION).krate(&place), Some(Crate(9)));
+}
+
+#[test]
+fn equal_values_are_one(rt: HostRuntime) {
+    let types = PerNs::types(MODULE, Visibility::Public, None);
+    let seen_less = types.with_visibility(Visibility::PubCrate(Crate(9)));
+    assert!(rt; are_one(&types, &types));
+    assert!(rt; !are_one(&types, &seen_less));
+    assert!(rt; !are_one(&Visibility::Public, &Visibility::PubCrate(Crate(9))));
+    assert!(rt; !are_one(&ItemInNs::Types(MODULE), &ItemInNs::Values(MODULE)));
 }

@@ -4,6 +4,7 @@ ghost use Rattle.dm_base.specs.declared.visibility.Visibility.TheVariants.{Modul
 ghost use Rattle.dm_base.specs.declared.visibility.VisibilityExplicitness.TheVariants.{Implicit};
 
 use crate::tree::SmallTree;
+use crate::using::{is_reached, is_seen_around_its_block, widened_by};
 use dm_base::ids::{BlockId, Crate, MapId, ModuleId};
 use dm_base::module_tree::ModuleTree;
 use dm_base::visibility::{Visibility, VisibilityExplicitness};
@@ -30,7 +31,7 @@ fn steps_go_outwards_through_blocks(rt: HostRuntime) {
     assert!(rt; tree.is_block_root(INNERMOST));
     assert_eq!(rt;
         [
-            tree.climb(INNERMOST),
+            tree.containing(INNERMOST),
             tree.outside_root(INNERMOST),
             Some(tree.home(INNERMOST)),
             tree.outer_member(INNERMOST, 0),
@@ -53,4 +54,21 @@ fn modules_are_lifted_out_of_nested_blocks(rt: HostRuntime) {
     assert!(rt; inside(1).is_visible_from_def_map(&tree, BLOCK_0, ModuleId(6)));
     assert_eq!(rt; inside(6).max(&tree, inside(5), BLOCK_0), Some(inside(5)));
     assert_eq!(rt; inside(6).min(&tree, inside(5), BLOCK_0), Some(inside(6)));
+}
+
+#[test]
+fn the_callers_of_the_page_see_what_it_says(rt: HostRuntime) {
+    let tree = SmallTree::new();
+    assert!(rt; is_seen_around_its_block());
+    assert!(rt;
+        is_reached(
+            &tree,
+            inside(1),
+            Visibility::PubCrate(Crate(0)),
+            ModuleId(2)
+        )
+    );
+    assert!(rt; !is_reached(&tree, inside(1), inside(2), ModuleId(1)));
+    assert_eq!(rt; widened_by(&tree, BLOCK_0, inside(6), inside(5)), inside(5));
+    assert_eq!(rt; widened_by(&tree, BLOCK_0, inside(1), inside(5)), inside(1));
 }

@@ -1,6 +1,6 @@
 use Rattle.std.proofs.Common.{◌≡◌, ◌∙◌, ap, sym, cond, Option, None, is_some}
 use Rattle.dm_ids.specs.declared.BlockId.{BlockId}
-use Rattle.dm_base.specs.Items.{nothing}
+use Rattle.dm_base.specs.PerNs.{nothing}
 use Rattle.dm_base.specs.Tree.{block_of}
 use Rattle.dm_maps.specs.Readings.{read, setting_of}
 use Rattle.dm_maps.specs.Trees.{tree_of}

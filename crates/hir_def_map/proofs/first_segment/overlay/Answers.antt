@@ -1,7 +1,7 @@
 use Rattle.std.proofs.Common.{◌∙◌, ap, sym, subst, List}
 use Rattle.std.specs.List.{AllByRecursion}
 use Rattle.dm_base.specs.declared.per_ns.PerNs.{PerNs}
-use Rattle.dm_base.specs.Items.{over, overlay}
+use Rattle.dm_base.specs.PerNs.{over, overlay}
 use Rattle.dm_base.specs.Overlays.{over_associative}
 use Rattle.dm_held.specs.Holding.{res_holds}
 use Rattle.dm_maps.specs.Known.{KnowsAll}

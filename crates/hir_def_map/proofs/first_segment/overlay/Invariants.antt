@@ -1,6 +1,6 @@
 use Rattle.std.proofs.Common.{◌≡◌, length}
 use Rattle.std.specs.List.{AllByRecursion}
-use Rattle.dm_base.specs.Items.{over, overlay}
+use Rattle.dm_base.specs.PerNs.{over, overlay}
 use Rattle.dm_held.specs.Holding.{res_holds}
 use Rattle.dm_maps.specs.Known.{KnowsAll}
 use Rattle.dm_maps.specs.World.{World}

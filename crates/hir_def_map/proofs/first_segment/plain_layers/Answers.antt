@@ -1,5 +1,5 @@
 use Rattle.std.proofs.Common.{◌∙◌, ap, sym, [], ◌∷◌}
-use Rattle.dm_base.specs.Items.{overlay}
+use Rattle.dm_base.specs.PerNs.{overlay}
 use Rattle.dm_maps.specs.Readings.{setting_of, read}
 use Rattle.hir_def_map.specs.Paths.{plain_layers}
 use Rattle.hir_def_map.proofs.first_segment.plain_layers.Goals as goal

@@ -1,5 +1,5 @@
 use Rattle.std.proofs.Common.{◌∙◌, ap, not, [], ◌∷◌}
-use Rattle.dm_base.specs.Items.{overlay}
+use Rattle.dm_base.specs.PerNs.{overlay}
 use Rattle.dm_maps.specs.Readings.{setting_of, read}
 use Rattle.hir_def_map.specs.Paths.{are_builtins_first, builtins_or_scope, macro_use_prelude, prelude, unless_block_root}
 use Rattle.hir_def_map.proofs.first_segment.plain_layers_at.Goals as goal
