@@ -11,5 +11,6 @@ pub mod iterators;
 mod keys;
 pub mod macro_calls;
 pub mod picked;
+pub mod reads;
 mod steps;
 mod table_lists;
