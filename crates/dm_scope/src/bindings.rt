@@ -258,10 +258,7 @@ impl<D: Definition, I: ImportSource> Bindings<D, I> {
         let Some(old) = self.get(name) else {
             return true;
         };
-        match import {
-            None => flag,
-            Some(i) => !i.is_glob() && (flag || (old.import == Some(i) && old.def != item.def)),
-        }
+        !is_glob(import) && (flag || old.is_reresolved_by(&item.def, import))
     }
 
     /// Puts the new keys of a push that writes last, with their values. Where memory is short, nothing changes.
