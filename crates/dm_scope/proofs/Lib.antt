@@ -8,6 +8,7 @@ pub mod ClosedLemmas
 pub mod FlagLemmas
 pub mod HasFlagLemmas
 pub mod LookupLemmas
+pub mod NameLemmas
 pub mod Outcomes
 pub mod PushLemmas
 pub mod ReadingLemmas

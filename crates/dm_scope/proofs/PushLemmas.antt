@@ -1,9 +1,10 @@
 -- What one more push does to what a whole list of pushes names.
 use Rattle.std.proofs.Common.{◌≡◌, ℕ, Bool, true, false, cond, not, ◌&&◌, ◌||◌, List, [], ◌∷◌, ◌++◌, filter, append-nil, slice_get, Option, None, Some, IfSome, refl, sym, ap, subst, ◌∙◌, true≢false}
-use Rattle.std.proofs.lemmas.Bool.{and_parts}
+use Rattle.std.proofs.lemmas.Bool.{and_parts, not-true}
 use Rattle.std.specs.List.{list_all}
 use Rattle.std.proofs.lemmas.List.Elements.{filter-append}
 use Rattle.std.proofs.lemmas.List.Folds.{list_all-append}
+use Rattle.std.proofs.Math.Bool.{and-true}
 use Rattle.dm_scope.specs.Bindings.{Reading, is_glob, is_same, writes}
 use Rattle.dm_scope.specs.Scope.{last_of}
 use Rattle.dm_scope.specs.Pushes.{Push, is_explicit, is_by, has_same_def, last_run, named_explicit, named_of, named, item_of, is_glob_push}
@@ -13,14 +14,6 @@ pub record IsReading {D I : Type 0} (r : Reading D I) : Type 0 where
   pub import_refl : (i : I) → r.same_import i i ≡ true
   pub import_same : (i j : I) → r.same_import i j ≡ true → i ≡ j
   pub def_same : (d e : D) → r.same_def d e ≡ true → d ≡ e
-
-not_not : (b : Bool) → not b ≡ true → b ≡ false
-not_not true h = absurd (true≢false (sym h))
-not_not false h = refl
-
-and-true : (a : Bool) → (a && true) ≡ a
-and-true true = refl
-and-true false = refl
 
 abbrev or_this : {X : Type 0} → Option X → X → Option X
 or_this None x = Some x
@@ -187,7 +180,7 @@ module _ {D I : Type 0} (r : Reading D I) (law : IsReading r) where
       ∙ ap (λ o. after o x) (sym found)
     where
       plain : r.globs i ≡ false
-      plain = not_not _ (sym (ap (λ o. not (is_glob r o)) is) ∙ h)
+      plain = not-true _ (sym (ap (λ o. not (is_glob r o)) is) ∙ h)
 
       run : (q : ℕ × Push D I) × (last_run r (e ∷ filter (λ p. is_by r i p.1) es) ≡ Some q)
       run = last_run-some e (filter (λ p. is_by r i p.1) es)

@@ -1,6 +1,7 @@
 -- What a namespace shows of a list of pushes, and of one push more.
 use Rattle.std.proofs.Common.{◌≡◌, ℕ, ◌+◌, ◌≤◌, Bool, true, false, cond, not, ◌&&◌, List, [], ◌∷◌, ◌++◌, length, filter, append-nil, append_assoc, slice_get, Option, None, Some, IfSome, refl, sym, ap, subst, ◌∙◌, true≢false, nat_eq, ne_eqb, eq-eqb, arith}
-use Rattle.std.proofs.lemmas.Bool.{and_parts}
+use Rattle.std.proofs.lemmas.Bool.{and_parts, not-true}
+use Rattle.std.proofs.Math.Bool.{and-true}
 use Rattle.std.specs.List.{list_all, enumerate_from}
 use Rattle.std.specs.Option.{option_map}
 use Rattle.std.specs.Str.{bytes_eq}
@@ -71,11 +72,7 @@ module _ {D I : Type 0} (r : Reading D I) (law : IsReading r) where
     where
       other : (o : Option (ℕ × Push D I)) → IfSome o (λ q. not (nat_eq q.0 (length ps)) ≡ true) → is_at r (length ps) o ≡ false
       other None h = refl
-      other (Some q) h = turned (nat_eq q.0 (length ps)) h
-        where
-          turned : (b : Bool) → not b ≡ true → b ≡ false
-          turned true h = sym h
-          turned false h = refl
+      other (Some q) h = not-true (nat_eq q.0 (length ps)) h
 
       by : (b : Bool) → is_at r (length ps) (cond b (Some (length ps, p)) (named_push r ps p.name)) ≡ b
       by true = eq-eqb (length ps) (length ps) refl
@@ -146,11 +143,7 @@ module _ {D I : Type 0} (r : Reading D I) (law : IsReading r) where
   named_push-more ps p n = named_push-push r law ps p n ∙ by (bytes_eq n p.name) refl
     where
       same : (m : List ℕ) → m ≡ p.name → writes r (binding r ps m) (is_glob_push r (named_push r ps m)) p.item p.by ≡ (is_effective r ps p && true)
-      same m e = ap (λ m. writes r (binding r ps m) (is_glob_push r (named_push r ps m)) p.item p.by) e ∙ sym (is_effective-writes r law ps p) ∙ and_true (is_effective r ps p)
-        where
-          and_true : (b : Bool) → b ≡ (b && true)
-          and_true true = refl
-          and_true false = refl
+      same m e = ap (λ m. writes r (binding r ps m) (is_glob_push r (named_push r ps m)) p.item p.by) e ∙ sym (is_effective-writes r law ps p) ∙ sym (and-true (is_effective r ps p))
 
       none : (b : Bool) → named_push r ps n ≡ cond (b && false) (Some (length ps, p)) (named_push r ps n)
       none true = refl

@@ -1,7 +1,6 @@
 -- The bindings of one namespace, and what a push does to them.
 use Rattle.std.specs.Prelude.{◌&&◌, ◌||◌, Bool, true, false, not, List, Option, None, Some, if◌then◌else◌}
 use Rattle.std.specs.Option.{option_and_then}
-use Rattle.std.specs.Map.{set_value}
 use Rattle.indexmap.specs.IndexMap.{insert_entry}
 use Rattle.dm_base.specs.Imports.{target_of}
 use Rattle.dm_base.specs.Names.{Name, same_name, find_name}
@@ -11,8 +10,7 @@ use Rattle.dm_base.specs.declared.imports.ImportOrDef.{ImportOrDef}
 use Rattle.dm_base.specs.declared.imports.ImportOrDef.TheVariants as target
 use Rattle.dm_base.specs.declared.imports.ImportOrExternCrate.{ImportOrExternCrate}
 use Rattle.dm_base.specs.declared.item_ids.ModuleDefId.{ModuleDefId}
-use Rattle.dm_scope.specs.Entries.{add_entry, is_new, without_new}
-use Rattle.dm_scope.specs.Flags.{Flags, has_flag, add_flag, clear_flag, flags_finished}
+use Rattle.dm_scope.specs.Flags.{Flags, has_flag, add_flag, clear_flag}
 
 -- one namespace of a scope: its bindings in order of first binding, and what each import that brought one stands for
 pub record Bound (D I : Type 0) : Type 0 where
@@ -103,51 +101,3 @@ module _ {D I : Type 0} (r : Reading D I) where
 
   abbrev pub flags_after : Bound D I → Flags → ModuleId → Name → Option (Item D I) → Option ImportOrExternCrate → Flags
   flags_after s fs m name item by = if is_effective_at s fs m name item by then flagged fs m name (import_of by) else fs
-
--- The steps of a push, of which the first can be refused.
-module _ {I : Type 0} (eq : I → I → Bool) where
-  -- the records with the import as a key, if there is one
-  abbrev pub add_import : List (I × ImportOrDef) → Option I → ImportOrDef → List (I × ImportOrDef)
-  add_import records None value = records
-  add_import records (Some i) value = add_entry eq records i value
-
-  -- whether the import is not recorded yet
-  abbrev pub is_new_import : List (I × ImportOrDef) → Option I → Bool
-  is_new_import records None = false
-  is_new_import records (Some i) = is_new eq records i
-
-  -- the records with the value at the import, where it is recorded
-  abbrev pub set_import : List (I × ImportOrDef) → Option I → ImportOrDef → List (I × ImportOrDef)
-  set_import records None value = records
-  set_import records (Some i) value = set_value (eq i) records value
-
-module _ {D I : Type 0} (r : Reading D I) where
-  -- the namespace with the new keys of a push that writes put last
-  abbrev pub with_keys : Bound D I → Name → Item D I → Option I → Bound D I
-  with_keys s name item import = record {
-    items = add_entry same_name s.items name (stored r item import);
-    records = add_import r.same_import s.records import (recorded r item);
-  }
-
-  abbrev pub is_new_record : List (I × ImportOrDef) → Option I → Bool
-  is_new_record = is_new_import r.same_import
-
-  -- the namespace with the values of a push at the keys that stand
-  abbrev pub written : Bound D I → Name → Item D I → Option I → Bound D I
-  written s name item import = record {
-    items = set_value (same_name name) s.items (stored r item import);
-    records = set_import r.same_import s.records import (recorded r item);
-  }
-
-  -- the namespace after the second step of a push
-  abbrev pub finished : Bound D I → Bool → Name → Option (Item D I) → Option ImportOrExternCrate → Bound D I
-  finished s writes name None by = s
-  finished s writes name (Some item) by = if writes then written s name item (import_of r by) else s
-
-  -- and its flags
-  abbrev pub flags_done : Flags → Bool → ModuleId → Name → Option ImportOrExternCrate → Flags
-  flags_done fs writes m name by = if writes then flags_finished fs m name (is_glob r (import_of r by)) else fs
-
--- the namespace with its last keys taken off, where they are new
-abbrev pub without_keys : {D I : Type 0} → Bound D I → Bool → Bool → Bound D I
-without_keys s new_item new_record = record { items = without_new new_item s.items; records = without_new new_record s.records }

@@ -8,6 +8,7 @@ pub mod Iterators
 pub mod Lookups
 pub mod MacroCalls
 pub mod Push
+pub mod PushSteps
 pub mod Pushes
 pub mod Records
 pub mod Rows

@@ -1,7 +1,7 @@
 -- What a whole list of pushes binds and records in one namespace.
-use Rattle.std.specs.Prelude.{◌≡◌, ℕ, Bool, false, not, nat_eq, List, [], ◌∷◌, ◌++◌, slice_get, Option, None, Some, if◌then◌else◌, length}
+use Rattle.std.specs.Prelude.{◌≡◌, ℕ, Bool, true, false, not, nat_eq, List, [], ◌∷◌, ◌++◌, slice_get, Option, None, Some, if◌then◌else◌, length}
 use Rattle.std.specs.Option.{option_map}
-use Rattle.std.specs.List.{filter, list_all, enumerate_from}
+use Rattle.std.specs.List.{filter, list_all, list_any, enumerate_from}
 use Rattle.std.specs.Map.{lookup}
 use Rattle.dm_base.specs.Names.{Name, same_name, find_name}
 use Rattle.dm_base.specs.declared.per_ns.Item.{Item}
@@ -14,6 +14,10 @@ pub record Push (D I : Type 0) : Type 0 where
   pub name : Name
   pub item : Item D I
   pub by : Option I
+
+-- the pushes of one name
+abbrev pub of_name : {D I : Type 0} → Name → List (Push D I) → List (Push D I)
+of_name n ps = filter (λ p. same_name n p.name) ps
 
 module _ {D I : Type 0} (r : Reading D I) where
   -- an explicit push comes by no glob
@@ -83,3 +87,9 @@ module _ {D I : Type 0} (r : Reading D I) where
     pub bindings : (n : Name) → find_name n s.items ≡ binding ps n
     pub records : (i : I) → lookup (r.same_import i) s.records ≡ record_of ps i
     pub flags : (n : Name) → flag n ≡ is_glob_push (named_push ps n)
+
+  -- What a list binds to a name rests on the pushes of that name alone. With an explicit one among them those by globs
+  -- count for nothing: definition, visibility and import are the same without them.
+  pub record IsByName (n : Name) : Type 0 where
+    pub own : (ps qs : List (Push D I)) → of_name n ps ≡ of_name n qs → binding ps n ≡ binding qs n
+    pub without_globs : (ps : List (Push D I)) → list_any is_explicit (of_name n ps) ≡ true → binding (filter is_explicit ps) n ≡ binding ps n

@@ -10,10 +10,11 @@ ghost use Rattle.dm_scope.specs.Iterators.{deref_name};
 ghost use Rattle.dm_ids.specs.declared.ModuleId.{ModuleId};
 ghost use Rattle.dm_base.specs.Names.{Name, same_name, find_name};
 ghost use Rattle.dm_base.specs.Tree.{same_module};
-ghost use Rattle.dm_scope.specs.Pushes.{Push, ShowsIn, is_effective};
+ghost use Rattle.dm_scope.specs.Pushes.{Push, ShowsIn, IsByName, is_effective};
 ghost use Rattle.dm_scope.specs.Entries.{is_new};
 ghost use Rattle.dm_scope.specs.Flags.{has_flag, without_flag};
-ghost use Rattle.dm_scope.specs.Bindings.{reading, import_of, is_glob_by, writes, stored, recorded, bound_after, flags_after, is_effective_at, with_keys, without_keys, is_new_record, written, is_new_import, add_import, set_import, finished, flags_done};
+ghost use Rattle.dm_scope.specs.Bindings.{import_of, is_glob_by, writes, stored, recorded, bound_after, flags_after, is_effective_at};
+ghost use Rattle.dm_scope.specs.PushSteps.{with_keys, without_keys, is_new_record, written, is_new_import, add_import, set_import, finished, flags_done};
 
 mod changes;
 mod names;
@@ -21,6 +22,7 @@ mod names;
 use crate::glob_imports::GlobFlags;
 use crate::import_records::Records;
 use crate::keys::{add_key, add_name, take_off, write_at};
+use crate::reads::Reads;
 use crate::steps::{NewFlag, NewKeys};
 use dm_base::definition::Definition;
 use dm_base::ids::ModuleId;
@@ -92,7 +94,7 @@ impl<D: Definition, I: ImportSource> Bindings<D, I> {
         ensures empty { result ≡ record { items = []; records = [] } }
 
         // With a new table they show the empty list of pushes.
-        ensures shown { (m : ModuleId) → ShowsIn (reading I.eq D.eq I.globs I.narrowed I.widened D.widened_def) result (has_flag [] m) [] }
+        ensures shown { (m : ModuleId) → ShowsIn ⟦<D as Reads<I>>⟧.reading result (has_flag [] m) [] }
     {
         Bindings {
             items: IndexMap::new(alloc),
@@ -135,15 +137,18 @@ impl<D: Definition, I: ImportSource> Bindings<D, I> {
         item: Item<D, I>,
         import: Option<ImportOrExternCrate>,
     ) -> Result<bool, AllocError>
-        ensures answer { IfOk result (λ effective. effective ≡ is_effective_at (reading I.eq D.eq I.globs I.narrowed I.widened D.widened_def) self.old flags.old lookup.0 lookup.1 (Some item) import) }
-        ensures bindings { OnOk result (self.new ≡ bound_after (reading I.eq D.eq I.globs I.narrowed I.widened D.widened_def) self.old flags.old lookup.0 lookup.1 (Some item) import) }
-        ensures flags { OnOk result (flags.new ≡ flags_after (reading I.eq D.eq I.globs I.narrowed I.widened D.widened_def) self.old flags.old lookup.0 lookup.1 (Some item) import) }
+        ensures answer { IfOk result (λ effective. effective ≡ is_effective_at ⟦<D as Reads<I>>⟧.reading self.old flags.old lookup.0 lookup.1 (Some item) import) }
+        ensures bindings { OnOk result (self.new ≡ bound_after ⟦<D as Reads<I>>⟧.reading self.old flags.old lookup.0 lookup.1 (Some item) import) }
+        ensures flags { OnOk result (flags.new ≡ flags_after ⟦<D as Reads<I>>⟧.reading self.old flags.old lookup.0 lookup.1 (Some item) import) }
         ensures err { OnErr result (self.new ≡ self.old) }
         ensures err_flags { OnErr result (flags.new ≡ flags.old) }
 
         // Where they show a list of pushes, they show it with this push after it, and the answer is as that list says.
-        ensures shown { (ps : List (Push D I)) → ShowsIn (reading I.eq D.eq I.globs I.narrowed I.widened D.widened_def) self.old (has_flag flags.old lookup.0) ps → OnOk result (ShowsIn (reading I.eq D.eq I.globs I.narrowed I.widened D.widened_def) self.new (has_flag flags.new lookup.0) (ps ++ record { name = lookup.1; item = item; by = import_of (reading I.eq D.eq I.globs I.narrowed I.widened D.widened_def) import } ∷ [])) }
-        ensures shown_answer { (ps : List (Push D I)) → ShowsIn (reading I.eq D.eq I.globs I.narrowed I.widened D.widened_def) self.old (has_flag flags.old lookup.0) ps → IfOk result (λ effective. effective ≡ is_effective (reading I.eq D.eq I.globs I.narrowed I.widened D.widened_def) ps (record { name = lookup.1; item = item; by = import_of (reading I.eq D.eq I.globs I.narrowed I.widened D.widened_def) import })) }
+        ensures shown { (ps : List (Push D I)) → ShowsIn ⟦<D as Reads<I>>⟧.reading self.old (has_flag flags.old lookup.0) ps → OnOk result (ShowsIn ⟦<D as Reads<I>>⟧.reading self.new (has_flag flags.new lookup.0) (ps ++ record { name = lookup.1; item = item; by = import_of ⟦<D as Reads<I>>⟧.reading import } ∷ [])) }
+        ensures shown_answer { (ps : List (Push D I)) → ShowsIn ⟦<D as Reads<I>>⟧.reading self.old (has_flag flags.old lookup.0) ps → IfOk result (λ effective. effective ≡ is_effective ⟦<D as Reads<I>>⟧.reading ps (record { name = lookup.1; item = item; by = import_of ⟦<D as Reads<I>>⟧.reading import })) }
+
+        // What any list of pushes binds to a name rests on the pushes of that name, and not on globs beside an explicit one.
+        ensures by_name { (n : Name) → IsByName ⟦<D as Reads<I>>⟧.reading n }
         ensures elsewhere { (k : ModuleId) (n : Name) → same_module lookup.0 k ≡ false → has_flag flags.new k n ≡ has_flag flags.old k n }
     {
         let (m, name) = lookup;
@@ -189,11 +194,11 @@ impl<D: Definition, I: ImportSource> Bindings<D, I> {
         item: Option<Item<D, I>>,
         import: Option<ImportOrExternCrate>,
     ) -> Result<NewKeys, AllocError>
-        ensures writes { IfOk result (λ new. new.writes ≡ is_effective_at (reading I.eq D.eq I.globs I.narrowed I.widened D.widened_def) self.old flags.old m name.now item import) }
+        ensures writes { IfOk result (λ new. new.writes ≡ is_effective_at ⟦<D as Reads<I>>⟧.reading self.old flags.old m name.now item import) }
         ensures undo { IfOk result (λ new. without_keys self.new new.item new.record_key ≡ self.old) }
         ensures undo_flags { IfOk result (λ new. without_flag flags.new m new.flag ≡ flags.old) }
-        ensures finish { IfOk result (λ new. finished (reading I.eq D.eq I.globs I.narrowed I.widened D.widened_def) self.new new.writes name.now item import ≡ bound_after (reading I.eq D.eq I.globs I.narrowed I.widened D.widened_def) self.old flags.old m name.now item import) }
-        ensures finish_flags { IfOk result (λ new. flags_done (reading I.eq D.eq I.globs I.narrowed I.widened D.widened_def) flags.new new.writes m name.now import ≡ flags_after (reading I.eq D.eq I.globs I.narrowed I.widened D.widened_def) self.old flags.old m name.now item import) }
+        ensures finish { IfOk result (λ new. finished ⟦<D as Reads<I>>⟧.reading self.new new.writes name.now item import ≡ bound_after ⟦<D as Reads<I>>⟧.reading self.old flags.old m name.now item import) }
+        ensures finish_flags { IfOk result (λ new. flags_done ⟦<D as Reads<I>>⟧.reading flags.new new.writes m name.now import ≡ flags_after ⟦<D as Reads<I>>⟧.reading self.old flags.old m name.now item import) }
         ensures err { OnErr result (self.new ≡ self.old) }
         ensures err_flags { OnErr result (flags.new ≡ flags.old) }
     {
@@ -233,8 +238,8 @@ impl<D: Definition, I: ImportSource> Bindings<D, I> {
         item: Option<Item<D, I>>,
         import: Option<ImportOrExternCrate>,
     )
-        ensures bindings { self.new ≡ finished (reading I.eq D.eq I.globs I.narrowed I.widened D.widened_def) self.old new.writes name.now item import }
-        ensures flags { flags.new ≡ flags_done (reading I.eq D.eq I.globs I.narrowed I.widened D.widened_def) flags.old new.writes m name.now import }
+        ensures bindings { self.new ≡ finished ⟦<D as Reads<I>>⟧.reading self.old new.writes name.now item import }
+        ensures flags { flags.new ≡ flags_done ⟦<D as Reads<I>>⟧.reading flags.old new.writes m name.now import }
     {
         if !new.writes {
             return;
@@ -248,15 +253,12 @@ impl<D: Definition, I: ImportSource> Bindings<D, I> {
 
     /// Whether a push is effective.
     fn writes(&self, flag: bool, name: &Name, item: &Item<D, I>, import: Option<I>) -> bool
-        ensures { result ≡ writes (reading I.eq D.eq I.globs I.narrowed I.widened D.widened_def) (find_name name.now self.now.items) flag item.now import }
+        ensures { result ≡ writes ⟦<D as Reads<I>>⟧.reading (find_name name.now self.now.items) flag item.now import }
     {
         let Some(old) = self.get(name) else {
             return true;
         };
-        match import {
-            None => flag,
-            Some(i) => !i.is_glob() && (flag || (old.import == Some(i) && old.def != item.def)),
-        }
+        !is_glob(import) && (flag || old.is_reresolved_by(&item.def, import))
     }
 
     /// Puts the new keys of a push that writes last, with their values. Where memory is short, nothing changes.
@@ -268,8 +270,8 @@ impl<D: Definition, I: ImportSource> Bindings<D, I> {
     ) -> Result<NewKeys, AllocError>
         ensures writes { IfOk result (λ new. new.writes ≡ true) }
         ensures item { IfOk result (λ new. new.item ≡ is_new same_name self.old.items name.now) }
-        ensures record_key { IfOk result (λ new. new.record_key ≡ is_new_record (reading I.eq D.eq I.globs I.narrowed I.widened D.widened_def) self.old.records import) }
-        ensures ok { OnOk result (self.new ≡ with_keys (reading I.eq D.eq I.globs I.narrowed I.widened D.widened_def) self.old name.now item.now import) }
+        ensures record_key { IfOk result (λ new. new.record_key ≡ is_new_record ⟦<D as Reads<I>>⟧.reading self.old.records import) }
+        ensures ok { OnOk result (self.new ≡ with_keys ⟦<D as Reads<I>>⟧.reading self.old name.now item.now import) }
         ensures err { OnErr result (self.new ≡ self.old) }
     {
         let item_is_new = add_name(&mut self.items, name, stored(item, import), self.alloc)?;
@@ -297,7 +299,7 @@ impl<D: Definition, I: ImportSource> Bindings<D, I> {
 
     /// Writes at keys that stand. Takes no memory.
     fn write(&mut self, name: &Name, item: &Item<D, I>, import: Option<I>)
-        ensures { self.new ≡ written (reading I.eq D.eq I.globs I.narrowed I.widened D.widened_def) self.old name.now item.now import }
+        ensures { self.new ≡ written ⟦<D as Reads<I>>⟧.reading self.old name.now item.now import }
     {
         write_at(&mut self.items, name, stored(item, import));
         write_record(&mut self.records, import, recorded(item));
@@ -306,7 +308,7 @@ impl<D: Definition, I: ImportSource> Bindings<D, I> {
 
 /// The item that is stored for a pushed one.
 fn stored<D: Definition, I: ImportSource>(item: &Item<D, I>, import: Option<I>) -> Item<D, I>
-    ensures { result ≡ stored (reading I.eq D.eq I.globs I.narrowed I.widened D.widened_def) item.now import }
+    ensures { result ≡ stored ⟦<D as Reads<I>>⟧.reading item.now import }
 {
     Item {
         def: item.def,
@@ -336,7 +338,7 @@ fn is_glob<I: ImportSource>(import: Option<I>) -> bool
 
 /// What the record of a push's import becomes.
 fn recorded<D: Definition, I: ImportSource>(item: &Item<D, I>) -> ImportOrDef
-    ensures { result ≡ recorded (reading I.eq D.eq I.globs I.narrowed I.widened D.widened_def) item.now }
+    ensures { result ≡ recorded ⟦<D as Reads<I>>⟧.reading item.now }
 {
     match item.import {
         None => ImportOrDef::Def(item.def.widen_def()),

@@ -10,7 +10,7 @@ use std::marker::Model;
 
 /// The records of a namespace, each import seen as any import.
 #[derive(Drop)]
-pub struct Records<'a, I: ImportSource> {
+pub(crate) struct Records<'a, I: ImportSource> {
     rest: map::Iter<'a, I, ImportOrDef>,
 }
 

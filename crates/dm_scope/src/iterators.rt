@@ -38,7 +38,7 @@ impl<'a, T> Model for Listed<'a, T> {
 }
 
 impl<'a, T> Listed<'a, T> {
-    pub fn new(list: &'a [T]) -> Self
+    pub(crate) fn new(list: &'a [T]) -> Self
         ensures { result ≡ list.now }
     {
         Listed { rest: list.iter() }
@@ -174,7 +174,7 @@ impl<'a> Model for Traits<'a> {
 }
 
 impl<'a> Traits<'a> {
-    pub fn new(
+    pub(crate) fn new(
         types: &'a [TypesItem],
         unnamed: &'a [(TraitId, Visibility, Option<ImportId>)],
     ) -> Self
@@ -221,7 +221,7 @@ impl<'a> Model for LegacyMacros<'a> {
 }
 
 impl<'a> LegacyMacros<'a> {
-    pub fn new(table: &'a IndexMap<Name, SmallVec<MacroId, 1>>) -> Self
+    pub(crate) fn new(table: &'a IndexMap<Name, SmallVec<MacroId, 1>>) -> Self
         ensures { result ≡ lists_of table.now.entries }
     {
         LegacyMacros { rest: table.iter() }
@@ -258,7 +258,7 @@ impl<'a> Model for MacroInvocations<'a> {
 }
 
 impl<'a> MacroInvocations<'a> {
-    pub fn new(table: &'a IndexMap<AstId, MacroCallId>) -> Self
+    pub(crate) fn new(table: &'a IndexMap<AstId, MacroCallId>) -> Self
         ensures { result ≡ table.now.entries }
     {
         MacroInvocations { rest: table.iter() }
@@ -295,7 +295,7 @@ impl<'a> Model for AttrMacroInvocations<'a> {
 }
 
 impl<'a> AttrMacroInvocations<'a> {
-    pub fn new(table: &'a IndexMap<AstId, MacroCallId>) -> Self
+    pub(crate) fn new(table: &'a IndexMap<AstId, MacroCallId>) -> Self
         ensures { result ≡ table.now.entries }
     {
         AttrMacroInvocations { rest: table.iter() }
@@ -332,7 +332,7 @@ impl<'a> Model for DeriveMacroInvocations<'a> {
 }
 
 impl<'a> DeriveMacroInvocations<'a> {
-    pub fn new(table: &'a IndexMap<AstId, SmallVec<DeriveMacroInvocation, 1>>) -> Self
+    pub(crate) fn new(table: &'a IndexMap<AstId, SmallVec<DeriveMacroInvocation, 1>>) -> Self
         ensures { result ≡ derives_of table.now.entries }
     {
         DeriveMacroInvocations { rest: table.iter() }

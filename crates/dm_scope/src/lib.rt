@@ -10,6 +10,7 @@ pub mod item_scope;
 pub mod iterators;
 mod keys;
 pub mod macro_calls;
-pub mod picked;
+mod picked;
+pub mod reads;
 mod steps;
 mod table_lists;

@@ -36,7 +36,7 @@ impl<'a, T, P: Pick<T>> Model for Picked<'a, T, P> {
 }
 
 impl<'a, T, P: Pick<T>> Picked<'a, T, P> {
-    pub fn new(list: &'a [T], pick: P) -> Self
+    pub(crate) fn new(list: &'a [T], pick: P) -> Self
         ensures { result ≡ filter_map P.shown list.now }
     {
         Picked {

@@ -27,10 +27,7 @@ impl<D: Definition, I: ImportSource> Bindings<D, I> {
     fn is_of(&self, name: &Name, def: D) -> bool
         ensures { result ≡ is_of D.eq def (find_name name.now self.now.items) }
     {
-        match self.get(name) {
-            None => false,
-            Some(item) => item.def == def,
-        }
+        self.get(name).is_some_and(|item| item.def == def)
     }
 
     /// Changes who sees a binding.

@@ -1,9 +1,11 @@
 //! A push into all namespaces of a scope.
 ghost use Rattle.std.specs.Prelude.{◌≡◌, false, List, [], ◌∷◌, ◌++◌, IfOk, OnOk, OnErr};
 ghost use Rattle.dm_ids.specs.declared.ModuleId.{ModuleId};
+ghost use Rattle.dm_base.specs.Names.{Name};
 ghost use Rattle.dm_base.specs.Tree.{same_module};
 ghost use Rattle.dm_scope.specs.Bindings.{bound_after, flags_after};
-ghost use Rattle.dm_scope.specs.Push.{macros_reading, unresolved_after, is_new_unresolved, scope_after, globs_after, push_answer, push_answer_from_values, push_answer_from_macros};
+ghost use Rattle.dm_scope.specs.Push.{types_reading, values_reading, macros_reading, unresolved_after, is_new_unresolved, scope_after, globs_after, push_answer, push_answer_from_values, push_answer_from_macros};
+ghost use Rattle.dm_scope.specs.Pushes.{IsByName};
 ghost use Rattle.dm_scope.specs.Scope.{Scope};
 ghost use Rattle.dm_scope.specs.Shows.{ScopePush, Shows, is_answered};
 
@@ -38,6 +40,12 @@ impl ItemScope {
         ensures shown { (ps : List ScopePush) → Shows self.old glob_imports.old lookup.0 ps → OnOk result (Shows self.new glob_imports.new lookup.0 (ps ++ record { name = lookup.1; res = def; by = import } ∷ [])) }
         ensures shown_answer { (ps : List ScopePush) → Shows self.old glob_imports.old lookup.0 ps → IfOk result (λ answer. answer ≡ is_answered ps (record { name = lookup.1; res = def; by = import })) }
         ensures refused { (k : ModuleId) (ps : List ScopePush) → Shows self.old glob_imports.old k ps → OnErr result (Shows self.new glob_imports.new k ps) }
+
+        // What any list of pushes binds to a name in a namespace rests on the pushes of that name that have an item
+        // there, and not on globs beside an explicit one.
+        ensures types_by_name { (n : Name) → IsByName types_reading n }
+        ensures values_by_name { (n : Name) → IsByName values_reading n }
+        ensures macros_by_name { (n : Name) → IsByName macros_reading n }
         ensures elsewhere { (other : Scope) (k : ModuleId) (ps : List ScopePush) → same_module lookup.0 k ≡ false → Shows other glob_imports.old k ps → Shows other glob_imports.new k ps }
     {
         let (m, name) = lookup;

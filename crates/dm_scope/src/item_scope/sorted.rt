@@ -137,10 +137,7 @@ fn add_without_name(
 fn resolution_of(unnamed: &(TraitId, Visibility, Option<ImportId>)) -> PerNs
     ensures { result ≡ unnamed_type unnamed.now }
 {
-    let import = match unnamed.2 {
-        None => None,
-        Some(id) => Some(ImportOrExternCrate::Import(id)),
-    };
+    let import = unnamed.2.map(ImportOrExternCrate::Import);
     PerNs::types(ModuleDefId::TraitId(unnamed.0), unnamed.1, import)
 }
 

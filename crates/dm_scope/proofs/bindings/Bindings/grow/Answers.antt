@@ -1,5 +1,6 @@
 use Rattle.std.proofs.Common.{◌∙◌, sym}
-use Rattle.dm_scope.specs.Bindings.{reading, written, with_keys, without_keys, finished, pushed, bound_after}
+use Rattle.dm_scope.specs.Bindings.{reading, pushed, bound_after}
+use Rattle.dm_scope.specs.PushSteps.{written, with_keys, without_keys, finished}
 use Rattle.dm_scope.proofs.BindingLemmas.{written-with_keys, without_keys-with_keys}
 use Rattle.dm_scope.proofs.bindings.Bindings.grow.Goals as goal
 

@@ -3,6 +3,7 @@ use Rattle.dm_scope.specs.Bindings.{reading, import_of, is_effective_at}
 use Rattle.dm_scope.specs.Flags.{has_flag}
 use Rattle.dm_scope.specs.Pushes.{ShowsIn}
 use Rattle.dm_scope.proofs.ClosedLemmas.{ShowsIn-after, is_effective-after}
+use Rattle.dm_scope.proofs.NameLemmas.{is_by_name}
 use Rattle.dm_scope.proofs.HasFlagLemmas.{has_flag-elsewhere}
 use Rattle.dm_scope.proofs.bindings.Bindings.push.Goals as goal
 
@@ -26,3 +27,9 @@ returns-clause-elsewhere g c k n apart =
     let r = reading g.I.PartialEq.eq g.D.PartialEq.eq g.I.ImportSource.globs g.I.ImportSource.narrowed g.I.ImportSource.widened g.D.Definition.widened_def in
     ap (λ f. has_flag f k n) (c.finish.ensures.flags ∙ c.in_ok-new.ensures.finish_flags)
     ∙ has_flag-elsewhere r c.args.flags.now (is_effective_at r c.args.self.now c.args.flags.now c.args.lookup.0 c.args.lookup.1 (Some c.args.item) c.args.import) c.args.lookup.0 c.args.lookup.1 (import_of r c.args.import) k n apart
+
+pub returns-clause-by_name : goal.returns-clause-by_name
+returns-clause-by_name g c n = is_by_name (reading g.I.PartialEq.eq g.D.PartialEq.eq g.I.ImportSource.globs g.I.ImportSource.narrowed g.I.ImportSource.widened g.D.Definition.widened_def) n
+
+pub returns-in_err-new-clause-by_name : goal.returns-in_err-new-clause-by_name
+returns-in_err-new-clause-by_name g c n = is_by_name (reading g.I.PartialEq.eq g.D.PartialEq.eq g.I.ImportSource.globs g.I.ImportSource.narrowed g.I.ImportSource.widened g.D.Definition.widened_def) n

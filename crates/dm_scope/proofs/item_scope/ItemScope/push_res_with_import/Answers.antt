@@ -1,6 +1,8 @@
 use Rattle.std.proofs.Common.{◌∙◌, ◌++◌, ◌∷◌, [], sym, subst, subst₂}
 use Rattle.dm_scope.specs.Shows.{ScopePush, Shows}
 use Rattle.dm_scope.proofs.ClosedLemmas.{Shows-after, push_answer-is_answered, Shows-elsewhere}
+use Rattle.dm_scope.specs.Push.{types_reading, values_reading, macros_reading}
+use Rattle.dm_scope.proofs.NameLemmas.{is_by_name}
 use Rattle.dm_scope.proofs.item_scope.ItemScope.push_res_with_import.Goals as goal
 
 pub returns-clause-shown : goal.returns-clause-shown
@@ -18,3 +20,21 @@ pub returns-clause-elsewhere : goal.returns-clause-elsewhere
 returns-clause-elsewhere c other k ps apart shows =
     subst (λ g. Shows other g k ps) (sym c.in_ok-answer.ensures.globs)
     (Shows-elsewhere c.args.self.now other c.args.glob_imports.now c.args.lookup.0 k ps apart shows (record { name = c.args.lookup.1; res = c.args.def; by = c.args.import }))
+
+pub returns-clause-types_by_name : goal.returns-clause-types_by_name
+returns-clause-types_by_name c n = is_by_name types_reading n
+
+pub returns-clause-values_by_name : goal.returns-clause-values_by_name
+returns-clause-values_by_name c n = is_by_name values_reading n
+
+pub returns-clause-macros_by_name : goal.returns-clause-macros_by_name
+returns-clause-macros_by_name c n = is_by_name macros_reading n
+
+pub returns-in_err-answer-clause-types_by_name : goal.returns-in_err-answer-clause-types_by_name
+returns-in_err-answer-clause-types_by_name c n = is_by_name types_reading n
+
+pub returns-in_err-answer-clause-values_by_name : goal.returns-in_err-answer-clause-values_by_name
+returns-in_err-answer-clause-values_by_name c n = is_by_name values_reading n
+
+pub returns-in_err-answer-clause-macros_by_name : goal.returns-in_err-answer-clause-macros_by_name
+returns-in_err-answer-clause-macros_by_name c n = is_by_name macros_reading n

@@ -1,0 +1,38 @@
+//! The callers that docs/USING.md shows.
+ghost use Rattle.std.specs.Prelude.{◌≡◌, ◌++◌, ◌∷◌, [], None, List, OnOk, option_map};
+ghost use Rattle.dm_ids.specs.declared.ModuleId.{ModuleId};
+ghost use Rattle.dm_base.specs.PerNs.{type_alone};
+ghost use Rattle.dm_scope.specs.Flags.{Globs};
+ghost use Rattle.dm_scope.specs.Lookups.{def_and_vis};
+ghost use Rattle.dm_scope.specs.Push.{types_reading};
+ghost use Rattle.dm_scope.specs.Pushes.{binding};
+ghost use Rattle.dm_scope.specs.Shows.{ScopePush, Shows, pushes_in};
+
+use dm_base::ids::ModuleId;
+use dm_base::item_ids::ModuleDefId;
+use dm_base::name::Name;
+use dm_base::per_ns::PerNs;
+use dm_base::visibility::Visibility;
+use dm_scope::glob_imports::PerNsGlobImports;
+use dm_scope::item_scope::ItemScope;
+use std::alloc::AllocError;
+
+/// Declares a public type in a module: the list of pushes that scope and table show has it last.
+pub fn declare_type(
+    scope: &mut ItemScope,
+    globs: &mut PerNsGlobImports,
+    lookup: (ModuleId, Name),
+    def: ModuleDefId,
+) -> Result<bool, AllocError>
+    ensures { (ps : List ScopePush) → Shows scope.old globs.old lookup.0 ps → OnOk result (Shows scope.new globs.new lookup.0 (ps ++ record { name = lookup.1; res = type_alone def Visibility.Public None; by = None } ∷ [])) }
+{
+    let items = PerNs::types(def, Visibility::Public, None);
+    scope.push_res_with_import(globs, lookup, items, None)
+}
+
+/// What a name is bound to as a type: what the whole list of pushes binds to it, in whatever order they came.
+pub fn bound_type(scope: &ItemScope, name: &Name) -> Option<(ModuleDefId, Visibility)>
+    ensures { (globs : Globs) (m : ModuleId) (ps : List ScopePush) → Shows scope.now globs m ps → result ≡ option_map def_and_vis (binding types_reading (pushes_in types_reading (λ x. x.types) ps) name.now) }
+{
+    scope.type_(name)
+}
