@@ -4,6 +4,7 @@ pub mod ItemHomes
 pub mod BuildCrateData
 pub mod BuildTables
 pub mod Build
+pub mod Cut
 pub mod BuildItems
 pub mod BuildBlocks
 pub mod BuildMaps

@@ -4,3 +4,4 @@ pub mod KnownLemmas
 pub mod LayerLemmas
 pub mod PlaceLemmas
 pub mod AnswerLaws
+pub mod CutLemmas

@@ -1,5 +1,6 @@
 //! Paths, resolved over a checked world.
 ghost use Rattle.std.specs.Prelude.{◌≡◌, None, length};
+ghost use Rattle.dm_maps.specs.Cut.{cut, cut_local};
 ghost use Rattle.dm_modules.specs.Maps.{Map};
 ghost use Rattle.hir_def_map.specs.declared.result.ResolveMode.TheVariants.{Other};
 ghost use Rattle.hir_def_map.specs.Laws.{IsAnswer};
@@ -41,7 +42,10 @@ pub trait ResolvePath {
     ) -> ResolvePathResult
         requires { IsKnownQuestion world.now (map self.now) local.now original_module path.now.kind }
         ensures value { result ≡ answer world.now local.now (asked original_module mode shadow expected_macro_subns path.now.kind) path.now.segments }
-        ensures lawful { IsAnswer (length path.now.segments) result };
+        ensures lawful { IsAnswer (length path.now.segments) result }
+
+        // It is the answer of what world and local map have under the path's segments: where two have the same, they answer alike.
+        ensures local { result ≡ answer (cut world.now path.now.segments) (cut_local local.now path.now.segments) (asked original_module mode shadow expected_macro_subns path.now.kind) path.now.segments };
 
     /// What the origin alone answers, without the modules outside its block and without the preludes.
     fn resolve_path_fp_with_macro_single(

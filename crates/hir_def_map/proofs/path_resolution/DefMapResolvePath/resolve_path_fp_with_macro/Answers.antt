@@ -1,8 +1,10 @@
-use Rattle.std.proofs.Common.{length, subst, sym}
+use Rattle.std.proofs.Common.{◌∙◌, length, subst, sym}
+use Rattle.dm_base.specs.declared.mod_path.PathKind.{PathKind}
 use Rattle.dm_maps.specs.Readings.{setting_of}
 use Rattle.hir_def_map.specs.Laws.{IsAnswer}
-use Rattle.hir_def_map.specs.Paths.{asked, places}
+use Rattle.hir_def_map.specs.Paths.{answer, asked, places}
 use Rattle.hir_def_map.proofs.AnswerLaws.{merged-names}
+use Rattle.hir_def_map.proofs.CutLemmas.{answer-cut}
 use Rattle.hir_def_map.proofs.path_resolution.DefMapResolvePath.resolve_path_fp_with_macro.Goals as goal
 
 pub returns-clause-lawful : goal.returns-clause-lawful
@@ -12,3 +14,13 @@ returns-clause-lawful c =
     let q = asked c.args.original_module c.args.mode c.args.shadow c.args.expected_macro_subns c.kind.result in
     subst (λ ns. IsAnswer (length ns) c.answer_outwards.result) c.segments.ensures
     (subst (IsAnswer (length names)) (sym c.answer_outwards.ensures) (merged-names w c.args.local.now q names (places (setting_of w) c.args.original_module)))
+
+pub returns-clause-local : goal.returns-clause-local
+unfolding answer
+returns-clause-local c =
+    let w = c.args.world.now in
+    let L = c.args.local.now in
+    let q = λ (k : PathKind). asked c.args.original_module c.args.mode c.args.shadow c.args.expected_macro_subns k in
+    c.answer_outwards.ensures
+    ∙ (λ i. answer w L (q (c.kind.ensures i)) (c.segments.ensures i))
+    ∙ sym (answer-cut w L (q c.args.path.now.kind) c.args.path.now.segments)
