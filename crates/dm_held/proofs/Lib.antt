@@ -1,2 +1,4 @@
 pub mod Sets
 pub mod RecordLemmas
+pub mod Order
+pub mod Least

@@ -1,7 +1,7 @@
 //! The ids that a push holds.
 ghost use Rattle.std.specs.Prelude.{◌≡◌};
 ghost use Rattle.std.specs.List.{fold};
-ghost use Rattle.dm_held.specs.Held.{noted};
+ghost use Rattle.dm_held.specs.Held.{noted, IsLeastFault};
 ghost use Rattle.dm_held.specs.Holding.{res_holds};
 ghost use Rattle.dm_held.specs.Pushes.{push_holds};
 
@@ -14,8 +14,20 @@ use dm_base::imports::ImportOrExternCrate;
 use dm_base::per_ns::PerNs;
 
 /// The least fault of what a push holds.
-#[tactic(auto, using(crate::proofs::Sets::parts))]
 pub fn note_push<T: KnownIds>(
+    world: &T,
+    m: ModuleId,
+    res: &PerNs,
+    import: Option<ImportOrExternCrate>,
+) -> Option<HeldFault>
+    ensures { IsLeastFault (T.known world.now) (push_holds m res.now import) result }
+{
+    fold_push(world, m, res, import)
+}
+
+/// With each id that a push holds looked at.
+#[tactic(auto, using(crate::proofs::Sets::parts))]
+fn fold_push<T: KnownIds>(
     world: &T,
     m: ModuleId,
     res: &PerNs,

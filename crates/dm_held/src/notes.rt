@@ -3,7 +3,7 @@ ghost use Rattle.std.specs.Prelude.{◌≡◌};
 ghost use Rattle.std.specs.List.{fold};
 ghost use Rattle.dm_base.specs.declared.item_ids.ModuleDefId.TheVariants as def;
 ghost use Rattle.dm_held.specs.declared.held.HeldId.TheVariants as held;
-ghost use Rattle.dm_held.specs.Held.{fault_at, rank, comes_before, noted};
+ghost use Rattle.dm_held.specs.Held.{fault_at, rank, comes_before, noted, IsLeastFault};
 ghost use Rattle.dm_held.specs.Holding.{def_holds, vis_holds, import_holds, value_import_holds};
 
 use crate::fault::WorldFaultKind;
@@ -84,8 +84,15 @@ pub fn note_vis<T: KnownIds>(
     }
 }
 
+/// The fault of a definition that is not the world's, or of another kind there; builtin types are everyone's.
+pub fn def_fault<T: KnownIds>(world: &T, def: ModuleDefId) -> Option<HeldFault>
+    ensures { IsLeastFault (T.known world.now) (def_holds def) result }
+{
+    note_def(world, None, def)
+}
+
 /// With the ids that a definition holds: itself, but for a builtin type.
-pub fn note_def<T: KnownIds>(
+pub(crate) fn note_def<T: KnownIds>(
     world: &T,
     least: Option<HeldFault>,
     def: ModuleDefId,

@@ -37,11 +37,3 @@ all-map P f (x ∷ xs) h = (h.0, all-map P f xs h.1)
 pub all-flat_map : {X Y : Type 0} (P : Y → Type 0) (f : X → List Y) (xs : List X) → AllByRecursion P (flat_map f xs) → AllByRecursion (λ x. AllByRecursion P (f x)) xs
 all-flat_map P f [] h = tt
 all-flat_map P f (x ∷ xs) h = (all-left P (f x) (flat_map f xs) h, all-flat_map P f xs (all-right P (f x) (flat_map f xs) h))
-
-pub all-push : {X : Type 0} (P : X → Type 0) (xs : List X) (x : X) → AllByRecursion P xs → P x → AllByRecursion P (xs ++ x ∷ [])
-all-push P [] x h p = (p, tt)
-all-push P (y ∷ ys) x h p = (h.0, all-push P ys x h.1 p)
-
-pub all-weaker : {X : Type 0} (P Q : X → Type 0) → ((x : X) → P x → Q x) → (xs : List X) → AllByRecursion P xs → AllByRecursion Q xs
-all-weaker P Q f [] h = tt
-all-weaker P Q f (x ∷ xs) h = (f x h.0, all-weaker P Q f xs h.1)

@@ -14,7 +14,6 @@ pub mod FaultLemmas
 pub mod VariantLemmas
 pub mod ScopeLemmas
 pub mod AllLemmas
-pub mod Order
 pub mod FirstLemmas
 pub mod Least
 pub mod SoundLemmas

@@ -21,7 +21,8 @@ use Rattle.dm_maps.specs.First.{Held, each_from, crate_holder, block_holder, mod
 use Rattle.dm_maps.specs.LendingWorld.{crate_with_scope, block_with_scope}
 use Rattle.dm_maps.specs.Sound.{IsCheckedWorld}
 use Rattle.dm_maps.specs.Trees.{outline, IsWorld}
-use Rattle.dm_maps.proofs.AllLemmas.{all-left, all-right, all-append, all-weaker}
+use Rattle.dm_held.proofs.Least.{all-weaker}
+use Rattle.dm_maps.proofs.AllLemmas.{all-left, all-right, all-append}
 use Rattle.dm_maps.proofs.EntryLemmas.{get-set_same, set-own}
 use Rattle.dm_tables.proofs.TableLemmas.{set_value_at-own}
 use Rattle.dm_maps.proofs.ModuleGrowth.{map-set_own}

@@ -29,9 +29,10 @@ impl WorldBuilder {
 }
 
 impl World {
-    /// The tables of the world, to be built on. Takes no memory.
+    /// The tables of the world, to be built on: a check of them as they are finds no fault. Takes no memory.
     pub fn into_builder(self) -> WorldBuilder
-        ensures { result ≡ self }
+        ensures value { result ≡ self }
+        ensures checked { IsChecked result }
     {
         self.into_tables()
     }

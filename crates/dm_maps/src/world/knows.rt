@@ -16,7 +16,7 @@ use dm_base::per_ns::PerNs;
 use dm_held::held::HeldId;
 use dm_held::known_ids::KnownIds;
 use dm_held::note_pushes::note_push;
-use dm_held::notes::note_def;
+use dm_held::notes::def_fault;
 use dm_modules::local_def_map::LocalDefMap;
 
 impl World {
@@ -38,7 +38,7 @@ impl World {
     pub fn knows_def(&self, def: ModuleDefId) -> bool
         ensures { IsTrue result ↔ KnowsAll self.now (def_holds def) }
     {
-        let least = note_def(self.tables(), None, def);
+        let least = def_fault(self.tables(), def);
         least.is_none()
     }
 

@@ -61,15 +61,10 @@ impl World {
 
     /// The prelude module of a map.
     pub fn prelude_of(&self, id: MapId) -> Option<ModuleId>
-        ensures { result ≡ prelude_in self.now id }
+        ensures value { result ≡ prelude_in self.now id }
+        ensures known { ForSome result (IsKnown (tree_of self.now)) }
     {
-        match self.tables.numbered_map(id) {
-            None => None,
-            Some(map) => match map.prelude() {
-                None => None,
-                Some(prelude) => Some(prelude.0),
-            },
-        }
+        self.tables.prelude_of(id)
     }
 
     /// The macro that `#[macro_use]` brings into a map under a name.

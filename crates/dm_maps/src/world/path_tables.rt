@@ -2,7 +2,7 @@
 ghost use Rattle.std.specs.Prelude.{◌≡◌};
 ghost use Rattle.std.specs.Option.{option_copied};
 ghost use Rattle.dm_base.specs.Names.{find_name};
-ghost use Rattle.dm_maps.specs.Readings.{root_of, block_root_of, macro_uses_of, styles_by, styles_in, no_style};
+ghost use Rattle.dm_maps.specs.Readings.{root_of, block_root_of, prelude_in, macro_uses_of, styles_by, styles_in, no_style};
 ghost use Rattle.dm_maps.specs.World.{crate_map, scope_of};
 ghost use Rattle.dm_scope.specs.Scope.{legacy_in, last_of};
 
@@ -40,6 +40,19 @@ impl WorldBuilder {
         match self.block_maps.get(block.0 as usize) {
             None => None,
             Some(map) => Some(map.root_module_id()),
+        }
+    }
+
+    /// The prelude module of a map.
+    pub(crate) fn prelude_of(&self, id: MapId) -> Option<ModuleId>
+        ensures { result ≡ prelude_in self.now id }
+    {
+        match self.numbered_map(id) {
+            None => None,
+            Some(map) => match map.prelude() {
+                None => None,
+                Some(prelude) => Some(prelude.0),
+            },
         }
     }
 

@@ -7,6 +7,7 @@ ghost use Rattle.dm_scope.specs.Scope.{Scope};
 ghost use Rattle.dm_scope.specs.Shows.{ScopePush, Shows, is_answered};
 ghost use Rattle.dm_held.specs.Pushes.{push_holds};
 ghost use Rattle.dm_maps.specs.Asked.{with_push};
+ghost use Rattle.dm_maps.specs.First.{IsChecked};
 ghost use Rattle.dm_maps.specs.Known.{KnowsAll};
 ghost use Rattle.dm_maps.specs.Trees.{IsWorld};
 ghost use Rattle.dm_maps.specs.World.{own_scope, scope_of};
@@ -38,6 +39,9 @@ impl World {
         ensures globs { OnOk result (glob_imports.new ≡ globs_after (scope_of self.old lookup.0) glob_imports.old lookup.0 lookup.1 res import) }
         ensures err { OnErr result (self.new ≡ self.old) }
         ensures err_globs { OnErr result (glob_imports.new ≡ glob_imports.old) }
+
+        // All that the world's tables hold is the world's.
+        ensures checked { IsChecked self.new }
 
         // The module's scope is as after the push, and that of each other module as before.
         ensures scope { OnOk result (scope_of self.new lookup.0 ≡ scope_after (scope_of self.old lookup.0) glob_imports.old lookup.0 lookup.1 res import) }

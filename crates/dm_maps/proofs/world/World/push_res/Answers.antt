@@ -37,11 +37,17 @@ scope_is c =
 other_is : (c : goal.After-lawful) (k : ModuleId) → same_module c.args.lookup.0 k ≡ false → scope_of c.push_res.new.self k ≡ scope_of c.args.self.now k
 other_is c k other = ap (λ w. scope_of w k) (world_is c) ∙ scope_of-other (left c) c.args.self.now (was_checked c).lawful c.args.lookup.0 k other
 
-pub invariant_of-self-2 : goal.invariant_of-self-2
-invariant_of-self-2 c =
+is_checked : (c : goal.After-lawful) → IsCheckedWorld c.push_res.new.self
+is_checked c =
     let w = c.args.self.now in
     IsCheckedWorld-scoped w c.push_res.new.self c.args.lookup.0 (left c) (was_checked c) c.lawful.ensures (world_is c)
     (scope_after-holds (λ h. IsTrue (knows w h)) (scope_of w c.args.lookup.0) c.args.glob_imports.now c.args.lookup.0 c.args.lookup.1 c.args.res c.args.import (scope-known w c.args.lookup.0 (was_checked c)) c.requires.known)
+
+pub invariant_of-self-2 : goal.invariant_of-self-2
+invariant_of-self-2 c = is_checked c
+
+pub returns-clause-checked : goal.returns-clause-checked
+returns-clause-checked c = (is_checked c).checked
 
 pub returns-clause-scope : goal.returns-clause-scope
 returns-clause-scope c = scope_is c
