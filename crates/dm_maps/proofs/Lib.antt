@@ -24,3 +24,4 @@ pub mod ScopeWrites
 pub mod WorldFacts
 pub mod Refusals
 pub mod InOrder
+pub mod CutPush

@@ -7,6 +7,8 @@ ghost use Rattle.dm_scope.specs.Scope.{Scope};
 ghost use Rattle.dm_scope.specs.Shows.{ScopePush, Shows, is_answered};
 ghost use Rattle.dm_held.specs.Pushes.{push_holds};
 ghost use Rattle.dm_maps.specs.Asked.{with_push};
+ghost use Rattle.dm_base.specs.Names.{Name};
+ghost use Rattle.dm_maps.specs.Cut.{among, cut};
 ghost use Rattle.dm_maps.specs.First.{IsChecked};
 ghost use Rattle.dm_maps.specs.Known.{KnowsAll};
 ghost use Rattle.dm_maps.specs.Trees.{IsWorld};
@@ -46,6 +48,9 @@ impl World {
         // The module's scope is as after the push, and that of each other module as before.
         ensures scope { OnOk result (scope_of self.new lookup.0 ≡ scope_after (scope_of self.old lookup.0) glob_imports.old lookup.0 lookup.1 res import) }
         ensures others { (k : ModuleId) → same_module lookup.0 k ≡ false → scope_of self.new k ≡ scope_of self.old k }
+
+        // What the world has under other names than the pushed one is as before.
+        ensures others_stay { (N : List Name) → among N lookup.1 ≡ false → cut self.new N ≡ cut self.old N }
 
         // Where the module's scope and the table show a list of pushes, they show it with this push after it, and the answer
         // is as that list says. After want of memory, and in another module, what was shown is shown.

@@ -6,9 +6,11 @@ use Rattle.dm_scope.specs.Scope.{Scope}
 use Rattle.dm_scope.specs.Shows.{Shows}
 use Rattle.dm_held.specs.declared.held.HeldId.TheVariants as held
 use Rattle.dm_maps.specs.Asked.{with_push}
+use Rattle.dm_maps.specs.Cut.{cut}
 use Rattle.dm_maps.specs.Known.{knows}
 use Rattle.dm_maps.specs.Sound.{IsCheckedWorld}
 use Rattle.dm_maps.specs.World.{World, scope_of, with_scope}
+use Rattle.dm_maps.proofs.CutPush.{push-cut}
 use Rattle.dm_maps.proofs.PushedScope.{scope_after-holds}
 use Rattle.dm_maps.proofs.ScopeWrites.{scope_of-own, scope_of-other, scope-known, IsCheckedWorld-scoped}
 use Rattle.dm_maps.proofs.WorldFacts.{scope-there}
@@ -54,6 +56,10 @@ returns-clause-scope c = scope_is c
 
 pub returns-clause-others : goal.returns-clause-others
 returns-clause-others c k other = other_is c k other
+
+pub returns-clause-others_stay : goal.returns-clause-others_stay
+returns-clause-others_stay c N other =
+    ap (λ w. cut w N) (world_is c) ∙ push-cut c.args.self.now N c.args.glob_imports.now c.args.lookup.0 c.args.lookup.1 c.args.res c.args.import other
 
 pub returns-clause-shown : goal.returns-clause-shown
 returns-clause-shown c ps shown =

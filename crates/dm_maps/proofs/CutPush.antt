@@ -1,0 +1,100 @@
+-- A push under a name outside a list leaves what is cut by it.
+use Rattle.std.proofs.Common.{◌≡◌, ℕ, zero, suc, Bool, true, false, cond, List, [], ◌∷◌, Option, None, Some, refl, sym, ◌∙◌, ap, map, set, slice_get}
+use Rattle.std.specs.Prelude.{slice_set}
+use Rattle.std.specs.List.{list_any}
+use Rattle.std.specs.Option.{option_map_or, option_and_then}
+use Rattle.std.proofs.lemmas.Bool.{cond-false}
+use Rattle.std.proofs.lemmas.Map.Steps.{list_any_congr}
+use Rattle.std.proofs.lemmas.Cmp.{nat_list_eq_equiv}
+use Rattle.indexmap.specs.IndexMap.{set_value_at, insert_entry}
+use Rattle.dm_ids.specs.declared.BlockId.{BlockId}
+use Rattle.dm_ids.specs.declared.ModuleId.{ModuleId}
+use Rattle.dm_base.specs.declared.imports.ImportOrExternCrate.{ImportOrExternCrate}
+use Rattle.dm_base.specs.declared.per_ns.Item.{Item}
+use Rattle.dm_base.specs.declared.per_ns.PerNs.{PerNs}
+use Rattle.dm_base.specs.Names.{Name, same_name, find_name}
+use Rattle.dm_scope.specs.Bindings as b
+use Rattle.dm_scope.specs.Bindings.{Bound}
+use Rattle.dm_scope.specs.Flags.{Flags, Globs, has_flag}
+use Rattle.dm_scope.specs.Push.{types_reading, values_reading, macros_reading, scope_after}
+use Rattle.dm_scope.specs.Scope.{Scope, no_scope}
+use Rattle.dm_modules.specs.Maps.{Map, Module, Modules, nth_module, put_scope, map_with_scope}
+use Rattle.dm_maps.proofs.ModuleGrowth.{map-set_own}
+use Rattle.dm_maps.specs.declared.place.Place.{Place}
+use Rattle.dm_maps.specs.Asked.{with_push}
+use Rattle.dm_maps.specs.World.{World, numbered_map, place_of, scope_of, maps_with_scope, with_scope, with_scope_in, module_in}
+use Rattle.dm_maps.specs.Cut.{among, kept, cut_bound, cut_scope, cut_module, cut_map, cut}
+
+kept-insert : {A : Type 0} (N : List Name) (n : Name) (v : A) → among N n ≡ false → (es : List (Name × A)) → kept N (insert_entry same_name es n v) ≡ kept N es
+kept-insert N n v h [] = cond-false (among N n) _ _ h
+kept-insert {A} N n v h (e ∷ es) = go (same_name n e.0) refl (kept-insert N n v h es)
+  where
+    go : (b : Bool) → same_name n e.0 ≡ b → kept N (insert_entry same_name es n v) ≡ kept N es → kept N (cond b ((e.0, v) ∷ es) (e ∷ insert_entry same_name es n v)) ≡ kept N (e ∷ es)
+    go true y r =
+        let gone : among N e.0 ≡ false = sym (list_any_congr nat_list_eq_equiv n e.0 N y) ∙ h in
+        cond-false (among N e.0) _ _ gone ∙ sym (cond-false (among N e.0) _ _ gone)
+    go false y r = ap (λ l. cond (among N e.0) (e ∷ l) l) r
+
+bound-after : {D I : Type 0} (r : b.Reading D I) (N : List Name) (n : Name) → among N n ≡ false → (s : Bound D I) (fs : Flags) (m : ModuleId) (item : Option (Item D I)) (by : Option ImportOrExternCrate)
+    → cut_bound N (b.bound_after r s fs m n item by) ≡ cut_bound N s
+bound-after r N n h s fs m None by = refl
+bound-after r N n h s fs m (Some x) by = go (b.writes r (find_name n s.items) (has_flag fs m n) x (b.import_of r by))
+  where
+    go : (c : Bool) → cut_bound N (cond c (b.bound r s n x (b.import_of r by)) s) ≡ cut_bound N s
+    go true = ap (λ es. record { items = es; records = [] }) (kept-insert N n (b.stored r x (b.import_of r by)) h s.items)
+    go false = refl
+
+scope-pushed : (N : List Name) (n : Name) → among N n ≡ false → (s : Scope) (g : Globs) (m : ModuleId) (x : PerNs) (by : Option ImportOrExternCrate) → cut_scope N (scope_after s g m n x by) ≡ cut_scope N s
+scope-pushed N n h s g m x by = λ i. record (cut_scope N s) {
+  types = bound-after types_reading N n h s.types g.types m x.types by i;
+  values = bound-after values_reading N n h s.values g.values m x.values by i;
+  macros = bound-after macros_reading N n h s.macros g.macros m x.macros by i;
+}
+
+abbrev cut_entries : List Name → Modules → Modules
+cut_entries N es = map (λ e. (e.0, cut_module N e.1)) es
+
+entries-cut : (N : List Name) (es : Modules) (k : ℕ) (d e : Module) → nth_module es k ≡ Some d → cut_module N e ≡ cut_module N d → cut_entries N (set_value_at es k e) ≡ cut_entries N es
+entries-cut N [] k d e h p = refl
+entries-cut N (x ∷ es) zero d e h p = let same : x.1 ≡ d = cc in ap (λ o. (x.0, o) ∷ cut_entries N es) (p ∙ ap (cut_module N) (sym same))
+entries-cut N (x ∷ es) (suc k) d e h p = ap (λ l. (x.0, cut_module N x.1) ∷ l) (entries-cut N es k d e h p)
+
+abbrev scope_of_module : Option Module → Scope
+scope_of_module o = option_map_or (λ d. d.scope) o no_scope
+
+map-cut : (N : List Name) (m : Map) (k : ℕ) (s : Scope) → cut_scope N s ≡ cut_scope N (scope_of_module (nth_module m.modules k)) → cut_map N (map_with_scope m k s) ≡ cut_map N m
+map-cut N m k s same = ap (λ es. record (cut_map N m) { modules = es }) (go (nth_module m.modules k) refl same)
+  where
+    go : (o : Option Module) → nth_module m.modules k ≡ o → cut_scope N s ≡ cut_scope N (scope_of_module o)
+        → cut_entries N (put_scope m.modules k o s) ≡ cut_entries N m.modules
+    go None is p = refl
+    go (Some d) is p = entries-cut N m.modules k d (record d { scope = s }) is (ap (λ c. record d { scope = c }) p)
+
+maps-cut : (N : List Name) (ms : List Map) (k j : ℕ) (s : Scope) → cut_scope N s ≡ cut_scope N (scope_of_module (option_and_then (λ m. nth_module m.modules j) (slice_get ms k))) → map (cut_map N) (maps_with_scope ms k j s) ≡ map (cut_map N) ms
+maps-cut N ms k j s same = go (slice_get ms k) refl same
+  where
+    go : (o : Option Map) → slice_get ms k ≡ o → cut_scope N s ≡ cut_scope N (scope_of_module (option_and_then (λ m. nth_module m.modules j) o)) → map (cut_map N) (option_map_or (λ m. slice_set ms k (map_with_scope m j s)) o ms) ≡ map (cut_map N) ms
+    go None is p = refl
+    go (Some m) is p = map-set_own (cut_map N) ms k m (map_with_scope m j s) is (map-cut N m j s p)
+
+world-cut : (w : World) (N : List Name) (p : Place) (s : Scope) → cut_scope N s ≡ cut_scope N (scope_of_module (module_in w p)) → cut (with_scope_in w (Some p) s) N ≡ cut w N
+world-cut w N p s same = go p.map.block same
+  where
+    at : Option BlockId → Place
+    at c = record p { map = record { krate = p.map.krate; block = c } }
+
+    go : (c : Option BlockId) → cut_scope N s ≡ cut_scope N (scope_of_module (module_in w (at c))) → cut (with_scope_in w (Some (at c)) s) N ≡ cut w N
+    go None q = ap (λ ms. record (cut w N) { crate_maps = ms }) (maps-cut N w.crate_maps p.map.krate.0 p.index s q)
+    go (Some c) q = ap (λ ms. record (cut w N) { block_maps = ms }) (maps-cut N w.block_maps c.0 p.index s q)
+
+-- a change of one scope that leaves what is cut of it leaves what is cut of the world
+with_scope-cut : (w : World) (N : List Name) (m : ModuleId) (s : Scope) → cut_scope N s ≡ cut_scope N (scope_of w m) → cut (with_scope w m s) N ≡ cut w N
+with_scope-cut w N m s same = go (place_of w m) same
+  where
+    go : (o : Option Place) → cut_scope N s ≡ cut_scope N (scope_of_module (option_and_then (module_in w) o)) → cut (with_scope_in w o s) N ≡ cut w N
+    go None p = refl
+    go (Some q) p = world-cut w N q s p
+
+-- a push leaves the cut by each list without its name
+pub push-cut : (w : World) (N : List Name) (g : Globs) (m : ModuleId) (n : Name) (x : PerNs) (by : Option ImportOrExternCrate) → among N n ≡ false → cut (with_push w g m n x by) N ≡ cut w N
+push-cut w N g m n x by h = with_scope-cut w N m (scope_after (scope_of w m) g m n x by) (scope-pushed N n h (scope_of w m) g m x by)
