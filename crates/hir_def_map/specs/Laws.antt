@@ -1,7 +1,7 @@
 -- What holds of every answer.
 use Rattle.std.specs.Prelude.{◌≡◌, ◌≤◌, ◌<◌, ℕ}
 use Rattle.std.specs.Option.{ForSome}
-use Rattle.dm_base.specs.Items.{nothing}
+use Rattle.dm_base.specs.PerNs.{nothing}
 use Rattle.hir_def_map.specs.declared.result.ReachedFixedPoint.TheVariants.{No}
 use Rattle.hir_def_map.specs.declared.result.ResolvePathResult.{ResolvePathResult}
 
