@@ -1,7 +1,6 @@
 -- A push under a name outside a list leaves what is cut by it.
-use Rattle.std.proofs.Common.{◌≡◌, ℕ, zero, suc, Bool, true, false, cond, List, [], ◌∷◌, Option, None, Some, refl, sym, ◌∙◌, ap, map, set, slice_get}
+use Rattle.std.proofs.Common.{◌≡◌, ℕ, zero, suc, Bool, true, false, cond, List, [], ◌∷◌, Option, None, Some, refl, sym, ◌∙◌, ap, map, slice_get}
 use Rattle.std.specs.Prelude.{slice_set}
-use Rattle.std.specs.List.{list_any}
 use Rattle.std.specs.Option.{option_map_or, option_and_then}
 use Rattle.std.proofs.lemmas.Bool.{cond-false}
 use Rattle.std.proofs.lemmas.Map.Steps.{list_any_congr}
@@ -22,7 +21,7 @@ use Rattle.dm_modules.specs.Maps.{Map, Module, Modules, nth_module, put_scope, m
 use Rattle.dm_maps.proofs.ModuleGrowth.{map-set_own}
 use Rattle.dm_maps.specs.declared.place.Place.{Place}
 use Rattle.dm_maps.specs.Asked.{with_push}
-use Rattle.dm_maps.specs.World.{World, numbered_map, place_of, scope_of, maps_with_scope, with_scope, with_scope_in, module_in}
+use Rattle.dm_maps.specs.World.{World, place_of, scope_of, maps_with_scope, with_scope, with_scope_in, module_in}
 use Rattle.dm_maps.specs.Cut.{among, kept, cut_bound, cut_scope, cut_module, cut_map, cut}
 
 kept-insert : {A : Type 0} (N : List Name) (n : Name) (v : A) → among N n ≡ false → (es : List (Name × A)) → kept N (insert_entry same_name es n v) ≡ kept N es

@@ -1,6 +1,6 @@
 -- An answer reads of a world only what stands under the path's segments.
-use Rattle.std.proofs.Common.{◌≡◌, ℕ, Bool, true, false, cond, List, [], ◌∷◌, Option, None, Some, refl, sym, ◌∙◌, ap, map, length}
-use Rattle.std.specs.List.{All, Contains, list_any}
+use Rattle.std.proofs.Common.{◌≡◌, ℕ, true, false, List, [], ◌∷◌, Option, None, Some, refl, sym, ◌∙◌, ap, map}
+use Rattle.std.specs.List.{All, Contains}
 use Rattle.std.specs.Option.{option_map, option_map_or, option_and_then}
 use Rattle.std.specs.Map.{lookup}
 use Rattle.std.specs.Prelude.{slice_get}
@@ -13,7 +13,6 @@ use Rattle.std.proofs.lemmas.Map.Made.{lookup-map_values}
 use Rattle.std.proofs.lemmas.Map.Steps.{list_any_congr}
 use Rattle.std.proofs.lemmas.Cmp.{nat_list_eq_equiv}
 use Rattle.dm_ids.specs.declared.BlockId.{BlockId}
-use Rattle.dm_ids.specs.declared.Crate.{Crate}
 use Rattle.dm_ids.specs.declared.EnumId.{EnumId}
 use Rattle.dm_ids.specs.declared.EnumVariantId.{EnumVariantId}
 use Rattle.dm_ids.specs.declared.MapId.{MapId}
@@ -27,9 +26,9 @@ use Rattle.dm_scope.specs.Scope.{Scope, no_scope, bound_in, legacy_in, last_of}
 use Rattle.dm_tables.specs.Variants.{same_enum}
 use Rattle.dm_modules.specs.Maps.{Map, Module, Modules, LocalMap, nth_module}
 use Rattle.dm_maps.specs.declared.place.Place.{Place}
-use Rattle.dm_maps.specs.Readings.{setting_of, read, root_of, block_root_of, is_2015_in, is_edition_2015, prelude_in, styles_in, variants_of, macro_uses_of}
-use Rattle.dm_maps.specs.Trees.{tree_of, tree_by, containers_of}
-use Rattle.dm_maps.specs.World.{World, numbered_map, crate_map, place_of, module_in, module_of, scope_of}
+use Rattle.dm_maps.specs.Readings.{setting_of, read, is_edition_2015, styles_in, variants_of, macro_uses_of}
+use Rattle.dm_maps.specs.Trees.{tree_of, tree_by}
+use Rattle.dm_maps.specs.World.{World, numbered_map, crate_map, place_of, module_in, scope_of}
 use Rattle.hir_def_map.specs.declared.question.Ask.{Ask}
 use Rattle.hir_def_map.specs.Paths.{answer, answer_of}
 use Rattle.dm_maps.specs.Cut.{among, kept, last_alone, cut_scope, cut_module, cut_prelude, cut_map, cut, cut_local}

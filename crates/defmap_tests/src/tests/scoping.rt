@@ -222,6 +222,37 @@ fn modules_in_the_place_of_blocks_answer_for_themselves(rt: HostRuntime) -> Resu
     Ok(())
 }
 
+/// The world of two crates and two blocks, which binds one more name in each of its modules.
+fn world_with_another_name(alloc: Global) -> Result<String, AllocError> {
+    let mut script = String::new(alloc);
+    for line in WORLD_A.lines() {
+        if line == "check" {
+            for m in 0..9 {
+                let push = format!(in alloc; "push {m} nz struct:1/pub/none - - none\n=> true")?;
+                push_line(&mut script, push.as_str())?;
+            }
+        }
+        push_line(&mut script, line)?;
+    }
+    transcript(alloc, script.as_str(), PUSHED)
+}
+
+#[test]
+fn names_that_are_no_segments_leave_the_answers(rt: HostRuntime) -> Result<(), Fail> {
+    let world = world_with_another_name(rt.alloc())?;
+    assert_transcripts(&rt, rt.alloc(), world.as_str(), ANSWERS)?;
+    Ok(())
+}
+
+#[test]
+fn a_push_of_another_name_leaves_the_answers(rt: HostRuntime) -> Result<(), Fail> {
+    let world = transcript(rt.alloc(), WORLD_A, PUSHED)?;
+    let push = "push 0 nz struct:1/pub/none - - none\n=> true";
+    let whole = format!(in rt.alloc(); "{world}{ANSWERS}\n{push}\n{ANSWERS}\n")?;
+    assert_transcript(&rt, rt.alloc(), whole.as_str())?;
+    Ok(())
+}
+
 /// Five hundred blocks, the first in module 0, each other in the root of the one before.
 fn deep_blocks(alloc: Global) -> Result<String, AllocError> {
     let mut script = String::new(alloc);
