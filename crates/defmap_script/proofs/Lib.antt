@@ -1,3 +1,4 @@
+mod Refusals
 pub mod LineLemmas
 pub mod RunLemmas
 pub mod WordLemmas

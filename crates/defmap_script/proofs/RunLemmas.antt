@@ -3,11 +3,10 @@ use Rattle.std.proofs.Common.{◌≡◌, ◌⊎◌, ℕ, ◌+◌, ◌≤◌, Lis
 use Rattle.std.proofs.lemmas.List.Splits.{length-slice_split}
 use Rattle.std.proofs.lemmas.List.Sums.{count_by-le-length}
 use Rattle.defmap_script.specs.declared.fault.Fault.{Fault}
-use Rattle.defmap_script.specs.declared.fault.Fault.TheVariants.{OutOfMemory}
 use Rattle.defmap_script.specs.declared.script.RunEnd.{RunEnd}
 use Rattle.defmap_script.specs.declared.script.RunEnd.TheVariants.{Done}
 use Rattle.defmap_script.specs.Engine.{Tool, IsLineStep}
-use Rattle.defmap_script.specs.Faults.{refusal}
+use Rattle.defmap_script.specs.Faults.{refusal, IsRefused}
 use Rattle.defmap_script.specs.Runs.{Runs, lines, end_of}
 
 -- A run of ls from t may print q and then go on as a run of `rest` from u does.
@@ -27,7 +26,7 @@ pub goes_on-end : (t u : Tool) (n k : ℕ) (ls : List (List ℕ)) (q : List ℕ)
 goes_on-end t u n k ls q h = subst (λ printed. Runs t n ls printed Done) (append-nil q) (h.by [] Done (refl, refl))
 
 pub goes_on-refused : (t u : Tool) (n k : ℕ) (ls rest : List (List ℕ)) (q p l : List ℕ) (f : Fault) → GoesOn t n ls q u k (l ∷ rest)
-    → (f ≡ OutOfMemory) ⊎ IsLineStep u l (Err f) → (p ≡ refusal k f) ⊎ (p ≡ []) → Runs t n ls (q ++ p) (end_of f)
+    → IsRefused (IsLineStep u l) f → (p ≡ refusal k f) ⊎ (p ≡ []) → Runs t n ls (q ++ p) (end_of f)
 goes_on-refused t u n k ls rest q p l f h why line = h.by p (end_of f) (inr (f, why, line, refl))
 
 -- an input has at most one line more than bytes
@@ -52,6 +51,6 @@ pub ran-end : (a b : List ℕ) (ls rest : List (List ℕ)) (t u : Tool) (k : ℕ
 ran-end a b ls rest t u k ended (q, e, g) = (q, e, goes_on-end t u 1 k ls q (subst (λ left. GoesOn t 1 ls q u k left) ended g))
 
 pub ran-refused : (a b c l : List ℕ) (ls rest : List (List ℕ)) (t u : Tool) (k : ℕ) (f : Fault) → Printed a b t ls u k (l ∷ rest)
-    → (f ≡ OutOfMemory) ⊎ IsLineStep u l (Err f) → (c ≡ b ++ refusal k f) ⊎ (c ≡ b) → Ran a c t ls (end_of f)
+    → IsRefused (IsLineStep u l) f → (c ≡ b ++ refusal k f) ⊎ (c ≡ b) → Ran a c t ls (end_of f)
 ran-refused a b c l ls rest t u k f (q, e, g) why (inl h) = (q ++ refusal k f, longer a b c q (refusal k f) e h, goes_on-refused t u 1 k ls rest q (refusal k f) l f g why (inl refl))
 ran-refused a b c l ls rest t u k f (q, e, g) why (inr h) = (q ++ [], longer a b c q [] e (h ∙ sym (append-nil b)), goes_on-refused t u 1 k ls rest q [] l f g why (inr refl))

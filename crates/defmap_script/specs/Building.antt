@@ -1,5 +1,5 @@
 -- What the lines that add leave of a builder.
-use Rattle.std.specs.Prelude.{◌≡◌, ◌⊎◌, Option, Some, None, Result, Ok, Err, MatchResult, slice_get}
+use Rattle.std.specs.Prelude.{◌≡◌, Option, Some, None, Result, Ok, Err, MatchResult, slice_get}
 use Rattle.std.specs.Option.{option_map_or}
 use Rattle.dm_base.specs.Names.{Name, same_name}
 use Rattle.dm_ids.specs.declared.BlockId.{BlockId}
@@ -33,7 +33,7 @@ use Rattle.defmap_script.specs.declared.build_words.MapName.TheVariants as named
 use Rattle.defmap_script.specs.declared.fault.Fault.{Fault}
 use Rattle.defmap_script.specs.declared.fault.Fault.TheVariants as faults
 use Rattle.defmap_script.specs.BuildLines.{Added, NewCrate, NewModule, NewBlock, NewUse, NewItem, NewVariant, NewMacro, NewPrelude, NewMacroUse, NewExtern, NewLegacy, NewRaw}
-use Rattle.defmap_script.specs.Faults.{build_fault}
+use Rattle.defmap_script.specs.Faults.{build_fault, IsRefused}
 
 abbrev pub file_of : FileId → Edition → EditionedFileId
 file_of f e = record { file = f; edition = e }
@@ -85,6 +85,6 @@ added_to w (NewExtern k n m x) = built (krate_fault w k) (with_extern_of w k n m
 added_to w (NewLegacy m n l) = with_legacy w m n l (own_scope w m)
 added_to w (NewRaw n) = Ok (with_raw w n)
 
--- a call that leaves what r has, or is refused: for its fault or for want of memory
+-- a call that leaves what r has, or is refused: for its fault, or for want of memory where it has none
 abbrev pub Leaves : Result World Fault → Result (Unit {0}) Fault → World → Type 0
-Leaves r result new = MatchResult result (λ _. r ≡ Ok new) (λ f. (f ≡ faults.OutOfMemory) ⊎ (r ≡ Err f))
+Leaves r result new = MatchResult result (λ _. r ≡ Ok new) (IsRefused (λ s. r ≡ s))

@@ -28,6 +28,7 @@ use Rattle.defmap_script.specs.declared.fault.Fault.TheVariants as faults
 use Rattle.defmap_script.specs.declared.lines.Pushing.{Pushing}
 use Rattle.defmap_script.specs.declared.lines.Reach.TheVariants.{Outwards, Alone}
 use Rattle.defmap_script.specs.Building.{added_to}
+use Rattle.defmap_script.specs.Faults.{IsRefused}
 use Rattle.defmap_script.specs.Lines.{Asked, Asking, Said, said, Adds, Pushes, Checks, Reopens, Asks, Looks, Silence, Sense, Nonsense}
 use Rattle.defmap_script.specs.Seeing.{sight}
 use Rattle.defmap_script.specs.Texts.{answer_text, visibility_text}
@@ -132,9 +133,9 @@ IsStepAt (Checked w) g a r = IsWorldStep w g a r
 abbrev pub IsStep : Tool → Asked → Result (Tool × Reply) Fault → Type 0
 IsStep t a r = IsStepAt t.stage t.globs a r
 
--- a call that steps from t to u, or is refused: for the step's fault or for want of memory
+-- a call that steps from t to u, or is refused
 abbrev pub Steps : Tool → Asked → Result Reply Fault → Tool → Type 0
-Steps t a r u = MatchResult r (λ reply. IsStep t a (Ok (u, reply))) (λ f. (f ≡ faults.OutOfMemory) ⊎ IsStep t a (Err f))
+Steps t a r u = MatchResult r (λ reply. IsStep t a (Ok (u, reply))) (IsRefused (IsStep t a))
 
 -- ---- Lines
 
@@ -151,12 +152,11 @@ IsSaidStep t (Sense a) r = (s : Result (Tool × Reply) Fault) × IsStep t a s ×
 abbrev pub IsLineStep : Tool → List ℕ → Result (Tool × List ℕ) Fault → Type 0
 IsLineStep t line r = IsSaidStep t (said line) r
 
--- a line makes the tool t that of its step and appends what that prints; or it is refused, for its fault or for want of memory, and
--- appends nothing
+-- a line makes the tool t that of its step and appends what that prints; or it is refused, and appends nothing
 abbrev pub LineSteps : Tool → List ℕ → List ℕ → Result (Unit {0}) Fault → Tool → List ℕ → Type 0
 LineSteps t line out r u new = MatchResult r
     (λ _. (printed : List ℕ) × IsLineStep t line (Ok (u, printed)) × (new ≡ out ++ printed))
-    (λ f. ((f ≡ faults.OutOfMemory) ⊎ IsLineStep t line (Err f)) × (new ≡ out))
+    (λ f. IsRefused (IsLineStep t line) f × (new ≡ out))
 
 -- ---- Calls with the builder
 
@@ -164,7 +164,7 @@ LineSteps t line out r u new = MatchResult r
 abbrev pub PushesBy : World → Globs → ModuleId → Name → PerNs → Option ImportOrExternCrate → Result Reply Fault → World → Globs → Type 0
 PushesBy w g m n x i r v h = MatchResult r
     (λ reply. pushed w g m n x i (own_scope w m) ≡ Ok (building v h, reply))
-    (λ f. (f ≡ faults.OutOfMemory) ⊎ (pushed w g m n x i (own_scope w m) ≡ Err f))
+    (IsRefused (λ s. pushed w g m n x i (own_scope w m) ≡ s))
 
 abbrev pub PushesInto : World → Globs → Pushing → Result Reply Fault → World → Globs → Type 0
 PushesInto w g p r v h = PushesBy w g p.module p.name.now p.res p.import r v h
@@ -175,7 +175,7 @@ PushesInto w g p r v h = PushesBy w g p.module p.name.now p.res p.import r v h
 abbrev pub PushesWithinBy : World → Globs → ModuleId → Name → PerNs → Option ImportOrExternCrate → Result Reply Fault → World → Globs → Type 0
 PushesWithinBy w g m n x i r v h = MatchResult r
     (λ reply. IsWorldPush w g m n x i (Ok (record { stage = Checked v; globs = h }, reply)))
-    (λ f. (f ≡ faults.OutOfMemory) ⊎ IsWorldPush w g m n x i (Err f))
+    (IsRefused (IsWorldPush w g m n x i))
 
 abbrev pub PushesWithin : World → Globs → Pushing → Result Reply Fault → World → Globs → Type 0
 PushesWithin w g p r v h = PushesWithinBy w g p.module p.name.now p.res p.import r v h
@@ -186,6 +186,6 @@ Finds w q r = MatchOption r
     ((map : Map) (local : LocalMap) → ¬ (IsKnownQuestion w q map local))
     (λ p. IsKnownQuestion w q p.0.now p.1.now × (numbered_map w p.0.now.id ≡ Some p.0.now) × IsSome (module_at p.0.now.modules q.from) × KnowsAll w (local_holds p.1.now))
 
--- a call that answers a question, or is refused for it or for want of memory
+-- a call that answers a question, or is refused
 abbrev pub Answers : World → Asking → Result Reply Fault → Type 0
-Answers w q r = IsAnswered w q r ⊎ (r ≡ Err faults.OutOfMemory)
+Answers w q r = MatchResult r (λ reply. IsAnswered w q (Ok reply)) (IsRefused (IsAnswered w q))

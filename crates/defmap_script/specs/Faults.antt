@@ -1,5 +1,5 @@
 -- Why a line is refused, and the words that say so.
-use Rattle.std.specs.Prelude.{ℕ, List, ◌++◌, Option, Some, None, codes}
+use Rattle.std.specs.Prelude.{◌≡◌, ◌⊎◌, ℕ, List, ◌++◌, Option, Some, None, Result, Ok, Err, codes}
 use Rattle.std.specs.Fmt.{decimal}
 use Rattle.dm_ids.specs.declared.BlockId.{BlockId}
 use Rattle.dm_maps.specs.declared.build_fault.BuildFault.{BuildFault}
@@ -11,6 +11,10 @@ use Rattle.dm_held.specs.declared.fault.WorldFaultKind.{WorldFaultKind}
 use Rattle.dm_held.specs.declared.fault.WorldFaultKind.TheVariants as kind
 use Rattle.defmap_script.specs.declared.fault.Fault.{Fault}
 use Rattle.defmap_script.specs.declared.fault.Fault.TheVariants.{BadLine, NeedsWorld, NeedsBuilder, Unknown, Build, World, OutOfMemory}
+
+-- Want of memory comes last: a line with these outcomes is refused for its fault, or for want of memory where with more it would be answered.
+abbrev pub IsRefused : {A : Type 0} → (Result A Fault → Type 0) → Fault → Type 0
+IsRefused {A} outcome f = outcome (Err f) ⊎ ((f ≡ OutOfMemory) × (a : A) × outcome (Ok a))
 
 -- a builder's want of memory is the run's
 abbrev pub build_fault : BuildFault → Fault

@@ -7,7 +7,7 @@ use Rattle.defmap_script.specs.declared.script.Lines.{Lines}
 use Rattle.defmap_script.specs.declared.script.RunEnd.{RunEnd}
 use Rattle.defmap_script.specs.declared.script.RunEnd.TheVariants as ends
 use Rattle.defmap_script.specs.Engine.{Tool, IsLineStep}
-use Rattle.defmap_script.specs.Faults.{refusal}
+use Rattle.defmap_script.specs.Faults.{refusal, IsRefused}
 
 -- the lines of an input, which line feeds part
 abbrev pub lines : List ℕ → List (List ℕ)
@@ -22,9 +22,9 @@ end_of OutOfMemory = ends.OutOfMemory
 end_of _ = ends.Refused
 
 -- What the lines from number n on print from there, and how the run ends. Each line prints what it answers, whole. The first that is
--- refused ends the run, for its fault or for want of memory, with a line that names it; there may be no memory for that line.
+-- refused ends the run with a line that names why; there may be no memory for that line.
 abbrev pub Runs : Tool → ℕ → List (List ℕ) → List ℕ → RunEnd → Type 0
 Runs t n [] printed end = (printed ≡ []) × (end ≡ ends.Done)
 Runs t n (l ∷ ls) printed end =
     ((s : Tool × List ℕ) × (more : List ℕ) × IsLineStep t l (Ok s) × (printed ≡ s.1 ++ more) × Runs s.0 (n + 1) ls more end)
-    ⊎ ((f : Fault) × ((f ≡ OutOfMemory) ⊎ IsLineStep t l (Err f)) × ((printed ≡ refusal n f) ⊎ (printed ≡ [])) × (end ≡ end_of f))
+    ⊎ ((f : Fault) × IsRefused (IsLineStep t l) f × ((printed ≡ refusal n f) ⊎ (printed ≡ [])) × (end ≡ end_of f))

@@ -1,5 +1,8 @@
 //! What the lines that add do to a builder. Where one is refused, the run ends.
 ghost use Rattle.std.specs.Prelude.{◌≡◌};
+ghost use Rattle.std.specs.Option.{option_map_or};
+ghost use Rattle.defmap_script.specs.Faults.{build_fault};
+ghost use Rattle.defmap_script.specs.declared.fault.Fault.TheVariants.{OutOfMemory};
 ghost use Rattle.defmap_script.specs.BuildLines.{added, NewCrate, NewModule, NewBlock, NewUse, NewItem, NewVariant, NewMacro, NewPrelude, NewMacroUse, NewExtern, NewLegacy, NewRaw};
 ghost use Rattle.defmap_script.specs.Building.{added_to, ast_of, crate_of_block, inline, map_id, own_file, Leaves};
 
@@ -13,11 +16,24 @@ use dm_base::macros::MacroLoc;
 use dm_base::name::Name;
 use dm_base::source::{AstId, Edition, EditionedFileId, HirFileId, TreeId};
 use dm_base::visibility::Visibility;
+use dm_held::held::HeldId;
+use dm_held::known_ids::KnownIds;
+use dm_maps::build_fault::BuildFault;
 use dm_maps::builder::WorldBuilder;
 use dm_maps::module_origin::ModuleOrigin;
 use std::alloc::Global;
 
-/// Adds what a line adds.
+/// Why a line is refused whose name memory does not suffice for: that comes last.
+fn refusal(fault: Option<BuildFault>) -> Fault
+    ensures { result ≡ option_map_or build_fault fault OutOfMemory }
+{
+    match fault {
+        None => Fault::OutOfMemory,
+        Some(fault) => Fault::from(fault),
+    }
+}
+
+/// Adds what a line adds. Want of memory is refused last.
 pub(crate) fn add(
     builder: &mut WorldBuilder,
     alloc: Global,
@@ -68,7 +84,10 @@ fn add_module(
 ) -> Result<(), Fault>
     ensures { Leaves (added_to builder.old (NewModule parent name.now visibility)) result builder.new }
 {
-    let name = Name::new(alloc, name)?;
+    let name = match Name::new(alloc, name) {
+        Ok(name) => name,
+        Err(_refused) => return Err(refusal(builder.child_fault(parent, name))),
+    };
     builder.add_module(parent, name, inline(), visibility)?;
     Ok(())
 }
@@ -140,7 +159,10 @@ fn add_variant(
 ) -> Result<(), Fault>
     ensures { Leaves (added_to builder.old (NewVariant of name.now shape)) result builder.new }
 {
-    let name = Name::new(alloc, name)?;
+    let name = match Name::new(alloc, name) {
+        Ok(name) => name,
+        Err(_refused) => return Err(refusal(builder.variant_fault(of, name))),
+    };
     builder.add_variant(of, name, shape)?;
     Ok(())
 }
@@ -198,7 +220,11 @@ fn add_macro_use(
     ensures { Leaves (added_to builder.old (NewMacroUse map name.now id by)) result builder.new }
 {
     let map = map_id(builder, map);
-    let name = Name::new(alloc, name)?;
+    let name = match Name::new(alloc, name) {
+        Ok(name) => name,
+        Err(refused) if !builder.lacks_map(map) => return Err(Fault::from(refused)),
+        Err(_) => return Err(Fault::Build(BuildFault::NoSuchCrate)),
+    };
     builder.add_macro_use(map, name, id, by)?;
     Ok(())
 }
@@ -213,7 +239,11 @@ fn add_extern(
 ) -> Result<(), Fault>
     ensures { Leaves (added_to builder.old (NewExtern krate name.now m by)) result builder.new }
 {
-    let name = Name::new(alloc, name)?;
+    let name = match Name::new(alloc, name) {
+        Ok(name) => name,
+        Err(refused) if builder.knows(HeldId::Crate(krate)) => return Err(Fault::from(refused)),
+        Err(_) => return Err(Fault::Build(BuildFault::NoSuchCrate)),
+    };
     builder.add_extern(krate, name, m, by)?;
     Ok(())
 }

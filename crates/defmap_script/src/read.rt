@@ -6,15 +6,17 @@ use std::io::Read;
 /// How reading the whole input failed.
 #[derive(Clone, Copy, PartialEq, Eq, Debug)]
 pub enum ReadFault {
-    /// A read failed, or the input did not end.
+    /// A read failed.
     Failed,
+    /// The input had not ended after 16,777,216 reads.
+    Endless,
     OutOfMemory,
 }
 
 /// Reads to the end of the input, behind what is in `input` already.
 ///
-/// Fails where a read fails, where the input has not ended after 16,777,216 reads, and where memory runs out. What was
-/// read until then stays in `input`.
+/// Fails where a read fails, where the input has not ended after 16,777,216 reads, and where memory runs out, and says which it
+/// was. What was read until then stays in `input`.
 pub fn read_all<R: Read>(reader: &mut R, input: &mut Vec<u8>) -> Result<(), ReadFault>
     ensures ok { OnOk result (IfSome (R.remaining reader.old) (λ bytes. input.new.items ≡ input.old.items ++ bytes)) }
     ensures err { OnErr result (take (length input.old.items) input.new.items ≡ input.old.items) }
@@ -31,5 +33,5 @@ pub fn read_all<R: Read>(reader: &mut R, input: &mut Vec<u8>) -> Result<(), Read
             }
         }
     }
-    Err(ReadFault::Failed)
+    Err(ReadFault::Endless)
 }

@@ -4,6 +4,7 @@ mod paths;
 mod refusals;
 mod scoping;
 mod seeing;
+mod texts;
 mod worlds;
 
 use defmap_script::script::{RunEnd, run_script};

@@ -1,5 +1,4 @@
 pub mod HomeLemmas
-pub mod IdLemmas
 pub mod TreeLemmas
 pub mod PathLemmas
 pub mod SeesLemmas

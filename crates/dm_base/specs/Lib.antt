@@ -13,3 +13,4 @@ pub mod Overlays
 pub mod ItemHomes
 pub mod Files
 pub mod VisibilityRows
+pub mod IdLaws

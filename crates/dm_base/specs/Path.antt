@@ -1,8 +1,10 @@
 -- Paths, as contracts see them.
-use Rattle.std.specs.Prelude.{ℕ, List, Bool, nat_eq}
+use Rattle.std.specs.Prelude.{◌≡◌, ℕ, List, [], ◌∷◌, Bool, true, nat_eq, refl}
 use Rattle.std.specs.Ordering.{on, eq_of_both}
 use Rattle.std.specs.Cmp.{IsEquivalence, and_equiv, on_equiv, nat_eq_equiv}
-use Rattle.std.specs.Cmp.Lexicographic.{pointwise, lists_equiv, nat_list_eq_equiv}
+use Rattle.std.specs.Cmp.Lexicographic.{pointwise, bytes_decides, lists_equiv, nat_list_eq_equiv}
+use Rattle.std.proofs.Common.{rules}
+use Rattle.std.proofs.lemmas.Bool.{and_parts}
 use Rattle.dm_base.specs.Names.{Name}
 use Rattle.dm_base.specs.declared.mod_path.PathKind.{PathKind}
 use Rattle.dm_base.specs.declared.mod_path.PathKind.TheVariants as kind
@@ -38,3 +40,17 @@ pub same_path_equivalence : IsEquivalence same_path
 same_path_equivalence =
     and_equiv (on_equiv (λ p. p.kind) (and_equiv (on_equiv kind_place nat_eq_equiv) (on_equiv kind_number nat_eq_equiv)))
     (on_equiv (λ p. p.segments) (lists_equiv nat_list_eq_equiv))
+
+kinds_same : (x y : PathKind) → same_kind x y ≡ true → x ≡ y
+kinds_same = Prim.search rules
+
+names_same : (xs ys : List Name) → pointwise (pointwise nat_eq) xs ys ≡ true → xs ≡ ys
+names_same [] [] e = refl
+names_same [] (y ∷ ys) e = cc
+names_same (x ∷ xs) [] e = cc
+names_same (x ∷ xs) (y ∷ ys) e = let parts = and_parts _ _ e in λ i. (bytes_decides x y).0 parts.0 i ∷ names_same xs ys parts.1 i
+
+-- equal paths are the same path
+pub paths_same : (x y : Path) → same_path x y ≡ true → x ≡ y
+paths_same x y e =
+    let parts = and_parts _ _ e in λ i. record { kind = kinds_same x.kind y.kind parts.0 i; segments = names_same x.segments y.segments parts.1 i }

@@ -1,11 +1,13 @@
 //! Types whose `==` holds of the same value alone.
 ghost use Rattle.std.specs.Prelude.{◌≡◌, true};
 ghost use Rattle.std.proofs.Common.{rules};
+ghost use Rattle.dm_base.specs.Path.{paths_same};
 ghost use Rattle.dm_base.specs.Sameness.{per_ns_same};
 
 use crate::imports::{GlobId, ImportId, ImportOrDef, ImportOrExternCrate, ImportOrGlob};
 use crate::item_ids::{MacroId, ModuleDefId};
 use crate::item_in_ns::ItemInNs;
+use crate::mod_path::ModPath;
 use crate::per_ns::{Item, PerNs};
 use crate::visibility::Visibility;
 
@@ -48,6 +50,10 @@ impl ValueEq for ItemInNs {
 
 impl ValueEq for Visibility {
     ghost same = { Prim.search rules };
+}
+
+impl ValueEq for ModPath {
+    ghost same = { paths_same };
 }
 
 impl<Def: ValueEq, Import: ValueEq> ValueEq for Item<Def, Import> {

@@ -1,5 +1,7 @@
 //! What a map says of its modules. None of these calls takes memory.
 ghost use Rattle.std.specs.Prelude.{◌≡◌, IsSome, Some};
+ghost use Rattle.std.specs.Map.Iter.{ShowsInOrder};
+ghost use Rattle.dm_ids.specs.declared.ModuleId.{ModuleId};
 ghost use Rattle.dm_modules.specs.Maps.{module_at};
 ghost use Rattle.dm_modules.specs.Queries.{containing_in, fills, is_inline_in, modules_with};
 
@@ -32,14 +34,16 @@ impl DefMap {
 
     /// The modules of this map that fill the file, under whatever edition, in order of number.
     pub fn modules_for_file(&self, file: FileId) -> ModulesWith<'_, FilledBy>
-        ensures { result ≡ modules_with (fills file) self.now.modules }
+        ensures rest { result ≡ modules_with (fills file) self.now.modules }
+        ensures runs { ShowsInOrder (λ (m : ModuleId). m) }
     {
         ModulesWith::new(self.modules(), FilledBy(file))
     }
 
     /// The modules of this map that are written out in what the macro call expands to, in order of number.
     pub fn inline_modules_for_macro_file(&self, call: MacroCallId) -> ModulesWith<'_, InlineIn>
-        ensures { result ≡ modules_with (is_inline_in call) self.now.modules }
+        ensures rest { result ≡ modules_with (is_inline_in call) self.now.modules }
+        ensures runs { ShowsInOrder (λ (m : ModuleId). m) }
     {
         ModulesWith::new(self.modules(), InlineIn(call))
     }

@@ -1,10 +1,11 @@
 //! What went wrong while a map was made.
 #![tactic(auto)]
 
-ghost use Rattle.std.specs.Prelude.{◌≡◌, IfOk};
+ghost use Rattle.std.specs.Prelude.{◌≡◌, IfOk, true};
 ghost use Rattle.std.specs.Cmp.{partial_equiv_from_equiv};
 ghost use Rattle.std.specs.Cmp.Lexicographic.{pointwise, lists_equiv};
 ghost use Rattle.std.specs.Slice.Iter.{iter_rest};
+ghost use Rattle.dm_diagnostics.specs.SameTexts.{SaySame, diagnostics_same};
 ghost use Rattle.dm_diagnostics.specs.contracts.DefDiagnosticEq.TheImpl.Laws.{laws-law};
 
 use dm_base::ids::{
@@ -184,6 +185,19 @@ impl DefDiagnostic {
             kind: DefDiagnosticKind::MalformedDerive { ast, id },
         }
     }
+}
+
+/// What is equal only where it says the same: of texts the bytes count, and not the room that these have.
+pub trait SaidEq: Eq {
+    ghost SaySame: { Self → Self → Type 0 };
+
+    ghost same: { (x y : Self) → Self.eq x y ≡ true → SaySame x y };
+}
+
+impl SaidEq for DefDiagnostic {
+    ghost SaySame = { SaySame };
+
+    ghost same = { diagnostics_same };
 }
 
 /// The diagnostics of a map, which contracts see as their list. Clones share it.

@@ -1,17 +1,17 @@
--- The fold over a list of ids gives its least fault.
-use Rattle.std.proofs.Common.{◌≡◌, Bool, true, false, cond, List, [], ◌∷◌, ◌++◌, refl, sym, subst, inl, inr, ◌⊎◌, Option, None, Some, append_assoc, append-nil, ◌∙◌, true≢false, is_some, not, IsTrue, ◌↔◌}
+-- The least fault of lists in a row, and of the ids looked at one after the other.
+use Rattle.std.proofs.Common.{◌≡◌, Bool, true, false, cond, List, [], ◌∷◌, ◌++◌, refl, sym, subst, inl, inr, ◌⊎◌, Option, None, Some, append_assoc, append-nil}
 use Rattle.std.specs.List.{fold, AllByRecursion}
-use Rattle.std.proofs.lemmas.List.Elements.{Contains-append_left, Contains-push, All-contains, All-from_recursion}
+use Rattle.std.proofs.lemmas.List.Elements.{Contains-append_left, Contains-append_right, Contains-push}
 use Rattle.dm_held.specs.declared.held.HeldId.{HeldId}
 use Rattle.dm_held.specs.declared.held.HeldFault.{HeldFault}
-use Rattle.dm_held.specs.Held.{noted, lesser, comes_before, fault_at, IsLeast, IsLeastFault}
-use Rattle.dm_held.proofs.Order.{comes_before-irrefl, comes_before-later}
+use Rattle.dm_held.specs.Held.{noted, lesser, comes_before, fault_at, IsLeast, IsLeastFault, IsJoined}
+use Rattle.dm_held.proofs.Order.{comes_before-irrefl, comes_before-later, comes_before-other}
 
-pub all-push : {X : Type 0} (P : X → Type 0) (xs : List X) (x : X) → AllByRecursion P xs → P x → AllByRecursion P (xs ++ x ∷ [])
-all-push P [] x h p = (p, tt)
-all-push P (y ∷ ys) x h p = (h.0, all-push P ys x h.1 p)
+all-append : {X : Type 0} (P : X → Type 0) (xs ys : List X) → AllByRecursion P xs → AllByRecursion P ys → AllByRecursion P (xs ++ ys)
+all-append P [] ys h g = g
+all-append P (x ∷ xs) ys h g = (h.0, all-append P xs ys h.1 g)
 
-pub all-weaker : {X : Type 0} (P Q : X → Type 0) → ((x : X) → P x → Q x) → (xs : List X) → AllByRecursion P xs → AllByRecursion Q xs
+all-weaker : {X : Type 0} (P Q : X → Type 0) → ((x : X) → P x → Q x) → (xs : List X) → AllByRecursion P xs → AllByRecursion Q xs
 all-weaker P Q f [] h = tt
 all-weaker P Q f (x ∷ xs) h = (f x h.0, all-weaker P Q f xs h.1)
 
@@ -22,62 +22,72 @@ module _ (knows : HeldId → Bool) where
   abbrev NotBefore : HeldFault → HeldId → Type 0
   NotBefore f h = (knows h ≡ true) ⊎ (comes_before (fault_at h) f ≡ false)
 
-  later : (h old : HeldFault) (x : HeldId) → comes_before h old ≡ true → NotBefore old x → NotBefore h x
-  later h old x e (inl k) = inl k
-  later h old x e (inr g) = inr (comes_before-later (fault_at x) h old e g)
+  none-before : (f : HeldFault) (hs : List HeldId) → AllByRecursion Known hs → AllByRecursion (NotBefore f) hs
+  none-before f hs = all-weaker Known (NotBefore f) (λ x k. inl k) hs
 
-  IsLeastFault-noted : (hs : List HeldId) (h : HeldId) (r : Option HeldFault) → IsLeastFault knows hs r → IsLeastFault knows (hs ++ h ∷ []) (noted knows r h)
-  IsLeastFault-noted hs h r is = by (knows h) refl r is
+  -- a fault of either list that none of both comes before
+  from_left : (hs ks : List HeldId) (f : HeldFault) → IsLeast knows hs f → AllByRecursion (NotBefore f) ks → IsLeast knows (hs ++ ks) f
+  from_left hs ks f is rest = record {
+    held = is.held;
+    among = Contains-append_left hs ks is.held is.among;
+    unknown = is.unknown;
+    is = is.is;
+    least = all-append (NotBefore f) hs ks is.least rest;
+  }
+
+  from_right : (hs ks : List HeldId) (f : HeldFault) → AllByRecursion (NotBefore f) hs → IsLeast knows ks f → IsLeast knows (hs ++ ks) f
+  from_right hs ks f rest is = record {
+    held = is.held;
+    among = Contains-append_right hs ks is.held is.among;
+    unknown = is.unknown;
+    is = is.is;
+    least = all-append (NotBefore f) hs ks rest is.least;
+  }
+
+  pub IsLeastFault-lesser : (hs ks : List HeldId) (a b : Option HeldFault) → IsLeastFault knows hs a → IsLeastFault knows ks b → IsLeastFault knows (hs ++ ks) (lesser a b)
+  IsLeastFault-lesser hs ks None None is rest = all-append Known hs ks is rest
+  IsLeastFault-lesser hs ks None (Some b) is rest = from_right hs ks b (none-before b hs is) rest
+  IsLeastFault-lesser hs ks (Some a) None is rest = from_left hs ks a is (none-before a ks rest)
+  IsLeastFault-lesser hs ks (Some a) (Some b) is rest = by (comes_before b a) refl
     where
-      order : (old : HeldFault) (b : Bool) → comes_before (fault_at h) old ≡ b → knows h ≡ false → IsLeast knows hs old → IsLeastFault knows (hs ++ h ∷ []) (cond b (Some (fault_at h)) (Some old))
-      order old true e unknown is = record {
-        held = h;
-        among = Contains-push hs h;
-        unknown = unknown;
-        is = refl;
-        least = all-push (NotBefore (fault_at h)) hs h (all-weaker (NotBefore old) (NotBefore (fault_at h)) (λ x n. later (fault_at h) old x e n) hs is.least) (inr (comes_before-irrefl (fault_at h)));
-      }
-      order old false e unknown is = record {
-        held = is.held;
-        among = Contains-append_left hs (h ∷ []) is.held is.among;
-        unknown = is.unknown;
-        is = is.is;
-        least = all-push (NotBefore old) hs h is.least (inr e);
-      }
+      after : (x y : HeldFault) → ((h : HeldFault) → comes_before h y ≡ false → comes_before h x ≡ false) → (h : HeldId) → NotBefore y h → NotBefore x h
+      after x y f h (inl k) = inl k
+      after x y f h (inr e) = inr (f (fault_at h) e)
 
-      by : (b : Bool) → knows h ≡ b → (r : Option HeldFault) → IsLeastFault knows hs r → IsLeastFault knows (hs ++ h ∷ []) (cond b r (lesser r (fault_at h)))
-      by true e None all = all-push Known hs h all e
-      by true e (Some old) is = record {
-        held = is.held;
-        among = Contains-append_left hs (h ∷ []) is.held is.among;
-        unknown = is.unknown;
-        is = is.is;
-        least = all-push (NotBefore old) hs h is.least (inl e);
-      }
-      by false e None all = record {
+      by : (t : Bool) → comes_before b a ≡ t → IsLeastFault knows (hs ++ ks) (cond t (Some b) (Some a))
+      by true e = from_right hs ks b (all-weaker (NotBefore a) (NotBefore b) (after b a (λ h g. comes_before-later h b a e g)) hs is.least) rest
+      by false e = from_left hs ks a is (all-weaker (NotBefore b) (NotBefore a) (after a b (λ h g. comes_before-other h b a e g)) ks rest.least)
+
+  -- of one id
+  IsLeastFault-one : (h : HeldId) (r : Option HeldFault) (hs : List HeldId) → IsLeastFault knows hs r → IsLeastFault knows (hs ++ h ∷ []) (noted knows r h)
+  IsLeastFault-one h r hs is = by (knows h) refl
+    where
+      alone : knows h ≡ false → IsLeast knows (h ∷ []) (fault_at h)
+      alone e = record {
         held = h;
-        among = Contains-push hs h;
+        among = Contains-push [] h;
         unknown = e;
         is = refl;
-        least = all-push (NotBefore (fault_at h)) hs h (all-weaker Known (NotBefore (fault_at h)) (λ x k. inl k) hs all) (inr (comes_before-irrefl (fault_at h)));
+        least = (inr (comes_before-irrefl (fault_at h)), tt);
       }
-      by false e (Some old) is = order old (comes_before (fault_at h) old) refl e is
+
+      known : (r : Option HeldFault) → knows h ≡ true → IsLeastFault knows hs r → IsLeastFault knows (hs ++ h ∷ []) r
+      known None e is = all-append Known hs (h ∷ []) is (e, tt)
+      known (Some f) e is = from_left hs (h ∷ []) f is (inl e, tt)
+
+      by : (t : Bool) → knows h ≡ t → IsLeastFault knows (hs ++ h ∷ []) (cond t r (lesser r (Some (fault_at h))))
+      by true e = known r e is
+      by false e = IsLeastFault-lesser hs (h ∷ []) r (Some (fault_at h)) is (alone e)
 
   IsLeastFault-fold : (ks hs : List HeldId) (r : Option HeldFault) → IsLeastFault knows ks r → IsLeastFault knows (ks ++ hs) (fold (noted knows) r hs)
   IsLeastFault-fold ks [] r is = subst (λ l. IsLeastFault knows l r) (sym (append-nil ks)) is
   IsLeastFault-fold ks (h ∷ hs) r is =
       subst (λ l. IsLeastFault knows l (fold (noted knows) (noted knows r h) hs)) (append_assoc ks (h ∷ []) hs)
-      (IsLeastFault-fold (ks ++ h ∷ []) hs (noted knows r h) (IsLeastFault-noted ks h r is))
+      (IsLeastFault-fold (ks ++ h ∷ []) hs (noted knows r h) (IsLeastFault-one h r ks is))
 
-  pub IsLeastFault-from_fold : (hs : List HeldId) → IsLeastFault knows hs (fold (noted knows) None hs)
-  IsLeastFault-from_fold hs = IsLeastFault-fold [] hs None tt
+  -- what is found by looking at each id of a list is its least fault
+  pub least-found : (hs : List HeldId) (r : Option HeldFault) → r ≡ fold (noted knows) None hs → IsLeastFault knows hs r
+  least-found hs r e = subst (IsLeastFault knows hs) (sym e) (IsLeastFault-fold [] hs None tt)
 
-  -- a list has no least fault exactly where each of its ids is known
-  pub all_known-by : (hs : List HeldId) (least : Option HeldFault) (r : Bool) → IsLeastFault knows hs least → is_some least ≡ not r → IsTrue r ↔ AllByRecursion (λ h. IsTrue (knows h)) hs
-  all_known-by hs None true is e = (λ t. is, λ k. refl)
-  all_known-by hs None false is e = cc
-  all_known-by hs (Some f) true is e = cc
-  all_known-by hs (Some f) false is e = (
-    λ t. absurd (true≢false (sym t)),
-    λ all. absurd (true≢false (sym (All-contains Known hs is.held (All-from_recursion Known hs all) is.among) ∙ is.unknown)),
-  )
+pub joined-lesser : (a b r : Option HeldFault) → r ≡ lesser a b → IsJoined a b r
+joined-lesser a b r e knows hs ks is rest = subst (IsLeastFault knows (hs ++ ks)) (sym e) (IsLeastFault-lesser knows hs ks a b is rest)

@@ -1,5 +1,5 @@
 -- What of a holder's ids is wrong first: the least kind, and of it the least id.
-use Rattle.std.specs.Prelude.{◌≡◌, ℕ, Bool, true, false, ◌&&◌, ◌||◌, Option, Some, None, List, nat_eq, nat_lt, if◌then◌else◌, MatchOption, Contains, IsTrue, ◌⊎◌}
+use Rattle.std.specs.Prelude.{◌≡◌, ℕ, Bool, true, false, ◌&&◌, ◌||◌, Option, Some, None, List, ◌++◌, nat_eq, nat_lt, if◌then◌else◌, MatchOption, Contains, IsTrue, ◌⊎◌}
 use Rattle.std.specs.List.{AllByRecursion}
 use Rattle.dm_held.specs.declared.fault.WorldFaultKind.{WorldFaultKind}
 use Rattle.dm_held.specs.declared.fault.WorldFaultKind.TheVariants.{UnknownModule, UnknownCrate, UnknownUse, UnknownItem, UnknownMacro}
@@ -40,11 +40,16 @@ pub record IsLeast (knows : HeldId → Bool) (hs : List HeldId) (f : HeldFault) 
 abbrev pub IsLeastFault : (HeldId → Bool) → List HeldId → Option HeldFault → Type 0
 IsLeastFault knows hs r = MatchOption r (AllByRecursion (λ h. IsTrue (knows h)) hs) (IsLeast knows hs)
 
--- of two faults, the one that comes first
-abbrev pub lesser : Option HeldFault → HeldFault → Option HeldFault
-lesser None f = Some f
-lesser (Some old) f = if comes_before f old then Some f else Some old
+-- of two least faults, the one that comes first
+abbrev pub lesser : Option HeldFault → Option HeldFault → Option HeldFault
+lesser None b = b
+lesser (Some a) None = Some a
+lesser (Some a) (Some b) = if comes_before b a then Some b else Some a
+
+-- the rule for lists in a row: of the least fault of each it makes that of both
+abbrev pub IsJoined : Option HeldFault → Option HeldFault → Option HeldFault → Type 0
+IsJoined a b r = (knows : HeldId → Bool) (hs ks : List HeldId) → IsLeastFault knows hs a → IsLeastFault knows ks b → IsLeastFault knows (hs ++ ks) r
 
 -- the least fault so far, with one more id looked at
 abbrev pub noted : (HeldId → Bool) → Option HeldFault → HeldId → Option HeldFault
-noted knows least h = if knows h then least else lesser least (fault_at h)
+noted knows least h = if knows h then least else lesser least (Some (fault_at h))

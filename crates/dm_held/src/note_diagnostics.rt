@@ -1,7 +1,7 @@
 //! The ids that diagnostics hold.
 ghost use Rattle.std.specs.Prelude.{◌≡◌};
 ghost use Rattle.std.specs.List.{fold};
-ghost use Rattle.dm_held.specs.Held.{noted};
+ghost use Rattle.dm_held.specs.Held.{noted, IsLeastFault};
 ghost use Rattle.dm_held.specs.TablesHold.{diagnostic_kind_holds, diagnostic_holds, diagnostics_hold};
 
 use crate::held::{HeldFault, HeldId};
@@ -38,17 +38,13 @@ fn note_diagnostic<T: KnownIds>(
     note_kind(world, least, &diagnostic.kind)
 }
 
-/// With what the diagnostics of a map hold.
+/// The least fault of what the diagnostics of a map hold.
 #[tactic(auto, using(crate::proofs::Sets::parts))]
-pub fn note_diagnostics<T: KnownIds>(
-    world: &T,
-    least: Option<HeldFault>,
-    diagnostics: &[DefDiagnostic],
-) -> Option<HeldFault>
-    ensures { result ≡ fold (noted (T.known world.now)) least (diagnostics_hold diagnostics.now) }
+pub fn note_diagnostics<T: KnownIds>(world: &T, diagnostics: &[DefDiagnostic]) -> Option<HeldFault>
+    ensures { IsLeastFault (T.known world.now) (diagnostics_hold diagnostics.now) result }
 {
     diagnostics.iter().fold(
-        least,
+        None,
         |least, diagnostic| note_diagnostic(world, least, diagnostic),
     )
 }

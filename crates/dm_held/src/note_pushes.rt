@@ -14,6 +14,7 @@ use dm_base::imports::ImportOrExternCrate;
 use dm_base::per_ns::PerNs;
 
 /// The least fault of what a push holds.
+#[tactic(auto, using(crate::proofs::Sets::parts))]
 pub fn note_push<T: KnownIds>(
     world: &T,
     m: ModuleId,
@@ -21,19 +22,6 @@ pub fn note_push<T: KnownIds>(
     import: Option<ImportOrExternCrate>,
 ) -> Option<HeldFault>
     ensures { IsLeastFault (T.known world.now) (push_holds m res.now import) result }
-{
-    fold_push(world, m, res, import)
-}
-
-/// With each id that a push holds looked at.
-#[tactic(auto, using(crate::proofs::Sets::parts))]
-fn fold_push<T: KnownIds>(
-    world: &T,
-    m: ModuleId,
-    res: &PerNs,
-    import: Option<ImportOrExternCrate>,
-) -> Option<HeldFault>
-    ensures { result ≡ fold (noted (T.known world.now)) None (push_holds m res.now import) }
 {
     let least = note(world, None, HeldId::Module(m));
     let least = note_res(world, least, res);

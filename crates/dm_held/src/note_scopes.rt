@@ -2,7 +2,7 @@
 ghost use Rattle.std.specs.Prelude.{◌≡◌, None, map};
 ghost use Rattle.std.specs.List.{fold, flat_map};
 ghost use Rattle.dm_held.specs.declared.held.HeldId.TheVariants as held;
-ghost use Rattle.dm_held.specs.Held.{noted};
+ghost use Rattle.dm_held.specs.Held.{noted, IsLeastFault};
 ghost use Rattle.dm_held.specs.Holds.{scope_holds, bindings_hold, lists_hold, legacies_hold, types_hold, values_hold, macros_hold, unnamed_trait_holds, unnamed_const_holds};
 ghost use Rattle.dm_held.specs.Holding.{def_holds, type_holds, value_holds, macro_holds};
 
@@ -229,16 +229,12 @@ fn note_lists<T: KnownIds>(
     note_unnamed_consts(world, least, scope)
 }
 
-/// With what a scope holds.
+/// The least fault of what a scope holds.
 #[tactic(auto, using(crate::proofs::Sets::parts))]
-pub fn note_scope<T: KnownIds>(
-    world: &T,
-    least: Option<HeldFault>,
-    scope: &ItemScope,
-) -> Option<HeldFault>
-    ensures { result ≡ fold (noted (T.known world.now)) least (scope_holds scope.now) }
+pub fn note_scope<T: KnownIds>(world: &T, scope: &ItemScope) -> Option<HeldFault>
+    ensures { IsLeastFault (T.known world.now) (scope_holds scope.now) result }
 {
-    let least = note_bindings(world, least, scope);
+    let least = note_bindings(world, None, scope);
     let least = note_records(world, least, scope);
     let least = note_legacies(world, least, scope);
     note_lists(world, least, scope)

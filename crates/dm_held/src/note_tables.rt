@@ -1,7 +1,7 @@
 //! The ids that the tables of crates, of the syntax and of items hold.
 ghost use Rattle.std.specs.Prelude.{◌≡◌, None, map};
 ghost use Rattle.std.specs.List.{fold, flat_map};
-ghost use Rattle.dm_held.specs.Held.{noted};
+ghost use Rattle.dm_held.specs.Held.{noted, IsLeastFault};
 ghost use Rattle.dm_held.specs.Holding.{path_holds};
 ghost use Rattle.dm_held.specs.TablesHold.{macro_defs_hold, helper_holds, helpers_hold, macro_of_fn_holds, fn_of_macro_holds, data_holds, raw_holds, variant_holds, field_list_holds, assoc_id_holds, container_holds, assoc_holds, trait_holds, tables_hold};
 
@@ -19,31 +19,29 @@ use dm_tables::field_list::FieldList;
 use dm_tables::item_tables::ItemTables;
 use indexmap::IndexMap;
 
-/// With the macros that items of the syntax define.
+/// The least fault of the macros that items of the syntax define.
 #[tactic(auto, using(crate::proofs::Sets::parts))]
 pub fn note_macro_defs<T: KnownIds>(
     world: &T,
-    least: Option<HeldFault>,
     table: &IndexMap<AstId, MacroId>,
 ) -> Option<HeldFault>
-    ensures { result ≡ fold (noted (T.known world.now)) least (macro_defs_hold table.now.entries) }
+    ensures { IsLeastFault (T.known world.now) (macro_defs_hold table.now.entries) result }
 {
     table
         .values()
-        .fold(least, |least, m| note(world, least, HeldId::Macro(*m)))
+        .fold(None, |least, m| note(world, least, HeldId::Macro(*m)))
 }
 
-/// With the macros of derive helpers.
+/// The least fault of the macros of derive helpers.
 #[tactic(auto, using(crate::proofs::Sets::parts))]
 pub fn note_helpers<T: KnownIds>(
     world: &T,
-    least: Option<HeldFault>,
     table: &IndexMap<AstId, DeriveHelpers>,
 ) -> Option<HeldFault>
-    ensures { result ≡ fold (noted (T.known world.now)) least (helpers_hold table.now.entries) }
+    ensures { IsLeastFault (T.known world.now) (helpers_hold table.now.entries) result }
 {
     table.values().fold(
-        least,
+        None,
         |least, helpers| note_all_helpers(world, least, helpers.as_slice()),
     )
 }
@@ -62,16 +60,12 @@ fn note_all_helpers<T: KnownIds>(
     )
 }
 
-/// With the functions and macros of both tables of procedural macros.
+/// The least fault of the functions and macros of both tables of procedural macros.
 #[tactic(auto, using(crate::proofs::Sets::parts))]
-pub fn note_data<T: KnownIds>(
-    world: &T,
-    least: Option<HeldFault>,
-    shared: &CrateData,
-) -> Option<HeldFault>
-    ensures { result ≡ fold (noted (T.known world.now)) least (data_holds shared.now) }
+pub fn note_data<T: KnownIds>(world: &T, shared: &CrateData) -> Option<HeldFault>
+    ensures { IsLeastFault (T.known world.now) (data_holds shared.now) result }
 {
-    let least = note_macro_of_fn(world, least, shared.macro_of_fn());
+    let least = note_macro_of_fn(world, None, shared.macro_of_fn());
     note_fn_of_macro(world, least, shared.fn_of_macro())
 }
 
@@ -240,7 +234,7 @@ fn note_traits<T: KnownIds>(
 /// The least fault of the tables that belong to no map and no module.
 #[tactic(auto, using(crate::proofs::Sets::parts))]
 pub fn note_tables<T: KnownIds>(world: &T, tables: &ItemTables) -> Option<HeldFault>
-    ensures { result ≡ fold (noted (T.known world.now)) None (tables_hold tables.now) }
+    ensures { IsLeastFault (T.known world.now) (tables_hold tables.now) result }
 {
     let least = note_fields(world, None, tables.fields());
     let least = note_assocs(world, least, tables.assocs());

@@ -3,7 +3,7 @@ ghost use Rattle.std.specs.Prelude.{◌≡◌};
 ghost use Rattle.std.specs.List.{fold};
 ghost use Rattle.dm_base.specs.declared.item_ids.ModuleDefId.TheVariants as def;
 ghost use Rattle.dm_held.specs.declared.held.HeldId.TheVariants as held;
-ghost use Rattle.dm_held.specs.Held.{fault_at, rank, comes_before, noted, IsLeastFault};
+ghost use Rattle.dm_held.specs.Held.{fault_at, rank, comes_before, lesser, noted, IsJoined, IsLeastFault};
 ghost use Rattle.dm_held.specs.Holding.{def_holds, vis_holds, import_holds, value_import_holds};
 
 use crate::fault::WorldFaultKind;
@@ -47,6 +47,22 @@ fn comes_before(a: HeldFault, b: HeldFault) -> bool
     x < y || x == y && a.id < b.id
 }
 
+/// Of the least faults of two lists of ids that of both lists.
+pub fn lesser(one: Option<HeldFault>, other: Option<HeldFault>) -> Option<HeldFault>
+    ensures value { result ≡ lesser one other }
+    ensures joined { IsJoined one other result }
+{
+    match (one, other) {
+        (None, _) => other,
+        (Some(_), None) => one,
+        (Some(found), Some(next)) => if comes_before(next, found) {
+            other
+        } else {
+            one
+        },
+    }
+}
+
 /// The least fault so far, with one more id looked at.
 pub(crate) fn note<T: KnownIds>(
     world: &T,
@@ -58,19 +74,11 @@ pub(crate) fn note<T: KnownIds>(
     if world.knows(held) {
         return least;
     }
-    let found = fault_at(held);
-    match least {
-        None => Some(found),
-        Some(old) => if comes_before(found, old) {
-            Some(found)
-        } else {
-            Some(old)
-        },
-    }
+    lesser(least, Some(fault_at(held)))
 }
 
 /// With the ids that a visibility holds.
-pub fn note_vis<T: KnownIds>(
+pub(crate) fn note_vis<T: KnownIds>(
     world: &T,
     least: Option<HeldFault>,
     vis: Visibility,
@@ -82,6 +90,13 @@ pub fn note_vis<T: KnownIds>(
         Visibility::PubCrate(krate) => note(world, least, HeldId::Crate(krate)),
         Visibility::Public => least,
     }
+}
+
+/// The fault of a visibility whose module or crate is not the world's.
+pub fn vis_fault<T: KnownIds>(world: &T, vis: Visibility) -> Option<HeldFault>
+    ensures { IsLeastFault (T.known world.now) (vis_holds vis) result }
+{
+    note_vis(world, None, vis)
 }
 
 /// The fault of a definition that is not the world's, or of another kind there; builtin types are everyone's.

@@ -9,7 +9,8 @@ use Rattle.dm_ids.specs.declared.Crate.{Crate}
 use Rattle.dm_base.specs.declared.source.AstId.{AstId}
 use Rattle.dm_maps.specs.declared.place.Place.{Place}
 use Rattle.dm_modules.specs.Maps.{Map}
-use Rattle.dm_maps.specs.World.{World, crate_map}
+use Rattle.dm_maps.specs.Maps.{Maps, maps_and}
+use Rattle.dm_maps.specs.World.{World, crate_map, maps_of, with_maps}
 use Rattle.dm_maps.specs.Build.{next_module}
 use Rattle.dm_maps.specs.BuildBlocks.{next_block, crate_in, fresh_block, with_block_of, with_block}
 use Rattle.dm_maps.specs.Trees.{Outline, outline, outlines, containers_of, IsWorldOf, IsWorld}
@@ -32,19 +33,15 @@ IsWorld-block_of w m a c is known room =
     (subst Q count grown))
 
 -- the tables with a block more, one by one
-pub block-made : (w old : World) → w ≡ old → (m : ModuleId) (a : AstId) (c : Map) (k : Crate) (b : BlockId) (root : ModuleId) (map : Map) (blocks : List Map) (places : List Place)
-    → k ≡ crate_in old m → b ≡ next_block old → root ≡ next_module old → map ≡ fresh_block c k b m a root → crate_map w k ≡ Some c
-    → places ≡ w.places ++ (record { map = record { krate = k; block = Some b }; index = 0; parent = None }) ∷ [] → blocks ≡ w.block_maps ++ map ∷ []
-    → record w { block_maps = blocks; places = places } ≡ with_block old m a
-block-made w old view m a c k b root map blocks places crate number first is there p q =
-    let kk : k ≡ crate_in w m = crate ∙ ap (λ (x : World). crate_in x m) (sym view) in
-    let bb : b ≡ next_block w = number ∙ ap next_block (sym view) in
-    let rr : root ≡ next_module w = first ∙ ap next_module (sym view) in
-    (λ i. record w { block_maps = q i; places = p i })
-    ∙ (λ i. record w { block_maps = w.block_maps ++ is i ∷ []; places = w.places ++ (record { map = record { krate = k; block = Some b }; index = 0; parent = None }) ∷ [] })
+pub block-made : (w : World) (m : ModuleId) (a : AstId) (c : Map) (k : Crate) (b : BlockId) (root : ModuleId) (map : Map) (maps : Maps) (places : List Place)
+    → k ≡ crate_in w m → b ≡ next_block w → root ≡ next_module w → map ≡ fresh_block c k b m a root → crate_map w k ≡ Some c
+    → places ≡ w.places ++ (record { map = record { krate = k; block = Some b }; index = 0; parent = None }) ∷ [] → maps ≡ maps_and (maps_of w) map
+    → record (with_maps w maps) { places = places } ≡ with_block w m a
+block-made w m a c k b root map maps places kk bb rr is there p q =
+    (λ i. record (with_maps w (q i)) { places = p i })
+    ∙ (λ i. record (with_maps w (maps_and (maps_of w) (is i))) { places = w.places ++ (record { map = record { krate = k; block = Some b }; index = 0; parent = None }) ∷ [] })
     ∙ (λ i. record w { block_maps = w.block_maps ++ fresh_block c (kk i) (bb i) m a (rr i) ∷ []; places = w.places ++ (record { map = record { krate = kk i; block = Some (bb i) }; index = 0; parent = None }) ∷ [] })
     ∙ sym (ap (λ o. option_map_or (with_block_of w (crate_in w m) m a) o w) (ap (crate_map w) (sym kk) ∙ there))
-    ∙ ap (λ (x : World). with_block x m a) view
 
 -- where the crate has a map
 pub IsWorld-block : (w : World) (m : ModuleId) (a : AstId) → IsWorld w → m.0 < length w.places → length w.places < 4294967295 → IsWorld (with_block w m a)

@@ -1,12 +1,10 @@
 -- A push under a name outside a list leaves what is cut by it.
-use Rattle.std.proofs.Common.{◌≡◌, ℕ, zero, suc, Bool, true, false, cond, List, [], ◌∷◌, Option, None, Some, refl, sym, ◌∙◌, ap, map, slice_get}
-use Rattle.std.specs.Prelude.{slice_set}
+use Rattle.std.proofs.Common.{◌≡◌, ℕ, zero, suc, Bool, true, false, cond, List, [], ◌∷◌, Option, None, Some, refl, sym, ◌∙◌, ap, map}
 use Rattle.std.specs.Option.{option_map_or, option_and_then}
 use Rattle.std.proofs.lemmas.Bool.{cond-false}
 use Rattle.std.proofs.lemmas.Map.Steps.{list_any_congr}
 use Rattle.std.proofs.lemmas.Cmp.{nat_list_eq_equiv}
 use Rattle.indexmap.specs.IndexMap.{set_value_at, insert_entry}
-use Rattle.dm_ids.specs.declared.BlockId.{BlockId}
 use Rattle.dm_ids.specs.declared.ModuleId.{ModuleId}
 use Rattle.dm_base.specs.declared.imports.ImportOrExternCrate.{ImportOrExternCrate}
 use Rattle.dm_base.specs.declared.per_ns.Item.{Item}
@@ -18,10 +16,12 @@ use Rattle.dm_scope.specs.Flags.{Flags, Globs, has_flag}
 use Rattle.dm_scope.specs.Push.{types_reading, values_reading, macros_reading, scope_after}
 use Rattle.dm_scope.specs.Scope.{Scope, no_scope}
 use Rattle.dm_modules.specs.Maps.{Map, Module, Modules, nth_module, put_scope, map_with_scope}
+use Rattle.dm_maps.proofs.MapWrites.{put-cases, with-cases}
 use Rattle.dm_maps.proofs.ModuleGrowth.{map-set_own}
 use Rattle.dm_maps.specs.declared.place.Place.{Place}
 use Rattle.dm_maps.specs.Asked.{with_push}
-use Rattle.dm_maps.specs.World.{World, place_of, scope_of, maps_with_scope, with_scope, with_scope_in, module_in}
+use Rattle.dm_maps.specs.Maps.{Maps}
+use Rattle.dm_maps.specs.World.{World, maps_of, with_maps, place_of, scope_of, with_scope, with_scope_in, module_in}
 use Rattle.dm_maps.specs.Cut.{among, kept, cut_bound, cut_scope, cut_module, cut_map, cut}
 
 kept-insert : {A : Type 0} (N : List Name) (n : Name) (v : A) → among N n ≡ false → (es : List (Name × A)) → kept N (insert_entry same_name es n v) ≡ kept N es
@@ -69,22 +69,15 @@ map-cut N m k s same = ap (λ es. record (cut_map N m) { modules = es }) (go (nt
     go None is p = refl
     go (Some d) is p = entries-cut N m.modules k d (record d { scope = s }) is (ap (λ c. record d { scope = c }) p)
 
-maps-cut : (N : List Name) (ms : List Map) (k j : ℕ) (s : Scope) → cut_scope N s ≡ cut_scope N (scope_of_module (option_and_then (λ m. nth_module m.modules j) (slice_get ms k))) → map (cut_map N) (maps_with_scope ms k j s) ≡ map (cut_map N) ms
-maps-cut N ms k j s same = go (slice_get ms k) refl same
-  where
-    go : (o : Option Map) → slice_get ms k ≡ o → cut_scope N s ≡ cut_scope N (scope_of_module (option_and_then (λ m. nth_module m.modules j) o)) → map (cut_map N) (option_map_or (λ m. slice_set ms k (map_with_scope m j s)) o ms) ≡ map (cut_map N) ms
-    go None is p = refl
-    go (Some m) is p = map-set_own (cut_map N) ms k m (map_with_scope m j s) is (map-cut N m j s p)
-
 world-cut : (w : World) (N : List Name) (p : Place) (s : Scope) → cut_scope N s ≡ cut_scope N (scope_of_module (module_in w p)) → cut (with_scope_in w (Some p) s) N ≡ cut w N
-world-cut w N p s same = go p.map.block same
-  where
-    at : Option BlockId → Place
-    at c = record p { map = record { krate = p.map.krate; block = c } }
-
-    go : (c : Option BlockId) → cut_scope N s ≡ cut_scope N (scope_of_module (module_in w (at c))) → cut (with_scope_in w (Some (at c)) s) N ≡ cut w N
-    go None q = ap (λ ms. record (cut w N) { crate_maps = ms }) (maps-cut N w.crate_maps p.map.krate.0 p.index s q)
-    go (Some c) q = ap (λ ms. record (cut w N) { block_maps = ms }) (maps-cut N w.block_maps c.0 p.index s q)
+world-cut w N p s same =
+    let P : Maps → Type 0 = λ ms. cut (with_maps w ms) N ≡ cut w N in
+    with-cases (maps_of w) p.map (λ x. map_with_scope x p.index s) P refl
+    (λ x e. let y = map_with_scope x p.index s in
+    let stays : cut_map N y ≡ cut_map N x = map-cut N x p.index s (same ∙ ap (λ o. cut_scope N (scope_of_module (option_and_then (λ (m : Map). nth_module m.modules p.index) o))) e) in
+    put-cases (maps_of w) p.map x y P e
+    (λ none g. ap (λ l. record (cut w N) { crate_maps = l }) (map-set_own (cut_map N) w.crate_maps p.map.krate.0 x y g stays))
+    (λ b some g. ap (λ l. record (cut w N) { block_maps = l }) (map-set_own (cut_map N) w.block_maps b.0 x y g stays)))
 
 -- a change of one scope that leaves what is cut of it leaves what is cut of the world
 with_scope-cut : (w : World) (N : List Name) (m : ModuleId) (s : Scope) → cut_scope N s ≡ cut_scope N (scope_of w m) → cut (with_scope w m s) N ≡ cut w N

@@ -52,3 +52,12 @@ get-set (w ∷ ws) zero zero x y z h g = inl (refl, cc)
 get-set (w ∷ ws) zero (suc j) x y z h g = inr g
 get-set (w ∷ ws) (suc i) zero x y z h g = inr g
 get-set (w ∷ ws) (suc i) (suc j) x y z h g = elim (get-set ws i j x y z h g) [ inl e ↦ inl (ap suc e.0, e.1) | inr e ↦ inr e ]
+
+-- an element after a write is the one that was there, or at the place of the write the one that was written
+pub at-set : {X : Type 0} (xs : List X) (i j : ℕ) (x y : X) → slice_get xs i ≡ Some x
+    → (slice_get (set xs i y) j ≡ slice_get xs j) ⊎ ((j ≡ i) × (slice_get xs j ≡ Some x) × (slice_get (set xs i y) j ≡ Some y))
+at-set [] i j x y h = cc
+at-set (z ∷ zs) zero zero x y h = inr (refl, h, refl)
+at-set (z ∷ zs) zero (suc j) x y h = inl refl
+at-set (z ∷ zs) (suc i) zero x y h = inl refl
+at-set (z ∷ zs) (suc i) (suc j) x y h = elim (at-set zs i j x y h) [ inl e ↦ inl e | inr e ↦ inr (ap suc e.0, e.1, e.2) ]

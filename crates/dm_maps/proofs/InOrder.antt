@@ -19,7 +19,7 @@ use Rattle.dm_maps.proofs.WorldFacts.{module-there}
 use Rattle.dm_maps.proofs.WorldGrowth.{numbered-outlines}
 
 -- what a look-up by number finds stands at a place
-found-at : (es : Modules) (m : ModuleId) (d : Module) → module_at es m ≡ Some d → (i : ℕ) × (nth_module es i ≡ Some d) × (slice_get (map entry es) i ≡ Some (m, d.parent))
+pub found-at : (es : Modules) (m : ModuleId) (d : Module) → module_at es m ≡ Some d → (i : ℕ) × (nth_module es i ≡ Some d) × (slice_get (map entry es) i ≡ Some (m, d.parent))
 found-at [] m d h = cc
 found-at (e ∷ es) m d h = by (nat_eq m.0 e.0.0) refl h (found-at es m d)
   where

@@ -1,5 +1,5 @@
 -- The maps of a world have the ids of their numbers.
-use Rattle.std.proofs.Common.{◌≡◌, ◌<◌, ℕ, zero, suc, Bool, true, false, cond, [], ◌∷◌, Option, Some, None, length, map, slice_get, nat_eq, is_some, sym, ap, ◌∙◌, refl, arith, IsTrue, IsSome, true≢false, eq-eqb}
+use Rattle.std.proofs.Common.{◌≡◌, ℕ, zero, suc, Bool, true, false, cond, [], ◌∷◌, Option, Some, None, length, map, slice_get, nat_eq, is_some, sym, ap, ◌∙◌, refl, arith, IsTrue, IsSome, true≢false, eq-eqb}
 use Rattle.std.specs.Borrow.{Bor}
 use Rattle.std.specs.Option.{option_map, option_and_then, option_copied, IfSome}
 use Rattle.std.proofs.lemmas.Option.{slice_get-map}
@@ -14,9 +14,10 @@ use Rattle.dm_maps.specs.Known.{knows}
 use Rattle.dm_maps.specs.declared.place.Place.{Place}
 use Rattle.dm_modules.specs.Maps.{Map, Modules, module_at}
 use Rattle.dm_maps.specs.World.{World, numbered_map, crate_map, map_of}
-use Rattle.dm_maps.specs.Trees.{Outline, IsMap, outline, outlines, IsWorld}
+use Rattle.dm_maps.specs.Trees.{Outline, outline, outlines, IsWorld}
 use Rattle.dm_maps.proofs.GrowthLemmas.{get-within}
 use Rattle.dm_maps.proofs.ModuleGrowth.{entry}
+use Rattle.dm_maps.proofs.SoundLemmas.{map-lawful}
 use Rattle.dm_maps.proofs.WorldGrowth.{numbered-outlines}
 
 module _ (w : World) (is : IsWorld w) where
@@ -44,17 +45,11 @@ module _ (w : World) (is : IsWorld w) where
 
   -- the crate of a map is one of the world's
   pub crate-known : (id : MapId) (m : Map) → numbered_map w id ≡ Some m → IsTrue (knows w (held.Crate m.id.krate))
-  crate-known id m e = by id.block e
-    where
-      rooted : (k : ℕ) → k < length (outlines w.crate_maps) → IsTrue (knows w (held.Crate (record { 0 = k })))
-      rooted k l = let n : length (outlines w.crate_maps) ≡ length w.crate_maps = length-map w.crate_maps outline in lt-ltb k (length w.crate_maps) (omega arith)
-
-      at_root : (o : Outline) → IsMap w.places o → IsTrue (knows w (held.Crate o.id.krate))
-      at_root o fine = rooted o.id.krate.0 (is.in_crates o.root (record { map = o.id; index = 0; parent = None }) (fine.listed 0 o.root None fine.root))
-
-      by : (block : Option BlockId) → elim block [ None ↦ slice_get w.crate_maps id.krate.0 | Some b ↦ slice_get w.block_maps b.0 ] ≡ Some m → IsTrue (knows w (held.Crate m.id.krate))
-      by None g = at_root (outline m) (is.crates id.krate.0 (outline m) (slice_get-map outline w.crate_maps id.krate.0 ∙ ap (option_map outline) g)).1
-      by (Some b) g = at_root (outline m) (is.blocks b.0 (outline m) (slice_get-map outline w.block_maps b.0 ∙ ap (option_map outline) g)).1
+  crate-known id m e =
+      let fine = map-lawful w is id m e in
+      let less = is.in_crates m.root (record { map = m.id; index = 0; parent = None }) (fine.listed 0 m.root None fine.root) in
+      let count : length (outlines w.crate_maps) ≡ length w.crate_maps = length-map w.crate_maps outline in
+      lt-ltb m.id.krate.0 (length w.crate_maps) (omega arith)
 
   -- a module of the world lies in a map
   pub map-there : (m : ModuleId) → IsTrue (knows w (held.Module m)) → IsSome (map_of w m)

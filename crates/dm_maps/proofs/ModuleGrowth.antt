@@ -11,21 +11,11 @@ use Rattle.dm_ids.specs.declared.MapId.{MapId}
 use Rattle.dm_base.specs.Names.{Name}
 use Rattle.dm_maps.specs.declared.place.Place.{Place}
 use Rattle.dm_modules.specs.Maps.{Map, Module, Modules, nth_module, put_child, with_child_at, map_with_child}
-use Rattle.dm_maps.specs.Build.{maps_with_child, crate_maps_with_child, block_maps_with_child}
-use Rattle.dm_maps.specs.Trees.{no_map, Outline, outline, outlines, containers_of, IsPlaced, IsWorldOf, Stands, AreMaps, is_crate_id, is_block_id, map_id_in, numbered_outline}
+use Rattle.dm_maps.specs.Trees.{no_map, Outline, outline, IsPlaced, IsWorldOf, Stands, AreMaps, is_crate_id, is_block_id, map_id_in, numbered_outline}
 use Rattle.dm_maps.proofs.EntryLemmas.{get-push, get-last, get-set_same, set-own}
 use Rattle.dm_maps.proofs.GrowthLemmas.{longer, place_below, after, map_id_in-append, IsPlaced-append, IsTree-placed, AreMaps-append, AreMaps-longer, Grows, Grows-same, Grows-longer, Stands-grows}
 
--- ---- Outlines of maps, of which one has a module more.
-
-abbrev pub longer_in : List Outline → ℕ → ModuleId → Option ModuleId → List Outline
-longer_in os k m q = option_map_or (λ o. set os k (longer o m q)) (slice_get os k) os
-
-abbrev pub crates_longer : List Outline → MapId → ModuleId → Option ModuleId → List Outline
-crates_longer cs id m q = elim id.block [ None ↦ longer_in cs id.krate.0 m q | Some b ↦ cs ]
-
-abbrev pub blocks_longer : List Outline → MapId → ModuleId → Option ModuleId → List Outline
-blocks_longer bs id m q = elim id.block [ None ↦ bs | Some b ↦ longer_in bs b.0 m q ]
+-- ---- The outline of a map with a module more.
 
 -- what a write leaves of an element stays
 pub map-set_own : {X Y : Type 0} (f : X → Y) (xs : List X) (k : ℕ) (x y : X) → slice_get xs k ≡ Some x → f y ≡ f x → map f (set xs k y) ≡ map f xs
@@ -47,44 +37,9 @@ entries-with_child_at es i n m = by (nth_module es i) refl
     by None h = refl
     by (Some d) h = entries-set es i d _ h refl
 
-outline-map_with_child : (o : Map) (i : ℕ) (n : Name) (m : ModuleId) (d : Module) → outline (map_with_child o i n m d) ≡ longer (outline o) m d.parent
+pub outline-map_with_child : (o : Map) (i : ℕ) (n : Name) (m : ModuleId) (d : Module) → outline (map_with_child o i n m d) ≡ longer (outline o) m d.parent
 outline-map_with_child o i n m d =
     ap (λ es. record (outline o) { modules = es }) (entries-with_child_at (o.modules ++ (m, d) ∷ []) i n m ∙ map_push entry o.modules (m, d))
-
-outlines-with_child : (ms : List Map) (k i : ℕ) (n : Name) (m : ModuleId) (d : Module) → outlines (maps_with_child ms k i n m d) ≡ longer_in (outlines ms) k m d.parent
-outlines-with_child ms k i n m d = by (slice_get ms k) refl
-  where
-    by : (o : Option Map) → slice_get ms k ≡ o → outlines (option_map_or (λ x. set ms k (map_with_child x i n m d)) o ms) ≡ longer_in (outlines ms) k m d.parent
-    by None e = sym (ap (λ o. option_map_or (λ x. set (outlines ms) k (longer x m d.parent)) o (outlines ms)) (slice_get-map outline ms k ∙ ap (option_map outline) e))
-    by (Some x) e =
-        map-set outline ms k (map_with_child x i n m d)
-        ∙ ap (set (outlines ms) k) (outline-map_with_child x i n m d)
-        ∙ sym (ap (λ o. option_map_or (λ y. set (outlines ms) k (longer y m d.parent)) o (outlines ms)) (slice_get-map outline ms k ∙ ap (option_map outline) e))
-
-containers-with_child : (ms : List Map) (k i : ℕ) (n : Name) (m : ModuleId) (d : Module) → containers_of (maps_with_child ms k i n m d) ≡ containers_of ms
-containers-with_child ms k i n m d = by (slice_get ms k) refl
-  where
-    by : (o : Option Map) → slice_get ms k ≡ o → containers_of (option_map_or (λ x. set ms k (map_with_child x i n m d)) o ms) ≡ containers_of ms
-    by None e = refl
-    by (Some x) e = map-set_own (λ (y : Map). y.parent) ms k x (map_with_child x i n m d) e refl
-
-pub outlines-crate_child : (ms : List Map) (id : MapId) (i : ℕ) (n : Name) (m : ModuleId) (d : Module) → outlines (crate_maps_with_child ms id i n m d) ≡ crates_longer (outlines ms) id m d.parent
-outlines-crate_child ms id i n m d = elim id.block as (λ block. outlines (elim block [ None ↦ maps_with_child ms id.krate.0 i n m d | Some b ↦ ms ]) ≡ elim block [ None ↦ longer_in (outlines ms) id.krate.0 m d.parent | Some b ↦ outlines ms ]) [
-  | None ↦ outlines-with_child ms id.krate.0 i n m d
-  | Some b ↦ refl
-]
-
-pub outlines-block_child : (ms : List Map) (id : MapId) (i : ℕ) (n : Name) (m : ModuleId) (d : Module) → outlines (block_maps_with_child ms id i n m d) ≡ blocks_longer (outlines ms) id m d.parent
-outlines-block_child ms id i n m d = elim id.block as (λ block. outlines (elim block [ None ↦ ms | Some b ↦ maps_with_child ms b.0 i n m d ]) ≡ elim block [ None ↦ outlines ms | Some b ↦ longer_in (outlines ms) b.0 m d.parent ]) [
-  | None ↦ refl
-  | Some b ↦ outlines-with_child ms b.0 i n m d
-]
-
-pub containers-block_child : (ms : List Map) (id : MapId) (i : ℕ) (n : Name) (m : ModuleId) (d : Module) → containers_of (block_maps_with_child ms id i n m d) ≡ containers_of ms
-containers-block_child ms id i n m d = elim id.block as (λ block. containers_of (elim block [ None ↦ ms | Some b ↦ maps_with_child ms b.0 i n m d ]) ≡ containers_of ms) [
-  | None ↦ refl
-  | Some b ↦ containers-with_child ms b.0 i n m d
-]
 
 -- ---- With a module more below `q`, which stands at the place `at`, in a map of outline o.
 
@@ -158,41 +113,19 @@ module _ (ps : List Place) (cs bs : List Outline) (inside : List (Option ModuleI
           numbers = omega arith;
         }
 
-  length-longer_in : (os : List Outline) (k : ℕ) (m : ModuleId) (r : Option ModuleId) → length (longer_in os k m r) ≡ length os
-  length-longer_in os k m r = by (slice_get os k)
-    where
-      by : (x : Option Outline) → length (option_map_or (λ y. set os k (longer y m r)) x os) ≡ length os
-      by None = refl
-      by (Some x) = length-set os k (longer x m r)
-
-  pub longer_crate : at.map.block ≡ None → slice_get cs at.map.krate.0 ≡ Some o → IsWorldOf (ps ++ place_below o q ∷ []) (longer_in cs at.map.krate.0 (after ps) (Some q)) bs inside n
+  -- in a crate's map, and in a block's
+  pub longer_crate : at.map.block ≡ None → slice_get cs at.map.krate.0 ≡ Some o → IsWorldOf (ps ++ place_below o q ∷ []) (set cs at.map.krate.0 (longer o (after ps) (Some q))) bs inside n
   longer_crate none there =
       let k = at.map.krate.0 in
-      let made : longer_in cs k (after ps) (Some q) ≡ set cs k (longer o (after ps) (Some q)) = ap (λ x. option_map_or (λ y. set cs k (longer y (after ps) (Some q))) x cs) there in
-      let P : List Outline → Type 0 = λ ds. IsWorldOf (ps ++ place_below o q ∷ []) ds bs inside n in
       let ds = set cs k (longer o (after ps) (Some q)) in
       let found : numbered_outline ds bs at.map ≡ Some (longer o (after ps) (Some q)) =
       (λ i. elim (none i) [ None ↦ slice_get ds k | Some b ↦ slice_get bs b.0 ]) ∙ get-set_same cs k o (longer o (after ps) (Some q)) there in
-      subst P (sym made)
-      (longer_world ds bs (Grows-longer cs k o (after ps) (Some q) there) (Grows-same bs) found (AreMaps-longer is_crate_id ps cs k o q there w.crates) (AreMaps-append is_block_id ps (place_below o q ∷ []) bs w.blocks) (length-set cs k (longer o (after ps) (Some q))) refl)
+      longer_world ds bs (Grows-longer cs k o (after ps) (Some q) there) (Grows-same bs) found (AreMaps-longer is_crate_id ps cs k o q there w.crates) (AreMaps-append is_block_id ps (place_below o q ∷ []) bs w.blocks) (length-set cs k (longer o (after ps) (Some q))) refl
 
-  pub longer_block : (b : BlockId) → at.map.block ≡ Some b → slice_get bs b.0 ≡ Some o → IsWorldOf (ps ++ place_below o q ∷ []) cs (longer_in bs b.0 (after ps) (Some q)) inside n
+  pub longer_block : (b : BlockId) → at.map.block ≡ Some b → slice_get bs b.0 ≡ Some o → IsWorldOf (ps ++ place_below o q ∷ []) cs (set bs b.0 (longer o (after ps) (Some q))) inside n
   longer_block b some there =
       let k = b.0 in
-      let made : longer_in bs k (after ps) (Some q) ≡ set bs k (longer o (after ps) (Some q)) = ap (λ x. option_map_or (λ y. set bs k (longer y (after ps) (Some q))) x bs) there in
-      let P : List Outline → Type 0 = λ es. IsWorldOf (ps ++ place_below o q ∷ []) cs es inside n in
       let es = set bs k (longer o (after ps) (Some q)) in
       let found : numbered_outline cs es at.map ≡ Some (longer o (after ps) (Some q)) =
       (λ i. elim (some i) [ None ↦ slice_get cs at.map.krate.0 | Some x ↦ slice_get es x.0 ]) ∙ get-set_same bs k o (longer o (after ps) (Some q)) there in
-      subst P (sym made)
-      (longer_world cs es (Grows-same cs) (Grows-longer bs k o (after ps) (Some q) there) found (AreMaps-append is_crate_id ps (place_below o q ∷ []) cs w.crates) (AreMaps-longer is_block_id ps bs k o q there w.blocks) refl (length-set bs k (longer o (after ps) (Some q))))
-
--- a module more below q, in its map
-pub IsWorldOf-longer : (ps : List Place) (cs bs : List Outline) (inside : List (Option ModuleId)) (n : ℕ) (w : IsWorldOf ps cs bs inside n) (q : ModuleId) (at : Place) → slice_get ps q.0 ≡ Some at → length ps < 4294967295 → (o : Outline) → o.id ≡ at.map → numbered_outline cs bs at.map ≡ Some o
-    → IsWorldOf (ps ++ place_below o q ∷ []) (crates_longer cs at.map (after ps) (Some q)) (blocks_longer bs at.map (after ps) (Some q)) inside n
-IsWorldOf-longer ps cs bs inside n w q at is room o of_id there = by at.map.block refl there
-  where
-    by : (block : Option BlockId) → at.map.block ≡ block → elim block [ None ↦ slice_get cs at.map.krate.0 | Some b ↦ slice_get bs b.0 ] ≡ Some o
-        → IsWorldOf (ps ++ place_below o q ∷ []) (elim block [ None ↦ longer_in cs at.map.krate.0 (after ps) (Some q) | Some b ↦ cs ]) (elim block [ None ↦ bs | Some b ↦ longer_in bs b.0 (after ps) (Some q) ]) inside n
-    by None e g = longer_crate ps cs bs inside n w q at is room o of_id e g
-    by (Some b) e g = longer_block ps cs bs inside n w q at is room o of_id b e g
+      longer_world cs es (Grows-same cs) (Grows-longer bs k o (after ps) (Some q) there) found (AreMaps-append is_crate_id ps (place_below o q ∷ []) cs w.crates) (AreMaps-longer is_block_id ps bs k o q there w.blocks) refl (length-set bs k (longer o (after ps) (Some q)))

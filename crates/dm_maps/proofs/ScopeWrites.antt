@@ -4,7 +4,6 @@ use Rattle.std.proofs.Math.ListN.{length-set}
 use Rattle.std.specs.List.{AllByRecursion}
 use Rattle.std.specs.Option.{option_map, option_map_or, option_and_then}
 use Rattle.indexmap.specs.IndexMap.{set_value_at}
-use Rattle.dm_ids.specs.declared.BlockId.{BlockId}
 use Rattle.dm_ids.specs.declared.ModuleId.{ModuleId}
 use Rattle.dm_base.specs.Tree.{same_module}
 use Rattle.dm_scope.specs.Scope.{Scope, no_scope}
@@ -12,33 +11,25 @@ use Rattle.dm_held.specs.declared.held.HeldId.{HeldId}
 use Rattle.dm_held.specs.declared.held.HeldId.TheVariants as held
 use Rattle.dm_maps.specs.declared.place.Place.{Place}
 use Rattle.dm_modules.specs.Maps.{Map, Module, Modules, nth_module, put_scope, with_scope_at, map_with_scope}
-use Rattle.dm_maps.specs.World.{World, place_of, module_in, module_of, scope_of, own_scope, numbered_map, maps_with_scope, with_scope_in, with_scope}
+use Rattle.dm_maps.specs.Maps.{Maps, map_at, put_map, maps_with_scope}
+use Rattle.dm_maps.specs.World.{World, maps_of, with_maps, place_of, module_in, module_of, scope_of, own_scope, numbered_map, with_scope_in, with_scope}
 use Rattle.dm_maps.specs.Known.{knows, KnowsAll}
 use Rattle.dm_held.specs.Holding.{vis_holds}
 use Rattle.dm_held.specs.Holds.{scope_holds}
 use Rattle.dm_maps.specs.Holds.{module_holds}
 use Rattle.dm_maps.specs.First.{Held, each_from, crate_holder, block_holder, module_holder, IsChecked}
-use Rattle.dm_maps.specs.LendingWorld.{crate_with_scope, block_with_scope}
+use Rattle.dm_maps.specs.Built.{IsBuilt}
 use Rattle.dm_maps.specs.Sound.{IsCheckedWorld}
 use Rattle.dm_maps.specs.Trees.{outline, IsWorld}
-use Rattle.dm_held.proofs.Least.{all-weaker}
-use Rattle.dm_maps.proofs.AllLemmas.{all-left, all-right, all-append}
-use Rattle.dm_maps.proofs.EntryLemmas.{get-set_same, set-own}
-use Rattle.dm_tables.proofs.TableLemmas.{set_value_at-own}
+use Rattle.dm_maps.proofs.AllLemmas.{all-left, all-right, all-append, all-weaker}
+use Rattle.dm_maps.proofs.EntryLemmas.{get-set_same, at-set}
+use Rattle.dm_maps.proofs.MapWrites.{put-cases, with-cases, with-there, put_own, put-there, put-other}
+use Rattle.dm_tables.specs.TableLaws.{set_value_at-own}
 use Rattle.dm_maps.proofs.ModuleGrowth.{map-set_own}
 use Rattle.dm_maps.proofs.SoundLemmas.{IsSound-checked, of_scope}
 use Rattle.dm_maps.proofs.WorldGrowth.{numbered-outlines}
 
 -- ---- What stands at a place after a write.
-
--- an element after a write is the one that was there, or at the place of the write the one that was written
-at-set : {X : Type 0} (xs : List X) (i j : ℕ) (x y : X) → slice_get xs i ≡ Some x
-    → (slice_get (set xs i y) j ≡ slice_get xs j) ⊎ ((j ≡ i) × (slice_get xs j ≡ Some x) × (slice_get (set xs i y) j ≡ Some y))
-at-set [] i j x y h = cc
-at-set (z ∷ zs) zero zero x y h = inr (refl, h, refl)
-at-set (z ∷ zs) zero (suc j) x y h = inl refl
-at-set (z ∷ zs) (suc i) zero x y h = inl refl
-at-set (z ∷ zs) (suc i) (suc j) x y h = elim (at-set zs i j x y h) [ inl e ↦ inl e | inr e ↦ inr (ap suc e.0, e.1, e.2) ]
 
 values-set : (es : Modules) (i : ℕ) (d : Module) → map (λ e. e.1) (set_value_at es i d) ≡ set (map (λ e. e.1) es) i d
 values-set [] i d = refl
@@ -53,10 +44,6 @@ module_by w o = option_and_then (module_in w) o
 
 abbrev scope_by : Option Module → Scope
 scope_by o = option_map_or (λ (d : Module). d.scope) o no_scope
-
--- the world with s as the scope at the place q, in the map of a crate or of a block
-abbrev made : World → Place → Scope → Option BlockId → World
-made w q s b = elim b [ None ↦ crate_with_scope w q.map.krate.0 q.index s | Some x ↦ block_with_scope w x.0 q.index s ]
 
 module _ (s : Scope) where
   abbrev scoped : Module → Module
@@ -75,34 +62,20 @@ module _ (s : Scope) where
           let put = ap (λ l. slice_get l j) (values-set es i (scoped d)) in
           elim (at-set (map (λ x. x.1) es) i j d (scoped d) e) [ inl h ↦ inl (put ∙ h) | inr h ↦ inr (h.0, d, h.1, put ∙ h.2) ]
 
-  kept-map : (ms : List Map) (k i a j : ℕ) → Kept ((a ≡ k) × (j ≡ i)) (nth_of (slice_get ms a) j) (nth_of (slice_get (maps_with_scope ms k i s) a) j)
-  kept-map ms k i a j = by (slice_get ms k) refl
-    where
-      by : (o : Option Map) → slice_get ms k ≡ o → Kept ((a ≡ k) × (j ≡ i)) (nth_of (slice_get ms a) j) (nth_of (slice_get (option_map_or (λ x. set ms k (map_with_scope x i s)) o ms) a) j)
-      by None e = inl refl
-      by (Some x) e = elim (at-set ms k a x (map_with_scope x i s) e) [
-        | inl h ↦ inl (ap (λ o. nth_of o j) h)
-        | inr h ↦
-            let before = ap (λ o. nth_of o j) h.1 in
-            let after = ap (λ o. nth_of o j) h.2 in
-            elim (kept-nth x.modules i j) [ inl g ↦ inl (after ∙ g ∙ sym before) | inr g ↦ inr ((h.0, g.0), g.1, before ∙ g.2, after ∙ g.3) ]
-      ]
-
   -- two places are one
   abbrev Slot : World → Place → Place → Type 0
   Slot w q p = (numbered_map w p.map ≡ numbered_map w q.map) × (p.index ≡ q.index)
 
-  kept-made : (w : World) (q p : Place) (b c : Option BlockId)
-      → Kept ((elim c [ None ↦ slice_get w.crate_maps p.map.krate.0 | Some x ↦ slice_get w.block_maps x.0 ] ≡ elim b [ None ↦ slice_get w.crate_maps q.map.krate.0 | Some x ↦ slice_get w.block_maps x.0 ]) × (p.index ≡ q.index))
-      (nth_of (elim c [ None ↦ slice_get w.crate_maps p.map.krate.0 | Some x ↦ slice_get w.block_maps x.0 ]) p.index)
-      (nth_of (elim c [ None ↦ slice_get (made w q s b).crate_maps p.map.krate.0 | Some x ↦ slice_get (made w q s b).block_maps x.0 ]) p.index)
-  kept-made w q p None None = elim (kept-map w.crate_maps q.map.krate.0 q.index p.map.krate.0 p.index) [ inl h ↦ inl h | inr h ↦ inr ((ap (slice_get w.crate_maps) h.0.0, h.0.1), h.1, h.2, h.3) ]
-  kept-made w q p None (Some x) = inl refl
-  kept-made w q p (Some y) None = inl refl
-  kept-made w q p (Some y) (Some x) = elim (kept-map w.block_maps y.0 q.index x.0 p.index) [ inl h ↦ inl h | inr h ↦ inr ((ap (slice_get w.block_maps) h.0.0, h.0.1), h.1, h.2, h.3) ]
-
   kept-in : (w : World) (q p : Place) → Kept (Slot w q p) (module_in w p) (module_in (with_scope_in w (Some q) s) p)
-  kept-in w q p = kept-made w q p q.map.block p.map.block
+  kept-in w q p =
+      with-cases (maps_of w) q.map (λ x. map_with_scope x q.index s) (λ ms. Kept (Slot w q p) (module_in w p) (nth_of (map_at ms p.map) p.index)) (inl refl)
+      (λ x e. elim (put-other (maps_of w) q.map p.map x (map_with_scope x q.index s) e) [
+        | inl h ↦ inl (ap (λ o. nth_of o p.index) h)
+        | inr h ↦
+            let before = ap (λ o. nth_of o p.index) h.0 in
+            let after = ap (λ o. nth_of o p.index) h.1 in
+            elim (kept-nth x.modules q.index p.index) [ inl g ↦ inl (after ∙ g ∙ sym before) | inr g ↦ inr ((h.0 ∙ sym e, g.0), g.1, before ∙ g.2, after ∙ g.3) ]
+      ])
 
   -- ---- The scopes of modules.
 
@@ -112,28 +85,19 @@ module _ (s : Scope) where
       ∙ ap (λ l. slice_get l i) (values-set es i (scoped d))
       ∙ get-set_same (map (λ x. x.1) es) i d (scoped d) e
 
-  map-own : (ms : List Map) (k i : ℕ) (d : Module) → nth_of (slice_get ms k) i ≡ Some d → nth_of (slice_get (maps_with_scope ms k i s) k) i ≡ Some (scoped d)
-  map-own ms k i d h = by (slice_get ms k) refl h
-    where
-      by : (o : Option Map) → slice_get ms k ≡ o → nth_of o i ≡ Some d → nth_of (slice_get (option_map_or (λ x. set ms k (map_with_scope x i s)) o ms) k) i ≡ Some (scoped d)
-      by None e g = cc
-      by (Some x) e g = ap (λ o. nth_of o i) (get-set_same ms k x (map_with_scope x i s) e) ∙ nth-own x.modules i d g
-
   in-own : (w : World) (q : Place) (d : Module) → module_in w q ≡ Some d → module_in (with_scope_in w (Some q) s) q ≡ Some (scoped d)
-  in-own w q d h = by q.map.block (with_scope_in w (Some q) s) refl h
+  in-own w q d h = by (numbered_map w q.map) refl h
     where
-      by : (b : Option BlockId) (v : World) → v ≡ made w q s b → nth_of (elim b [ None ↦ slice_get w.crate_maps q.map.krate.0 | Some x ↦ slice_get w.block_maps x.0 ]) q.index ≡ Some d
-          → nth_of (elim b [ None ↦ slice_get v.crate_maps q.map.krate.0 | Some x ↦ slice_get v.block_maps x.0 ]) q.index ≡ Some (scoped d)
-      by None v e g = ap (λ (u : World). nth_of (slice_get u.crate_maps q.map.krate.0) q.index) e ∙ map-own w.crate_maps q.map.krate.0 q.index d g
-      by (Some x) v e g = ap (λ (u : World). nth_of (slice_get u.block_maps x.0) q.index) e ∙ map-own w.block_maps x.0 q.index d g
+      by : (o : Option Map) → numbered_map w q.map ≡ o → nth_of o q.index ≡ Some d → module_in (with_scope_in w (Some q) s) q ≡ Some (scoped d)
+      by None e g = cc
+      by (Some x) e g =
+          ap (λ ms. nth_of (map_at ms q.map) q.index) (with-there (maps_of w) q.map (λ m. map_with_scope m q.index s) x e)
+          ∙ ap (λ o. nth_of o q.index) (put-there (maps_of w) q.map x (map_with_scope x q.index s) e)
+          ∙ nth-own x.modules q.index d g
 
   places-kept : (w : World) (o : Option Place) → (with_scope_in w o s).places ≡ w.places
   places-kept w None = refl
-  places-kept w (Some q) = by q.map.block
-    where
-      by : (b : Option BlockId) → (made w q s b).places ≡ w.places
-      by None = refl
-      by (Some x) = refl
+  places-kept w (Some q) = refl
 
   scope_of-known : (w : World) (m : ModuleId) (d : Module) → module_of w m ≡ Some d → scope_of (with_scope w m s) m ≡ s
   scope_of-known w m d h = by (place_of w m) refl h
@@ -186,20 +150,16 @@ module _ (s : Scope) where
   nth-again : (es : Modules) (i : ℕ) (d : Module) → nth_module es i ≡ Some d → d.scope ≡ s → with_scope_at es i s ≡ es
   nth-again es i d e same = ap (λ o. put_scope es i o s) e ∙ ap (λ x. set_value_at es i (record d { scope = x })) (sym same) ∙ set_value_at-own es i d e
 
-  map-again : (ms : List Map) (k i : ℕ) (d : Module) → nth_of (slice_get ms k) i ≡ Some d → d.scope ≡ s → maps_with_scope ms k i s ≡ ms
-  map-again ms k i d h same = by (slice_get ms k) refl h
-    where
-      by : (o : Option Map) → slice_get ms k ≡ o → nth_of o i ≡ Some d → option_map_or (λ x. set ms k (map_with_scope x i s)) o ms ≡ ms
-      by None e g = refl
-      by (Some x) e g = ap (λ es. set ms k (record x { modules = es })) (nth-again x.modules i d g same) ∙ set-own ms k x e
-
   in-again : (w : World) (q : Place) (d : Module) → module_in w q ≡ Some d → d.scope ≡ s → with_scope_in w (Some q) s ≡ w
-  in-again w q d h same = by q.map.block h
+  in-again w q d h same = by (numbered_map w q.map) refl h
     where
-      by : (b : Option BlockId) → nth_of (elim b [ None ↦ slice_get w.crate_maps q.map.krate.0 | Some x ↦ slice_get w.block_maps x.0 ]) q.index ≡ Some d
-          → made w q s b ≡ w
-      by None g = ap (λ l. record w { crate_maps = l }) (map-again w.crate_maps q.map.krate.0 q.index d g same)
-      by (Some x) g = ap (λ l. record w { block_maps = l }) (map-again w.block_maps x.0 q.index d g same)
+      by : (o : Option Map) → numbered_map w q.map ≡ o → nth_of o q.index ≡ Some d → with_scope_in w (Some q) s ≡ w
+      by None e g = cc
+      by (Some x) e g =
+          ap (with_maps w)
+          (with-there (maps_of w) q.map (λ m. map_with_scope m q.index s) x e
+          ∙ ap (λ es. put_map (maps_of w) q.map (record x { modules = es })) (nth-again x.modules q.index d g same)
+          ∙ put_own (maps_of w) q.map x e)
 
   pub with_scope-own : (w : World) (m : ModuleId) → own_scope w m ≡ Some s → with_scope w m s ≡ w
   with_scope-own w m h = by (place_of w m) h
@@ -259,62 +219,43 @@ module _ (w v : World) (same : (h : HeldId) → knows v h ≡ knows w h) (s : Sc
       (each-weaker (Fine w) (Fine v) (module_holder w) (module_holder v) (λ i p g. module-fine (module_in w p) (module_in v p) (Slot_of p) (kept p) g) 0 ps (all-left (Fine w) old rest after_blocks))
       (fine-list rest (all-right (Fine w) old rest after_blocks))))
 
-length-scoped : (ms : List Map) (k i : ℕ) (s : Scope) → length (maps_with_scope ms k i s) ≡ length ms
-length-scoped ms k i s = by (slice_get ms k)
-  where
-    by : (o : Option Map) → length (option_map_or (λ x. set ms k (map_with_scope x i s)) o ms) ≡ length ms
-    by None = refl
-    by (Some x) = length-set ms k (map_with_scope x i s)
+-- maps that hold what the world's hold, beside their modules
+pub record Holds (w : World) (ms : Maps) : Type 0 where
+  pub count : length ms.crates ≡ length w.crate_maps
+  pub crates : each_from (crate_holder w.local_maps) 0 ms.crates ≡ each_from (crate_holder w.local_maps) 0 w.crate_maps
+  pub blocks : map block_holder ms.blocks ≡ map block_holder w.block_maps
 
-module _ (w : World) (q : Place) (s : Scope) where
-  knows-kept : (b : Option BlockId) (h : HeldId) → knows (made w q s b) h ≡ knows w h
-  knows-kept None (held.Module m) = refl
-  knows-kept None (held.Crate k) = ap (nat_lt k.0) (length-scoped w.crate_maps q.map.krate.0 q.index s)
-  knows-kept None (held.Use u) = refl
-  knows-kept None (held.Item k n) = refl
-  knows-kept None (held.Variant v) = refl
-  knows-kept None (held.Macro m) = refl
-  knows-kept (Some b) (held.Module m) = refl
-  knows-kept (Some b) (held.Crate k) = refl
-  knows-kept (Some b) (held.Use u) = refl
-  knows-kept (Some b) (held.Item k n) = refl
-  knows-kept (Some b) (held.Variant v) = refl
-  knows-kept (Some b) (held.Macro m) = refl
+Holds-scoped : (w : World) (q : Place) (s : Scope) → Holds w (maps_with_scope (maps_of w) q.map q.index s)
+Holds-scoped w q s =
+    let k = q.map.krate.0 in
+    with-cases (maps_of w) q.map (λ x. map_with_scope x q.index s) (Holds w) (record { count = refl; crates = refl; blocks = refl })
+    (λ x e. let y = map_with_scope x q.index s in put-cases (maps_of w) q.map x y (Holds w) e
+    (λ none g. record { count = length-set w.crate_maps k y; crates = each-set (crate_holder w.local_maps) 0 k w.crate_maps x y g (λ j. refl); blocks = refl })
+    (λ b some g. record { count = refl; crates = refl; blocks = map-set_own block_holder w.block_maps b.0 x y g refl }))
 
-  crates-kept : (b : Option BlockId) → each_from (crate_holder (made w q s b).local_maps) 0 (made w q s b).crate_maps ≡ each_from (crate_holder w.local_maps) 0 w.crate_maps
-  crates-kept None = by (slice_get w.crate_maps q.map.krate.0) refl
-    where
-      by : (o : Option Map) → slice_get w.crate_maps q.map.krate.0 ≡ o → each_from (crate_holder w.local_maps) 0 (option_map_or (λ x. set w.crate_maps q.map.krate.0 (map_with_scope x q.index s)) o w.crate_maps) ≡ each_from (crate_holder w.local_maps) 0 w.crate_maps
-      by None e = refl
-      by (Some x) e = each-set (crate_holder w.local_maps) 0 q.map.krate.0 w.crate_maps x (map_with_scope x q.index s) e (λ j. refl)
-  crates-kept (Some b) = refl
-
-  blocks-kept : (b : Option BlockId) → map block_holder (made w q s b).block_maps ≡ map block_holder w.block_maps
-  blocks-kept None = refl
-  blocks-kept (Some b) = by (slice_get w.block_maps b.0) refl
-    where
-      by : (o : Option Map) → slice_get w.block_maps b.0 ≡ o → map block_holder (option_map_or (λ x. set w.block_maps b.0 (map_with_scope x q.index s)) o w.block_maps) ≡ map block_holder w.block_maps
-      by None e = refl
-      by (Some x) e = map-set_own block_holder w.block_maps b.0 x (map_with_scope x q.index s) e refl
+knows-kept : (w : World) (ms : Maps) → length ms.crates ≡ length w.crate_maps → (h : HeldId) → knows (with_maps w ms) h ≡ knows w h
+knows-kept w ms count (held.Module m) = refl
+knows-kept w ms count (held.Crate k) = ap (nat_lt k.0) count
+knows-kept w ms count (held.Use u) = refl
+knows-kept w ms count (held.Item k n) = refl
+knows-kept w ms count (held.Variant v) = refl
+knows-kept w ms count (held.Macro m) = refl
 
 IsChecked-scoped : (w : World) (m : ModuleId) (s : Scope) → IsChecked w → KnowsAll w (scope_holds s) → IsChecked (with_scope w m s)
 IsChecked-scoped w m s checked fine = by (place_of w m)
   where
-    at : (q : Place) (b : Option BlockId) → IsChecked (made w q s b)
-    at q None =
-        fine-holders w (made w q s None) (knows-kept w q s None) s fine _ _ _ _ _ w.places _ (crates-kept w q s None) (blocks-kept w q s None) (λ p. kept-made s w q p None p.map.block) checked
-    at q (Some b) =
-        fine-holders w (made w q s (Some b)) (knows-kept w q s (Some b)) s fine _ _ _ _ _ w.places _ (crates-kept w q s (Some b)) (blocks-kept w q s (Some b)) (λ p. kept-made s w q p (Some b) p.map.block) checked
-
     by : (o : Option Place) → IsChecked (with_scope_in w o s)
     by None = checked
-    by (Some q) = at q q.map.block
+    by (Some q) =
+        let ms = maps_with_scope (maps_of w) q.map q.index s in
+        let kept = Holds-scoped w q s in
+        fine-holders w (with_maps w ms) (knows-kept w ms kept.count) s fine _ _ _ _ _ w.places _ kept.crates kept.blocks (kept-in s w q) checked
 
 -- and so it still is a checked world
-pub IsCheckedWorld-scoped : (w v : World) (m : ModuleId) (s : Scope) → IsCheckedWorld w → IsWorld v → v ≡ with_scope w m s → KnowsAll w (scope_holds s) → IsCheckedWorld v
-IsCheckedWorld-scoped w v m s is lawful same fine =
+pub IsCheckedWorld-scoped : (w v : World) (m : ModuleId) (s : Scope) → IsCheckedWorld w → IsBuilt v → v ≡ with_scope w m s → KnowsAll w (scope_holds s) → IsCheckedWorld v
+IsCheckedWorld-scoped w v m s is built same fine =
     let checked : IsChecked v = subst IsChecked (sym same) (IsChecked-scoped w m s is.checked fine) in
-    record { lawful = lawful; checked = checked; sound = IsSound-checked v checked lawful }
+    record { lawful = built.0; listed = built.1; family = built.2; checked = checked; sound = IsSound-checked v checked built }
 
 -- what a checked world's scope holds is the world's
 pub scope-known : (w : World) (m : ModuleId) → IsCheckedWorld w → KnowsAll w (scope_holds (scope_of w m))

@@ -4,6 +4,7 @@ use Rattle.std.specs.List.{AllByRecursion, flat_map}
 use Rattle.std.specs.Option.{ForSome, option_map, option_map_or, option_and_then}
 use Rattle.std.proofs.lemmas.Option.{slice_get-map, slice_get_within}
 use Rattle.std.proofs.lemmas.Bool.{lt-ltb, eqb-true}
+use Rattle.std.proofs.lemmas.List.{length-map}
 use Rattle.dm_ids.specs.declared.ModuleId.{ModuleId}
 use Rattle.dm_ids.specs.declared.BlockId.{BlockId}
 use Rattle.dm_ids.specs.declared.MapId.{MapId}
@@ -11,6 +12,7 @@ use Rattle.dm_ids.specs.declared.ExternCrateId.{ExternCrateId}
 use Rattle.dm_ids.specs.declared.UseId.{UseId}
 use Rattle.dm_base.specs.declared.item_ids.MacroId.{MacroId}
 use Rattle.dm_base.specs.Names.{Name, find_name}
+use Rattle.dm_base.specs.Tree.{IsKnown}
 use Rattle.dm_scope.specs.Scope.{Scope, no_scope, bound_in, legacy_in, last_of}
 use Rattle.dm_held.specs.declared.held.HeldId.{HeldId}
 use Rattle.dm_held.specs.declared.held.HeldId.TheVariants as held
@@ -24,16 +26,12 @@ use Rattle.dm_held.specs.Holds.{scope_holds, prelude_holds, macro_uses_hold, typ
 use Rattle.dm_held.specs.TablesHold.{macro_defs_hold, helpers_hold, diagnostics_hold, data_holds}
 use Rattle.dm_maps.specs.First.{Held, each_from, crate_holder, block_holder, module_holder, tables_holder, local_at, IsChecked}
 use Rattle.dm_maps.specs.Readings.{macro_uses_of, prelude_in}
+use Rattle.dm_maps.specs.Built.{IsBuilt}
 use Rattle.dm_maps.specs.Trees.{tree_of, outline, outlines, IsWorld, IsMap, AreMaps, is_crate_id, is_block_id}
 use Rattle.dm_maps.specs.Sound.{IsSound}
 use Rattle.dm_maps.proofs.ModuleGrowth.{entry}
-use Rattle.dm_maps.proofs.AllLemmas.{all-left, all-right, all-append, all-get, all-map, all-flat_map, found}
-
-for_none : {X : Type 0} (P : X → Type 0) → ForSome None P
-for_none P x e = cc
-
-for_some : {X : Type 0} (P : X → Type 0) (y : X) → P y → ForSome (Some y) P
-for_some P y p x e = let same : y ≡ x = cc in subst P same p
+use Rattle.dm_maps.proofs.AllLemmas.{all-left, all-right, all-append, all-get, all-map, all-flat_map, found, for_none, for_some}
+use Rattle.dm_maps.proofs.ListLemmas.{use-among, def-among, macro-among, variant-enum, variant-own, variant-known}
 
 -- ---- The holders of a checked world.
 
@@ -210,27 +208,52 @@ map-lawful w is id m e = by id.block e
     by None g = (is.crates id.krate.0 (outline m) (slice_get-map outline w.crate_maps id.krate.0 ∙ ap (option_map outline) g)).1
     by (Some b) g = (is.blocks b.0 (outline m) (slice_get-map outline w.block_maps b.0 ∙ ap (option_map outline) g)).1
 
-lies-there : (w : World) → IsWorld w → (map : Map) (m : ModuleId) → numbered_map w map.id ≡ Some map → IsSome (module_at map.modules m) → map_of w m ≡ Some map
+pub lies-there : (w : World) → IsWorld w → (map : Map) (m : ModuleId) → numbered_map w map.id ≡ Some map → IsSome (module_at map.modules m) → map_of w m ≡ Some map
 lies-there w is map m e some =
     let at = listed-there map.modules m some in
     ap (option_and_then (λ (p : Place). numbered_map w p.map)) ((map-lawful w is map.id map e).listed at.0 m at.1 at.2) ∙ e
 
-placed-known : (w : World) (m : ModuleId) → IsSome (map_of w m) → IsTrue (knows w (held.Module m))
+pub placed-known : (w : World) (m : ModuleId) → IsSome (map_of w m) → IsTrue (knows w (held.Module m))
 placed-known w m some = by (slice_get w.places m.0) refl some
   where
     by : (o : Option Place) → slice_get w.places m.0 ≡ o → IsSome (option_and_then (λ (p : Place). numbered_map w p.map) o) → IsTrue (knows w (held.Module m))
     by None e h = absurd (true≢false (sym h))
     by (Some p) e h = lt-ltb m.0 (length w.places) (slice_get_within w.places m.0 p e)
 
-pub IsSound-checked : (w : World) → IsChecked w → IsWorld w → IsSound w
+crate_of-known : (w : World) → IsWorld w → (m : ModuleId) → ForSome (option_map (λ (p : Place). p.map.krate) (slice_get w.places m.0)) (λ k. IsTrue (knows w (held.Crate k)))
+crate_of-known w is m = by (slice_get w.places m.0) refl
+  where
+    by : (o : Option Place) → slice_get w.places m.0 ≡ o → ForSome (option_map (λ (p : Place). p.map.krate) o) (λ k. IsTrue (knows w (held.Crate k)))
+    by None e = for_none (λ k. IsTrue (knows w (held.Crate k)))
+    by (Some p) e =
+        let n : length (outlines w.crate_maps) ≡ length w.crate_maps = length-map w.crate_maps outline in
+        let l = is.in_crates m p e in
+        for_some (λ k. IsTrue (knows w (held.Crate k))) p.map.krate (lt-ltb p.map.krate.0 (length w.crate_maps) (omega arith))
+
+pub IsSound-checked : (w : World) → IsChecked w → IsBuilt w → IsSound w
 unfolding tree_of
 IsSound-checked w checked is = record {
   bound = λ m n. of_scope w checked (λ s. KnowsAll w (res_holds (bound_in s n))) tt (λ s h. bound_of w checked s h n) m;
-  roots = λ k. root-known is_crate_id w w.crate_maps k.0 is.crates;
-  block_roots = λ b. root-known is_block_id w w.block_maps b.0 is.blocks;
+  roots = λ k. root-known is_crate_id w w.crate_maps k.0 is.0.crates;
+  block_roots = λ b. root-known is_block_id w w.block_maps b.0 is.0.blocks;
   preludes = prelude-known w checked;
   macro_uses = macro_use-known w checked;
   legacies = λ m n. of_scope w checked (λ s. ForSome (legacy_in s n) (λ l. IsTrue (knows w (held.Macro l)))) (for_none (λ l. IsTrue (knows w (held.Macro l)))) (λ s h. legacy_in-known w checked s h n) m;
-  lies = lies-there w is;
+  lies = lies-there w is.0;
   placed = placed-known w;
+  variants = variant-known w is.1;
+  own_variants = variant-own w is.1;
+  use_modules = use-among w is.1;
+  item_modules = def-among w is.1;
+  macro_modules = macro-among w is.1;
+  variant_enums = variant-enum w is.1;
+  crates = crate_of-known w is.0;
 }
+
+-- the root of a map of the world is the world's
+pub own-root : (w : World) → IsSound w → (M : Map) → numbered_map w M.id ≡ Some M → IsKnown (tree_of w) M.root
+own-root w sound M e = by M.id.block e
+  where
+    by : (b : Option BlockId) → elim b [ None ↦ slice_get w.crate_maps M.id.krate.0 | Some x ↦ slice_get w.block_maps x.0 ] ≡ Some M → IsKnown (tree_of w) M.root
+    by None g = sound.roots M.id.krate M.root (ap (option_map (λ (m : Map). m.root)) g)
+    by (Some b) g = sound.block_roots b M.root (ap (option_map (λ (m : Map). m.root)) g)

@@ -4,8 +4,8 @@ use Rattle.dm_maps.specs.declared.builder.WorldBuilder.TheInside.{Inside}
 
 abbrev pub tables_of : Inside → World
 tables_of w = record {
-  crate_maps = w.crate_maps.items;
-  block_maps = w.block_maps.items;
+  crate_maps = w.maps.crates;
+  block_maps = w.maps.blocks;
   places = w.places.items;
   local_maps = w.local_maps.items;
   uses = w.uses.items;

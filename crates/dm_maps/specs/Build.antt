@@ -1,5 +1,5 @@
 -- What builder calls change.
-use Rattle.std.specs.Prelude.{◌≡◌, IfSome, ℕ, List, [], ◌∷◌, ◌++◌, Some, None, length, slice_get}
+use Rattle.std.specs.Prelude.{ℕ, [], ◌∷◌, ◌++◌, Some, None, length}
 use Rattle.std.specs.Option.{option_map_or}
 use Rattle.dm_ids.specs.declared.ModuleId.{ModuleId}
 use Rattle.dm_ids.specs.declared.Crate.{Crate}
@@ -17,9 +17,10 @@ use Rattle.dm_base.specs.Names.{Name}
 use Rattle.dm_maps.specs.declared.place.Place.{Place}
 use Rattle.dm_modules.specs.declared.module_origin.ModuleOrigin.{ModuleOrigin}
 use Rattle.dm_modules.specs.declared.module_origin.ModuleOrigin.TheVariants.{CrateRoot}
-use Rattle.dm_modules.specs.Maps.{Map, Module, fresh_module, fresh_map, map_with_child, module_at}
+use Rattle.dm_modules.specs.Maps.{Map, Module, fresh_module, fresh_map}
 use Rattle.dm_tables.specs.ItemTables.{no_tables}
-use Rattle.dm_maps.specs.World.{World, place_of, numbered_map, maps_with}
+use Rattle.dm_maps.specs.Maps.{maps_with_child}
+use Rattle.dm_maps.specs.World.{World, place_of, numbered_map, maps_of, with_maps}
 
 -- a builder of nothing
 abbrev pub no_world : World
@@ -55,29 +56,13 @@ with_crate w e f = record w {
   local_maps = w.local_maps ++ [] ∷ [];
 }
 
--- the maps, of which the one of number k has a module more, a child of the module at place i
-abbrev pub maps_with_child : List Map → ℕ → ℕ → Name → ModuleId → Module → List Map
-maps_with_child ms k i n m d = maps_with ms k (λ map. map_with_child map i n m d)
-
-abbrev pub crate_maps_with_child : List Map → MapId → ℕ → Name → ModuleId → Module → List Map
-crate_maps_with_child ms id i n m d = elim id.block [ None ↦ maps_with_child ms id.krate.0 i n m d | Some b ↦ ms ]
-
-abbrev pub block_maps_with_child : List Map → MapId → ℕ → Name → ModuleId → Module → List Map
-block_maps_with_child ms id i n m d = elim id.block [ None ↦ ms | Some b ↦ maps_with_child ms b.0 i n m d ]
-
--- no module of the map of number k has that number
-abbrev pub IsFree : List Map → ℕ → ModuleId → Type 0
-IsFree ms k m = IfSome (slice_get ms k) (λ map. module_at map.modules m ≡ None)
-
 -- the place of the next module in a map, below that parent
 abbrev pub next_place : World → MapId → ModuleId → Place
 next_place w id m = record { map = id; index = option_map_or (λ map. length map.modules) (numbered_map w id) 0; parent = Some m }
 
 -- the world with a module more, a child of the module m at the place p
 abbrev pub with_child_at_place : World → ModuleId → Place → Name → Module → World
-with_child_at_place w m p n d = record w {
-  crate_maps = crate_maps_with_child w.crate_maps p.map p.index n (next_module w) d;
-  block_maps = block_maps_with_child w.block_maps p.map p.index n (next_module w) d;
+with_child_at_place w m p n d = record (with_maps w (maps_with_child (maps_of w) p.map p.index n (next_module w) d)) {
   places = w.places ++ next_place w p.map m ∷ [];
 }
 

@@ -8,13 +8,12 @@ use Rattle.dm_base.specs.declared.source.AstId.{AstId}
 use Rattle.dm_base.specs.declared.visibility.Visibility.TheVariants.{Module}
 use Rattle.dm_base.specs.declared.visibility.VisibilityExplicitness.TheVariants.{Implicit}
 use Rattle.dm_maps.specs.declared.build_fault.BuildFault.{BuildFault}
-use Rattle.dm_maps.specs.declared.build_fault.BuildFault.TheVariants.{NoSuchModule, OutOfNumbers}
 use Rattle.dm_modules.specs.declared.module_origin.ModuleOrigin.TheVariants.{BlockExpr}
 use Rattle.dm_modules.specs.Maps.{Map, fresh_module, fresh_map}
 use Rattle.dm_maps.specs.World.{World, crate_map}
 use Rattle.dm_maps.specs.Trees.{map_id_in}
 use Rattle.dm_maps.specs.Build.{next_module}
-use Rattle.dm_maps.specs.Faults.{first_fault, is_full, lacks_module}
+use Rattle.dm_maps.specs.Faults.{first_fault, none_found, is_full, lacks_module}
 
 -- the number of the next block
 abbrev pub next_block : World → BlockId
@@ -42,4 +41,4 @@ with_block w m a = option_map_or (with_block_of w (crate_in w m) m a) (crate_map
 
 -- of a new block: its root is a module, so there are never more blocks than modules
 abbrev pub block_fault : World → ModuleId → Option BuildFault
-block_fault w m = first_fault ((lacks_module w m, NoSuchModule) ∷ (is_full w.places, OutOfNumbers) ∷ [])
+block_fault w m = first_fault (record none_found { no_module = lacks_module w m; full = is_full w.places })

@@ -13,25 +13,19 @@ use Rattle.dm_base.specs.Names.{Name, same_name}
 use Rattle.dm_diagnostics.specs.declared.DefDiagnostic.{DefDiagnostic}
 use Rattle.dm_base.specs.Sameness.{same_ast}
 use Rattle.dm_maps.specs.declared.build_fault.BuildFault.{BuildFault}
-use Rattle.dm_maps.specs.declared.build_fault.BuildFault.TheVariants.{NoSuchCrate}
 use Rattle.dm_held.specs.declared.held.HeldId.TheVariants as held
 use Rattle.dm_modules.specs.Maps.{Map, LocalMap}
-use Rattle.dm_maps.specs.World.{World, numbered_map, maps_with}
+use Rattle.dm_maps.specs.Maps.{maps_with}
+use Rattle.dm_maps.specs.World.{World, numbered_map, maps_of, with_maps}
 use Rattle.dm_maps.specs.Known.{knows}
-use Rattle.dm_maps.specs.Faults.{first_fault}
+use Rattle.dm_maps.specs.Faults.{first_fault, none_found}
 use Rattle.dm_tables.specs.HelperChanges.{helpers_with}
 use Rattle.dm_tables.specs.Helpers.{Helper}
 use Rattle.dm_modules.specs.Locals.{with_extern}
 
-abbrev pub crate_maps_with : List Map → MapId → (Map → Map) → List Map
-crate_maps_with ms id f = elim id.block [ None ↦ maps_with ms id.krate.0 f | Some b ↦ ms ]
-
-abbrev pub block_maps_with : List Map → MapId → (Map → Map) → List Map
-block_maps_with ms id f = elim id.block [ None ↦ ms | Some b ↦ maps_with ms b.0 f ]
-
 -- the world, with f of the map of that id
 abbrev pub with_map : World → MapId → (Map → Map) → World
-with_map w id f = record w { crate_maps = crate_maps_with w.crate_maps id f; block_maps = block_maps_with w.block_maps id f }
+with_map w id f = with_maps w (maps_with (maps_of w) id f)
 
 -- with that prelude module, or none
 abbrev pub with_prelude : World → MapId → Option (ModuleId × Option UseId) → World
@@ -66,11 +60,11 @@ lacks_map w id = option_map_or (λ m. not (nat_eq m.id.krate.0 id.krate.0)) (num
 
 -- of what is set in a map
 abbrev pub map_fault : World → MapId → Option BuildFault
-map_fault w id = first_fault ((lacks_map w id, NoSuchCrate) ∷ [])
+map_fault w id = first_fault (record none_found { no_crate = lacks_map w id })
 
 -- of what is set for a crate
 abbrev pub krate_fault : World → Crate → Option BuildFault
-krate_fault w k = first_fault ((not (knows w (held.Crate k)), NoSuchCrate) ∷ [])
+krate_fault w k = first_fault (record none_found { no_crate = not (knows w (held.Crate k)) })
 
 -- the fault that there is, and none else, since no memory is taken
 abbrev pub AnswersFree : {A : Type 0} → Option BuildFault → Result A BuildFault → Type 0

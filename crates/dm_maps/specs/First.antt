@@ -1,7 +1,7 @@
 -- Which holders a world has, in order; when it is checked; and what its first fault is.
-use Rattle.std.specs.Prelude.{◌≡◌, ℕ, ◌+◌, ◌++◌, Option, Some, None, List, [], ◌∷◌, MatchOption, slice_get, take, map}
-use Rattle.std.specs.List.{AllByRecursion, fold}
-use Rattle.std.specs.Option.{option_map, option_map_or, option_or}
+use Rattle.std.specs.Prelude.{◌≡◌, ℕ, ◌+◌, ◌++◌, Option, Some, List, [], ◌∷◌, MatchOption, slice_get, take, map}
+use Rattle.std.specs.List.{AllByRecursion}
+use Rattle.std.specs.Option.{option_map_or}
 use Rattle.dm_held.specs.declared.fault.Holder.{Holder}
 use Rattle.dm_held.specs.declared.fault.Holder.TheVariants as holder
 use Rattle.dm_held.specs.declared.fault.WorldFault.{WorldFault}
@@ -14,7 +14,7 @@ use Rattle.dm_maps.specs.Known.{knows, KnowsAll}
 use Rattle.dm_held.specs.Holding.{local_holds}
 use Rattle.dm_maps.specs.Holds.{map_holds, module_holds}
 use Rattle.dm_held.specs.TablesHold.{data_holds, tables_hold}
-use Rattle.dm_held.specs.Held.{IsLeast, noted}
+use Rattle.dm_held.specs.Held.{IsLeast}
 
 -- a holder with the ids that it holds
 abbrev pub Held : Type 0
@@ -72,8 +72,3 @@ pub record IsFirstFault (w : World) (hs : List Held) (f : WorldFault) : Type 0 w
 -- none where no holder has a fault, else the first
 abbrev pub IsAnswer : World → List Held → Option WorldFault → Type 0
 IsAnswer w hs r = MatchOption r (AllByRecursion (λ h. KnowsAll w h.1) hs) (IsFirstFault w hs)
-
--- the same, as a computation
-abbrev pub first_in : World → List Held → Option WorldFault
-first_in w [] = None
-first_in w (h ∷ hs) = option_or (option_map (fault_of h.0) (fold (noted (knows w)) None h.1)) (first_in w hs)

@@ -14,7 +14,15 @@ pub mod ItemFaults
 pub mod First
 pub mod Holds
 pub mod Known
+pub mod LendingMaps
 pub mod LendingWorld
+pub mod Maps
+pub mod Outwards
+pub mod RawTables
 pub mod Readings
 pub mod Sound
 pub mod Trees
+pub mod Lists
+pub mod Family
+pub mod MapFacts
+pub mod Built

@@ -1,5 +1,5 @@
 -- Worlds, as contracts see them.
-use Rattle.std.specs.Prelude.{ℕ, List, Option, Some, None, slice_get, slice_set}
+use Rattle.std.specs.Prelude.{List, Option, Some, None, slice_get}
 use Rattle.std.specs.Option.{option_map, option_map_or, option_and_then}
 use Rattle.dm_ids.specs.declared.ModuleId.{ModuleId}
 use Rattle.dm_ids.specs.declared.Crate.{Crate}
@@ -13,7 +13,8 @@ use Rattle.dm_base.specs.Names.{Name}
 use Rattle.dm_scope.specs.Scope.{Scope, no_scope}
 use Rattle.dm_maps.specs.declared.place.Place.{Place}
 use Rattle.dm_tables.specs.ItemTables.{ItemTables}
-use Rattle.dm_modules.specs.Maps.{Map, Module, LocalMap, nth_module, map_with_scope}
+use Rattle.dm_modules.specs.Maps.{Map, Module, LocalMap, nth_module}
+use Rattle.dm_maps.specs.Maps.{Maps, map_at, maps_with_scope}
 
 -- The tables of a world. A number of a list is an id: the third of `uses` is the use of number 2.
 pub record World : Type 0 where
@@ -36,9 +37,16 @@ pub record World : Type 0 where
   -- the tables that belong to no map and no module
   pub item_tables : ItemTables
 
+-- the maps of a world, and the world with others in their place
+abbrev pub maps_of : World → Maps
+maps_of w = record { crates = w.crate_maps; blocks = w.block_maps }
+
+abbrev pub with_maps : World → Maps → World
+with_maps w ms = record w { crate_maps = ms.crates; block_maps = ms.blocks }
+
 -- the map of that id, by its number
 abbrev pub numbered_map : World → MapId → Option Map
-numbered_map w id = elim id.block [ None ↦ slice_get w.crate_maps id.krate.0 | Some b ↦ slice_get w.block_maps b.0 ]
+numbered_map w id = map_at (maps_of w) id
 
 -- where a module stands
 abbrev pub place_of : World → ModuleId → Option Place
@@ -64,28 +72,14 @@ scope_of w m = option_map_or (λ d. d.scope) (module_of w m) no_scope
 abbrev pub crate_map : World → Crate → Option Map
 crate_map w k = slice_get w.crate_maps k.0
 
--- the maps, with f of the one of number k
-abbrev pub maps_with : List Map → ℕ → (Map → Map) → List Map
-maps_with ms k f = option_map_or (λ m. slice_set ms k (f m)) (slice_get ms k) ms
-
--- the maps with s as the scope at place i of map k
-abbrev pub maps_with_scope : List Map → ℕ → ℕ → Scope → List Map
-maps_with_scope ms k i s = maps_with ms k (λ m. map_with_scope m i s)
-
+-- the world with s as the scope at a place
 abbrev pub with_scope_in : World → Option Place → Scope → World
 with_scope_in w None s = w
-with_scope_in w (Some p) s = elim p.map.block [
-  | None ↦ record w { crate_maps = maps_with_scope w.crate_maps p.map.krate.0 p.index s }
-  | Some b ↦ record w { block_maps = maps_with_scope w.block_maps b.0 p.index s }
-]
+with_scope_in w (Some p) s = with_maps w (maps_with_scope (maps_of w) p.map p.index s)
 
 -- the world with s as the scope of module m
 abbrev pub with_scope : World → ModuleId → Scope → World
 with_scope w m s = with_scope_in w (place_of w m) s
-
--- the scope at place i of map k
-abbrev pub scope_in : List Map → ℕ → ℕ → Option Scope
-scope_in ms k i = option_map (λ d. d.scope) (option_and_then (λ map. nth_module map.modules i) (slice_get ms k))
 
 -- the scope of a module, where there is such a module
 abbrev pub own_scope : World → ModuleId → Option Scope

@@ -13,14 +13,13 @@ mod growth;
 mod scopes;
 mod set_crate_data;
 mod set_tables;
-mod share;
 mod tables;
 
+use crate::maps::Maps;
 use crate::place::Place;
 use dm_base::ids::{EnumId, ModuleId};
 use dm_base::item_ids::ItemKind;
 use dm_base::macros::MacroLoc;
-use dm_def_map::def_map::DefMap;
 use dm_modules::local_def_map::LocalDefMap;
 use dm_tables::item_tables::ItemTables;
 use dm_tables::variants::EnumVariants;
@@ -30,8 +29,7 @@ use std::marker::Model;
 
 /// The tables of a world, as they are filled.
 pub struct WorldBuilder {
-    pub(crate) crate_maps: Vec<DefMap>,
-    pub(crate) block_maps: Vec<DefMap>,
+    pub(crate) maps: Maps,
     pub(crate) places: Vec<Place>,
     pub(crate) local_maps: Vec<LocalDefMap>,
     pub(crate) uses: Vec<ModuleId>,
@@ -47,8 +45,7 @@ pub struct WorldBuilder {
 impl Drop for WorldBuilder {
     fn drop(self) {
         let WorldBuilder {
-            crate_maps: _crate_maps,
-            block_maps: _block_maps,
+            maps: _maps,
             places: _places,
             local_maps: _local_maps,
             uses: _uses,
@@ -63,25 +60,24 @@ impl Drop for WorldBuilder {
 }
 
 impl Model for WorldBuilder {
-    ghost use Rattle.std.specs.Prelude.{length};
     ghost use Rattle.dm_maps.specs.World.{World};
-    ghost use Rattle.dm_maps.specs.Trees.{IsWorldOf, outlines, containers_of};
+    ghost use Rattle.dm_maps.specs.Built.{IsBuilt};
 
     ghost Value = { World };
 
-    ghost view = { λ w. record { crate_maps = w.crate_maps.items; block_maps = w.block_maps.items; places = w.places.items; local_maps = w.local_maps.items; uses = w.uses.items; items = w.items.items; enums = w.enums.entries; variants = w.variants.items; macros = w.macros.items; item_tables = w.item_tables } };
+    ghost view = { λ w. record { crate_maps = w.maps.crates; block_maps = w.maps.blocks; places = w.places.items; local_maps = w.local_maps.items; uses = w.uses.items; items = w.items.items; enums = w.enums.entries; variants = w.variants.items; macros = w.macros.items; item_tables = w.item_tables } };
 
-    ghost invariant = { λ w. IsWorldOf w.places.items (outlines w.crate_maps.items) (outlines w.block_maps.items) (containers_of w.block_maps.items) (length w.local_maps.items) };
+    ghost invariant = { λ w. IsBuilt (record { crate_maps = w.maps.crates; block_maps = w.maps.blocks; places = w.places.items; local_maps = w.local_maps.items; uses = w.uses.items; items = w.items.items; enums = w.enums.entries; variants = w.variants.items; macros = w.macros.items; item_tables = w.item_tables }) };
 }
 
 impl WorldBuilder {
     /// A builder of nothing, which takes its memory from `alloc`. It takes none yet.
+    #[tactic(auto, unfolding(crate::specs::Family::AreFamilies, crate::specs::Lists::AreListed))]
     pub fn new(alloc: Global) -> WorldBuilder
         ensures { result ≡ no_world }
     {
         WorldBuilder {
-            crate_maps: Vec::new(alloc),
-            block_maps: Vec::new(alloc),
+            maps: Maps::new(alloc),
             places: Vec::new(alloc),
             local_maps: Vec::new(alloc),
             uses: Vec::new(alloc),

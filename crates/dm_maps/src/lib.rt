@@ -4,10 +4,11 @@
 pub mod build_fault;
 pub mod builder;
 mod check;
+mod maps;
 pub mod place;
 pub mod world;
 
 pub use dm_def_map::def_map;
-pub use dm_held::{fault, held};
+pub use dm_held::fault;
 pub use dm_modules::{local_def_map, modes, module_data, module_origin, modules_iter, modules_map};
-pub use dm_tables::{derive_helpers, unstable_features, variants};
+pub use dm_tables::{derive_helpers, unstable_features};

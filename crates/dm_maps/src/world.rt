@@ -2,12 +2,14 @@
 ghost use Rattle.std.specs.Prelude.{◌≡◌, ◌↔◌, IsTrue, IsSome, IfSome, Some, slice_get, nat_lt, length};
 ghost use Rattle.std.specs.Option.{option_copied, option_map};
 ghost use Rattle.dm_scope.specs.Scope.{bound_in};
+ghost use Rattle.dm_maps.specs.Built.{IsBuilt};
 ghost use Rattle.dm_maps.specs.World.{place_of, numbered_map, map_of, module_of, scope_of};
 ghost use Rattle.dm_maps.specs.First.{IsChecked};
 ghost use Rattle.dm_held.specs.declared.held.HeldId.TheVariants as held;
 ghost use Rattle.dm_maps.specs.Known.{knows, KnowsAll};
 ghost use Rattle.dm_held.specs.Holding.{res_holds};
 ghost use Rattle.dm_modules.specs.Maps.{module_at};
+ghost use Rattle.dm_maps.specs.MapFacts.{IsMapOf};
 ghost use Rattle.dm_maps.specs.Sound.{IsCheckedWorld};
 ghost use Rattle.dm_maps.specs.Trees.{IsWorld};
 
@@ -15,9 +17,11 @@ mod in_order;
 mod item_modules;
 mod knows;
 pub mod maps_of;
+mod outwards;
 mod path_look_ups;
 mod path_tables;
 mod push_res;
+mod raw_visibilities;
 mod tree;
 
 use crate::builder::WorldBuilder;
@@ -54,7 +58,7 @@ impl World {
     /// The world of these tables.
     pub(crate) fn of_checked(tables: WorldBuilder) -> World
         requires checked { IsChecked tables }
-        requires lawful { IsWorld tables }
+        requires built { IsBuilt tables }
         ensures { result ≡ tables }
     {
         World { tables }
@@ -84,6 +88,7 @@ impl World {
         ensures own { IfSome result (λ map. numbered_map self.now map.now.id ≡ Some map.now) }
         ensures lies { IfSome result (λ map. IsSome (module_at map.now.modules m)) }
         ensures there { IsTrue (knows self.now (held.Module m)) → IsSome result }
+        ensures facts { IfSome result (λ map. IsMapOf self.now map.now) }
 
         // What holds of the modules and maps of every world.
         ensures lawful { IsWorld self.now }
@@ -97,6 +102,7 @@ impl World {
 
         // It is the world's of its own id.
         ensures own { IfSome result (λ map. numbered_map self.now map.now.id ≡ Some map.now) }
+        ensures facts { IfSome result (λ map. IsMapOf self.now map.now) }
     {
         self.tables().numbered_map(id)
     }

@@ -1,5 +1,6 @@
-//! Tests that call `dm_maps`, and the crates whose modules it passes on.
+//! Tests that call `dm_maps` and the crates whose modules it passes on, and the callers that docs/USING.md shows.
 #![tactic(auto)]
 
 #[cfg(test)]
 mod tests;
+pub mod using;

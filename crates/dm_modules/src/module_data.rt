@@ -1,5 +1,5 @@
 //! A module of a map.
-ghost use Rattle.std.specs.Prelude.{◌≡◌, OnOk, OnErr};
+ghost use Rattle.std.specs.Prelude.{◌≡◌, OnOk, OnErr, is_some};
 ghost use Rattle.std.specs.Borrow.{sem};
 ghost use Rattle.dm_base.specs.Names.{find_name};
 ghost use Rattle.dm_modules.specs.Maps.{fresh_module, with_child};
@@ -112,6 +112,13 @@ impl ModuleData {
         ensures { result ≡ find_name name.now self.now.children }
     {
         self.children.get(name).copied()
+    }
+
+    /// Whether there is a child of that name.
+    pub fn has_child(&self, name: &str) -> bool
+        ensures { result ≡ is_some (find_name name.now self.now.children) }
+    {
+        self.children.contains_key(name)
     }
 
     /// Adds a child. A name that is there would keep its place and take the new child.

@@ -9,7 +9,7 @@ use Rattle.std.proofs.lemmas.List.Folds.{list_any-append}
 use Rattle.indexmap.specs.IndexSet.{insert_key}
 use Rattle.dm_ids.specs.declared.ModuleId.{ModuleId}
 use Rattle.dm_base.specs.Tree.{same_module}
-use Rattle.dm_base.proofs.IdLemmas.{same_module-true, same_module-refl}
+use Rattle.dm_base.specs.IdLaws.{same_module-true, same_module-refl}
 use Rattle.dm_scope.specs.Bindings.{Reading, is_glob, flagged}
 use Rattle.dm_scope.specs.Flags.{Flags, has_flag, add_flag, clear_flag, without_name}
 

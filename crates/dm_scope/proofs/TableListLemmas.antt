@@ -50,3 +50,8 @@ add_to_list-map {K} {X} {Y} eq f (e ∷ es) k x = by (eq k e.0) (add_to_list-map
         ≡ cond b ((e.0, map f e.1 ++ f x ∷ []) ∷ map (λ e. (e.0, map f e.1)) es) ((e.0, map f e.1) ∷ add_to_list eq (map (λ e. (e.0, map f e.1)) es) k (f x))
     by true rest = ap (λ l. (e.0, l) ∷ map (λ e. (e.0, map f e.1)) es) (map-append f e.1 (x ∷ []))
     by false rest = ap (λ l. (e.0, map f e.1) ∷ l) rest
+
+-- a table of lists has the keys of its entries
+pub keys_of_lists : {K X : Type 0} (es : List (K × SmallVec X)) → map (λ e. e.0) (lists_of es) ≡ map (λ e. e.0) es
+keys_of_lists [] = refl
+keys_of_lists (e ∷ es) = ap (λ ks. e.0 ∷ ks) (keys_of_lists es)

@@ -1,7 +1,12 @@
 pub mod AllCalls
 pub mod Bindings
+pub mod ChainRows
+pub mod ChainSteps
+pub mod Chains
 pub mod Changes
 pub mod Derives
+pub mod DumpRows
+pub mod Dumps
 pub mod Entries
 pub mod Flags
 pub mod Iterators
@@ -16,3 +21,6 @@ pub mod Scope
 pub mod Shows
 pub mod Sorted
 pub mod TableLists
+pub mod Tables
+pub mod Outcomes
+pub mod RunLaws

@@ -1,5 +1,5 @@
 -- The macro calls of derive attributes.
-use Rattle.std.specs.Prelude.{List, Option, None, Some}
+use Rattle.std.specs.Prelude.{◌≡◌, List, [], ◌∷◌, ◌++◌, Option, None, Some, MatchOption}
 use Rattle.std.specs.List.{filter_map, flat_map}
 use Rattle.either.specs.declared.Either.TheVariants.{Left, Right}
 use Rattle.smallvec.specs.SmallVec.{SmallVec}
@@ -23,3 +23,7 @@ attribute_calls ds = flat_map (λ d. filter_map call_in d.derive_call_ids.items)
 
 abbrev pub item_calls : List (SmallVec DeriveMacroInvocation) → List MacroCallId
 item_calls ls = flat_map (λ l. attribute_calls l.items) ls
+
+-- the first of some things is taken, which were `before`, and `after` are left; or there were none
+abbrev pub Takes : {X : Type 0} → List X → List X → Option (X × List X) → Type 0
+Takes before after found = MatchOption found ((before ≡ []) × (after ≡ [])) (λ f. before ≡ f.0 ∷ f.1 ++ after)

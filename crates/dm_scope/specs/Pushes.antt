@@ -1,13 +1,14 @@
 -- What a whole list of pushes binds and records in one namespace.
-use Rattle.std.specs.Prelude.{◌≡◌, ℕ, Bool, true, false, not, nat_eq, List, [], ◌∷◌, ◌++◌, slice_get, Option, None, Some, if◌then◌else◌, length}
+use Rattle.std.specs.Prelude.{◌≡◌, ℕ, Bool, true, false, not, nat_eq, List, [], ◌∷◌, ◌++◌, slice_get, Option, None, Some, Result, OnOk, IfOk, if◌then◌else◌, length}
 use Rattle.std.specs.Option.{option_map}
 use Rattle.std.specs.List.{filter, list_all, list_any, enumerate_from}
 use Rattle.std.specs.Map.{lookup}
 use Rattle.dm_base.specs.Names.{Name, same_name, find_name}
 use Rattle.dm_base.specs.declared.per_ns.Item.{Item}
 use Rattle.dm_base.specs.declared.imports.ImportOrDef.{ImportOrDef}
+use Rattle.dm_base.specs.declared.imports.ImportOrExternCrate.{ImportOrExternCrate}
 use Rattle.dm_scope.specs.Scope.{last_of}
-use Rattle.dm_scope.specs.Bindings.{Bound, Reading, is_glob, is_same, stored, recorded}
+use Rattle.dm_scope.specs.Bindings.{Bound, Reading, import_of, is_glob, is_same, stored, recorded}
 
 -- one push: the name, the pushed item, and the import by which it came, as the namespace reads it
 pub record Push (D I : Type 0) : Type 0 where
@@ -87,6 +88,18 @@ module _ {D I : Type 0} (r : Reading D I) where
     pub bindings : (n : Name) → find_name n s.items ≡ binding ps n
     pub records : (i : I) → lookup (r.same_import i) s.records ≡ record_of ps i
     pub flags : (n : Name) → flag n ≡ is_glob_push (named_push ps n)
+
+  -- one push of a name, as the namespace reads its import
+  abbrev pub one_push : Name → Item D I → Option ImportOrExternCrate → Push D I
+  one_push n x by = record { name = n; item = x; by = import_of r by }
+
+  -- A push that goes through shows the list that was shown, with itself after it.
+  abbrev pub PushShowsIn : {E : Type 0} → Bound D I → (Name → Bool) → Bound D I → (Name → Bool) → Push D I → Result Bool E → Type 0
+  PushShowsIn s flag t new_flag p result = (ps : List (Push D I)) → ShowsIn s flag ps → OnOk result (ShowsIn t new_flag (ps ++ p ∷ []))
+
+  -- It answers what the list says that was shown.
+  abbrev pub PushAnswersIn : {E : Type 0} → Bound D I → (Name → Bool) → Push D I → Result Bool E → Type 0
+  PushAnswersIn s flag p result = (ps : List (Push D I)) → ShowsIn s flag ps → IfOk result (λ effective. effective ≡ is_effective ps p)
 
   -- What a list binds to a name rests on the pushes of that name alone. With an explicit one among them those by globs
   -- count for nothing: definition, visibility and import are the same without them.

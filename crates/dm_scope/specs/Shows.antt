@@ -1,9 +1,10 @@
 -- What a whole list of pushes makes of a scope and its glob table.
-use Rattle.std.specs.Prelude.{◌≡◌, ◌&&◌, ◌||◌, Bool, false, not, List, Option}
+use Rattle.std.specs.Prelude.{◌≡◌, ◌&&◌, ◌||◌, Bool, false, not, List, [], ◌∷◌, ◌++◌, Option, Result, OnOk, OnErr, IfOk}
 use Rattle.std.specs.Option.{option_map, option_map_or}
 use Rattle.std.specs.List.{list_any, filter_map}
 use Rattle.dm_base.specs.Names.{Name, same_name}
 use Rattle.dm_ids.specs.declared.ModuleId.{ModuleId}
+use Rattle.dm_base.specs.Tree.{same_module}
 use Rattle.dm_base.specs.declared.per_ns.Item.{Item}
 use Rattle.dm_base.specs.declared.per_ns.PerNs.{PerNs}
 use Rattle.dm_base.specs.declared.imports.ImportOrExternCrate.{ImportOrExternCrate}
@@ -52,3 +53,22 @@ pub record Shows (s : Scope) (g : Globs) (m : ModuleId) (ps : List ScopePush) : 
   pub values : ShowsIn values_reading s.values (has_flag g.values m) (pushes_in values_reading (λ x. x.values) ps)
   pub macros : ShowsIn macros_reading s.macros (has_flag g.macros m) (pushes_in macros_reading (λ x. x.macros) ps)
   pub unresolved : (n : Name) → list_any (same_name n) s.unresolved ≡ has_empty_push ps n
+
+abbrev pub push_of : Name → PerNs → Option ImportOrExternCrate → ScopePush
+push_of n x i = record { name = n; res = x; by = i }
+
+-- A push that goes through shows the list that was shown, with itself after it.
+abbrev pub PushShows : {E : Type 0} → Scope → Globs → Scope → Globs → ModuleId → ScopePush → Result Bool E → Type 0
+PushShows s g t h m p r = (ps : List ScopePush) → Shows s g m ps → OnOk r (Shows t h m (ps ++ p ∷ []))
+
+-- It answers what the list says that was shown.
+abbrev pub PushAnswers : {E : Type 0} → Scope → Globs → ModuleId → ScopePush → Result Bool E → Type 0
+PushAnswers s g m p r = (ps : List ScopePush) → Shows s g m ps → IfOk r (λ answer. answer ≡ is_answered ps p)
+
+-- One that is refused leaves what was shown.
+abbrev pub StillShows : {E : Type 0} → Scope → Globs → Scope → Globs → ModuleId → Result Bool E → Type 0
+StillShows s g t h k r = (ps : List ScopePush) → Shows s g k ps → OnErr r (Shows t h k ps)
+
+-- Whatever any scope showed in another module than m, it shows.
+abbrev pub ShowsElsewhere : Globs → Globs → ModuleId → Type 0
+ShowsElsewhere g h m = (other : Scope) (k : ModuleId) (ps : List ScopePush) → same_module m k ≡ false → Shows other g k ps → Shows other h k ps

@@ -21,10 +21,14 @@ use Rattle.dm_scope.specs.Scope.{Scope, bound_in}
 abbrev pub names_of : Scope → List Name
 names_of s = map (λ e. e.0) s.types.items ++ map (λ e. e.0) s.values.items ++ map (λ e. e.0) s.macros.items ++ s.unresolved
 
--- Names in order of their bytes, without repeats: just those that are bound or unresolved.
-pub record AreNames (names : List Name) (s : Scope) : Type 0 where
+-- Names in order of their bytes, without repeats: just those of a list.
+pub record AreInOrder (names all : List Name) : Type 0 where
   pub sorted : IsStrictlySortedBy (slice_cmp nat_cmp) names
-  pub same : (name : Name) → Contains names name ↔ Contains (names_of s) name
+  pub same : (name : Name) → Contains names name ↔ Contains all name
+
+-- Names of a scope in order: just those that are bound or unresolved.
+abbrev pub AreNames : List Name → Scope → Type 0
+AreNames names s = AreInOrder names (names_of s)
 
 -- the names of references
 abbrev pub seen : List (Bor Name) → List Name

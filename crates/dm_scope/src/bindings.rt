@@ -10,7 +10,7 @@ ghost use Rattle.dm_scope.specs.Iterators.{deref_name};
 ghost use Rattle.dm_ids.specs.declared.ModuleId.{ModuleId};
 ghost use Rattle.dm_base.specs.Names.{Name, same_name, find_name};
 ghost use Rattle.dm_base.specs.Tree.{same_module};
-ghost use Rattle.dm_scope.specs.Pushes.{Push, ShowsIn, IsByName, is_effective};
+ghost use Rattle.dm_scope.specs.Pushes.{PushAnswersIn, PushShowsIn, one_push, Push, ShowsIn, IsByName, is_effective};
 ghost use Rattle.dm_scope.specs.Entries.{is_new};
 ghost use Rattle.dm_scope.specs.Flags.{has_flag, without_flag};
 ghost use Rattle.dm_scope.specs.Bindings.{import_of, is_glob_by, writes, stored, recorded, bound_after, flags_after, is_effective_at};
@@ -144,8 +144,8 @@ impl<D: Definition, I: ImportSource> Bindings<D, I> {
         ensures err_flags { OnErr result (flags.new ≡ flags.old) }
 
         // Where they show a list of pushes, they show it with this push after it, and the answer is as that list says.
-        ensures shown { (ps : List (Push D I)) → ShowsIn ⟦<D as Reads<I>>⟧.reading self.old (has_flag flags.old lookup.0) ps → OnOk result (ShowsIn ⟦<D as Reads<I>>⟧.reading self.new (has_flag flags.new lookup.0) (ps ++ record { name = lookup.1; item = item; by = import_of ⟦<D as Reads<I>>⟧.reading import } ∷ [])) }
-        ensures shown_answer { (ps : List (Push D I)) → ShowsIn ⟦<D as Reads<I>>⟧.reading self.old (has_flag flags.old lookup.0) ps → IfOk result (λ effective. effective ≡ is_effective ⟦<D as Reads<I>>⟧.reading ps (record { name = lookup.1; item = item; by = import_of ⟦<D as Reads<I>>⟧.reading import })) }
+        ensures shown { PushShowsIn ⟦<D as Reads<I>>⟧.reading self.old (has_flag flags.old lookup.0) self.new (has_flag flags.new lookup.0) (one_push ⟦<D as Reads<I>>⟧.reading lookup.1 item import) result }
+        ensures shown_answer { PushAnswersIn ⟦<D as Reads<I>>⟧.reading self.old (has_flag flags.old lookup.0) (one_push ⟦<D as Reads<I>>⟧.reading lookup.1 item import) result }
 
         // What any list of pushes binds to a name rests on the pushes of that name, and not on globs beside an explicit one.
         ensures by_name { (n : Name) → IsByName ⟦<D as Reads<I>>⟧.reading n }
@@ -183,6 +183,13 @@ impl<D: Definition, I: ImportSource> Bindings<D, I> {
         ensures { result ≡ map (λ e. (I.widened e.0, e.1)) self.now.records }
     {
         Records::new(&self.records)
+    }
+
+    /// How many imports have a record.
+    pub(crate) fn record_count(&self) -> usize
+        ensures { result ≡ length self.now.records }
+    {
+        self.records.len()
     }
 
     /// The first step of a push: new keys go last. The second step cannot fail.

@@ -1,7 +1,9 @@
 //! The records of a scope: what each import that brought a binding stands for.
 ghost use Rattle.std.specs.Prelude.{◌≡◌, length, map};
 ghost use Rattle.std.specs.Iterator.{at_most};
-ghost use Rattle.std.specs.Map.Iter.{TakesFirst};
+ghost use Rattle.dm_base.specs.declared.imports.ImportOrDef.{ImportOrDef};
+ghost use Rattle.dm_base.specs.declared.imports.ImportOrExternCrate.{ImportOrExternCrate};
+ghost use Rattle.std.specs.Map.Iter.{TakesFirst, ShowsInOrder};
 
 use dm_base::import_source::ImportSource;
 use dm_base::imports::{ImportOrDef, ImportOrExternCrate, ImportOrGlob};
@@ -71,7 +73,8 @@ impl<'a> Model for ImportRecords<'a> {
 
 impl<'a> ImportRecords<'a> {
     pub(crate) fn wide(records: Records<'a, ImportOrExternCrate>) -> Self
-        ensures { result ≡ records.entry }
+        ensures rest { result ≡ records.entry }
+        ensures runs { ShowsInOrder (λ (x : ImportOrExternCrate × ImportOrDef). x) }
     {
         ImportRecords {
             records: OfNamespace::Wide(records),
@@ -79,7 +82,8 @@ impl<'a> ImportRecords<'a> {
     }
 
     pub(crate) fn of_values(records: Records<'a, ImportOrGlob>) -> Self
-        ensures { result ≡ records.entry }
+        ensures rest { result ≡ records.entry }
+        ensures runs { ShowsInOrder (λ (x : ImportOrExternCrate × ImportOrDef). x) }
     {
         ImportRecords {
             records: OfNamespace::Values(records),

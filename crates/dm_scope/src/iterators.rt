@@ -3,7 +3,10 @@ ghost use Rattle.std.specs.Prelude.{◌≡◌, ◌++◌, Some, IfSome, length, m
 ghost use Rattle.std.specs.Iterator.{at_most, UpTo};
 ghost use Rattle.std.specs.Iterator.SizeHint.{IsWithinCount};
 ghost use Rattle.std.specs.List.{filter_map};
-ghost use Rattle.std.specs.Map.Iter.{TakesFirst, deref_pair};
+ghost use Rattle.std.specs.Map.Iter.{TakesFirst, ShowsInOrder, deref_pair};
+ghost use Rattle.dm_ids.specs.declared.TraitId.{TraitId};
+ghost use Rattle.dm_ids.specs.declared.MacroCallId.{MacroCallId};
+ghost use Rattle.dm_base.specs.declared.source.AstId.{AstId};
 ghost use Rattle.dm_scope.specs.Derives.{derives_of, deref_derives};
 ghost use Rattle.dm_scope.specs.Iterators.{any_impl, trait_impl, inherent_impl, module_of, trait_of, deref_legacy};
 ghost use Rattle.dm_scope.specs.TableLists.{lists_of};
@@ -39,7 +42,8 @@ impl<'a, T> Model for Listed<'a, T> {
 
 impl<'a, T> Listed<'a, T> {
     pub(crate) fn new(list: &'a [T]) -> Self
-        ensures { result ≡ list.now }
+        ensures rest { result ≡ list.now }
+        ensures runs { ShowsInOrder (λ (x : T). x) }
     {
         Listed { rest: list.iter() }
     }
@@ -178,7 +182,8 @@ impl<'a> Traits<'a> {
         types: &'a [TypesItem],
         unnamed: &'a [(TraitId, Visibility, Option<ImportId>)],
     ) -> Self
-        ensures { result ≡ filter_map trait_of types.now ++ map (λ e. e.0) unnamed.now }
+        ensures rest { result ≡ filter_map trait_of types.now ++ map (λ e. e.0) unnamed.now }
+        ensures runs { ShowsInOrder (λ (x : TraitId). x) }
     {
         Traits {
             types: Picked::new(types, TraitType),
@@ -222,7 +227,8 @@ impl<'a> Model for LegacyMacros<'a> {
 
 impl<'a> LegacyMacros<'a> {
     pub(crate) fn new(table: &'a IndexMap<Name, SmallVec<MacroId, 1>>) -> Self
-        ensures { result ≡ lists_of table.now.entries }
+        ensures rest { result ≡ lists_of table.now.entries }
+        ensures runs { ShowsInOrder deref_legacy }
     {
         LegacyMacros { rest: table.iter() }
     }
@@ -259,7 +265,8 @@ impl<'a> Model for MacroInvocations<'a> {
 
 impl<'a> MacroInvocations<'a> {
     pub(crate) fn new(table: &'a IndexMap<AstId, MacroCallId>) -> Self
-        ensures { result ≡ table.now.entries }
+        ensures rest { result ≡ table.now.entries }
+        ensures runs { ShowsInOrder (deref_pair {K = AstId} {X = MacroCallId}) }
     {
         MacroInvocations { rest: table.iter() }
     }
@@ -296,7 +303,8 @@ impl<'a> Model for AttrMacroInvocations<'a> {
 
 impl<'a> AttrMacroInvocations<'a> {
     pub(crate) fn new(table: &'a IndexMap<AstId, MacroCallId>) -> Self
-        ensures { result ≡ table.now.entries }
+        ensures rest { result ≡ table.now.entries }
+        ensures runs { ShowsInOrder (λ (x : AstId × MacroCallId). x) }
     {
         AttrMacroInvocations { rest: table.iter() }
     }
@@ -333,7 +341,8 @@ impl<'a> Model for DeriveMacroInvocations<'a> {
 
 impl<'a> DeriveMacroInvocations<'a> {
     pub(crate) fn new(table: &'a IndexMap<AstId, SmallVec<DeriveMacroInvocation, 1>>) -> Self
-        ensures { result ≡ derives_of table.now.entries }
+        ensures rest { result ≡ derives_of table.now.entries }
+        ensures runs { ShowsInOrder deref_derives }
     {
         DeriveMacroInvocations { rest: table.iter() }
     }

@@ -2,6 +2,7 @@
 #![tactic(auto)]
 
 pub mod bindings;
+mod circles;
 pub mod derives;
 pub mod diagnostics;
 pub mod glob_imports;
@@ -12,5 +13,6 @@ mod keys;
 pub mod macro_calls;
 mod picked;
 pub mod reads;
+pub mod scope_tables;
 mod steps;
 mod table_lists;

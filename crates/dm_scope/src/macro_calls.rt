@@ -2,10 +2,11 @@
 ghost use Rattle.std.specs.Prelude.{◌≡◌, ◌++◌, ◌∷◌, [], length, map};
 ghost use Rattle.std.specs.Iterator.{at_most};
 ghost use Rattle.std.specs.List.{filter_map};
-ghost use Rattle.std.specs.Map.Iter.{TakesFirst};
+ghost use Rattle.std.specs.Map.Iter.{TakesFirst, ShowsInOrder};
 ghost use Rattle.std.specs.Option.{MatchOption};
 ghost use Rattle.std.specs.Slice.Iter.{iter_rest};
-ghost use Rattle.dm_scope.specs.MacroCalls.{call_in, attribute_calls, item_calls};
+ghost use Rattle.dm_ids.specs.declared.MacroCallId.{MacroCallId};
+ghost use Rattle.dm_scope.specs.MacroCalls.{Takes, call_in, attribute_calls, item_calls};
 
 use crate::derives::DeriveMacroInvocation;
 use crate::picked::{Pick, Picked};
@@ -46,7 +47,7 @@ impl<'a> Model for AttributeCalls<'a> {
     ghost use Rattle.std.specs.Prelude.{List, ◌++◌};
     ghost use Rattle.std.specs.Slice.Iter.{iter_rest};
     ghost use Rattle.dm_ids.specs.declared.MacroCallId.{MacroCallId};
-    ghost use Rattle.dm_scope.specs.MacroCalls.{attribute_calls};
+    ghost use Rattle.dm_scope.specs.MacroCalls.{Takes, attribute_calls};
 
     ghost Value = { List MacroCallId };
 
@@ -68,7 +69,7 @@ impl<'a> AttributeCalls<'a> {
 fn next_in_attributes<'a>(
     attributes: &mut slice::Iter<'a, DeriveMacroInvocation>,
 ) -> Option<(MacroCallId, SlotCalls<'a>)>
-    ensures { MatchOption result ((attribute_calls (iter_rest attributes.old) ≡ []) × (attribute_calls (iter_rest attributes.new) ≡ [])) (λ found. attribute_calls (iter_rest attributes.old) ≡ found.0 ∷ found.1 ++ attribute_calls (iter_rest attributes.new)) }
+    ensures { Takes (attribute_calls (iter_rest attributes.old)) (attribute_calls (iter_rest attributes.new)) result }
 {
     while let Some(attribute) = attributes.next() {
         let mut slots = Picked::new(attribute.derive_call_ids.as_slice(), CallInSlot);
@@ -107,7 +108,7 @@ impl<'a> Model for DeriveCalls<'a> {
     ghost use Rattle.std.specs.Prelude.{List, ◌++◌};
     ghost use Rattle.std.specs.Slice.Iter.{iter_rest};
     ghost use Rattle.dm_ids.specs.declared.MacroCallId.{MacroCallId};
-    ghost use Rattle.dm_scope.specs.MacroCalls.{item_calls};
+    ghost use Rattle.dm_scope.specs.MacroCalls.{Takes, item_calls};
 
     ghost Value = { List MacroCallId };
 
@@ -129,7 +130,7 @@ impl<'a> DeriveCalls<'a> {
 fn next_in_items<'a>(
     items: &mut slice::Iter<'a, SmallVec<DeriveMacroInvocation, 1>>,
 ) -> Option<(MacroCallId, AttributeCalls<'a>)>
-    ensures { MatchOption result ((item_calls (iter_rest items.old) ≡ []) × (item_calls (iter_rest items.new) ≡ [])) (λ found. item_calls (iter_rest items.old) ≡ found.0 ∷ found.1 ++ item_calls (iter_rest items.new)) }
+    ensures { Takes (item_calls (iter_rest items.old)) (item_calls (iter_rest items.new)) result }
 {
     while let Some(derives) = items.next() {
         let mut attributes = AttributeCalls::new(derives.as_slice());
@@ -181,7 +182,8 @@ impl<'a> AllMacroCalls<'a> {
         attr_macros: &'a [MacroCallId],
         derives: &'a [SmallVec<DeriveMacroInvocation, 1>],
     ) -> Self
-        ensures { result ≡ macro_invocations.now ++ attr_macros.now ++ item_calls derives.now }
+        ensures rest { result ≡ macro_invocations.now ++ attr_macros.now ++ item_calls derives.now }
+        ensures runs { ShowsInOrder (λ (x : MacroCallId). x) }
     {
         AllMacroCalls {
             macro_invocations: macro_invocations.iter(),

@@ -2,7 +2,7 @@
 ghost use Rattle.std.specs.Prelude.{◌≡◌, Bool, Option, length};
 ghost use Rattle.std.specs.Iterator.{at_most};
 ghost use Rattle.std.specs.List.{filter_map};
-ghost use Rattle.std.specs.Map.Iter.{TakesFirst};
+ghost use Rattle.std.specs.Map.Iter.{TakesFirst, ShowsInOrder};
 ghost use Rattle.std.specs.Slice.Iter.{iter_rest};
 
 use std::marker::Model;
@@ -37,7 +37,8 @@ impl<'a, T, P: Pick<T>> Model for Picked<'a, T, P> {
 
 impl<'a, T, P: Pick<T>> Picked<'a, T, P> {
     pub(crate) fn new(list: &'a [T], pick: P) -> Self
-        ensures { result ≡ filter_map P.shown list.now }
+        ensures rest { result ≡ filter_map P.shown list.now }
+        ensures runs { ShowsInOrder (λ (x : P.Shown). x) }
     {
         Picked {
             rest: list.iter(),

@@ -3,9 +3,11 @@
 //! What a test compares is plain data, and only functions without clauses hold a scope: each comparison made while one is
 //! held would take the prover seconds.
 mod bindings;
+mod chains;
 mod changes;
 mod derives;
 mod diagnostics;
+mod dumps;
 mod lists;
 mod pushes;
 mod sorted;
@@ -110,5 +112,14 @@ impl Filled {
         let name = Name::new(alloc, name)?;
         self.scope
             .push_res_with_import(&mut self.globs, (HERE, name), items, import)
+    }
+
+    /// The scope alone.
+    fn into_scope(self) -> ItemScope {
+        let Filled {
+            scope,
+            globs: _globs,
+        } = self;
+        scope
     }
 }

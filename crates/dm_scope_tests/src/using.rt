@@ -1,20 +1,24 @@
 //! The callers that docs/USING.md shows.
-ghost use Rattle.std.specs.Prelude.{◌≡◌, ◌++◌, ◌∷◌, [], None, List, OnOk, option_map};
+ghost use Rattle.std.specs.Prelude.{◌≡◌, ◌<◌, ◌^◌, None, Some, List, length, option_map};
 ghost use Rattle.dm_ids.specs.declared.ModuleId.{ModuleId};
 ghost use Rattle.dm_base.specs.PerNs.{type_alone};
+ghost use Rattle.dm_scope.specs.Chains.{EndsIn, leads, ends};
 ghost use Rattle.dm_scope.specs.Flags.{Globs};
 ghost use Rattle.dm_scope.specs.Lookups.{def_and_vis};
 ghost use Rattle.dm_scope.specs.Push.{types_reading};
 ghost use Rattle.dm_scope.specs.Pushes.{binding};
-ghost use Rattle.dm_scope.specs.Shows.{ScopePush, Shows, pushes_in};
+ghost use Rattle.dm_scope.specs.Shows.{PushShows, ScopePush, Shows, push_of, pushes_in};
+ghost use Rattle.dm_scope.specs.Tables.{all_records};
 
 use dm_base::ids::ModuleId;
+use dm_base::imports::ImportId;
 use dm_base::item_ids::ModuleDefId;
 use dm_base::name::Name;
-use dm_base::per_ns::PerNs;
+use dm_base::per_ns::{Namespace, PerNs};
 use dm_base::visibility::Visibility;
 use dm_scope::glob_imports::PerNsGlobImports;
 use dm_scope::item_scope::ItemScope;
+use dm_scope::scope_tables::ScopeTables;
 use std::alloc::AllocError;
 
 /// Declares a public type in a module: the list of pushes that scope and table show has it last.
@@ -24,7 +28,7 @@ pub fn declare_type(
     lookup: (ModuleId, Name),
     def: ModuleDefId,
 ) -> Result<bool, AllocError>
-    ensures { (ps : List ScopePush) → Shows scope.old globs.old lookup.0 ps → OnOk result (Shows scope.new globs.new lookup.0 (ps ++ record { name = lookup.1; res = type_alone def Visibility.Public None; by = None } ∷ [])) }
+    ensures { PushShows scope.old globs.old scope.new globs.new lookup.0 (push_of lookup.1 (type_alone def Visibility.Public None) None) result }
 {
     let items = PerNs::types(def, Visibility::Public, None);
     scope.push_res_with_import(globs, lookup, items, None)
@@ -35,4 +39,15 @@ pub fn bound_type(scope: &ItemScope, name: &Name) -> Option<(ModuleDefId, Visibi
     ensures { (globs : Globs) (m : ModuleId) (ps : List ScopePush) → Shows scope.now globs m ps → result ≡ option_map def_and_vis (binding types_reading (pushes_in types_reading (λ x. x.types) ps) name.now) }
 {
     scope.type_(name)
+}
+
+/// The type that an import of a scope stands for, through whatever imports it goes.
+pub fn imported_type<T: ScopeTables>(
+    tables: &T,
+    scope: &ItemScope,
+    import: ImportId,
+) -> Option<ModuleDefId>
+    ensures { length (all_records Namespace.Types (T.tables tables.now)) < 2 ^ 64 → (d : ModuleDefId) → EndsIn (leads Namespace.Types (T.tables tables.now)) (ends Namespace.Types) (scope.now, import) d → result ≡ Some d }
+{
+    scope.fully_resolve_import(tables, import).take_types()
 }

@@ -5,12 +5,6 @@ use Rattle.std.specs.Map.{lookup, keys_of}
 use Rattle.indexmap.specs.IndexMap.{insert_entry, set_value_at}
 use Rattle.indexmap.proofs.MapLemmas.{Found-position, insert_entry-first, insert_entry-absent, absent_from_lookup, some_index}
 
--- what stands at a place, written there again, changes nothing
-pub set_value_at-own : {K V : Type 0} (es : List (K × V)) (i : ℕ) (v : V) → slice_get (map (λ e. e.1) es) i ≡ Some v → set_value_at es i v ≡ es
-set_value_at-own [] i v h = refl
-set_value_at-own (e ∷ es) zero v h = let same : e.1 ≡ v = cc in ap (λ y. (e.0, y) ∷ es) (sym same)
-set_value_at-own (e ∷ es) (suc i) v h = ap (λ l. e ∷ l) (set_value_at-own es i v h)
-
 module _ {K X : Type 0} (eq : K → K → Bool) (es : List (K × List X)) (k : K) (x : X) where
   -- the key stands at its place
   pub listed-at : (i : ℕ) → position (eq k) (keys_of es) ≡ Some i → slice_get (map (λ e. e.1) es) i ≡ lookup (eq k) es

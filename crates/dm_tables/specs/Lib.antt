@@ -6,3 +6,4 @@ pub mod ItemTables
 pub mod Keys
 pub mod TableChanges
 pub mod Variants
+pub mod TableLaws

@@ -25,7 +25,7 @@ impl Model for UnstableFeatures {
 
 impl UnstableFeatures {
     /// No feature; what is enabled takes its memory from `alloc`. It takes none yet.
-    pub fn new(alloc: Global) -> UnstableFeatures
+    pub(crate) fn new(alloc: Global) -> UnstableFeatures
         ensures { result ≡ [] }
     {
         UnstableFeatures {
@@ -41,7 +41,7 @@ impl UnstableFeatures {
     }
 
     /// Enables a feature. Where memory is short, nothing changes.
-    pub fn enable(&mut self, feature: Symbol) -> Result<(), AllocError>
+    pub(crate) fn enable(&mut self, feature: Symbol) -> Result<(), AllocError>
         ensures ok { OnOk result (self.new ≡ insert_key same_name self.old feature) }
         ensures err { OnErr result (self.new ≡ self.old) }
     {

@@ -1,5 +1,5 @@
 //! The variants of an enum, by name.
-ghost use Rattle.std.specs.Prelude.{◌≡◌, ◌++◌, ◌∷◌, [], None, OnOk, OnErr};
+ghost use Rattle.std.specs.Prelude.{◌≡◌, ◌++◌, ◌∷◌, [], None, OnOk, OnErr, is_some};
 ghost use Rattle.std.specs.Option.{option_copied};
 ghost use Rattle.dm_base.specs.Names.{find_name};
 ghost use Rattle.dm_tables.specs.Variants.{variants_in, enums_with_variant, IsFreeAt, enums_with_variant_at};
@@ -31,7 +31,7 @@ impl Model for EnumVariants {
 
 impl EnumVariants {
     /// No variants.
-    pub fn new(alloc: Global) -> EnumVariants
+    pub(crate) fn new(alloc: Global) -> EnumVariants
         ensures { result ≡ [] }
     {
         EnumVariants {
@@ -58,6 +58,13 @@ impl EnumVariants {
         ensures { result ≡ find_name name.now self.now }
     {
         self.variants.get(name).copied()
+    }
+
+    /// Whether there is a variant of that name.
+    pub fn contains(&self, name: &str) -> bool
+        ensures { result ≡ is_some (find_name name.now self.now) }
+    {
+        self.variants.contains_key(name)
     }
 }
 

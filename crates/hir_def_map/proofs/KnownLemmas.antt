@@ -23,6 +23,8 @@ use Rattle.dm_held.specs.Holding.{def_holds, vis_holds, import_holds, value_impo
 use Rattle.dm_modules.specs.Maps.{LocalMap}
 use Rattle.dm_maps.specs.Trees.{tree_of}
 use Rattle.dm_maps.specs.World.{World}
+use Rattle.hir_def_map.specs.declared.result.ResolvePathResult.{ResolvePathResult}
+use Rattle.hir_def_map.specs.Walk.{marked}
 use Rattle.hir_def_map.specs.Paths.{by_crate}
 
 pub knows-left : (w : World) (hs ks : List HeldId) → KnowsAll w (hs ++ ks) → KnowsAll w hs
@@ -134,3 +136,8 @@ over-known w a b k l =
 pub root-known : (w : World) (m : ModuleId) → IsKnown (tree_of w) m → KnowsAll w (res_holds (type_alone (def.ModuleId m) Public None))
 unfolding tree_of
 root-known w m k = (k, tt)
+
+-- a marked answer holds what the answer held
+pub marked-known : (w : World) (d : Bool) (a : ResolvePathResult) → KnowsAll w (res_holds a.resolved_def) → KnowsAll w (res_holds (marked d a).resolved_def)
+marked-known w false a k = k
+marked-known w true a k = k

@@ -5,3 +5,4 @@ pub mod LayerLemmas
 pub mod PlaceLemmas
 pub mod AnswerLaws
 pub mod CutLemmas
+pub mod VisibilityLemmas

@@ -4,6 +4,7 @@ pub mod Paths
 pub mod Questions
 pub mod Laws
 pub mod Walk
+pub mod RawVisibilities
 pub mod Written
 pub mod WorldA
 pub mod WorldS

@@ -45,7 +45,7 @@ abbrev pub walk : Tree → Stand → ℕ → List Reading → ResolvePathResult
 walk t a pos [] = marked a.differing (reached a.here)
 walk t a pos (s ∷ rest) = elim (move t a pos s (is_empty rest)) [ Go b ↦ walk t b (pos + 1) rest | End r ↦ marked a.differing r ]
 
--- where a walk goes on, what it has reached and from where it sees are the world's
+-- where a walk goes on, what it has reached and from where it sees are the world's; where it ends, what it answers
 abbrev pub GoesKnown : World → Move → Type 0
 GoesKnown w (Go b) = IsKnown (tree_of w) b.origin × KnowsAll w (res_holds b.here)
-GoesKnown w (End r) = Unit {0}
+GoesKnown w (End r) = KnowsAll w (res_holds r.resolved_def)

@@ -18,10 +18,7 @@ pub(crate) fn reached(here: PerNs) -> ResolvePathResult
         resolved_def: here,
         segment_index: None,
         reached_fixedpoint: ReachedFixedPoint::Yes,
-        prefix_info: ResolvePathResultPrefixInfo {
-            differing_crate: false,
-            enum_variant: false,
-        },
+        prefix_info: ResolvePathResultPrefixInfo::default(),
     }
 }
 

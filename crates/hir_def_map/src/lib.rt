@@ -7,6 +7,7 @@
 mod answers;
 mod first_segment;
 pub mod item_scope;
+pub mod laws;
 mod layers;
 pub mod nameres;
 mod overlays;
@@ -18,5 +19,6 @@ mod question;
 pub mod result;
 mod segments;
 mod single;
+pub mod visibility;
 
-pub use dm_base::{builtin_type, visibility};
+pub use dm_base::builtin_type;

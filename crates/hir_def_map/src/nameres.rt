@@ -17,6 +17,6 @@ pub use dm_maps::modules_map::ModulesMap;
 pub use dm_maps::unstable_features::UnstableFeatures;
 pub use dm_maps::world::World;
 pub use dm_maps::world::maps_of::{
-    CrateRoot, block_def_map, crate_def_map, local_def_map, macro_styles_from_id,
+    AskWorld, block_def_map, crate_def_map, local_def_map, macro_styles_from_id,
 };
 pub use dm_scope::diagnostics;

@@ -1,17 +1,24 @@
 //! Paths, resolved over a checked world.
 ghost use Rattle.std.specs.Prelude.{◌≡◌, None, length};
+ghost use Rattle.std.specs.Option.{ForSome};
+ghost use Rattle.dm_base.specs.Visibility.{NamesKnown};
+ghost use Rattle.dm_held.specs.Holding.{res_holds};
 ghost use Rattle.dm_maps.specs.Cut.{cut, cut_local};
+ghost use Rattle.dm_maps.specs.Known.{KnowsAll};
+ghost use Rattle.dm_maps.specs.Trees.{tree_of};
 ghost use Rattle.dm_modules.specs.Maps.{Map};
 ghost use Rattle.hir_def_map.specs.declared.result.ResolveMode.TheVariants.{Other};
 ghost use Rattle.hir_def_map.specs.Laws.{IsAnswer};
 ghost use Rattle.hir_def_map.specs.Paths.{asked, answer, answer_alone, prelude_answer};
 ghost use Rattle.hir_def_map.specs.Questions.{IsKnownQuestion, IsKnownInCrate};
+ghost use Rattle.hir_def_map.specs.RawVisibilities.{raw_visibility, IsKnownVisibility};
 
 use crate::place::Place;
 use crate::places::answer_outwards;
 use crate::question::Ask;
 use crate::result::{ResolveMode, ResolvePathResult, ResolvePathResultPrefixInfo};
 use crate::single::single;
+use crate::visibility::{RawVisibility, Visibility, module_reached, restricted};
 use dm_base::ids::ModuleId;
 use dm_base::mod_path::ModPath;
 use dm_base::per_ns::PerNs;
@@ -43,6 +50,7 @@ pub trait ResolvePath {
         requires { IsKnownQuestion world.now (map self.now) local.now original_module path.now.kind }
         ensures value { result ≡ answer world.now local.now (asked original_module mode shadow expected_macro_subns path.now.kind) path.now.segments }
         ensures lawful { IsAnswer (length path.now.segments) result }
+        ensures known { KnowsAll world.now (res_holds result.resolved_def) }
 
         // It is the answer of what world and local map have under the path's segments: where two have the same, they answer alike.
         ensures local { result ≡ answer (cut world.now path.now.segments) (cut_local local.now path.now.segments) (asked original_module mode shadow expected_macro_subns path.now.kind) path.now.segments };
@@ -60,7 +68,8 @@ pub trait ResolvePath {
     ) -> ResolvePathResult
         requires { IsKnownQuestion world.now (map self.now) local.now original_module path.now.kind }
         ensures value { result ≡ answer_alone world.now local.now (asked original_module mode shadow expected_macro_subns path.now.kind) path.now.segments }
-        ensures lawful { IsAnswer (length path.now.segments) result };
+        ensures lawful { IsAnswer (length path.now.segments) result }
+        ensures known { KnowsAll world.now (res_holds result.resolved_def) };
 
     /// What the preludes of this map alone answer, seen from a module, which may lie in any map of the crate.
     fn resolve_path_fp_in_all_preludes(
@@ -74,7 +83,8 @@ pub trait ResolvePath {
     ) -> ResolvePathResult
         requires { IsKnownInCrate world.now (map self.now) local.now original_module path.now.kind }
         ensures value { result ≡ prelude_answer world.now local.now (map self.now).id (asked original_module mode shadow None path.now.kind) path.now.segments }
-        ensures lawful { IsAnswer (length path.now.segments) result };
+        ensures lawful { IsAnswer (length path.now.segments) result }
+        ensures known { KnowsAll world.now (res_holds result.resolved_def) };
 
     /// The definitions of a path that is no import, and the first segment that is left.
     fn resolve_path(
@@ -88,7 +98,8 @@ pub trait ResolvePath {
     ) -> (PerNs, Option<usize>)
         requires { IsKnownQuestion world.now (map self.now) local.now original_module path.now.kind }
         ensures found { result.0 ≡ (answer world.now local.now (asked original_module Other shadow expected_macro_subns path.now.kind) path.now.segments).resolved_def }
-        ensures left { result.1 ≡ (answer world.now local.now (asked original_module Other shadow expected_macro_subns path.now.kind) path.now.segments).segment_index };
+        ensures left { result.1 ≡ (answer world.now local.now (asked original_module Other shadow expected_macro_subns path.now.kind) path.now.segments).segment_index }
+        ensures known { KnowsAll world.now (res_holds result.0) };
 
     /// The definitions that the origin alone gives a path that is no import, where nothing is expected of a macro, the first segment
     /// that is left, and what the path went through.
@@ -103,7 +114,22 @@ pub trait ResolvePath {
         requires { IsKnownQuestion world.now (map self.now) local.now original_module path.now.kind }
         ensures found { result.0 ≡ (answer_alone world.now local.now (asked original_module Other shadow None path.now.kind) path.now.segments).resolved_def }
         ensures left { result.1 ≡ (answer_alone world.now local.now (asked original_module Other shadow None path.now.kind) path.now.segments).segment_index }
-        ensures through { result.2 ≡ (answer_alone world.now local.now (asked original_module Other shadow None path.now.kind) path.now.segments).prefix_info };
+        ensures through { result.2 ≡ (answer_alone world.now local.now (asked original_module Other shadow None path.now.kind) path.now.segments).prefix_info }
+        ensures known { KnowsAll world.now (res_holds result.0) };
+
+    /// What a visibility means that is written in a module of this map; none where its path leads to no module. Within an `impl` it
+    /// may name a module of any block; elsewhere the map's root stands for a module of another block.
+    fn resolve_visibility(
+        &self,
+        local: &LocalDefMap,
+        world: &World,
+        original_module: ModuleId,
+        visibility: &RawVisibility,
+        within_impl: bool,
+    ) -> Option<Visibility>
+        requires { IsKnownVisibility world.now (map self.now) local.now original_module visibility.now }
+        ensures value { result ≡ raw_visibility world.now local.now (map self.now) original_module within_impl visibility.now }
+        ensures known { ForSome result (NamesKnown (tree_of world.now)) };
 }
 
 impl ResolvePath for DefMap {
@@ -121,13 +147,13 @@ impl ResolvePath for DefMap {
         expected_macro_subns: Option<MacroSubNs>,
     ) -> ResolvePathResult {
         let _known = world.has_module_of(self, original_module);
-        let ask = Ask {
-            origin: original_module,
+        let ask = Ask::new(
+            original_module,
             mode,
             shadow,
-            expected: expected_macro_subns,
-            kind: path.kind(),
-        };
+            expected_macro_subns,
+            path.kind(),
+        );
         answer_outwards(world, local, &ask, path.segments())
     }
 
@@ -143,13 +169,13 @@ impl ResolvePath for DefMap {
         expected_macro_subns: Option<MacroSubNs>,
     ) -> ResolvePathResult {
         let _known = world.has_module_of(self, original_module);
-        let ask = Ask {
-            origin: original_module,
+        let ask = Ask::new(
+            original_module,
             mode,
             shadow,
-            expected: expected_macro_subns,
-            kind: path.kind(),
-        };
+            expected_macro_subns,
+            path.kind(),
+        );
         let origin = Place::In(original_module);
         single(world, local, &ask, origin, path.segments())
     }
@@ -164,13 +190,7 @@ impl ResolvePath for DefMap {
         path: &ModPath,
         shadow: BuiltinShadowMode,
     ) -> ResolvePathResult {
-        let ask = Ask {
-            origin: original_module,
-            mode,
-            shadow,
-            expected: None,
-            kind: path.kind(),
-        };
+        let ask = Ask::new(original_module, mode, shadow, None, path.kind());
         let preludes = Place::Preludes(self.id(), original_module);
         single(world, local, &ask, preludes, path.segments())
     }
@@ -218,5 +238,36 @@ impl ResolvePath for DefMap {
             answer.segment_index,
             answer.prefix_info,
         )
+    }
+
+    fn resolve_visibility(
+        &self,
+        local: &LocalDefMap,
+        world: &World,
+        original_module: ModuleId,
+        visibility: &RawVisibility,
+        within_impl: bool,
+    ) -> Option<Visibility> {
+        let _known = world.has_module_of(self, original_module);
+        match visibility {
+            RawVisibility::Public => Some(Visibility::Public),
+            RawVisibility::PubCrate => Some(Visibility::PubCrate(self.krate())),
+            RawVisibility::PubSelf(explicitness) => {
+                Some(Visibility::Module(original_module, *explicitness))
+            }
+            RawVisibility::Module(path, explicitness) => {
+                let (found, left) = self.resolve_path(
+                    local,
+                    world,
+                    original_module,
+                    path,
+                    BuiltinShadowMode::Module,
+                    None,
+                );
+                let m = module_reached(found, left)?;
+                let seen_in = restricted(world, self, within_impl, m);
+                Some(Visibility::Module(seen_in, *explicitness))
+            }
+        }
     }
 }

@@ -2,7 +2,7 @@
 ghost use Rattle.std.specs.Prelude.{◌≡◌, map};
 ghost use Rattle.dm_base.specs.Tree.{IsKnown};
 ghost use Rattle.dm_maps.specs.Known.{KnowsAll};
-ghost use Rattle.dm_held.specs.Holding.{local_holds};
+ghost use Rattle.dm_held.specs.Holding.{res_holds, local_holds};
 ghost use Rattle.dm_maps.specs.Readings.{setting_of, read};
 ghost use Rattle.dm_maps.specs.Trees.{tree_of};
 ghost use Rattle.hir_def_map.specs.Answers.{merged};
@@ -31,7 +31,8 @@ fn preludes_of(
 ) -> ResolvePathResult
     requires module_known { IsKnown (tree_of world.now) m }
     requires local_known { KnowsAll world.now (local_holds local.now) }
-    ensures { result ≡ merged (map (single (setting_of world.now) ask.now (map (read world.now local.now) segments.now)) (prelude_place (setting_of world.now) m)) }
+    ensures value { result ≡ merged (map (single (setting_of world.now) ask.now (map (read world.now local.now) segments.now)) (prelude_place (setting_of world.now) m)) }
+    ensures known { KnowsAll world.now (res_holds result.resolved_def) }
 {
     let Some(block) = world.block(m) else {
         return nothing_no();
@@ -56,7 +57,8 @@ pub(crate) fn answer_outwards(
 ) -> ResolvePathResult
     requires module_known { IsKnown (tree_of world.now) ask.now.origin }
     requires local_known { KnowsAll world.now (local_holds local.now) }
-    ensures { result ≡ merged (map (single (setting_of world.now) ask.now (map (read world.now local.now) segments.now)) (places (setting_of world.now) ask.now.origin)) }
+    ensures value { result ≡ merged (map (single (setting_of world.now) ask.now (map (read world.now local.now) segments.now)) (places (setting_of world.now) ask.now.origin)) }
+    ensures known { KnowsAll world.now (res_holds result.resolved_def) }
 {
     let mut answer = nothing_no();
     let mut at = ask.origin;

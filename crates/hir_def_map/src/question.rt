@@ -1,4 +1,7 @@
 //! Questions.
+ghost use Rattle.std.specs.Prelude.{◌≡◌};
+ghost use Rattle.hir_def_map.specs.Paths.{asked};
+
 use crate::result::ResolveMode;
 use dm_base::ids::ModuleId;
 use dm_base::mod_path::PathKind;
@@ -13,4 +16,25 @@ pub(crate) struct Ask {
     pub(crate) shadow: BuiltinShadowMode,
     pub(crate) expected: Option<MacroSubNs>,
     pub(crate) kind: PathKind,
+}
+
+impl Ask {
+    /// The question of a path that begins as `kind`.
+    pub(crate) fn new(
+        origin: ModuleId,
+        mode: ResolveMode,
+        shadow: BuiltinShadowMode,
+        expected: Option<MacroSubNs>,
+        kind: PathKind,
+    ) -> Ask
+        ensures { result ≡ asked origin mode shadow expected kind }
+    {
+        Ask {
+            origin,
+            mode,
+            shadow,
+            expected,
+            kind,
+        }
+    }
 }

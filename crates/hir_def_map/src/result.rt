@@ -1,4 +1,7 @@
 //! What a path resolves to.
+ghost use Rattle.std.specs.Prelude.{◌≡◌};
+ghost use Rattle.hir_def_map.specs.Answers.{no_flags};
+
 use dm_base::per_ns::PerNs;
 
 /// What a path is resolved for: an import, or anything else.
@@ -22,6 +25,18 @@ pub struct ResolvePathResultPrefixInfo {
     pub differing_crate: bool,
     /// An enum, for one of its variants.
     pub enum_variant: bool,
+}
+
+/// Through neither.
+impl Default for ResolvePathResultPrefixInfo {
+    ghost is_default = { λ f. f ≡ no_flags };
+
+    fn default() -> ResolvePathResultPrefixInfo {
+        ResolvePathResultPrefixInfo {
+            differing_crate: false,
+            enum_variant: false,
+        }
+    }
 }
 
 /// What a path resolves to.

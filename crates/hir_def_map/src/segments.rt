@@ -6,7 +6,7 @@ ghost use Rattle.dm_base.specs.Tree.{IsKnown, sees};
 ghost use Rattle.dm_base.specs.Visibility.{NamesKnown};
 ghost use Rattle.dm_scope.specs.Scope.{bound_in};
 ghost use Rattle.dm_maps.specs.Known.{KnowsAll};
-ghost use Rattle.dm_held.specs.Holding.{res_holds};
+ghost use Rattle.dm_held.specs.Holding.{res_holds, type_holds};
 ghost use Rattle.dm_maps.specs.World.{scope_of};
 ghost use Rattle.dm_modules.specs.Maps.{LocalMap};
 ghost use Rattle.dm_maps.specs.Readings.{read};
@@ -105,7 +105,9 @@ fn at_adt(
     is_last: bool,
     adt: AdtId,
 ) -> ResolvePathResult
-    ensures { (L : LocalMap) → result ≡ at_adt item position (read world.now L segment.now) is_last adt }
+    requires { KnowsAll world.now (type_holds item) }
+    ensures value { (L : LocalMap) → result ≡ at_adt item position (read world.now L segment.now) is_last adt }
+    ensures known { KnowsAll world.now (res_holds result.resolved_def) }
 {
     let AdtId::EnumId(e) = adt else {
         return stopped(item, position);
@@ -149,7 +151,8 @@ pub(crate) fn walk(
     requires origin { IsKnown (tree_of world.now) from.origin }
     requires known { KnowsAll world.now (res_holds from.here) }
     requires position { position ≤ 1 }
-    ensures { (L : LocalMap) → result ≡ walk (tree_of world.now) from position (map (read world.now L) segments.now) }
+    ensures value { (L : LocalMap) → result ≡ walk (tree_of world.now) from position (map (read world.now L) segments.now) }
+    ensures known { KnowsAll world.now (res_holds result.resolved_def) }
 {
     let mut at = from;
     let mut passed = position;

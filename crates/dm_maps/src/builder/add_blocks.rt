@@ -7,7 +7,7 @@ ghost use Rattle.dm_maps.specs.Faults.{Answers};
 use crate::build_fault::BuildFault;
 use crate::builder::WorldBuilder;
 use crate::builder::growth::add_map;
-use crate::builder::share::shared_of;
+use crate::maps::share::shared_of;
 use crate::place::Place;
 use dm_base::ids::{BlockId, Crate, MapId, ModuleId};
 use dm_base::source::AstId;
@@ -46,7 +46,7 @@ impl WorldBuilder {
         ensures { result ≡ next_block self.now }
     {
         let _places = &self.places;
-        BlockId(self.block_maps.len() as u32)
+        BlockId(self.maps.blocks().len() as u32)
     }
 
     /// Adds the map of a block, with its root.
@@ -76,7 +76,8 @@ impl WorldBuilder {
                     index: 0,
                     parent: None,
                 };
-                add_map(&mut self.places, place, &mut self.block_maps, map)
+                add_map(&mut self.places, place, &mut self.maps, map)?;
+                Ok(())
             }
         }
     }

@@ -2,6 +2,7 @@
 ghost use Rattle.std.specs.Prelude.{◌≡◌, IfOk, OnOk, OnErr, length};
 ghost use Rattle.dm_maps.specs.Build.{with_item, item_def};
 ghost use Rattle.dm_maps.specs.Faults.{Answers, item_fault, is_full};
+ghost use Rattle.dm_maps.specs.Lists.{IsAmong};
 
 use crate::build_fault::BuildFault;
 use crate::builder::WorldBuilder;
@@ -35,6 +36,7 @@ impl WorldBuilder {
     }
 
     fn push_item(&mut self, kind: ItemKind, m: ModuleId) -> Result<(), AllocError>
+        requires known { IsAmong (length self.old.places) m }
         ensures ok { OnOk result (self.new ≡ with_item self.old kind m) }
         ensures err { OnErr result (self.new ≡ self.old) }
     {

@@ -1,5 +1,5 @@
 //! Crates and modules, added to a builder.
-ghost use Rattle.std.specs.Prelude.{◌≡◌, ◌<◌, IsTrue, IfOk, OnOk, OnErr, None, Some, length};
+ghost use Rattle.std.specs.Prelude.{◌≡◌, ◌<◌, [], IsTrue, IfOk, OnOk, OnErr, None, Some, length};
 ghost use Rattle.dm_maps.specs.Build.{with_crate, with_module, with_child_of, next_crate, next_module, next_place, fresh_crate};
 ghost use Rattle.dm_maps.specs.Faults.{Answers, crate_fault, child_fault, has_child, is_full};
 ghost use Rattle.dm_modules.specs.Origins.{is_child};
@@ -7,7 +7,7 @@ ghost use Rattle.dm_modules.specs.Origins.{is_child};
 use crate::build_fault::BuildFault;
 use crate::builder::WorldBuilder;
 use crate::builder::growth::{NewChild, add_child, add_crate_map};
-use crate::builder::share::share;
+use crate::maps::share::share;
 use crate::place::Place;
 use dm_base::ids::{Crate, MapId, ModuleId};
 use dm_base::name::Name;
@@ -40,7 +40,7 @@ impl WorldBuilder {
         if self.is_full() {
             return Err(BuildFault::OutOfNumbers);
         }
-        let krate = Crate(self.crate_maps.len() as u32);
+        let krate = Crate(self.maps.crates().len() as u32);
         self.push_crate(krate, edition, file)?;
         Ok(krate)
     }
@@ -69,10 +69,11 @@ impl WorldBuilder {
             &mut self.places,
             place,
             &mut self.local_maps,
-            &mut self.crate_maps,
+            &mut self.maps,
             map,
             self.alloc,
-        )
+        )?;
+        Ok(())
     }
 
     /// Adds a module below `parent`, and answers its number.
@@ -93,7 +94,7 @@ impl WorldBuilder {
         ensures fault { Answers (child_fault self.old parent name) result }
         ensures err { OnErr result (self.new ≡ self.old) }
     {
-        match self.child_fault(parent, &name) {
+        match self.child_fault(parent, name.as_str()) {
             Some(fault) => Err(fault),
             None => {
                 let m = self.next_module();
@@ -104,9 +105,9 @@ impl WorldBuilder {
         }
     }
 
-    /// Why a child of that name is refused, if it is.
+    /// Why a child of that name is refused, if it is and though there is memory. Takes none.
     #[tactic(auto, unfolding(crate::specs::Faults::child_fault))]
-    fn child_fault(&self, parent: ModuleId, name: &Name) -> Option<BuildFault>
+    pub fn child_fault(&self, parent: ModuleId, name: &str) -> Option<BuildFault>
         ensures { result ≡ child_fault self.now parent name.now }
     {
         if !self.has(parent) {
@@ -122,12 +123,12 @@ impl WorldBuilder {
     }
 
     /// Whether a module has a child of that name.
-    fn has_child(&self, m: ModuleId, name: &Name) -> bool
+    fn has_child(&self, m: ModuleId, name: &str) -> bool
         ensures { result ≡ has_child self.now m name.now }
     {
         match self.module_of(m) {
             None => false,
-            Some(parent) => parent.child(name).is_some(),
+            Some(parent) => parent.has_child(name),
         }
     }
 
@@ -170,6 +171,7 @@ impl WorldBuilder {
     ) -> Result<(), AllocError>
         requires known { parent.0 < length self.old.places }
         requires parent { added.parent ≡ Some parent }
+        requires childless { added.children ≡ [] }
         requires room { length self.old.places < 4294967295 }
         ensures ok { OnOk result (self.new ≡ with_child_of self.old parent name added) }
         ensures err { OnErr result (self.new ≡ self.old) }
@@ -184,12 +186,8 @@ impl WorldBuilder {
             m,
             added,
         };
-        add_child(
-            &mut self.places,
-            &mut self.crate_maps,
-            &mut self.block_maps,
-            child,
-        )
+        add_child(&mut self.places, &mut self.maps, child)?;
+        Ok(())
     }
 }
 

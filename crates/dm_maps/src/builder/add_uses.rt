@@ -3,6 +3,7 @@ ghost use Rattle.std.specs.Prelude.{◌≡◌, IfOk, OnOk, OnErr, length};
 ghost use Rattle.dm_maps.specs.BuildItems.{with_use, with_macro, next_use, macro_id};
 ghost use Rattle.dm_maps.specs.Faults.{Answers};
 ghost use Rattle.dm_maps.specs.ItemFaults.{use_fault, macro_fault};
+ghost use Rattle.dm_maps.specs.Lists.{IsAmong};
 
 use crate::build_fault::BuildFault;
 use crate::builder::WorldBuilder;
@@ -35,6 +36,7 @@ impl WorldBuilder {
     }
 
     fn push_use(&mut self, m: ModuleId) -> Result<(), AllocError>
+        requires known { IsAmong (length self.old.places) m }
         ensures ok { OnOk result (self.new ≡ with_use self.old m) }
         ensures err { OnErr result (self.new ≡ self.old) }
     {
@@ -64,6 +66,7 @@ impl WorldBuilder {
     }
 
     fn push_macro(&mut self, m: ModuleId, loc: MacroLoc) -> Result<(), AllocError>
+        requires known { IsAmong (length self.old.places) m }
         ensures ok { OnOk result (self.new ≡ with_macro self.old m loc) }
         ensures err { OnErr result (self.new ≡ self.old) }
     {

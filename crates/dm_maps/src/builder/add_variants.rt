@@ -3,7 +3,8 @@ ghost use Rattle.std.specs.Prelude.{◌≡◌, ◌<◌, None, IfOk, OnOk, OnErr,
 ghost use Rattle.dm_base.specs.Names.{find_name};
 ghost use Rattle.dm_maps.specs.BuildItems.{with_variant, next_variant};
 ghost use Rattle.dm_maps.specs.Faults.{Answers};
-ghost use Rattle.dm_maps.specs.ItemFaults.{variant_fault};
+ghost use Rattle.dm_maps.specs.ItemFaults.{variant_fault, has_variant};
+ghost use Rattle.dm_maps.specs.Lists.{IsEnum};
 ghost use Rattle.dm_maps.specs.Readings.{variants_of};
 
 use crate::build_fault::BuildFault;
@@ -36,7 +37,7 @@ impl WorldBuilder {
         ensures fault { Answers (variant_fault self.old e name) result }
         ensures err { OnErr result (self.new ≡ self.old) }
     {
-        match self.variant_fault(e, &name) {
+        match self.variant_fault(e, name.as_str()) {
             Some(fault) => Err(fault),
             None => {
                 let id = self.next_variant();
@@ -46,21 +47,31 @@ impl WorldBuilder {
         }
     }
 
-    /// Why a variant of that name is refused, if it is.
+    /// Why a variant of that name is refused, if it is and though there is memory. Takes none.
     #[tactic(auto, unfolding(crate::specs::ItemFaults::variant_fault))]
-    fn variant_fault(&self, e: EnumId, name: &Name) -> Option<BuildFault>
+    pub fn variant_fault(&self, e: EnumId, name: &str) -> Option<BuildFault>
         ensures { result ≡ variant_fault self.now e name.now }
     {
         if !self.knows(HeldId::Item(ItemKind::Enum, e.0)) {
             return Some(BuildFault::NoSuchEnum);
         }
-        if self.variant_of(e, name).is_some() {
+        if self.has_variant(e, name) {
             return Some(BuildFault::TakenVariant);
         }
         if !(self.variants.len() < LAST_NUMBER) {
             return Some(BuildFault::OutOfNumbers);
         }
         None
+    }
+
+    /// Whether an enum has a variant of that name.
+    fn has_variant(&self, e: EnumId, name: &str) -> bool
+        ensures { result ≡ has_variant self.now e name.now }
+    {
+        match self.enums.get(&e) {
+            None => false,
+            Some(variants) => variants.contains(name),
+        }
     }
 
     /// The number of the next variant.
@@ -78,6 +89,7 @@ impl WorldBuilder {
         id: EnumVariantId,
         shape: FieldsShape,
     ) -> Result<(), AllocError>
+        requires known { IsEnum self.old.items e }
         requires number { id ≡ next_variant self.old }
         requires free { find_name name (variants_of self.old e) ≡ None }
         ensures ok { OnOk result (self.new ≡ with_variant self.old e name shape) }

@@ -1,8 +1,7 @@
 //! What is set in the maps of a builder, and in its extern preludes.
 ghost use Rattle.std.specs.Prelude.{◌≡◌, false, IsOk, OnOk, OnErr};
-ghost use Rattle.dm_maps.specs.BuildMaps.{AnswersFree, with_map, crate_maps_with, block_maps_with, with_prelude, with_macro_use, with_macro_def, with_helper, locals_with, with_extern_of, lacks_map, map_fault, krate_fault};
+ghost use Rattle.dm_maps.specs.BuildMaps.{AnswersFree, with_map, with_prelude, with_macro_use, with_macro_def, with_helper, locals_with, with_extern_of, lacks_map, map_fault, krate_fault};
 ghost use Rattle.dm_maps.specs.Faults.{Answers};
-ghost use Rattle.dm_maps.specs.World.{maps_with};
 ghost use Rattle.dm_modules.specs.Locals.{with_extern};
 ghost use Rattle.dm_def_map.specs.MapChanges.{changed, grows};
 
@@ -14,13 +13,12 @@ use dm_base::ids::{
 use dm_base::item_ids::MacroId;
 use dm_base::name::Name;
 use dm_base::source::AstId;
-use dm_def_map::def_map::DefMap;
 use dm_def_map::map_change::MapChange;
 use dm_held::held::HeldId;
 use dm_held::known_ids::KnownIds;
 use dm_modules::local_def_map::LocalDefMap;
 use either::Either;
-use std::alloc::{AllocError, Global};
+use std::alloc::AllocError;
 
 impl WorldBuilder {
     /// Sets the prelude module of a map, with the use that named it, or none. Takes no memory.
@@ -143,7 +141,7 @@ impl WorldBuilder {
     }
 
     /// Whether there is no map of that number, or it is another crate's.
-    pub(crate) fn lacks_map(&self, id: MapId) -> bool
+    pub fn lacks_map(&self, id: MapId) -> bool
         ensures { result ≡ lacks_map self.now id }
     {
         match self.numbered_map(id) {
@@ -158,50 +156,8 @@ impl WorldBuilder {
         ensures err { OnErr result (self.new ≡ self.old) }
         ensures free { grows change ≡ false → IsOk result }
     {
-        change_in(
-            &mut self.crate_maps,
-            &mut self.block_maps,
-            id,
-            change,
-            self.alloc,
-        )
-    }
-}
-
-/// Makes a change in the map of that id.
-fn change_in(
-    crate_maps: &mut Vec<DefMap>,
-    block_maps: &mut Vec<DefMap>,
-    id: MapId,
-    change: MapChange,
-    alloc: Global,
-) -> Result<(), AllocError>
-    ensures crate_maps { OnOk result (crate_maps.new.items ≡ crate_maps_with crate_maps.old.items id (changed change)) }
-    ensures block_maps { OnOk result (block_maps.new.items ≡ block_maps_with block_maps.old.items id (changed change)) }
-    ensures old_crates { OnErr result (crate_maps.new.items ≡ crate_maps.old.items) }
-    ensures old_blocks { OnErr result (block_maps.new.items ≡ block_maps.old.items) }
-    ensures free { grows change ≡ false → IsOk result }
-{
-    match id.block {
-        None => change_at(crate_maps, id.krate.0 as usize, change, alloc),
-        Some(b) => change_at(block_maps, b.0 as usize, change, alloc),
-    }
-}
-
-/// Makes a change in the map of number `k`.
-fn change_at(
-    maps: &mut Vec<DefMap>,
-    k: usize,
-    change: MapChange,
-    alloc: Global,
-) -> Result<(), AllocError>
-    ensures ok { OnOk result (maps.new.items ≡ maps_with maps.old.items k (changed change)) }
-    ensures err { OnErr result (maps.new.items ≡ maps.old.items) }
-    ensures free { grows change ≡ false → IsOk result }
-{
-    match maps.get_mut(k) {
-        None => Ok(()),
-        Some(map) => map.change(change, alloc),
+        self.maps.change(id, change, self.alloc)?;
+        Ok(())
     }
 }
 

@@ -2,8 +2,8 @@
 ghost use Rattle.std.specs.Prelude.{◌≡◌};
 ghost use Rattle.std.specs.Option.{option_copied_mut};
 ghost use Rattle.std.specs.Borrow.{sem};
-ghost use Rattle.dm_maps.specs.World.{scope_in, own_scope};
-ghost use Rattle.dm_maps.specs.LendingWorld.{LendsCrateScope, LendsBlockScope, LendsScope};
+ghost use Rattle.dm_maps.specs.World.{own_scope};
+ghost use Rattle.dm_maps.specs.LendingWorld.{LendsScope};
 
 use crate::builder::WorldBuilder;
 use dm_base::ids::ModuleId;
@@ -19,31 +19,6 @@ impl WorldBuilder {
         ensures value { option_copied_mut result ≡ own_scope self.old m }
     {
         let place = self.place_of(m)?;
-        match place.map.block {
-            None => self.crate_scope_mut(place.map.krate.0 as usize, place.index),
-            Some(b) => self.block_scope_mut(b.0 as usize, place.index),
-        }
-    }
-
-    fn crate_scope_mut(&mut self, k: usize, i: usize) -> Option<&mut ItemScope>
-        ensures* writes_back { sem 𝓛 (LendsCrateScope self.entry k i result) }
-        ensures value { option_copied_mut result ≡ scope_in self.old.crate_maps k i }
-    {
-        let map = self.crate_maps.get_mut(k)?;
-        match map.scope_mut(i) {
-            Some(scope) => Some(scope),
-            None => None,
-        }
-    }
-
-    fn block_scope_mut(&mut self, k: usize, i: usize) -> Option<&mut ItemScope>
-        ensures* writes_back { sem 𝓛 (LendsBlockScope self.entry k i result) }
-        ensures value { option_copied_mut result ≡ scope_in self.old.block_maps k i }
-    {
-        let map = self.block_maps.get_mut(k)?;
-        match map.scope_mut(i) {
-            Some(scope) => Some(scope),
-            None => None,
-        }
+        self.maps.scope_mut(place.map, place.index)
     }
 }

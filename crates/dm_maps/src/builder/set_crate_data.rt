@@ -7,7 +7,6 @@ ghost use Rattle.dm_maps.specs.Faults.{Answers};
 
 use crate::build_fault::BuildFault;
 use crate::builder::WorldBuilder;
-use crate::builder::share::{hand_out, handles, share};
 use dm_base::ids::{Crate, FunctionId, MapId, ProcMacroId};
 use dm_base::symbol::Symbol;
 use dm_tables::crate_data::CrateData;
@@ -125,11 +124,7 @@ impl WorldBuilder {
         ensures ok { OnOk result (self.new ≡ sharing self.old krate new) }
         ensures err { OnErr result (self.new ≡ self.old) }
     {
-        let shared = share(new, self.alloc)?;
-        let for_crates = handles(&shared, self.crate_maps.len(), self.alloc)?;
-        let for_blocks = handles(&shared, self.block_maps.len(), self.alloc)?;
-        hand_out(&mut self.crate_maps, krate, for_crates, &shared);
-        hand_out(&mut self.block_maps, krate, for_blocks, &shared);
+        self.maps.share(krate, new, self.alloc)?;
         Ok(())
     }
 }

@@ -29,10 +29,7 @@ impl WorldBuilder {
     pub fn numbered_map(&self, id: MapId) -> Option<&DefMap>
         ensures { option_copied result ≡ numbered_map self.now id }
     {
-        match id.block {
-            None => self.crate_maps.get(id.krate.0 as usize),
-            Some(b) => self.block_maps.get(b.0 as usize),
-        }
+        self.maps.get(id)
     }
 
     /// The map that a module lies in.
@@ -97,10 +94,10 @@ impl WorldBuilder {
         ensures value { result ≡ container_in (containers_of self.now.block_maps) block }
         ensures world { IsWorld self.now }
     {
-        let _block_maps = &self.block_maps;
+        let _maps = &self.maps;
         match block {
             None => None,
-            Some(b) => match self.block_maps.get(b.0 as usize) {
+            Some(b) => match self.maps.blocks().get(b.0 as usize) {
                 None => None,
                 Some(map) => map.parent(),
             },

@@ -1,12 +1,13 @@
 //! The first fault of a world that is being built.
-ghost use Rattle.std.specs.Prelude.{◌≡◌, ◌≤◌, length, map, None};
-ghost use Rattle.std.specs.List.{fold};
+ghost use Rattle.std.specs.Prelude.{◌≡◌, ◌≤◌, length, map, [], ◌∷◌};
 ghost use Rattle.std.specs.Option.{option_map};
-ghost use Rattle.dm_maps.specs.First.{each_from, first_in, fault_of, local_at, crate_holder, block_holder, module_holder, holders, IsAnswer};
-ghost use Rattle.dm_held.specs.Held.{noted};
+ghost use Rattle.dm_maps.specs.First.{each_from, fault_of, local_at, crate_holder, block_holder, module_holder, holders, IsAnswer};
+ghost use Rattle.dm_held.specs.declared.fault.Holder.TheVariants as holder;
+ghost use Rattle.dm_held.specs.Held.{IsLeastFault};
 ghost use Rattle.dm_maps.specs.Known.{knows};
 ghost use Rattle.dm_held.specs.Holding.{local_holds};
-ghost use Rattle.dm_maps.specs.Trees.{IsWorld};
+ghost use Rattle.dm_held.specs.TablesHold.{tables_hold};
+ghost use Rattle.dm_maps.specs.Built.{IsBuilt};
 
 use crate::builder::WorldBuilder;
 use crate::check::note_maps::{note_local_map, note_map, note_module};
@@ -16,7 +17,9 @@ use dm_def_map::def_map::DefMap;
 use dm_held::fault::{Holder, WorldFault};
 use dm_held::held::HeldFault;
 use dm_held::note_tables::{note_data, note_tables};
+use dm_held::notes::lesser;
 use dm_modules::local_def_map::LocalDefMap;
+use dm_tables::item_tables::ItemTables;
 
 /// The fault of a holder whose ids' least fault this is.
 fn fault_of(holder: Holder, least: Option<HeldFault>) -> Option<WorldFault>
@@ -32,45 +35,59 @@ fn fault_of(holder: Holder, least: Option<HeldFault>) -> Option<WorldFault>
     }
 }
 
-/// With the ids that the extern prelude of crate `k` holds.
-fn note_local_map_at(
-    world: &WorldBuilder,
-    least: Option<HeldFault>,
-    locals: &[LocalDefMap],
-    k: usize,
-) -> Option<HeldFault>
-    ensures { result ≡ fold (noted (knows world.now)) least (local_holds (local_at locals.now k)) }
+/// The least fault of the extern prelude of crate `k`.
+fn note_local_map_at(world: &WorldBuilder, locals: &[LocalDefMap], k: usize) -> Option<HeldFault>
+    ensures { IsLeastFault (knows world.now) (local_holds (local_at locals.now k)) result }
 {
     match locals.get(k) {
-        None => least,
-        Some(local) => note_local_map(world, least, local),
+        None => None,
+        Some(local) => note_local_map(world, local),
     }
 }
 
-/// The fault of the map of crate `k`, and of its extern prelude.
-#[tactic(auto, using(crate::proofs::FirstLemmas::parts))]
+/// The fault of the map of crate `k`, with its extern prelude and its procedural macros.
 fn crate_map_fault(
     world: &WorldBuilder,
     locals: &[LocalDefMap],
     k: usize,
     map: &DefMap,
 ) -> Option<WorldFault>
-    ensures { result ≡ option_map (fault_of (crate_holder locals.now k map.now).0) (fold (noted (knows world.now)) None (crate_holder locals.now k map.now).1) }
+    ensures { IsAnswer world.now (crate_holder locals.now k map.now ∷ []) result }
+{
+    let own = note_map(world, map);
+    let local = note_local_map_at(world, locals, k);
+    let beside = lesser(local, note_data(world, map.shared()));
+    let least = lesser(own, beside);
+    fault_of(Holder::Map(map.id()), least)
+}
+
+/// The fault of the map of a block.
+fn block_map_fault(world: &WorldBuilder, map: &DefMap) -> Option<WorldFault>
+    ensures { IsAnswer world.now (block_holder map.now ∷ []) result }
 {
     let least = note_map(world, map);
-    let least = note_local_map_at(world, least, locals, k);
-    let least = note_data(world, least, map.shared());
     fault_of(Holder::Map(map.id()), least)
 }
 
 /// The fault of the module of number `i`, which stands at that place.
 fn module_fault(world: &WorldBuilder, i: u32, place: Place) -> Option<WorldFault>
-    ensures { result ≡ option_map (fault_of (module_holder world.now i place).0) (fold (noted (knows world.now)) None (module_holder world.now i place).1) }
+    ensures { IsAnswer world.now (module_holder world.now i place ∷ []) result }
 {
     match world.module_in(place) {
         None => None,
-        Some(data) => fault_of(Holder::Module(ModuleId(i)), note_module(world, data)),
+        Some(data) => {
+            let least = note_module(world, data);
+            fault_of(Holder::Module(ModuleId(i)), least)
+        }
     }
+}
+
+/// The fault of the tables that belong to no map and no module.
+fn tables_fault(world: &WorldBuilder, tables: &ItemTables) -> Option<WorldFault>
+    ensures { IsAnswer world.now ((holder.Tables, tables_hold tables.now) ∷ []) result }
+{
+    let least = note_tables(world, tables);
+    fault_of(Holder::Tables, least)
 }
 
 fn of_crate_maps(
@@ -78,7 +95,7 @@ fn of_crate_maps(
     locals: &[LocalDefMap],
     maps: &[DefMap],
 ) -> Option<WorldFault>
-    ensures { result ≡ first_in world.now (each_from (crate_holder locals.now) 0 maps.now) }
+    ensures { IsAnswer world.now (each_from (crate_holder locals.now) 0 maps.now) result }
 {
     for (k, map) in maps.iter().enumerate() {
         if let Some(fault) = crate_map_fault(world, locals, k, map) {
@@ -89,10 +106,10 @@ fn of_crate_maps(
 }
 
 fn of_block_maps(world: &WorldBuilder, maps: &[DefMap]) -> Option<WorldFault>
-    ensures { result ≡ first_in world.now (map block_holder maps.now) }
+    ensures { IsAnswer world.now (map block_holder maps.now) result }
 {
     for map in maps {
-        if let Some(fault) = fault_of(Holder::Map(map.id()), note_map(world, map)) {
+        if let Some(fault) = block_map_fault(world, map) {
             return Some(fault);
         }
     }
@@ -101,7 +118,7 @@ fn of_block_maps(world: &WorldBuilder, maps: &[DefMap]) -> Option<WorldFault>
 
 fn of_modules(world: &WorldBuilder, places: &[Place]) -> Option<WorldFault>
     requires { length places.now ≤ 4294967295 }
-    ensures { result ≡ first_in world.now (each_from (module_holder world.now) 0 places.now) }
+    ensures { IsAnswer world.now (each_from (module_holder world.now) 0 places.now) result }
 {
     for (i, place) in places.iter().enumerate() {
         if let Some(fault) = module_fault(world, i as u32, *place) {
@@ -112,29 +129,20 @@ fn of_modules(world: &WorldBuilder, places: &[Place]) -> Option<WorldFault>
 }
 
 impl WorldBuilder {
-    /// The first fault, in the order of the holders.
-    #[tactic(auto, using(crate::proofs::FirstLemmas::firsts))]
-    fn find_fault(&self) -> Option<WorldFault>
-        ensures { result ≡ first_in self.now (holders self.now) }
+    /// The least fault of the first holder with one.
+    pub(crate) fn first_fault(&self) -> Option<WorldFault>
+        ensures answer { IsAnswer self.now (holders self.now) result }
+        ensures built { IsBuilt self.now }
     {
-        if let Some(fault) = of_crate_maps(self, &self.local_maps, &self.crate_maps) {
+        if let Some(fault) = of_crate_maps(self, &self.local_maps, self.maps.crates()) {
             return Some(fault);
         }
-        if let Some(fault) = of_block_maps(self, &self.block_maps) {
+        if let Some(fault) = of_block_maps(self, self.maps.blocks()) {
             return Some(fault);
         }
         if let Some(fault) = of_modules(self, &self.places) {
             return Some(fault);
         }
-        fault_of(Holder::Tables, note_tables(self, &self.item_tables))
-    }
-
-    /// The least fault of the first holder with one.
-    pub(crate) fn first_fault(&self) -> Option<WorldFault>
-        ensures answer { IsAnswer self.now (holders self.now) result }
-        ensures lawful { IsWorld self.now }
-    {
-        let _places = &self.places;
-        self.find_fault()
+        tables_fault(self, &self.item_tables)
     }
 }

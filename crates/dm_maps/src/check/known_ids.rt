@@ -17,7 +17,7 @@ impl KnownIds for WorldBuilder {
     fn knows(&self, held: HeldId) -> bool {
         match held {
             HeldId::Module(m) => self.has(m),
-            HeldId::Crate(krate) => (krate.0 as usize) < self.crate_maps.len(),
+            HeldId::Crate(krate) => (krate.0 as usize) < self.maps.crates().len(),
             HeldId::Use(u) => (u.0 as usize) < self.uses.len(),
             HeldId::Item(kind, n) => self.knows_item(kind, n),
             HeldId::Variant(v) => (v.0 as usize) < self.variants.len(),

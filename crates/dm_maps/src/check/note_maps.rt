@@ -1,8 +1,9 @@
 //! The ids that maps and modules hold.
-ghost use Rattle.std.specs.Prelude.{◌≡◌, None};
-ghost use Rattle.std.specs.List.{fold};
-ghost use Rattle.dm_held.specs.Held.{noted};
+ghost use Rattle.std.specs.Prelude.{[]};
+ghost use Rattle.std.specs.Option.{option_map_or};
+ghost use Rattle.dm_held.specs.Held.{IsLeastFault};
 ghost use Rattle.dm_held.specs.Holding.{local_holds};
+ghost use Rattle.dm_held.specs.Holds.{prelude_holds};
 ghost use Rattle.dm_maps.specs.Holds.{map_holds, module_holds};
 ghost use Rattle.dm_maps.specs.Known.{knows};
 
@@ -13,41 +14,45 @@ use dm_held::note_diagnostics::note_diagnostics;
 use dm_held::note_preludes::{note_externs, note_macro_uses, note_prelude};
 use dm_held::note_scopes::note_scope;
 use dm_held::note_tables::{note_helpers, note_macro_defs};
-use dm_held::notes::note_vis;
+use dm_held::notes::{lesser, vis_fault};
 use dm_modules::local_def_map::LocalDefMap;
 use dm_modules::module_data::ModuleData;
 
-/// The least fault of a map.
-#[tactic(auto, using(crate::proofs::FirstLemmas::parts))]
-pub(crate) fn note_map(world: &WorldBuilder, map: &DefMap) -> Option<HeldFault>
-    ensures { result ≡ fold (noted (knows world.now)) None (map_holds map.now) }
+/// The least fault of a map's prelude, if it has one.
+fn note_map_prelude(world: &WorldBuilder, map: &DefMap) -> Option<HeldFault>
+    ensures { IsLeastFault (knows world.now) (option_map_or prelude_holds map.now.prelude []) result }
 {
-    let least = match map.prelude() {
+    match map.prelude() {
         None => None,
-        Some(prelude) => note_prelude(world, None, prelude),
-    };
-    let least = note_macro_uses(world, least, map.macro_uses());
-    let least = note_macro_defs(world, least, map.macro_defs());
-    let least = note_helpers(world, least, map.derive_helpers());
-    note_diagnostics(world, least, map.diagnostics())
+        Some(prelude) => note_prelude(world, prelude),
+    }
+}
+
+/// The least fault of a map.
+pub(crate) fn note_map(world: &WorldBuilder, map: &DefMap) -> Option<HeldFault>
+    ensures { IsLeastFault (knows world.now) (map_holds map.now) result }
+{
+    let prelude = note_map_prelude(world, map);
+    let preludes = lesser(prelude, note_macro_uses(world, map.macro_uses()));
+    let helpers = note_helpers(world, map.derive_helpers());
+    let told = lesser(helpers, note_diagnostics(world, map.diagnostics()));
+    let rest = lesser(note_macro_defs(world, map.macro_defs()), told);
+    lesser(preludes, rest)
 }
 
 /// The least fault of a module.
-#[tactic(auto, using(crate::proofs::FirstLemmas::parts))]
 pub(crate) fn note_module(world: &WorldBuilder, m: &ModuleData) -> Option<HeldFault>
-    ensures { result ≡ fold (noted (knows world.now)) None (module_holds m.now) }
+    ensures { IsLeastFault (knows world.now) (module_holds m.now) result }
 {
-    let least = note_vis(world, None, m.visibility());
-    note_scope(world, least, m.scope())
+    lesser(
+        vis_fault(world, m.visibility()),
+        note_scope(world, m.scope()),
+    )
 }
 
-/// With the modules of an extern prelude.
-pub(crate) fn note_local_map(
-    world: &WorldBuilder,
-    least: Option<HeldFault>,
-    local: &LocalDefMap,
-) -> Option<HeldFault>
-    ensures { result ≡ fold (noted (knows world.now)) least (local_holds local.now) }
+/// The least fault of an extern prelude.
+pub(crate) fn note_local_map(world: &WorldBuilder, local: &LocalDefMap) -> Option<HeldFault>
+    ensures { IsLeastFault (knows world.now) (local_holds local.now) result }
 {
-    note_externs(world, least, local.entries())
+    note_externs(world, local.entries())
 }

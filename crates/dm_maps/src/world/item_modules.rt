@@ -1,6 +1,10 @@
-//! Where a world's items were declared. None of these look-ups takes memory.
-ghost use Rattle.std.specs.Prelude.{◌≡◌};
-ghost use Rattle.dm_maps.specs.ItemHomes.{module_of_item, module_of_def, module_of_macro};
+//! Where a world's items were declared: in modules and crates of its own. None of these look-ups takes memory.
+ghost use Rattle.std.specs.Prelude.{◌≡◌, IsTrue};
+ghost use Rattle.std.specs.Option.{ForSome};
+ghost use Rattle.dm_base.specs.declared.item_ids.ItemKind.TheVariants as item;
+ghost use Rattle.dm_held.specs.declared.held.HeldId.TheVariants as held;
+ghost use Rattle.dm_maps.specs.Known.{knows};
+ghost use Rattle.dm_maps.specs.ItemHomes.{homes_of, module_of_item, module_of_def, module_of_macro};
 
 use crate::builder::WorldBuilder;
 use crate::world::World;
@@ -15,19 +19,31 @@ impl ItemModules for World {
 
     ghost homes = { homes_of };
 
-    fn item_module(&self, item: ModuleDefId) -> Option<ModuleId> {
+    fn item_module(&self, item: ModuleDefId) -> Option<ModuleId>
+        ensures value { result ≡ (homes_of self.now).item item }
+        ensures known { ForSome result (λ m. IsTrue (knows self.now (held.Module m))) }
+    {
         self.tables.module_of_def(item)
     }
 
-    fn variant_enum(&self, variant: EnumVariantId) -> Option<EnumId> {
+    fn variant_enum(&self, variant: EnumVariantId) -> Option<EnumId>
+        ensures value { result ≡ (homes_of self.now).variant variant }
+        ensures known { ForSome result (λ e. IsTrue (knows self.now (held.Item item.Enum e.0))) }
+    {
         self.tables.variants.get(variant.0 as usize).copied()
     }
 
-    fn macro_module(&self, id: MacroId) -> Option<ModuleId> {
+    fn macro_module(&self, id: MacroId) -> Option<ModuleId>
+        ensures value { result ≡ (homes_of self.now).mac id }
+        ensures known { ForSome result (λ m. IsTrue (knows self.now (held.Module m))) }
+    {
         self.tables.module_of_macro(id)
     }
 
-    fn module_krate(&self, m: ModuleId) -> Option<Crate> {
+    fn module_krate(&self, m: ModuleId) -> Option<Crate>
+        ensures value { result ≡ (homes_of self.now).krate m }
+        ensures known { ForSome result (λ k. IsTrue (knows self.now (held.Crate k))) }
+    {
         match self.tables.place_of(m) {
             None => None,
             Some(place) => Some(place.map.krate),

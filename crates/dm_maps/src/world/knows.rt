@@ -56,7 +56,7 @@ impl World {
     pub fn knows_local(&self, local: &LocalDefMap) -> bool
         ensures { IsTrue result ↔ KnowsAll self.now (local_holds local.now) }
     {
-        let least = note_local_map(self.tables(), None, local);
+        let least = note_local_map(self.tables(), local);
         least.is_none()
     }
 
@@ -75,6 +75,6 @@ impl WorldBuilder {
     fn has_block(&self, block: BlockId) -> bool
         ensures { result ≡ nat_lt block.0 (length self.now.block_maps) }
     {
-        (block.0 as usize) < self.block_maps.len()
+        (block.0 as usize) < self.maps.blocks().len()
     }
 }

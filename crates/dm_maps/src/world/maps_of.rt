@@ -3,6 +3,8 @@ ghost use Rattle.std.specs.Prelude.{◌≡◌, IsTrue, Some, None, nat_lt, lengt
 ghost use Rattle.dm_held.specs.declared.held.HeldId.TheVariants as held;
 ghost use Rattle.dm_maps.specs.Known.{knows, KnowsAll};
 ghost use Rattle.dm_held.specs.Holding.{def_holds, local_holds};
+ghost use Rattle.dm_maps.specs.MapFacts.{IsMapOf};
+ghost use Rattle.dm_maps.specs.Outwards.{maps_outwards, AsksMaps};
 ghost use Rattle.dm_maps.specs.Readings.{root_of, styles_in};
 ghost use Rattle.dm_maps.specs.World.{crate_map, numbered_map};
 ghost use Rattle.dm_modules.specs.Maps.{Map};
@@ -10,6 +12,7 @@ ghost use Rattle.dm_base.specs.declared.item_ids.ModuleDefId.TheVariants as def;
 
 use crate::builder::WorldBuilder;
 use crate::world::World;
+use crate::world::outwards::ask_outwards;
 use dm_base::ids::{BlockId, Crate, ModuleId};
 use dm_base::item_ids::MacroId;
 use dm_base::macros::MacroCallStyles;
@@ -22,6 +25,7 @@ pub fn crate_def_map(world: &World, krate: Crate) -> &DefMap
     ensures map { crate_map world.now krate ≡ Some result.now }
     ensures id { result.now.id ≡ record { krate = krate; block = None } }
     ensures own { numbered_map world.now result.now.id ≡ Some result.now }
+    ensures facts { IsMapOf world.now result.now }
 {
     world.tables().crate_map_at(krate)
 }
@@ -32,6 +36,7 @@ pub fn block_def_map(world: &World, block: BlockId) -> &DefMap
     ensures map { slice_get world.now.block_maps block.0 ≡ Some result.now }
     ensures id { result.now.id.block ≡ Some block }
     ensures own { numbered_map world.now result.now.id ≡ Some result.now }
+    ensures facts { IsMapOf world.now result.now }
 {
     world.tables().block_map_at(block)
 }
@@ -53,8 +58,8 @@ pub fn macro_styles_from_id(world: &World, m: MacroId) -> MacroCallStyles
     world.styles_of(m)
 }
 
-/// What a map says of its crate.
-pub trait CrateRoot {
+/// The calls of a map that ask the world. None of them takes memory.
+pub trait AskWorld {
     /// The map, as contracts see it.
     ghost map: { Self → Map };
 
@@ -62,13 +67,35 @@ pub trait CrateRoot {
     fn crate_root(&self, world: &World) -> ModuleId
         requires { numbered_map world.now (map self.now).id ≡ Some (map self.now) }
         ensures { root_of world.now (map self.now).id.krate ≡ Some result };
+
+    /// What `f` answers about the first map for which it answers anything, from this one outwards.
+    ///
+    /// It is asked about this map with `m`, then about the map of the module that contains this map's block, with that
+    /// module, and so on; and about none after it has answered.
+    fn with_ancestor_maps<T, F: FnMut(&DefMap, ModuleId) -> Option<T> + Drop>(
+        &self,
+        world: &World,
+        m: ModuleId,
+        f: F,
+    ) -> Option<T>
+        requires { F.IsAlwaysCallable f }
+        ensures { (last : F) × AsksMaps F.step (maps_outwards world.now (map self.now) m) f result last };
 }
 
-impl CrateRoot for DefMap {
+impl AskWorld for DefMap {
     ghost map = { λ m. m };
 
     fn crate_root(&self, world: &World) -> ModuleId {
         world.crate_root_of(self)
+    }
+
+    fn with_ancestor_maps<T, F: FnMut(&DefMap, ModuleId) -> Option<T> + Drop>(
+        &self,
+        world: &World,
+        m: ModuleId,
+        f: F,
+    ) -> Option<T> {
+        ask_outwards(world, self, m, f)
     }
 }
 
@@ -88,14 +115,14 @@ impl WorldBuilder {
         requires { IsTrue (nat_lt krate.0 (length self.now.crate_maps)) }
         ensures { crate_map self.now krate ≡ Some result.now }
     {
-        &self.crate_maps[krate.0 as usize]
+        &self.maps.crates()[krate.0 as usize]
     }
 
     fn block_map_at(&self, block: BlockId) -> &DefMap
         requires { IsTrue (nat_lt block.0 (length self.now.block_maps)) }
         ensures { slice_get self.now.block_maps block.0 ≡ Some result.now }
     {
-        &self.block_maps[block.0 as usize]
+        &self.maps.blocks()[block.0 as usize]
     }
 
     fn local_map_at(&self, krate: Crate) -> &LocalDefMap

@@ -1,5 +1,5 @@
 //! What paths read of a world beside its scopes. None of these calls takes memory.
-ghost use Rattle.std.specs.Prelude.{◌≡◌, IsTrue, IsSome, Some, true};
+ghost use Rattle.std.specs.Prelude.{◌≡◌, IsTrue, IsSome, Some, true, slice_get};
 ghost use Rattle.std.specs.Option.{ForSome};
 ghost use Rattle.dm_base.specs.Names.{find_name};
 ghost use Rattle.dm_base.specs.Tree.{IsKnown};
@@ -21,13 +21,14 @@ use dm_base::source::Edition;
 use dm_def_map::def_map::DefMap;
 
 impl World {
-    /// Whether a module of a map is one of the world's: it is, where the map is the world's of its id.
+    /// Whether a module of a map is one of the world's: it is, where the map is the world's of its id. So is the map's root.
     pub fn has_module_of(&self, map: &DefMap, m: ModuleId) -> bool
         requires map { numbered_map self.now map.now.id ≡ Some map.now }
         requires lies { IsSome (module_at map.now.modules m) }
         ensures value { result ≡ true }
         ensures known { IsKnown (tree_of self.now) m }
         ensures its_map { map_of self.now m ≡ Some map.now }
+        ensures root { IsKnown (tree_of self.now) map.now.root }
     {
         let _tables = &self.tables;
         true
@@ -92,7 +93,11 @@ impl World {
 
     /// The variant of an enum under a name, with its shape.
     pub fn variant_of(&self, e: EnumId, name: &Name) -> Option<(EnumVariantId, FieldsShape)>
-        ensures { result ≡ find_name name.now (variants_of self.now e) }
+        ensures value { result ≡ find_name name.now (variants_of self.now e) }
+
+        // It is the world's, and that enum's.
+        ensures known { ForSome result (λ v. IsTrue (knows self.now (held.Variant v.0))) }
+        ensures own { ForSome result (λ v. slice_get self.now.variants v.0.0 ≡ Some e) }
     {
         self.tables.variant_of(e, name)
     }

@@ -20,7 +20,7 @@ impl WorldBuilder {
     pub(crate) fn crate_map(&self, krate: Crate) -> Option<&DefMap>
         ensures { option_copied result ≡ crate_map self.now krate }
     {
-        self.crate_maps.get(krate.0 as usize)
+        self.maps.crates().get(krate.0 as usize)
     }
 
     /// The root of a crate.
@@ -37,7 +37,7 @@ impl WorldBuilder {
     pub(crate) fn block_root_of(&self, block: BlockId) -> Option<ModuleId>
         ensures { result ≡ block_root_of self.now block }
     {
-        match self.block_maps.get(block.0 as usize) {
+        match self.maps.blocks().get(block.0 as usize) {
             None => None,
             Some(map) => Some(map.root_module_id()),
         }

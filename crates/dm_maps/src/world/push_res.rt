@@ -1,17 +1,16 @@
 //! Pushes into the scopes of a world.
-ghost use Rattle.std.specs.Prelude.{◌≡◌, false, List, [], ◌∷◌, ◌++◌, IsSome, IfOk, OnOk, OnErr};
+ghost use Rattle.std.specs.Prelude.{◌≡◌, false, List, IsSome, IfOk, OnOk, OnErr};
 ghost use Rattle.dm_ids.specs.declared.ModuleId.{ModuleId};
 ghost use Rattle.dm_base.specs.Tree.{same_module};
 ghost use Rattle.dm_scope.specs.Push.{scope_after, globs_after, push_answer};
-ghost use Rattle.dm_scope.specs.Scope.{Scope};
-ghost use Rattle.dm_scope.specs.Shows.{ScopePush, Shows, is_answered};
+ghost use Rattle.dm_scope.specs.Shows.{ScopePush, Shows, PushAnswers, PushShows, ShowsElsewhere, StillShows, push_of};
 ghost use Rattle.dm_held.specs.Pushes.{push_holds};
 ghost use Rattle.dm_maps.specs.Asked.{with_push};
 ghost use Rattle.dm_base.specs.Names.{Name};
 ghost use Rattle.dm_maps.specs.Cut.{among, cut};
 ghost use Rattle.dm_maps.specs.First.{IsChecked};
 ghost use Rattle.dm_maps.specs.Known.{KnowsAll};
-ghost use Rattle.dm_maps.specs.Trees.{IsWorld};
+ghost use Rattle.dm_maps.specs.Built.{IsBuilt};
 ghost use Rattle.dm_maps.specs.World.{own_scope, scope_of};
 
 use crate::builder::WorldBuilder;
@@ -54,9 +53,9 @@ impl World {
 
         // Where the module's scope and the table show a list of pushes, they show it with this push after it, and the answer
         // is as that list says. After want of memory, and in another module, what was shown is shown.
-        ensures shown { (ps : List ScopePush) → Shows (scope_of self.old lookup.0) glob_imports.old lookup.0 ps → OnOk result (Shows (scope_of self.new lookup.0) glob_imports.new lookup.0 (ps ++ record { name = lookup.1; res = res; by = import } ∷ [])) }
-        ensures shown_answer { (ps : List ScopePush) → Shows (scope_of self.old lookup.0) glob_imports.old lookup.0 ps → IfOk result (λ answer. answer ≡ is_answered ps (record { name = lookup.1; res = res; by = import })) }
-        ensures refused { (k : ModuleId) (ps : List ScopePush) → Shows (scope_of self.old k) glob_imports.old k ps → OnErr result (Shows (scope_of self.new k) glob_imports.new k ps) }
+        ensures shown { PushShows (scope_of self.old lookup.0) glob_imports.old (scope_of self.new lookup.0) glob_imports.new lookup.0 (push_of lookup.1 res import) result }
+        ensures shown_answer { PushAnswers (scope_of self.old lookup.0) glob_imports.old lookup.0 (push_of lookup.1 res import) result }
+        ensures refused { (k : ModuleId) → StillShows (scope_of self.old k) glob_imports.old (scope_of self.new k) glob_imports.new k result }
         ensures elsewhere { (k : ModuleId) (ps : List ScopePush) → same_module lookup.0 k ≡ false → Shows (scope_of self.old k) glob_imports.old k ps → Shows (scope_of self.new k) glob_imports.new k ps }
     {
         let answer = self.tables.push_res(glob_imports, lookup, res, import)?;
@@ -80,18 +79,18 @@ impl WorldBuilder {
         ensures globs { OnOk result (glob_imports.new ≡ globs_after (scope_of self.old lookup.0) glob_imports.old lookup.0 lookup.1 res import) }
         ensures err { OnErr result (self.new ≡ self.old) }
         ensures err_globs { OnErr result (glob_imports.new ≡ glob_imports.old) }
-        ensures shown { (ps : List ScopePush) → Shows (scope_of self.old lookup.0) glob_imports.old lookup.0 ps → OnOk result (Shows (scope_after (scope_of self.old lookup.0) glob_imports.old lookup.0 lookup.1 res import) glob_imports.new lookup.0 (ps ++ record { name = lookup.1; res = res; by = import } ∷ [])) }
-        ensures shown_answer { (ps : List ScopePush) → Shows (scope_of self.old lookup.0) glob_imports.old lookup.0 ps → IfOk result (λ answer. answer ≡ is_answered ps (record { name = lookup.1; res = res; by = import })) }
-        ensures elsewhere { (other : Scope) (k : ModuleId) (ps : List ScopePush) → same_module lookup.0 k ≡ false → Shows other glob_imports.old k ps → Shows other glob_imports.new k ps }
+        ensures shown { PushShows (scope_of self.old lookup.0) glob_imports.old (scope_after (scope_of self.old lookup.0) glob_imports.old lookup.0 lookup.1 res import) glob_imports.new lookup.0 (push_of lookup.1 res import) result }
+        ensures shown_answer { PushAnswers (scope_of self.old lookup.0) glob_imports.old lookup.0 (push_of lookup.1 res import) result }
+        ensures elsewhere { ShowsElsewhere glob_imports.old glob_imports.new lookup.0 }
     {
         let scope = self.scope_mut(lookup.0).unwrap();
         let answer = scope.push_res_with_import(glob_imports, lookup, res, import)?;
         Ok(answer)
     }
 
-    /// What holds of the modules and maps of every world, checked or not.
+    /// What holds of the tables of every builder, checked or not.
     pub(crate) fn lawful(&self)
-        ensures { IsWorld self.now }
+        ensures { IsBuilt self.now }
     {
         let _places = &self.places;
     }

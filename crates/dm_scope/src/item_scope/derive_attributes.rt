@@ -1,7 +1,8 @@
 //! The derive attributes of a scope.
 ghost use Rattle.std.specs.Prelude.{◌≡◌, ◌<◌, length, position, OnOk, OnErr, map};
+ghost use Rattle.std.specs.Map.Iter.{ShowsInOrder};
 ghost use Rattle.std.specs.Option.{ForSome, option_map, option_copied};
-ghost use Rattle.dm_scope.specs.Derives.{fresh_derive, derive_of, derives_of, has_id, derive_at, find_derive, fill_slot, fill_first, with_slot};
+ghost use Rattle.dm_scope.specs.Derives.{deref_derives, fresh_derive, derive_of, derives_of, has_id, derive_at, find_derive, fill_slot, fill_first, with_slot};
 ghost use Rattle.dm_base.specs.Sameness.{same_ast};
 ghost use Rattle.dm_scope.specs.TableLists.{add_to_list};
 
@@ -40,7 +41,8 @@ impl ItemScope {
 
     /// The derive attributes of each item, in order of definition at each. Takes no memory.
     pub fn derive_macro_invocs(&self) -> DeriveMacroInvocations<'_>
-        ensures { result ≡ self.now.derive_macros }
+        ensures rest { result ≡ self.now.derive_macros }
+        ensures runs { ShowsInOrder deref_derives }
     {
         DeriveMacroInvocations::new(&self.derive_macros)
     }

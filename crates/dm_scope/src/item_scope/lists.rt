@@ -1,7 +1,20 @@
 //! The lists of a scope, in order of definition.
-ghost use Rattle.std.specs.Prelude.{◌≡◌, ◌++◌, [], map};
+ghost use Rattle.std.specs.Prelude.{◌≡◌, ◌++◌, [], length, map, Option};
 ghost use Rattle.std.specs.List.{filter_map};
-ghost use Rattle.std.specs.Map.Iter.{ShowsInOrder};
+ghost use Rattle.std.specs.Map.Iter.{ShowsInOrder, deref_pair};
+ghost use Rattle.dm_ids.specs.declared.BuiltinDeriveImplId.{BuiltinDeriveImplId};
+ghost use Rattle.dm_ids.specs.declared.ExternBlockId.{ExternBlockId};
+ghost use Rattle.dm_ids.specs.declared.ExternCrateId.{ExternCrateId};
+ghost use Rattle.dm_ids.specs.declared.ConstId.{ConstId};
+ghost use Rattle.dm_ids.specs.declared.TraitId.{TraitId};
+ghost use Rattle.dm_ids.specs.declared.UseId.{UseId};
+ghost use Rattle.dm_ids.specs.declared.ImplId.{ImplId};
+ghost use Rattle.dm_ids.specs.declared.ModuleId.{ModuleId};
+ghost use Rattle.dm_ids.specs.declared.MacroCallId.{MacroCallId};
+ghost use Rattle.dm_base.specs.declared.imports.ImportId.{ImportId};
+ghost use Rattle.dm_base.specs.declared.imports.ImportOrDef.{ImportOrDef};
+ghost use Rattle.dm_base.specs.declared.visibility.Visibility.{Visibility};
+ghost use Rattle.dm_base.specs.declared.source.AstId.{AstId};
 ghost use Rattle.dm_base.specs.declared.imports.ImportOrExternCrate.{ImportOrExternCrate};
 ghost use Rattle.dm_base.specs.declared.imports.ImportOrGlob.{ImportOrGlob};
 ghost use Rattle.dm_base.specs.declared.item_ids.MacroId.{MacroId};
@@ -9,7 +22,7 @@ ghost use Rattle.dm_base.specs.declared.item_ids.ModuleDefId.{ModuleDefId};
 ghost use Rattle.dm_base.specs.declared.per_ns.Item.{Item};
 ghost use Rattle.dm_scope.specs.AllCalls.{all_calls};
 ghost use Rattle.dm_scope.specs.Records.{records_in};
-ghost use Rattle.dm_scope.specs.Iterators.{any_impl, trait_impl, inherent_impl, module_of, trait_of, deref_name};
+ghost use Rattle.dm_scope.specs.Iterators.{any_impl, trait_impl, inherent_impl, module_of, trait_of, deref_name, deref_legacy};
 
 use super::ItemScope;
 use crate::bindings::Iter;
@@ -29,70 +42,80 @@ use dm_base::visibility::Visibility;
 impl ItemScope {
     /// What is declared in the scope, in order of definition. Takes no memory.
     pub fn declarations(&self) -> Listed<'_, ModuleDefId>
-        ensures { result ≡ self.now.declarations }
+        ensures rest { result ≡ self.now.declarations }
+        ensures runs { ShowsInOrder (λ (x : ModuleDefId). x) }
     {
         Listed::new(&self.declarations)
     }
 
     /// The `impl` blocks that builtin derives write, in order of definition. Takes no memory.
     pub fn builtin_derive_impls(&self) -> Listed<'_, BuiltinDeriveImplId>
-        ensures { result ≡ self.now.builtin_derive_impls }
+        ensures rest { result ≡ self.now.builtin_derive_impls }
+        ensures runs { ShowsInOrder (λ (x : BuiltinDeriveImplId). x) }
     {
         Listed::new(&self.builtin_derive_impls)
     }
 
     /// The `extern` blocks, in order of definition. Takes no memory.
     pub fn extern_blocks(&self) -> Listed<'_, ExternBlockId>
-        ensures { result ≡ self.now.extern_blocks }
+        ensures rest { result ≡ self.now.extern_blocks }
+        ensures runs { ShowsInOrder (λ (x : ExternBlockId). x) }
     {
         Listed::new(&self.extern_blocks)
     }
 
     /// The `extern crate` items, in order of definition. Takes no memory.
     pub fn extern_crate_decls(&self) -> Listed<'_, ExternCrateId>
-        ensures { result ≡ self.now.extern_crate_decls }
+        ensures rest { result ≡ self.now.extern_crate_decls }
+        ensures runs { ShowsInOrder (λ (x : ExternCrateId). x) }
     {
         Listed::new(&self.extern_crate_decls)
     }
 
     /// The constants without a name, in order of definition. Takes no memory.
     pub fn unnamed_consts(&self) -> Listed<'_, ConstId>
-        ensures { result ≡ self.now.unnamed_consts }
+        ensures rest { result ≡ self.now.unnamed_consts }
+        ensures runs { ShowsInOrder (λ (x : ConstId). x) }
     {
         Listed::new(&self.unnamed_consts)
     }
 
     /// The traits that were imported without a name, in order of import. Takes no memory.
     pub fn unnamed_traits(&self) -> Listed<'_, (TraitId, Visibility, Option<ImportId>)>
-        ensures { result ≡ self.now.unnamed_traits }
+        ensures rest { result ≡ self.now.unnamed_traits }
+        ensures runs { ShowsInOrder (λ (x : TraitId × (Visibility × Option ImportId)). x) }
     {
         Listed::new(&self.unnamed_traits)
     }
 
     /// The `use` items, of which a scope keeps none. Takes no memory.
     pub fn use_decls(&self) -> Listed<'_, UseId>
-        ensures { result ≡ [] }
+        ensures rest { result ≡ [] }
+        ensures runs { ShowsInOrder (λ (x : UseId). x) }
     {
         Listed::new(&[])
     }
 
     /// The `impl` blocks, in order of definition. Takes no memory.
     pub fn impls(&self) -> Impls<'_>
-        ensures { result ≡ filter_map any_impl self.now.impls }
+        ensures rest { result ≡ filter_map any_impl self.now.impls }
+        ensures runs { ShowsInOrder (λ (x : ImplId). x) }
     {
         Picked::new(&self.impls, AnyImpl)
     }
 
     /// The `impl` blocks of traits, in order of definition. Takes no memory.
     pub fn trait_impls(&self) -> TraitImpls<'_>
-        ensures { result ≡ filter_map trait_impl self.now.impls }
+        ensures rest { result ≡ filter_map trait_impl self.now.impls }
+        ensures runs { ShowsInOrder (λ (x : ImplId). x) }
     {
         Picked::new(&self.impls, TraitImpl)
     }
 
     /// The `impl` blocks without a trait, in order of definition. Takes no memory.
     pub fn inherent_impls(&self) -> InherentImpls<'_>
-        ensures { result ≡ filter_map inherent_impl self.now.impls }
+        ensures rest { result ≡ filter_map inherent_impl self.now.impls }
+        ensures runs { ShowsInOrder (λ (x : ImplId). x) }
     {
         Picked::new(&self.impls, InherentImpl)
     }
@@ -123,35 +146,40 @@ impl ItemScope {
 
     /// The modules among the types, with who sees them, in order of first binding. Takes no memory.
     pub fn modules_in_scope(&self) -> ModulesInScope<'_>
-        ensures { result ≡ filter_map module_of (map (λ e. e.1) self.now.types.items) }
+        ensures rest { result ≡ filter_map module_of (map (λ e. e.1) self.now.types.items) }
+        ensures runs { ShowsInOrder (λ (x : ModuleId × Visibility). x) }
     {
         Picked::new(self.types.items(), ModuleType)
     }
 
     /// The traits among the types, in order of first binding, then the unnamed ones, in order of import. Takes no memory.
     pub fn traits(&self) -> Traits<'_>
-        ensures { result ≡ filter_map trait_of (map (λ e. e.1) self.now.types.items) ++ map (λ e. e.0) self.now.unnamed_traits }
+        ensures rest { result ≡ filter_map trait_of (map (λ e. e.1) self.now.types.items) ++ map (λ e. e.0) self.now.unnamed_traits }
+        ensures runs { ShowsInOrder (λ (x : TraitId). x) }
     {
         Traits::new(self.types.items(), &self.unnamed_traits)
     }
 
     /// The legacy macros of each name. Takes no memory.
     pub fn legacy_macros(&self) -> LegacyMacros<'_>
-        ensures { result ≡ self.now.legacy_macros }
+        ensures rest { result ≡ self.now.legacy_macros }
+        ensures runs { ShowsInOrder deref_legacy }
     {
         LegacyMacros::new(&self.legacy_macros)
     }
 
     /// The calls of function-like macros, each with where it stands. Takes no memory.
     pub fn iter_macro_invoc(&self) -> MacroInvocations<'_>
-        ensures { result ≡ self.now.macro_invocations }
+        ensures rest { result ≡ self.now.macro_invocations }
+        ensures runs { ShowsInOrder (deref_pair {K = AstId} {X = MacroCallId}) }
     {
         MacroInvocations::new(&self.macro_invocations)
     }
 
     /// The calls of attribute macros, each with the item that it stands on. Takes no memory.
     pub fn attr_macro_invocs(&self) -> AttrMacroInvocations<'_>
-        ensures { result ≡ self.now.attr_macros }
+        ensures rest { result ≡ self.now.attr_macros }
+        ensures runs { ShowsInOrder (λ (x : AstId × MacroCallId). x) }
     {
         AttrMacroInvocations::new(&self.attr_macros)
     }
@@ -159,7 +187,8 @@ impl ItemScope {
     /// All macro calls: of function-like macros, of attribute macros, and in the slots of derive attributes. Neither the
     /// derive attributes' own calls, nor builtin derives. Takes no memory.
     pub fn all_macro_calls(&self) -> AllMacroCalls<'_>
-        ensures { result ≡ all_calls self.now }
+        ensures rest { result ≡ all_calls self.now }
+        ensures runs { ShowsInOrder (λ (x : MacroCallId). x) }
     {
         AllMacroCalls::new(
             self.macro_invocations.values().as_slice(),
@@ -171,12 +200,24 @@ impl ItemScope {
     /// What each import that brought a binding of a namespace stands for, an import of values seen as any import. Takes
     /// no memory.
     pub fn import_records(&self, namespace: Namespace) -> ImportRecords<'_>
-        ensures { result ≡ records_in namespace self.now }
+        ensures rest { result ≡ records_in namespace self.now }
+        ensures runs { ShowsInOrder (λ (x : ImportOrExternCrate × ImportOrDef). x) }
     {
         match namespace {
             Namespace::Types => ImportRecords::wide(self.types.records()),
             Namespace::Values => ImportRecords::of_values(self.values.records()),
             Namespace::Macros => ImportRecords::wide(self.macros.records()),
+        }
+    }
+
+    /// The number of imports that have a record in a namespace. Takes no memory.
+    pub fn record_count(&self, namespace: Namespace) -> usize
+        ensures { result ≡ length (records_in namespace self.now) }
+    {
+        match namespace {
+            Namespace::Types => self.types.record_count(),
+            Namespace::Values => self.values.record_count(),
+            Namespace::Macros => self.macros.record_count(),
         }
     }
 }

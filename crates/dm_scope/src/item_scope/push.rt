@@ -7,7 +7,7 @@ ghost use Rattle.dm_scope.specs.Bindings.{bound_after, flags_after};
 ghost use Rattle.dm_scope.specs.Push.{types_reading, values_reading, macros_reading, unresolved_after, is_new_unresolved, scope_after, globs_after, push_answer, push_answer_from_values, push_answer_from_macros};
 ghost use Rattle.dm_scope.specs.Pushes.{IsByName};
 ghost use Rattle.dm_scope.specs.Scope.{Scope};
-ghost use Rattle.dm_scope.specs.Shows.{ScopePush, Shows, is_answered};
+ghost use Rattle.dm_scope.specs.Shows.{PushAnswers, PushShows, ShowsElsewhere, StillShows, push_of};
 
 use super::ItemScope;
 use crate::glob_imports::PerNsGlobImports;
@@ -37,16 +37,16 @@ impl ItemScope {
 
         // Where scope and table show a list of pushes under the module, they show it with this push after it, and the
         // answer is as that list says. After want of memory, and under another module, what was shown is shown.
-        ensures shown { (ps : List ScopePush) → Shows self.old glob_imports.old lookup.0 ps → OnOk result (Shows self.new glob_imports.new lookup.0 (ps ++ record { name = lookup.1; res = def; by = import } ∷ [])) }
-        ensures shown_answer { (ps : List ScopePush) → Shows self.old glob_imports.old lookup.0 ps → IfOk result (λ answer. answer ≡ is_answered ps (record { name = lookup.1; res = def; by = import })) }
-        ensures refused { (k : ModuleId) (ps : List ScopePush) → Shows self.old glob_imports.old k ps → OnErr result (Shows self.new glob_imports.new k ps) }
+        ensures shown { PushShows self.old glob_imports.old self.new glob_imports.new lookup.0 (push_of lookup.1 def import) result }
+        ensures shown_answer { PushAnswers self.old glob_imports.old lookup.0 (push_of lookup.1 def import) result }
+        ensures refused { (k : ModuleId) → StillShows self.old glob_imports.old self.new glob_imports.new k result }
 
         // What any list of pushes binds to a name in a namespace rests on the pushes of that name that have an item
         // there, and not on globs beside an explicit one.
         ensures types_by_name { (n : Name) → IsByName types_reading n }
         ensures values_by_name { (n : Name) → IsByName values_reading n }
         ensures macros_by_name { (n : Name) → IsByName macros_reading n }
-        ensures elsewhere { (other : Scope) (k : ModuleId) (ps : List ScopePush) → same_module lookup.0 k ≡ false → Shows other glob_imports.old k ps → Shows other glob_imports.new k ps }
+        ensures elsewhere { ShowsElsewhere glob_imports.old glob_imports.new lookup.0 }
     {
         let (m, name) = lookup;
         let answer = self.push_from_types(glob_imports, m, &name, &def, import)?;

@@ -1,13 +1,10 @@
 //! The sorted lists of a scope, which take memory.
 ghost use Rattle.std.specs.Prelude.{◌≡◌, ◌↔◌, ◌++◌, ◌∷◌, [], true, None, IfOk, OnOk, map, Contains};
-ghost use Rattle.std.specs.Cmp.Lexicographic.{slice_cmp};
 ghost use Rattle.std.specs.List.{filter_map};
 ghost use Rattle.std.specs.List.Sorted.{IsSorted, IsStrictlySortedBy, IsPermutation};
-ghost use Rattle.std.specs.Ordering.{nat_cmp};
-ghost use Rattle.dm_base.specs.Names.{Name};
 ghost use Rattle.dm_scope.specs.Scope.{bound_in};
 ghost use Rattle.dm_base.specs.Imports.{named_import};
-ghost use Rattle.dm_scope.specs.Sorted.{names_of, seen, deref_entry, AreEntries, imports_of, AreImports, deref_resolution, named_resolution, AreResolutions, unnamed_resolution, unnamed_type};
+ghost use Rattle.dm_scope.specs.Sorted.{names_of, seen, deref_entry, AreInOrder, AreNames, AreEntries, imports_of, AreImports, deref_resolution, named_resolution, AreResolutions, unnamed_resolution, unnamed_type};
 
 use super::ItemScope;
 use dm_base::ids::TraitId;
@@ -25,10 +22,18 @@ impl ItemScope {
     pub fn entries(&self) -> Result<Vec<(&Name, PerNs)>, AllocError>
         ensures { IfOk result (λ v. AreEntries (map deref_entry v.items) self.now) }
     {
-        let names = self.all_names()?;
-        let sorted = sorted_names(self.alloc, names)?;
-        let entries = self.paired(sorted.as_slice())?;
+        let names = self.sorted_names()?;
+        let entries = self.paired(names.as_slice())?;
         Ok(entries)
+    }
+
+    /// The names that are bound or unresolved, in order of their bytes.
+    pub(super) fn sorted_names(&self) -> Result<Vec<&Name>, AllocError>
+        ensures { IfOk result (λ v. AreNames (seen v.items) self.now) }
+    {
+        let names = self.all_names()?;
+        let sorted = in_name_order(self.alloc, names)?;
+        Ok(sorted)
     }
 
     /// The names that are bound or unresolved, each as often as it is.
@@ -87,7 +92,7 @@ impl ItemScope {
 }
 
 /// Adds references to names.
-fn add_names<'a>(names: &mut Vec<&'a Name>, more: &'a [Name]) -> Result<(), AllocError>
+pub(super) fn add_names<'a>(names: &mut Vec<&'a Name>, more: &'a [Name]) -> Result<(), AllocError>
     ensures { OnOk result (seen names.new.items ≡ seen names.old.items ++ more.now) }
 {
     for name in more {
@@ -134,7 +139,7 @@ fn add_without_name(
 }
 
 /// What an unnamed trait resolves to.
-fn resolution_of(unnamed: &(TraitId, Visibility, Option<ImportId>)) -> PerNs
+pub(super) fn resolution_of(unnamed: &(TraitId, Visibility, Option<ImportId>)) -> PerNs
     ensures { result ≡ unnamed_type unnamed.now }
 {
     let import = unnamed.2.map(ImportOrExternCrate::Import);
@@ -154,9 +159,8 @@ fn add_imports<I: ImportSource>(imports: &mut Vec<ImportId>, more: &[I]) -> Resu
 }
 
 /// The names in order of their bytes, without repeats.
-fn sorted_names(alloc: Global, names: Vec<&Name>) -> Result<Vec<&Name>, AllocError>
-    ensures sorted { IfOk result (λ v. IsStrictlySortedBy (slice_cmp nat_cmp) (seen v.items)) }
-    ensures same { (n : Name) → IfOk result (λ v. Contains (seen v.items) n ↔ Contains (seen names.entry.items) n) }
+pub(super) fn in_name_order(alloc: Global, names: Vec<&Name>) -> Result<Vec<&Name>, AllocError>
+    ensures { IfOk result (λ v. AreInOrder (seen v.items) (seen names.entry.items)) }
 {
     let mut sorted = in_order(alloc, names)?;
     sorted.dedup();

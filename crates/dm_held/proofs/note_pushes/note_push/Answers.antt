@@ -1,11 +1,11 @@
-use Rattle.std.proofs.Common.{sym, subst}
-use Rattle.dm_held.specs.Held.{IsLeastFault}
+use Rattle.std.proofs.Common.{arith}
 use Rattle.dm_held.specs.Pushes.{push_holds}
-use Rattle.dm_held.proofs.Least.{IsLeastFault-from_fold}
+use Rattle.dm_held.proofs.Least.{least-found}
+use Rattle.dm_held.proofs.Sets.{parts}
 use Rattle.dm_held.proofs.note_pushes.note_push.Goals as goal
 
-pub returns : goal.returns
-returns g c =
-    let known = g.T.KnownIds.known c.args.world.now in
-    let ids = push_holds c.args.m c.args.res.now c.args.import in
-    subst (IsLeastFault known ids) (sym c.fold_push.ensures) (IsLeastFault-from_fold known ids)
+pub returns-in-None : goal.returns-in-None
+returns-in-None g c = least-found (g.T.KnownIds.known c.args.world.now) (push_holds c.args.m c.args.res.now c.args.import) c.note_res-least.result (grind (arith, parts))
+
+pub returns-in-Some : goal.returns-in-Some
+returns-in-Some g c = least-found (g.T.KnownIds.known c.args.world.now) (push_holds c.args.m c.args.res.now c.args.import) c.note_import.result (grind (arith, parts))

@@ -1,6 +1,6 @@
 use Rattle.std.proofs.Common.{◌∙◌, ap, sym}
 use Rattle.indexmap.specs.IndexMap.{set_value_at}
-use Rattle.dm_tables.proofs.TableLemmas.{set_value_at-own}
+use Rattle.dm_tables.specs.TableLaws.{set_value_at-own}
 use Rattle.std.proofs.lemmas.Result.{on_err_weaker}
 use Rattle.dm_modules.proofs.growth.list_child.Goals as goal
 

@@ -1,7 +1,7 @@
 use Rattle.std.proofs.Common.{◌∙◌, ap, sym}
 use Rattle.std.proofs.lemmas.Result.{on_err_weaker}
 use Rattle.indexmap.specs.IndexMap.{set_value_at}
-use Rattle.dm_tables.proofs.TableLemmas.{set_value_at-own}
+use Rattle.dm_tables.specs.TableLaws.{set_value_at-own}
 use Rattle.dm_tables.proofs.derive_helpers.add_helper_at.Goals as goal
 
 pub returns-in-Some-clause-err : goal.returns-in-Some-clause-err

@@ -1,5 +1,7 @@
 use Rattle.std.proofs.Common.{◌≡◌, map}
 use Rattle.dm_base.specs.Tree.{IsKnown}
+use Rattle.dm_held.specs.Holding.{res_holds}
+use Rattle.dm_maps.specs.Known.{KnowsAll}
 use Rattle.dm_maps.specs.Readings.{setting_of, read}
 use Rattle.dm_maps.specs.Trees.{tree_of}
 use Rattle.hir_def_map.specs.Answers.{over_answer, merged}
@@ -14,6 +16,7 @@ invariant-roots l =
     let asked = single g l.ask (map (read l.world l.local) l.segments) in
     record {
       known : IsKnown t l.at;
+      answer_known : KnowsAll l.world (res_holds l.answer.resolved_def);
       same : over_answer l.answer (merged (map asked (places_in t g l.at))) ≡ merged (map asked (places_in t g l.fn.ask.origin));
     }
 

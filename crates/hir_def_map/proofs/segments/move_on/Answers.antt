@@ -17,5 +17,5 @@ returns-in-ModuleId-clause-value c = λ L.
 
 pub returns-in-AdtId-clause-value : goal.returns-in-AdtId-clause-value
 returns-in-AdtId-clause-value c = λ L.
-    ap End (c.at_adt.ensures L)
+    ap End (c.at_adt.ensures.value L)
     ∙ sym (move-def (tree_of c.args.world.now) c.args.at c.args.position (read c.args.world.now L c.args.segment.now) c.args.is_last c.in-Some.item (def.AdtId c.in-AdtId.adt) c.in-Some.is c.in-AdtId.is)

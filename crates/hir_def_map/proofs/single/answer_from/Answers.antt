@@ -4,7 +4,7 @@ use Rattle.dm_maps.specs.Trees.{tree_of}
 use Rattle.hir_def_map.proofs.WalkLemmas.{walk-stop}
 use Rattle.hir_def_map.proofs.single.answer_from.Goals as goal
 
-pub returns : goal.returns
-returns c = λ L.
-    c.walk.ensures L
+pub returns-clause-value : goal.returns-clause-value
+returns-clause-value c = λ L.
+    c.walk.ensures.value L
     ∙ walk-stop (tree_of c.args.world.now) (record { differing = false; origin = c.args.from; here = c.args.here }) c.args.position (map (read c.args.world.now L) c.args.segments.now)

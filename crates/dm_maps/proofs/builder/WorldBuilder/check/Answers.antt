@@ -1,6 +1,6 @@
 use Rattle.std.proofs.Common.{true≢false, sym}
 use Rattle.dm_maps.specs.First.{holders}
-use Rattle.dm_maps.proofs.Least.{unchecked}
+use Rattle.dm_maps.proofs.FirstLemmas.{unchecked}
 use Rattle.dm_maps.proofs.builder.WorldBuilder.check.Goals as goal
 
 pub returns-in-Some-clause-ok : goal.returns-in-Some-clause-ok

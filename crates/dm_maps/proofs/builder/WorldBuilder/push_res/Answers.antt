@@ -1,7 +1,7 @@
 use Rattle.std.proofs.Common.{◌∙◌, ap, sym}
 use Rattle.std.specs.Option.{option_copied_mut}
 use Rattle.dm_maps.specs.World.{with_scope}
-use Rattle.dm_scope.proofs.Outcomes.{on-err}
+use Rattle.dm_scope.specs.Outcomes.{on-err}
 use Rattle.dm_maps.proofs.ScopeWrites.{with_scope-own}
 use Rattle.dm_maps.proofs.builder.WorldBuilder.push_res.Goals as goal
 

@@ -1,5 +1,5 @@
 use Rattle.dm_held.specs.Pushes.{push_holds}
-use Rattle.dm_maps.proofs.Least.{known-by}
+use Rattle.dm_maps.proofs.FirstLemmas.{known-by}
 use Rattle.dm_maps.proofs.world.World.knows_res.Goals as goal
 
 pub returns : goal.returns

@@ -1,6 +1,7 @@
 use Rattle.std.proofs.Common.{◌≡◌, ◌∙◌, Some, slice_get, ap, sym}
 use Rattle.dm_maps.specs.World.{World}
 use Rattle.dm_maps.proofs.MapLemmas.{block_id-is, block-own}
+use Rattle.dm_maps.proofs.MapFacts.{IsMapOf-checked}
 use Rattle.dm_maps.proofs.world.maps_of.block_def_map.Goals as goal
 use Rattle.dm_maps.proofs.world.maps_of.block_def_map.Goals.{After-block_map_at}
 
@@ -12,3 +13,8 @@ returns-clause-id c = block_id-is c.args.world.now c.tables.ensures.world.lawful
 
 pub returns-clause-own : goal.returns-clause-own
 returns-clause-own c = block-own c.args.world.now c.tables.ensures.world.lawful c.args.block c.block_map_at.result.now (there c)
+
+pub returns-clause-facts : goal.returns-clause-facts
+returns-clause-facts c =
+    let w = c.args.world.now in
+    IsMapOf-checked w c.tables.ensures.world c.block_map_at.result.now (block-own w c.tables.ensures.world.lawful c.args.block c.block_map_at.result.now (there c))

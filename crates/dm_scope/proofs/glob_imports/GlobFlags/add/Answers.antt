@@ -3,7 +3,7 @@ use Rattle.indexmap.specs.IndexSet.{insert_key}
 use Rattle.dm_base.specs.Names.{same_name}
 use Rattle.dm_scope.specs.Flags.{flags_of, add_flag, without_flag}
 use Rattle.dm_scope.proofs.FlagLemmas.{add_flag-present, change_names-present, flags_of-unchanged, without_flag-add_flag}
-use Rattle.dm_scope.proofs.Outcomes.{on-err}
+use Rattle.dm_scope.specs.Outcomes.{on-err}
 use Rattle.dm_scope.proofs.glob_imports.GlobFlags.add.Goals as goal
 
 pub returns-in_err-new-in-Some-clause-err : goal.returns-in_err-new-in-Some-clause-err

@@ -1,7 +1,6 @@
-use Rattle.std.proofs.Common.{length, subst, sym, None}
+use Rattle.std.proofs.Common.{length, subst, sym}
 use Rattle.hir_def_map.specs.Laws.{IsAnswer}
 use Rattle.hir_def_map.specs.declared.place.Place.TheVariants.{Preludes}
-use Rattle.hir_def_map.specs.Paths.{asked}
 use Rattle.hir_def_map.proofs.AnswerLaws.{single-names}
 use Rattle.hir_def_map.proofs.path_resolution.DefMapResolvePath.resolve_path_fp_in_all_preludes.Goals as goal
 
@@ -9,6 +8,6 @@ pub returns-clause-lawful : goal.returns-clause-lawful
 returns-clause-lawful c =
     let w = c.args.world.now in
     let names = c.segments.result.now in
-    let q = asked c.args.original_module c.args.mode c.args.shadow None c.kind.result in
+    let q = c.new-ask.result in
     subst (λ ns. IsAnswer (length ns) c.single.result) c.segments.ensures
-    (subst (IsAnswer (length names)) (sym c.single.ensures) (single-names w c.args.local.now q names (Preludes c.id.result c.args.original_module)))
+    (subst (IsAnswer (length names)) (sym c.single.ensures.value) (single-names w c.args.local.now q names (Preludes c.id.result c.args.original_module)))

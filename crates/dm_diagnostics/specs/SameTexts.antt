@@ -1,0 +1,65 @@
+-- When two diagnostics say the same: as their `==` says. Of their texts the bytes count, and not the room that these have.
+use Rattle.std.specs.Prelude.{◌≡◌, true, List, [], ◌∷◌, map, string_bytes, refl}
+use Rattle.std.specs.Cmp.Lexicographic.{pointwise, bytes_decides}
+use Rattle.std.specs.String.{string_eq}
+use Rattle.std.proofs.Common.{rules, Global, String}
+use Rattle.std.proofs.lemmas.Bool.{and_parts}
+use Rattle.dm_base.specs.Path.{paths_same}
+use Rattle.dm_ids.specs.declared.MacroCallKind.{MacroCallKind}
+use Rattle.dm_ids.specs.declared.ExpandErrorKind.{ExpandErrorKind}
+use Rattle.dm_ids.specs.declared.ModuleId.{ModuleId}
+use Rattle.dm_ids.specs.contracts.ModuleIdPartialEq.TheImpl as module_eq
+use Rattle.dm_ids.specs.contracts.MacroCallKindPartialEq.TheImpl as call_eq
+use Rattle.dm_ids.specs.contracts.ExpandErrorKindPartialEq.TheImpl as error_eq
+use Rattle.dm_base.specs.declared.source.AstId.{AstId}
+use Rattle.dm_base.specs.contracts.source.AstIdPartialEq.TheImpl as ast_eq
+use Rattle.dm_diagnostics.specs.declared.DefDiagnostic.{DefDiagnostic}
+use Rattle.dm_diagnostics.specs.declared.DefDiagnosticKind.{DefDiagnosticKind}
+use Rattle.dm_diagnostics.specs.declared.DefDiagnosticKind.TheVariants as kind
+use Rattle.dm_diagnostics.specs.contracts.DefDiagnosticPartialEq.TheImpl as diagnostic_eq
+use Rattle.dm_diagnostics.specs.contracts.DefDiagnosticKindPartialEq.TheImpl as kind_eq
+
+-- kinds that say the same
+abbrev pub SaysTheSame : DefDiagnosticKind → DefDiagnosticKind → Type 0
+SaysTheSame (kind.UnresolvedModule a cs) (kind.UnresolvedModule b ds) = (a ≡ b) × (map string_bytes cs.items ≡ map string_bytes ds.items)
+SaysTheSame (kind.MacroDefError a m) (kind.MacroDefError b n) = (a ≡ b) × (string_bytes m ≡ string_bytes n)
+SaysTheSame x y = x ≡ y
+
+-- diagnostics that say the same, of one module
+pub record SaySame (x y : DefDiagnostic) : Type 0 where
+  pub module_ : x.in_module ≡ y.in_module
+  pub kind : SaysTheSame x.kind y.kind
+
+texts_same : (xs ys : List (String Global)) → pointwise string_eq xs ys ≡ true → map string_bytes xs ≡ map string_bytes ys
+texts_same [] [] e = refl
+texts_same [] (y ∷ ys) e = cc
+texts_same (x ∷ xs) [] e = cc
+texts_same (x ∷ xs) (y ∷ ys) e =
+    let parts = and_parts _ _ e in
+    λ i. (bytes_decides (string_bytes x) (string_bytes y)).0 parts.0 i ∷ texts_same xs ys parts.1 i
+
+ast_same : (a b : AstId) → ast_eq.ghosts.eq a b ≡ true → a ≡ b
+ast_same = Prim.search rules
+
+modules_same : (a b : ModuleId) → module_eq.ghosts.eq a b ≡ true → a ≡ b
+modules_same = Prim.search rules
+
+calls_same : (a b : MacroCallKind) → call_eq.ghosts.eq a b ≡ true → a ≡ b
+calls_same = Prim.search rules
+
+errors_same : (a b : ExpandErrorKind) → error_eq.ghosts.eq a b ≡ true → a ≡ b
+errors_same = Prim.search rules
+
+kinds_same : (x y : DefDiagnosticKind) → kind_eq.ghosts.eq x y ≡ true → SaysTheSame x y
+kinds_same (kind.UnresolvedModule a cs) (kind.UnresolvedModule b ds) e =
+    let parts = and_parts _ _ e in (ast_same a b parts.0, texts_same cs.items ds.items parts.1)
+kinds_same (kind.UnresolvedMacroCall a p) (kind.UnresolvedMacroCall b q) e =
+    let parts = and_parts _ _ e in λ i. kind.UnresolvedMacroCall (calls_same a b parts.0 i) (paths_same p q parts.1 i)
+kinds_same (kind.MacroError a p k) (kind.MacroError b q l) e =
+    let first = and_parts _ _ e in
+    let rest = and_parts _ _ first.1 in
+    λ i. kind.MacroError (ast_same a b first.0 i) (paths_same p q rest.0 i) (errors_same k l rest.1 i)
+kinds_same x y e = Prim.search (rules, bytes_decides)
+
+pub diagnostics_same : (x y : DefDiagnostic) → diagnostic_eq.ghosts.eq x y ≡ true → SaySame x y
+diagnostics_same x y e = let parts = and_parts _ _ e in record { module_ = modules_same x.in_module y.in_module parts.0; kind = kinds_same x.kind y.kind parts.1 }

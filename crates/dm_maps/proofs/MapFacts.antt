@@ -1,0 +1,166 @@
+-- What holds of each map of a checked world.
+use Rattle.std.proofs.Common.{◌≡◌, ◌↔◌, ◌∙◌, Bool, true, false, cond, List, [], ◌∷◌, Option, None, Some, length, map, slice_get, nat_eq, is_some, refl, sym, ap, subst, true≢false, IsTrue, IsSome}
+use Rattle.std.specs.List.{AllByRecursion}
+use Rattle.std.specs.Option.{ForSome, option_map, option_map_or, option_and_then, option_or}
+use Rattle.std.proofs.lemmas.Bool.{eqb-true, lt-ltb}
+use Rattle.std.proofs.lemmas.List.Elements.{All-from_recursion}
+use Rattle.std.proofs.lemmas.Option.{slice_get-map, slice_get_within}
+use Rattle.dm_ids.specs.declared.BlockId.{BlockId}
+use Rattle.dm_ids.specs.declared.ModuleId.{ModuleId}
+use Rattle.dm_base.specs.Names.{Name, same_name, find_name}
+use Rattle.dm_base.specs.Tree.{containing}
+use Rattle.dm_held.specs.declared.held.HeldId.TheVariants as held
+use Rattle.dm_maps.proofs.AllLemmas.{all-weaker}
+use Rattle.dm_modules.specs.Maps.{Map, Module, Modules, module_at}
+use Rattle.dm_modules.specs.Queries.{containing_in}
+use Rattle.dm_maps.specs.declared.place.Place.{Place}
+use Rattle.dm_maps.specs.Facts.{Standing}
+use Rattle.dm_maps.specs.Family.{IsParent, AreParents, common, HaveFamilies, IsFamily}
+use Rattle.dm_maps.specs.Known.{knows}
+use Rattle.dm_maps.specs.MapFacts.{IsChild, IsMapOf}
+use Rattle.dm_maps.specs.Sound.{IsCheckedWorld}
+use Rattle.dm_maps.specs.Trees.{no_map, outline, containers_of, container_in, parent_in, map_id_in, tree_of, IsMap, IsWorld}
+use Rattle.dm_maps.specs.World.{World, crate_map, map_of, module_in, numbered_map}
+use Rattle.dm_maps.proofs.AllLemmas.{all-get}
+use Rattle.dm_maps.proofs.FamilyLemmas.{families}
+use Rattle.dm_maps.proofs.InOrder.{found-at, in_order}
+use Rattle.dm_maps.proofs.MapLemmas.{map-lists}
+use Rattle.dm_maps.proofs.SoundLemmas.{lies-there, map-lawful, placed-known}
+use Rattle.dm_maps.proofs.WorldFacts.{module-there}
+
+-- what holds of all entries holds of the one that a look-up by number finds
+all-at : (P : ModuleId × Module → Type 0) (es : Modules) (m : ModuleId) (d : Module) → AllByRecursion P es → module_at es m ≡ Some d → P (m, d)
+all-at P [] m d h e = cc
+all-at P (x ∷ es) m d h e = by (nat_eq m.0 x.0.0) refl e (all-at P es m d h.1)
+  where
+    by : (b : Bool) → nat_eq m.0 x.0.0 ≡ b → cond b (Some x.1) (module_at es m) ≡ Some d → (module_at es m ≡ Some d → P (m, d)) → P (m, d)
+    by true t g rest =
+        let same : x.1 ≡ d = cc in
+        let number : x.0.0 ≡ m.0 = sym (eqb-true m.0 x.0.0 t) in
+        subst P (λ i. (record { 0 = number i }, same i)) h.0
+    by false t g rest = rest g
+
+-- and of a list of names, of the one that a look-up by name finds
+by-name : {X : Type 0} (P : X → Type 0) (es : List (Name × X)) (n : Name) → AllByRecursion (λ e. P e.1) es → ForSome (find_name n es) P
+by-name P [] n h x e = cc
+by-name {X} P (y ∷ es) n h x e = by (same_name n y.0) e (by-name P es n h.1 x)
+  where
+    by : (b : Bool) → cond b (Some y.1) (find_name n es) ≡ Some x → (find_name n es ≡ Some x → P x) → P x
+    by true g rest = let same : y.1 ≡ x = cc in subst P same h.0
+    by false g rest = rest g
+
+module _ (w : World) (is : IsWorld w) (fam : IsFamily w) (own : Map) (there : numbered_map w own.id ≡ Some own) where
+  family : HaveFamilies w.places w.crate_maps w.block_maps
+  family = families w.places w.crate_maps w.block_maps fam
+
+  -- the map of a crate, or that of a block
+  either : (P : Type 0) → (own.id.block ≡ None → slice_get w.crate_maps own.id.krate.0 ≡ Some own → P) → ((b : BlockId) → own.id.block ≡ Some b → slice_get w.block_maps b.0 ≡ Some own → P) → P
+  either P crates blocks = by own.id.block refl there
+    where
+      by : (block : Option BlockId) → own.id.block ≡ block → elim block [ None ↦ slice_get w.crate_maps own.id.krate.0 | Some b ↦ slice_get w.block_maps b.0 ] ≡ Some own → P
+      by None e g = crates e g
+      by (Some b) e g = blocks b e g
+
+  lies : (m : ModuleId) → IsSome (module_at own.modules m) → map_of w m ≡ Some own
+  lies m some = lies-there w is own m there some
+
+  known : (m : ModuleId) → IsSome (module_at own.modules m) → IsTrue (knows w (held.Module m))
+  known m some = placed-known w m (ap is_some (lies m some))
+
+  -- how a module of the map stands
+  stands : (m : ModuleId) → IsSome (module_at own.modules m) → Standing w m
+  stands m some = in_order w is m (known m some)
+
+  its-own : (m : ModuleId) (s : Standing w m) → map_of w m ≡ Some own → s.map ≡ own
+  its-own m s e = let n : Some s.map ≡ Some own = sym s.lies ∙ e in cc
+
+  lawful : IsMap w.places (outline own)
+  lawful = map-lawful w is own.id own there
+
+  root-lies : IsSome (module_at own.modules own.root)
+  root-lies = map-lists w is own.root own (ap (option_and_then (λ (p : Place). numbered_map w p.map)) (lawful.listed 0 own.root None lawful.root) ∙ there)
+
+  one-root : (m : ModuleId) (d : Module) → module_at own.modules m ≡ Some d → (d.parent ≡ None) ↔ (m ≡ own.root)
+  one-root m d e =
+      let some : IsSome (module_at own.modules m) = ap is_some e in
+      let s = stands m some in
+      let map_is : s.map ≡ own = its-own m s (lies m some) in
+      let found : Some s.there ≡ Some d = sym s.listed ∙ ap (λ (x : Map). module_at x.modules m) map_is ∙ e in
+      let is_there : s.there ≡ d = cc in
+      subst (λ (x : Map × Module). (x.1.parent ≡ None) ↔ (m ≡ x.0.root)) (λ i. (map_is i, is_there i)) s.root
+
+  -- a module whose parent is m
+  is-child : (m : ModuleId) → IsSome (module_at own.modules m) → (c : ModuleId) → parent_in w.places c ≡ Some m → IsChild own m c
+  is-child m some c up = by (slice_get w.places c.0) refl up
+    where
+      by : (o : Option Place) → slice_get w.places c.0 ≡ o → option_and_then (λ (p : Place). p.parent) o ≡ Some m → IsChild own m c
+      by None e g = cc
+      by (Some p) e g =
+          let s = in_order w is c (lt-ltb c.0 (length w.places) (slice_get_within w.places c.0 p e)) in
+          let d = module-there w is c p e in
+          let found : Some d.0 ≡ Some s.there = sym d.1 ∙ ap (option_and_then (module_in w)) (sym e) ∙ s.is in
+          let is_there : d.0 ≡ s.there = cc in
+          let parent : s.there.parent ≡ Some m = ap (λ (x : Module). x.parent) (sym is_there) ∙ d.2 ∙ g in
+          let above = s.parent m parent in
+          let maps : Some s.map ≡ Some own = sym above.1 ∙ lies m some in
+          let map_is : s.map ≡ own = cc in
+          let listed : module_at own.modules c ≡ Some s.there = ap (λ (x : Map). module_at x.modules c) (sym map_is) ∙ s.listed in
+          record {
+            lies = ap is_some listed;
+            parent = ap (option_and_then (λ (x : Module). x.parent)) listed ∙ parent;
+            greater = above.0;
+          }
+
+  parents : AreParents w.places own
+  parents = either (AreParents w.places own) (λ e g. all-get (AreParents w.places) w.crate_maps own.id.krate.0 own family.of_crates g) (λ b e g. all-get (AreParents w.places) w.block_maps b.0 own family.of_blocks g)
+
+  listed-children : (m : ModuleId) (d : Module) → module_at own.modules m ≡ Some d → AllByRecursion (λ x. IsChild own m x.1) d.children
+  listed-children m d e =
+      all-weaker (λ (x : Name × ModuleId). parent_in w.places x.1 ≡ Some m) (λ x. IsChild own m x.1) (λ x g. is-child m (ap is_some e) x.1 g) d.children
+      (all-at (IsParent w.places) own.modules m d parents e)
+
+  outermost : own.id.block ≡ None → own.parent ≡ None
+  outermost none =
+      either (own.parent ≡ None) (λ e g. all-get (λ (m : Map). m.parent ≡ None) w.crate_maps own.id.krate.0 own family.outermost g)
+      (λ b e g. let n : None ≡ Some b = sym none ∙ e in cc)
+
+  -- the module that contains the map's block, by the tree
+  around : option_and_then (λ b. container_in (containers_of w.block_maps) (Some b)) own.id.block ≡ own.parent
+  around =
+      either (option_and_then (λ b. container_in (containers_of w.block_maps) (Some b)) own.id.block ≡ own.parent)
+      (λ e g. ap (option_and_then (λ b. container_in (containers_of w.block_maps) (Some b))) e ∙ sym (outermost e))
+      (λ b e g. ap (option_and_then (λ x. container_in (containers_of w.block_maps) (Some x))) e ∙ ap (option_and_then (λ (c : Option ModuleId). c)) (slice_get-map (λ (m : Map). m.parent) w.block_maps b.0 ∙ ap (option_map (λ (m : Map). m.parent)) g))
+
+  contains : (m : ModuleId) → IsSome (module_at own.modules m) → containing_in own m ≡ containing (tree_of w) m
+  unfolding tree_of
+  contains m some = by (module_at own.modules m) refl some
+    where
+      by : (o : Option Module) → module_at own.modules m ≡ o → IsSome o → option_or (option_and_then (λ (d : Module). d.parent) o) own.parent ≡ containing (tree_of w) m
+      by None e g = absurd (true≢false (sym g))
+      by (Some d) e g =
+          let at = found-at own.modules m d e in
+          let place : slice_get w.places m.0 ≡ Some (record { map = own.id; index = at.0; parent = d.parent }) = lawful.listed at.0 m d.parent at.2 in
+          let up : parent_in w.places m ≡ d.parent = ap (option_and_then (λ (p : Place). p.parent)) place in
+          let id : map_id_in w.places m ≡ own.id = ap (λ o. option_map_or (λ (p : Place). p.map) o no_map) place in
+          sym ((λ i. option_or (up i) (option_and_then (λ b. container_in (containers_of w.block_maps) (Some b)) (id i).block)) ∙ ap (option_or d.parent) around)
+
+  shared : option_map common (crate_map w own.id.krate) ≡ Some (common own)
+  shared =
+      either (option_map common (crate_map w own.id.krate) ≡ Some (common own)) (λ e g. ap (option_map common) g)
+      (λ b e g. sym (slice_get-map common w.crate_maps own.id.krate.0) ∙ all-get (λ (m : Map). slice_get (map common w.crate_maps) m.id.krate.0 ≡ Some (common m)) w.block_maps b.0 own family.shared g)
+
+  whole : IsMapOf w own
+  whole = record {
+    known = known;
+    its_map = lies;
+    root = root-lies;
+    one_root = one-root;
+    children = λ m d e. All-from_recursion (λ (x : Name × ModuleId). IsChild own m x.1) d.children (listed-children m d e);
+    child = λ m d e n. by-name (IsChild own m) d.children n (listed-children m d e);
+    contains = contains;
+    outermost = outermost;
+    shared = shared;
+  }
+
+pub IsMapOf-checked : (w : World) → IsCheckedWorld w → (m : Map) → numbered_map w m.id ≡ Some m → IsMapOf w m
+IsMapOf-checked w is m there = whole w is.lawful is.family m there

@@ -1,0 +1,15 @@
+use Rattle.std.proofs.Common.{◌∙◌, ap, sym, subst, IsTrue, Option}
+use Rattle.std.specs.Option.{ForSome}
+use Rattle.dm_ids.specs.declared.ModuleId.{ModuleId}
+use Rattle.dm_held.specs.declared.held.HeldId.TheVariants as held
+use Rattle.dm_maps.specs.ItemHomes.{module_of_def}
+use Rattle.dm_maps.specs.Known.{knows}
+use Rattle.dm_maps.specs.Sound.{IsSound, IsCheckedWorld}
+use Rattle.dm_maps.specs.World.{World}
+use Rattle.dm_maps.proofs.world.item_modules.WorldItemModules.item_module.Goals as goal
+
+pub returns-clause-known : goal.returns-clause-known
+returns-clause-known c =
+    let sound : IsSound c.args.self.now = (subst IsCheckedWorld c.self.view_is c.self.invariant).sound in
+    let P : Option ModuleId → Type 0 = λ o. ForSome o (λ m. IsTrue (knows c.args.self.now (held.Module m))) in
+    subst P (sym (c.module_of_def.ensures ∙ ap (λ (w : World). module_of_def w c.args.item) c.self.view_is)) (sound.item_modules c.args.item)

@@ -1,0 +1,50 @@
+//! From a map outwards. Nothing here takes memory.
+ghost use Rattle.std.specs.Prelude.{◌≡◌};
+ghost use Rattle.std.specs.Option.{option_map};
+ghost use Rattle.dm_maps.specs.Outwards.{maps_outwards, next_outwards, AsksMaps};
+ghost use Rattle.dm_maps.specs.Trees.{IsWorld};
+
+use crate::world::World;
+use dm_base::ids::ModuleId;
+use dm_def_map::def_map::DefMap;
+
+/// What `f` answers about the first map, from `first` outwards, for which it answers anything.
+pub(crate) fn ask_outwards<T, F: FnMut(&DefMap, ModuleId) -> Option<T> + Drop>(
+    world: &World,
+    first: &DefMap,
+    m: ModuleId,
+    mut f: F,
+) -> Option<T>
+    requires { F.IsAlwaysCallable f }
+    ensures { (last : F) × AsksMaps F.step (maps_outwards world.now first.now m) f result last }
+{
+    let mut map = first;
+    let mut at = m;
+    'maps: loop {
+        match f(map, at) {
+            Some(answer) => return Some(answer),
+            None => {}
+        }
+        match next_outwards(world, map) {
+            None => return None,
+            Some((outer, container)) => {
+                map = outer;
+                at = container;
+            }
+        }
+    }
+}
+
+/// The map of the module that contains a map's block, with that module; none for a crate's map.
+fn next_outwards<'a>(world: &'a World, map: &DefMap) -> Option<(&'a DefMap, ModuleId)>
+    ensures value { option_map (λ x. (x.0.now, x.1)) result ≡ next_outwards world.now map.now }
+    ensures lawful { IsWorld world.now }
+{
+    let _tables = world.tables();
+    if map.block_id().is_none() {
+        return None;
+    }
+    let container = map.parent()?;
+    let outer = world.map_of(container)?;
+    Some((outer, container))
+}

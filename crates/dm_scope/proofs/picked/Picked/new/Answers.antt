@@ -1,0 +1,5 @@
+use Rattle.dm_scope.specs.RunLaws.{shows_in_order}
+use Rattle.dm_scope.proofs.picked.Picked.new.Goals as goal
+
+pub returns-clause-runs : goal.returns-clause-runs
+returns-clause-runs g c = shows_in_order (λ x. x)
