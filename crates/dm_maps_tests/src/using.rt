@@ -1,5 +1,5 @@
 //! The callers that docs/USING.md shows.
-ghost use Rattle.std.specs.Prelude.{◌≡◌, ◌++◌, ◌∷◌, [], None, Some, List, IfOk, IfSome, IsSome, IsTrue, OnOk, OnErr, length, nat_lt};
+ghost use Rattle.std.specs.Prelude.{◌≡◌, None, Some, IfOk, IfSome, IsSome, IsTrue, OnErr, length, nat_lt};
 ghost use Rattle.dm_base.specs.PerNs.{type_alone};
 ghost use Rattle.dm_maps.specs.Build.{no_world, with_crate};
 ghost use Rattle.dm_maps.specs.ItemHomes.{homes_of};

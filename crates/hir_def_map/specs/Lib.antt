@@ -12,3 +12,4 @@ pub mod WorldT
 pub mod RowsA
 pub mod RowsS
 pub mod RowsT
+pub mod RowsV

@@ -67,6 +67,9 @@ map_of_a = record (a_map (crate_id 0) Edition2021 0 None
     ∷ module_with 7 (Some (number 0)) (binds_types ((codes "x", an_item (a_struct 5) Public None) ∷ []))
     ∷ [])) { macro_use = (codes "mu", (by_rules 0, None)) ∷ [] }
 
+abbrev pub map_of_block : Map
+map_of_block = a_map (block_id 0 0) Edition2021 5 (Some (number 1)) (module_with 5 None root_of_block ∷ module_with 6 (Some (number 5)) no_scope ∷ [])
+
 abbrev pub externs : LocalMap
 externs = (codes "dep", (number 4, None)) ∷ []
 
@@ -74,7 +77,7 @@ abbrev pub world_a : World
 world_a = record no_world {
   crate_maps = map_of_a ∷ a_map (crate_id 1) Edition2015 4 None (module_with 4 None root_of_dep ∷ []) ∷ [];
   block_maps =
-      a_map (block_id 0 0) Edition2021 5 (Some (number 1)) (module_with 5 None root_of_block ∷ module_with 6 (Some (number 5)) no_scope ∷ [])
+      map_of_block
       ∷ a_map (block_id 0 1) Edition2021 8 (Some (number 0)) (module_with 8 None no_scope ∷ [])
       ∷ [];
   places =
