@@ -8,6 +8,6 @@ use Rattle.dm_held.specs.declared.held.HeldId.{HeldId}
 use Rattle.dm_held.specs.declared.held.HeldId.TheVariants as held
 use Rattle.dm_held.specs.Holding.{res_holds, import_holds}
 
--- its module, what it resolves to, and its import
+-- its module, its import, and what it resolves to; a push without an import holds its module and what it resolves to
 abbrev pub push_holds : ModuleId → PerNs → Option ImportOrExternCrate → List HeldId
-push_holds m x i = (held.Module m ∷ []) ++ (res_holds x ++ option_map_or import_holds i [])
+push_holds m x i = (held.Module m ∷ []) ++ (option_map_or import_holds i [] ++ res_holds x)

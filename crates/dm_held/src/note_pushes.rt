@@ -24,10 +24,12 @@ pub fn note_push<T: KnownIds>(
     ensures { IsLeastFault (T.known world.now) (push_holds m res.now import) result }
 {
     let least = note(world, None, HeldId::Module(m));
-    let least = note_res(world, least, res);
     match import {
-        None => least,
-        Some(import) => note_import(world, least, import),
+        None => note_res(world, least, res),
+        Some(import) => {
+            let least = note_import(world, least, import);
+            note_res(world, least, res)
+        }
     }
 }
 

@@ -67,7 +67,7 @@ map-cut N m k s same = ap (λ es. record (cut_map N m) { modules = es }) (go (nt
     go : (o : Option Module) → nth_module m.modules k ≡ o → cut_scope N s ≡ cut_scope N (scope_of_module o)
         → cut_entries N (put_scope m.modules k o s) ≡ cut_entries N m.modules
     go None is p = refl
-    go (Some d) is p = entries-cut N m.modules k d (record d { scope = s }) is (ap (λ c. record d { scope = c }) p)
+    go (Some d) is p = entries-cut N m.modules k d (record d { scope = s }) is (ap (λ c. record d { scope = c; children = [] }) p)
 
 world-cut : (w : World) (N : List Name) (p : Place) (s : Scope) → cut_scope N s ≡ cut_scope N (scope_of_module (module_in w p)) → cut (with_scope_in w (Some p) s) N ≡ cut w N
 world-cut w N p s same =

@@ -23,6 +23,7 @@ pub mod WorldFacts
 pub mod Refusals
 pub mod InOrder
 pub mod CutPush
+pub mod StayLemmas
 pub mod RawLemmas
 pub mod OutwardLemmas
 pub mod ListLemmas

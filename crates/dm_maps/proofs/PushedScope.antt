@@ -114,14 +114,14 @@ module _ (P : HeldId → Type 0) where
   -- ---- The scope.
 
   module _ (s : Scope) (g : Globs) (m : ModuleId) (n : Name) (x : PerNs) (by : Option ImportOrExternCrate) (held_before : All (scope_holds s)) (pushed : All (push_holds m x by)) where
-    asked : All (res_holds x ++ option_map_or import_holds by [])
-    asked = all-right P (held.Module m ∷ []) (res_holds x ++ option_map_or import_holds by []) pushed
+    asked : All (option_map_or import_holds by [] ++ res_holds x)
+    asked = all-right P (held.Module m ∷ []) (option_map_or import_holds by [] ++ res_holds x) pushed
 
     res : All (res_holds x)
-    res = all-left P (res_holds x) (option_map_or import_holds by []) asked
+    res = all-right P (option_map_or import_holds by []) (res_holds x) asked
 
     import_fine : All (option_map_or import_holds by [])
-    import_fine = all-right P (res_holds x) (option_map_or import_holds by []) asked
+    import_fine = all-left P (option_map_or import_holds by []) (res_holds x) asked
 
     firsts : All (option_map_or type_holds x.types [] ++ option_map_or value_holds x.values [])
     firsts = all-left P (option_map_or type_holds x.types [] ++ option_map_or value_holds x.values []) (option_map_or macro_holds x.macros []) res

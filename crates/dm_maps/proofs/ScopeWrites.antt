@@ -241,6 +241,14 @@ knows-kept w ms count (held.Item k n) = refl
 knows-kept w ms count (held.Variant v) = refl
 knows-kept w ms count (held.Macro m) = refl
 
+-- a scope written leaves which ids are known
+pub knows-scoped : (w : World) (m : ModuleId) (s : Scope) (h : HeldId) → knows (with_scope w m s) h ≡ knows w h
+knows-scoped w m s h = by (place_of w m)
+  where
+    by : (o : Option Place) → knows (with_scope_in w o s) h ≡ knows w h
+    by None = refl
+    by (Some q) = knows-kept w (maps_with_scope (maps_of w) q.map q.index s) (Holds-scoped w q s).count h
+
 IsChecked-scoped : (w : World) (m : ModuleId) (s : Scope) → IsChecked w → KnowsAll w (scope_holds s) → IsChecked (with_scope w m s)
 IsChecked-scoped w m s checked fine = by (place_of w m)
   where

@@ -5,6 +5,7 @@ pub mod BuildCrateData
 pub mod BuildTables
 pub mod Build
 pub mod Cut
+pub mod CutLaws
 pub mod BuildItems
 pub mod BuildBlocks
 pub mod BuildMaps
@@ -21,6 +22,7 @@ pub mod Outwards
 pub mod RawTables
 pub mod Readings
 pub mod Sound
+pub mod Stays
 pub mod Trees
 pub mod Lists
 pub mod Family

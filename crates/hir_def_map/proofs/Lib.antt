@@ -5,4 +5,5 @@ pub mod LayerLemmas
 pub mod PlaceLemmas
 pub mod AnswerLaws
 pub mod CutLemmas
+pub mod QuestionLemmas
 pub mod VisibilityLemmas

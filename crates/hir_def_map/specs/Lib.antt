@@ -13,3 +13,4 @@ pub mod RowsA
 pub mod RowsS
 pub mod RowsT
 pub mod RowsV
+pub mod CutRows

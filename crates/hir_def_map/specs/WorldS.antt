@@ -15,7 +15,7 @@ use Rattle.dm_modules.specs.Maps.{Map}
 use Rattle.dm_maps.specs.World.{World}
 use Rattle.hir_def_map.specs.Written.{a_struct, a_function, by_rules, glob, named, an_item, crate_id, block_id, number, place, bindings, binds_types, module_with, a_map}
 
-abbrev a_type : ModuleDefId → PerNs
+abbrev pub a_type : ModuleDefId → PerNs
 a_type d = record { types = Some (an_item d Public None); values = None; macros = None }
 
 -- A by a glob, and then A by a named import

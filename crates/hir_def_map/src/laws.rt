@@ -1,19 +1,38 @@
-//! Laws of answers, for proofs above.
-ghost use Rattle.std.specs.Prelude.{◌≡◌, List};
+//! Laws of questions and answers, for proofs above. A law does nothing: what has to be proved by it calls it.
+ghost use Rattle.std.specs.Prelude.{◌≡◌, List, Some};
+ghost use Rattle.dm_base.specs.Names.{Name};
 ghost use Rattle.dm_base.specs.Tree.{IsKnown, home};
+ghost use Rattle.dm_base.specs.declared.mod_path.PathKind.{PathKind};
+ghost use Rattle.dm_ids.specs.declared.ModuleId.{ModuleId};
+ghost use Rattle.dm_maps.specs.Cut.{cut, cut_local};
 ghost use Rattle.dm_maps.specs.Readings.{Reading};
+ghost use Rattle.dm_maps.specs.Stays.{StaysKnown};
 ghost use Rattle.dm_maps.specs.Trees.{tree_of};
-ghost use Rattle.hir_def_map.specs.Paths.{enter};
+ghost use Rattle.dm_maps.specs.World as worlds;
+ghost use Rattle.dm_maps.specs.World.{numbered_map};
+ghost use Rattle.dm_modules.specs.Maps.{Map, LocalMap};
+ghost use Rattle.hir_def_map.specs.Paths.{answer, enter};
+ghost use Rattle.hir_def_map.specs.Questions.{IsKnownQuestion};
+ghost use Rattle.hir_def_map.specs.declared.question.Ask.{Ask};
 
 use dm_base::ids::ModuleId;
 use dm_base::module_tree::ModuleTree;
 use dm_maps::world::World;
 
 /// What segments answer from a module of another crate is what they answer from its nearest module that is no block's root.
-/// It does nothing: a proof that needs it calls it.
 pub fn enters_at_home(world: &World, m: ModuleId)
     requires { IsKnown (tree_of world.now) m }
     ensures { (S : List Reading) → enter (tree_of world.now) m S ≡ enter (tree_of world.now) (home (tree_of world.now) m) S }
 {
     let _inside = world.home(m);
 }
+
+/// Two worlds and local maps that have the same under the segments of a path answer it alike.
+pub fn answers_alike()
+    ensures { (w v : worlds.World) (L K : LocalMap) (q : Ask) (S : List Name) → cut v S ≡ cut w S → cut_local K S ≡ cut_local L S → answer v K q S ≡ answer w L q S }
+{}
+
+/// A question that a world knew before a push is one that it knows after it, of the map of the same id.
+pub fn questions_stay_known()
+    ensures { (w v : worlds.World) → StaysKnown w v → (M N : Map) (L : LocalMap) (m : ModuleId) (kind : PathKind) → IsKnownQuestion w M L m kind → numbered_map v M.id ≡ Some N → IsKnownQuestion v N L m kind }
+{}

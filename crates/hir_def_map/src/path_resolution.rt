@@ -69,7 +69,8 @@ pub trait ResolvePath {
         requires { IsKnownQuestion world.now (map self.now) local.now original_module path.now.kind }
         ensures value { result ≡ answer_alone world.now local.now (asked original_module mode shadow expected_macro_subns path.now.kind) path.now.segments }
         ensures lawful { IsAnswer (length path.now.segments) result }
-        ensures known { KnowsAll world.now (res_holds result.resolved_def) };
+        ensures known { KnowsAll world.now (res_holds result.resolved_def) }
+        ensures local { result ≡ answer_alone (cut world.now path.now.segments) (cut_local local.now path.now.segments) (asked original_module mode shadow expected_macro_subns path.now.kind) path.now.segments };
 
     /// What the preludes of this map alone answer, seen from a module, which may lie in any map of the crate.
     fn resolve_path_fp_in_all_preludes(
@@ -84,7 +85,8 @@ pub trait ResolvePath {
         requires { IsKnownInCrate world.now (map self.now) local.now original_module path.now.kind }
         ensures value { result ≡ prelude_answer world.now local.now (map self.now).id (asked original_module mode shadow None path.now.kind) path.now.segments }
         ensures lawful { IsAnswer (length path.now.segments) result }
-        ensures known { KnowsAll world.now (res_holds result.resolved_def) };
+        ensures known { KnowsAll world.now (res_holds result.resolved_def) }
+        ensures local { result ≡ prelude_answer (cut world.now path.now.segments) (cut_local local.now path.now.segments) (map self.now).id (asked original_module mode shadow None path.now.kind) path.now.segments };
 
     /// The definitions of a path that is no import, and the first segment that is left.
     fn resolve_path(
@@ -99,7 +101,9 @@ pub trait ResolvePath {
         requires { IsKnownQuestion world.now (map self.now) local.now original_module path.now.kind }
         ensures found { result.0 ≡ (answer world.now local.now (asked original_module Other shadow expected_macro_subns path.now.kind) path.now.segments).resolved_def }
         ensures left { result.1 ≡ (answer world.now local.now (asked original_module Other shadow expected_macro_subns path.now.kind) path.now.segments).segment_index }
-        ensures known { KnowsAll world.now (res_holds result.0) };
+        ensures known { KnowsAll world.now (res_holds result.0) }
+        ensures local_found { result.0 ≡ (answer (cut world.now path.now.segments) (cut_local local.now path.now.segments) (asked original_module Other shadow expected_macro_subns path.now.kind) path.now.segments).resolved_def }
+        ensures local_left { result.1 ≡ (answer (cut world.now path.now.segments) (cut_local local.now path.now.segments) (asked original_module Other shadow expected_macro_subns path.now.kind) path.now.segments).segment_index };
 
     /// The definitions that the origin alone gives a path that is no import, where nothing is expected of a macro, the first segment
     /// that is left, and what the path went through.
@@ -115,7 +119,10 @@ pub trait ResolvePath {
         ensures found { result.0 ≡ (answer_alone world.now local.now (asked original_module Other shadow None path.now.kind) path.now.segments).resolved_def }
         ensures left { result.1 ≡ (answer_alone world.now local.now (asked original_module Other shadow None path.now.kind) path.now.segments).segment_index }
         ensures through { result.2 ≡ (answer_alone world.now local.now (asked original_module Other shadow None path.now.kind) path.now.segments).prefix_info }
-        ensures known { KnowsAll world.now (res_holds result.0) };
+        ensures known { KnowsAll world.now (res_holds result.0) }
+        ensures local_found { result.0 ≡ (answer_alone (cut world.now path.now.segments) (cut_local local.now path.now.segments) (asked original_module Other shadow None path.now.kind) path.now.segments).resolved_def }
+        ensures local_left { result.1 ≡ (answer_alone (cut world.now path.now.segments) (cut_local local.now path.now.segments) (asked original_module Other shadow None path.now.kind) path.now.segments).segment_index }
+        ensures local_through { result.2 ≡ (answer_alone (cut world.now path.now.segments) (cut_local local.now path.now.segments) (asked original_module Other shadow None path.now.kind) path.now.segments).prefix_info };
 
     /// What a visibility means that is written in a module of this map; none where its path leads to no module. Within an `impl` it
     /// may name a module of any block; elsewhere the map's root stands for a module of another block.

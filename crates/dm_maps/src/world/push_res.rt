@@ -11,6 +11,7 @@ ghost use Rattle.dm_maps.specs.Cut.{among, cut};
 ghost use Rattle.dm_maps.specs.First.{IsChecked};
 ghost use Rattle.dm_maps.specs.Known.{KnowsAll};
 ghost use Rattle.dm_maps.specs.Built.{IsBuilt};
+ghost use Rattle.dm_maps.specs.Stays.{StaysKnown};
 ghost use Rattle.dm_maps.specs.World.{own_scope, scope_of};
 
 use crate::builder::WorldBuilder;
@@ -50,6 +51,9 @@ impl World {
 
         // What the world has under other names than the pushed one is as before.
         ensures others_stay { (N : List Name) → among N lookup.1 ≡ false → cut self.new N ≡ cut self.old N }
+
+        // What was known is known, and what is said of no name is as before.
+        ensures stays_known { StaysKnown self.old self.new }
 
         // Where the module's scope and the table show a list of pushes, they show it with this push after it, and the answer
         // is as that list says. After want of memory, and in another module, what was shown is shown.

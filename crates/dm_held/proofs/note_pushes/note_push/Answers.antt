@@ -5,7 +5,7 @@ use Rattle.dm_held.proofs.Sets.{parts}
 use Rattle.dm_held.proofs.note_pushes.note_push.Goals as goal
 
 pub returns-in-None : goal.returns-in-None
-returns-in-None g c = least-found (g.T.KnownIds.known c.args.world.now) (push_holds c.args.m c.args.res.now c.args.import) c.note_res-least.result (grind (arith, parts))
+returns-in-None g c = least-found (g.T.KnownIds.known c.args.world.now) (push_holds c.args.m c.args.res.now c.args.import) c.note_res.result (grind (arith, parts))
 
 pub returns-in-Some : goal.returns-in-Some
-returns-in-Some g c = least-found (g.T.KnownIds.known c.args.world.now) (push_holds c.args.m c.args.res.now c.args.import) c.note_import.result (grind (arith, parts))
+returns-in-Some g c = least-found (g.T.KnownIds.known c.args.world.now) (push_holds c.args.m c.args.res.now c.args.import) c.note_res-in-Some.result (grind (arith, parts))

@@ -9,10 +9,12 @@ use Rattle.dm_maps.specs.Asked.{with_push}
 use Rattle.dm_maps.specs.Cut.{cut}
 use Rattle.dm_maps.specs.Known.{knows}
 use Rattle.dm_maps.specs.Sound.{IsCheckedWorld}
+use Rattle.dm_maps.specs.Stays.{StaysKnown}
 use Rattle.dm_maps.specs.World.{World, scope_of, with_scope}
 use Rattle.dm_maps.proofs.CutPush.{push-cut}
 use Rattle.dm_maps.proofs.PushedScope.{scope_after-holds}
 use Rattle.dm_maps.proofs.ScopeWrites.{scope_of-own, scope_of-other, scope-known, IsCheckedWorld-scoped}
+use Rattle.dm_maps.proofs.StayLemmas.{push-known}
 use Rattle.dm_maps.proofs.WorldFacts.{scope-there}
 use Rattle.dm_maps.proofs.world.World.push_res.Goals as goal
 
@@ -60,6 +62,10 @@ returns-clause-others c k other = other_is c k other
 pub returns-clause-others_stay : goal.returns-clause-others_stay
 returns-clause-others_stay c N other =
     ap (λ w. cut w N) (world_is c) ∙ push-cut c.args.self.now N c.args.glob_imports.now c.args.lookup.0 c.args.lookup.1 c.args.res c.args.import other
+
+pub returns-clause-stays_known : goal.returns-clause-stays_known
+returns-clause-stays_known c =
+    subst (StaysKnown c.args.self.now) (sym (world_is c)) (push-known c.args.self.now c.args.glob_imports.now c.args.lookup.0 c.args.lookup.1 c.args.res c.args.import)
 
 pub returns-clause-shown : goal.returns-clause-shown
 returns-clause-shown c ps shown =

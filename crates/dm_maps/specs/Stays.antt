@@ -1,0 +1,19 @@
+-- What a push leaves of a world: which ids are known, and what is said of no name.
+use Rattle.std.specs.Prelude.{◌≡◌, List}
+use Rattle.std.specs.Option.{option_map}
+use Rattle.dm_ids.specs.declared.MapId.{MapId}
+use Rattle.dm_held.specs.declared.held.HeldId.{HeldId}
+use Rattle.dm_maps.specs.Known.{knows, KnowsAll}
+use Rattle.dm_maps.specs.Readings.{setting_of}
+use Rattle.dm_maps.specs.Trees.{outline}
+use Rattle.dm_maps.specs.World.{World, numbered_map}
+
+-- What w knows, v knows, and of no name v says anything else.
+pub record StaysKnown (w v : World) : Type 0 where
+  -- each id is known if it was, and so is what holds ids: a path, a local map, a set of items, a push
+  pub id : (h : HeldId) → knows v h ≡ knows w h
+  pub all : (hs : List HeldId) → KnowsAll w hs → KnowsAll v hs
+  -- the tree of modules, roots, editions, prelude modules and styles are the same
+  pub setting : setting_of v ≡ setting_of w
+  -- each map is there, with its id, its root and its modules
+  pub maps : (id : MapId) → option_map outline (numbered_map v id) ≡ option_map outline (numbered_map w id)
