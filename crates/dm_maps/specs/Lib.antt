@@ -26,3 +26,4 @@ pub mod Lists
 pub mod Family
 pub mod MapFacts
 pub mod Built
+pub mod ScopeTables
