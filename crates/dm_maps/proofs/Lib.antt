@@ -30,3 +30,4 @@ pub mod FamilyLemmas
 pub mod MapFacts
 pub mod BuiltGrowth
 pub mod RecordLemmas
+pub mod RecordGrowth

@@ -27,3 +27,4 @@ pub mod Family
 pub mod MapFacts
 pub mod Built
 pub mod ScopeTables
+pub mod RecordCounts

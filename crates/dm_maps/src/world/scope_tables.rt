@@ -1,17 +1,14 @@
 //! What chains of imports and dumps read of a world. None of these calls takes memory.
-ghost use Rattle.std.specs.Prelude.{◌≡◌, ◌^◌, ◌-◌, IsTrue, IfSome, is_some, slice_get, unwrap_or, length, min};
-ghost use Rattle.std.specs.List.{flat_map};
+ghost use Rattle.std.specs.Prelude.{◌≡◌, IsTrue, IfSome, is_some, slice_get, unwrap_or};
 ghost use Rattle.std.specs.Option.{ForSome, option_copied};
 ghost use Rattle.dm_held.specs.declared.held.HeldId.TheVariants as held;
 ghost use Rattle.dm_maps.specs.Known.{knows};
-ghost use Rattle.dm_maps.specs.ScopeTables.{scope_at_place, scope_tables};
+ghost use Rattle.dm_maps.specs.ScopeTables.{scope_tables};
 ghost use Rattle.dm_maps.specs.World.{own_scope, scope_of};
 ghost use Rattle.dm_scope.specs.ChainSteps.{record_count};
-ghost use Rattle.dm_scope.specs.Records.{records_in};
 ghost use Rattle.dm_scope.specs.Tables.{no_style};
 
 use crate::builder::WorldBuilder;
-use crate::place::Place;
 use crate::world::World;
 use dm_base::ids::{ModuleId, UseId};
 use dm_base::item_ids::MacroId;
@@ -60,47 +57,18 @@ impl ScopeTables for World {
     fn records(&self, namespace: Namespace) -> usize
         ensures { result ≡ record_count namespace (scope_tables self.now) }
     {
-        self.tables().records(namespace)
+        self.records.of(namespace)
     }
 }
 
 impl WorldBuilder {
     /// The scope of a module, by its number.
-    fn scope_of(&self, m: ModuleId) -> Option<&ItemScope>
+    pub(crate) fn scope_of(&self, m: ModuleId) -> Option<&ItemScope>
         ensures { option_copied result ≡ own_scope self.now m }
     {
         match self.module_of(m) {
             None => None,
             Some(data) => Some(data.scope()),
         }
-    }
-
-    /// The number of records of a namespace in all scopes, or the greatest `usize` where it is more.
-    fn records(&self, namespace: Namespace) -> usize
-        ensures { result ≡ record_count namespace (scope_tables self.now) }
-    {
-        counted(self, &self.places, namespace)
-    }
-}
-
-/// The number of records of a namespace in the scopes at these places, or the greatest `usize` where it is more.
-fn counted(world: &WorldBuilder, places: &[Place], namespace: Namespace) -> usize
-    ensures { result ≡ min (length (flat_map (λ p. records_in namespace (scope_at_place world.now p)) places.now)) (2 ^ 64 - 1) }
-{
-    let mut count = 0usize;
-    for place in places {
-        count = count.saturating_add(counted_at(world, *place, namespace));
-    }
-    count
-}
-
-/// The number of records of a namespace in the scope at a place.
-#[tactic(auto, using(crate::proofs::RecordLemmas::records_none))]
-fn counted_at(world: &WorldBuilder, place: Place, namespace: Namespace) -> usize
-    ensures { result ≡ length (records_in namespace (scope_at_place world.now place)) }
-{
-    match world.module_in(place) {
-        None => 0,
-        Some(data) => data.scope().record_count(namespace),
     }
 }

@@ -2,7 +2,7 @@ use Rattle.std.proofs.Common.{◌≡◌, ◌+◌, ◌-◌, ◌^◌, ◌≤◌, d
 use Rattle.std.specs.List.{flat_map}
 use Rattle.dm_scope.specs.Records.{records_in}
 use Rattle.dm_maps.specs.ScopeTables.{scope_at_place}
-use Rattle.dm_maps.proofs.world.scope_tables.counted.Given as goal
+use Rattle.dm_maps.proofs.world.record_counts.counted.Given as goal
 
 -- the count, with the records of what is left, is that of all
 abbrev pub invariant-loop-place : goal.invariant-loop-place
