@@ -30,3 +30,5 @@ pub mod ListLemmas
 pub mod FamilyLemmas
 pub mod MapFacts
 pub mod BuiltGrowth
+pub mod RecordLemmas
+pub mod RecordGrowth

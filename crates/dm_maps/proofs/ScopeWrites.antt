@@ -95,7 +95,7 @@ module _ (s : Scope) where
           ∙ ap (λ o. nth_of o q.index) (put-there (maps_of w) q.map x (map_with_scope x q.index s) e)
           ∙ nth-own x.modules q.index d g
 
-  places-kept : (w : World) (o : Option Place) → (with_scope_in w o s).places ≡ w.places
+  pub places-kept : (w : World) (o : Option Place) → (with_scope_in w o s).places ≡ w.places
   places-kept w None = refl
   places-kept w (Some q) = refl
 

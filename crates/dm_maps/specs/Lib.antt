@@ -28,3 +28,5 @@ pub mod Lists
 pub mod Family
 pub mod MapFacts
 pub mod Built
+pub mod ScopeTables
+pub mod RecordCounts

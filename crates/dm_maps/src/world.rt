@@ -22,9 +22,12 @@ mod path_look_ups;
 mod path_tables;
 mod push_res;
 mod raw_visibilities;
+mod record_counts;
+mod scope_tables;
 mod tree;
 
 use crate::builder::WorldBuilder;
+use crate::world::record_counts::RecordCounts;
 use dm_base::ids::{MapId, ModuleId};
 use dm_base::name::Name;
 use dm_base::per_ns::PerNs;
@@ -34,24 +37,30 @@ use std::marker::Model;
 /// A checked world: every id that one of its tables holds is one of its own, with its kind.
 pub struct World {
     pub(crate) tables: WorldBuilder,
+    /// How many records its scopes have.
+    records: RecordCounts,
 }
 
 /// Written out, so that what lets one go has one call to prove.
 impl Drop for World {
     fn drop(self) {
-        let World { tables: _tables } = self;
+        let World {
+            tables: _tables,
+            records: _records,
+        } = self;
     }
 }
 
 impl Model for World {
     ghost use Rattle.dm_maps.specs.World.{World};
+    ghost use Rattle.dm_maps.specs.RecordCounts.{IsCounted};
     ghost use Rattle.dm_maps.specs.Sound.{IsCheckedWorld};
 
     ghost Value = { World };
 
     ghost view = { λ w. w.tables };
 
-    ghost invariant = { λ w. IsCheckedWorld w.tables };
+    ghost invariant = { λ w. IsCheckedWorld w.tables × IsCounted w.tables w.records };
 }
 
 impl World {
@@ -61,7 +70,8 @@ impl World {
         requires built { IsBuilt tables }
         ensures { result ≡ tables }
     {
-        World { tables }
+        let records = RecordCounts::of_world(&tables);
+        World { tables, records }
     }
 
     /// The tables of the world.
@@ -76,7 +86,10 @@ impl World {
     pub(crate) fn into_tables(self) -> WorldBuilder
         ensures { result ≡ self }
     {
-        let World { tables } = self;
+        let World {
+            tables,
+            records: _records,
+        } = self;
         tables
     }
 

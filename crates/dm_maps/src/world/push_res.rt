@@ -16,6 +16,7 @@ ghost use Rattle.dm_maps.specs.World.{own_scope, scope_of};
 
 use crate::builder::WorldBuilder;
 use crate::world::World;
+use crate::world::record_counts::RecordCounts;
 use dm_base::ids::ModuleId;
 use dm_base::imports::ImportOrExternCrate;
 use dm_base::name::Name;
@@ -62,8 +63,12 @@ impl World {
         ensures refused { (k : ModuleId) → StillShows (scope_of self.old k) glob_imports.old (scope_of self.new k) glob_imports.new k result }
         ensures elsewhere { (k : ModuleId) (ps : List ScopePush) → same_module lookup.0 k ≡ false → Shows (scope_of self.old k) glob_imports.old k ps → Shows (scope_of self.new k) glob_imports.new k ps }
     {
+        let m = lookup.0;
+        let before = RecordCounts::of_scope(&self.tables, m);
         let answer = self.tables.push_res(glob_imports, lookup, res, import)?;
         self.tables.lawful();
+        let after = RecordCounts::of_scope(&self.tables, m);
+        self.records.grow(before, after);
         Ok(answer)
     }
 }

@@ -7,7 +7,10 @@ use Rattle.dm_scope.specs.Shows.{Shows}
 use Rattle.dm_held.specs.declared.held.HeldId.TheVariants as held
 use Rattle.dm_maps.specs.Asked.{with_push}
 use Rattle.dm_maps.specs.Cut.{cut}
+use Rattle.dm_base.specs.declared.per_ns.Namespace.TheVariants.{Types, Values, Macros}
 use Rattle.dm_maps.specs.Known.{knows}
+use Rattle.dm_maps.specs.RecordCounts.{IsCounted}
+use Rattle.dm_maps.proofs.RecordGrowth.{counted-pushed}
 use Rattle.dm_maps.specs.Sound.{IsCheckedWorld}
 use Rattle.dm_maps.specs.Stays.{StaysKnown}
 use Rattle.dm_maps.specs.World.{World, scope_of, with_scope}
@@ -17,38 +20,52 @@ use Rattle.dm_maps.proofs.ScopeWrites.{scope_of-own, scope_of-other, scope-known
 use Rattle.dm_maps.proofs.StayLemmas.{push-known}
 use Rattle.dm_maps.proofs.WorldFacts.{scope-there}
 use Rattle.dm_maps.proofs.world.World.push_res.Goals as goal
+use Rattle.dm_maps.proofs.world.World.push_res.Goals.{After-grow}
 
 pub push_res-requires : goal.push_res-requires
 push_res-requires c = record {
-  there = scope-there c.self.inside.tables c.self.invariant.lawful c.args.lookup.0 (subst (λ (w : World). IsTrue (knows w (held.Module c.args.lookup.0))) (sym c.self.view_is) c.requires.known.0);
+  there = scope-there c.self.inside.tables c.self.invariant.0.lawful c.args.lookup.0 (subst (λ (w : World). IsTrue (knows w (held.Module c.args.lookup.0))) (sym c.self.view_is) c.requires.known.0);
 }
 
 -- the scope that the push leaves, and the world with it
-abbrev left : goal.After-lawful → Scope
+abbrev left : After-grow → Scope
 left c = scope_after (scope_of c.args.self.now c.args.lookup.0) c.args.glob_imports.now c.args.lookup.0 c.args.lookup.1 c.args.res c.args.import
 
-world_is : (c : goal.After-lawful) → c.push_res.new.self ≡ with_scope c.args.self.now c.args.lookup.0 (left c)
+world_is : (c : After-grow) → c.push_res.new.self ≡ with_scope c.args.self.now c.args.lookup.0 (left c)
 world_is c = c.in_ok-answer.ensures.world ∙ ap (λ w. with_push w c.args.glob_imports.now c.args.lookup.0 c.args.lookup.1 c.args.res c.args.import) c.self.view_is
 
-was_checked : (c : goal.After-lawful) → IsCheckedWorld c.args.self.now
-was_checked c = subst IsCheckedWorld c.self.view_is c.self.invariant
+was_checked : (c : After-grow) → IsCheckedWorld c.args.self.now
+was_checked c = subst IsCheckedWorld c.self.view_is c.self.invariant.0
 
-scope_is : (c : goal.After-lawful) → scope_of c.push_res.new.self c.args.lookup.0 ≡ left c
+scope_is : (c : After-grow) → scope_of c.push_res.new.self c.args.lookup.0 ≡ left c
 scope_is c =
     ap (λ w. scope_of w c.args.lookup.0) (world_is c)
     ∙ scope_of-own (left c) c.args.self.now c.args.lookup.0 (scope-there c.args.self.now (was_checked c).lawful c.args.lookup.0 c.requires.known.0)
 
-other_is : (c : goal.After-lawful) (k : ModuleId) → same_module c.args.lookup.0 k ≡ false → scope_of c.push_res.new.self k ≡ scope_of c.args.self.now k
+other_is : (c : After-grow) (k : ModuleId) → same_module c.args.lookup.0 k ≡ false → scope_of c.push_res.new.self k ≡ scope_of c.args.self.now k
 other_is c k other = ap (λ w. scope_of w k) (world_is c) ∙ scope_of-other (left c) c.args.self.now (was_checked c).lawful c.args.lookup.0 k other
 
-is_checked : (c : goal.After-lawful) → IsCheckedWorld c.push_res.new.self
+is_checked : (c : After-grow) → IsCheckedWorld c.push_res.new.self
 is_checked c =
     let w = c.args.self.now in
     IsCheckedWorld-scoped w c.push_res.new.self c.args.lookup.0 (left c) (was_checked c) c.lawful.ensures (world_is c)
     (scope_after-holds (λ h. IsTrue (knows w h)) (scope_of w c.args.lookup.0) c.args.glob_imports.now c.args.lookup.0 c.args.lookup.1 c.args.res c.args.import (scope-known w c.args.lookup.0 (was_checked c)) c.requires.known)
 
+-- the counts go on with the records that the scope has more
+is_counted : (c : After-grow) → IsCounted c.push_res.new.self c.grow.new.self
+is_counted c =
+    let w = c.self.inside.tables in
+    let m = c.args.lookup.0 in
+    let there = scope-there w c.self.invariant.0.lawful m (subst (λ (x : World). IsTrue (knows x (held.Module m))) (sym c.self.view_is) c.requires.known.0) in
+    let after = counted-pushed w c.self.invariant.0.lawful m there c.args.glob_imports.now c.args.lookup.1 c.args.res c.args.import c.push_res.new.self c.in_ok-answer.ensures.world in
+    record {
+      types = after Types _ _ _ _ c.self.invariant.1.types c.of_scope-before.ensures.types c.of_scope-after.ensures.types c.grow.ensures.types;
+      values = after Values _ _ _ _ c.self.invariant.1.values c.of_scope-before.ensures.values c.of_scope-after.ensures.values c.grow.ensures.values;
+      macros = after Macros _ _ _ _ c.self.invariant.1.macros c.of_scope-before.ensures.macros c.of_scope-after.ensures.macros c.grow.ensures.macros;
+    }
+
 pub invariant_of-self-2 : goal.invariant_of-self-2
-invariant_of-self-2 c = is_checked c
+invariant_of-self-2 c = (is_checked c, is_counted c)
 
 pub returns-clause-checked : goal.returns-clause-checked
 returns-clause-checked c = (is_checked c).checked

@@ -10,6 +10,6 @@ use Rattle.dm_maps.proofs.world.item_modules.WorldItemModules.macro_module.Goals
 
 pub returns-clause-known : goal.returns-clause-known
 returns-clause-known c =
-    let sound : IsSound c.args.self.now = (subst IsCheckedWorld c.self.view_is c.self.invariant).sound in
+    let sound : IsSound c.args.self.now = (subst IsCheckedWorld c.self.view_is c.self.invariant.0).sound in
     let P : Option ModuleId → Type 0 = λ o. ForSome o (λ m. IsTrue (knows c.args.self.now (held.Module m))) in
     subst P (sym (c.module_of_macro.ensures ∙ ap (λ (w : World). module_of_macro w c.args.id) c.self.view_is)) (sound.macro_modules c.args.id)
