@@ -24,7 +24,9 @@ pub mod Refusals
 pub mod InOrder
 pub mod CutPush
 pub mod RawLemmas
+pub mod NameOrder
 pub mod OutwardLemmas
+pub mod TreeLemmas
 pub mod ListLemmas
 pub mod FamilyLemmas
 pub mod MapFacts
