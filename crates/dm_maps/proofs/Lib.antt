@@ -31,3 +31,4 @@ pub mod ListLemmas
 pub mod FamilyLemmas
 pub mod MapFacts
 pub mod BuiltGrowth
+pub mod RecordLemmas

@@ -29,3 +29,4 @@ pub mod Lists
 pub mod Family
 pub mod MapFacts
 pub mod Built
+pub mod ScopeTables

@@ -23,6 +23,7 @@ mod path_look_ups;
 mod path_tables;
 mod push_res;
 mod raw_visibilities;
+mod scope_tables;
 mod tree;
 
 use crate::builder::WorldBuilder;

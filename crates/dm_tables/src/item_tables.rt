@@ -1,5 +1,7 @@
 //! The tables that belong to no map and no module.
 ghost use Rattle.std.specs.Prelude.{◌≡◌, [], OnOk, OnErr};
+ghost use Rattle.std.specs.List.{list_any};
+ghost use Rattle.dm_base.specs.Names.{same_name};
 ghost use Rattle.dm_tables.specs.ItemTables.{no_tables, with_raw_name};
 ghost use Rattle.dm_tables.specs.TableChanges.{with_field_list, with_assoc, with_trait};
 
@@ -62,6 +64,13 @@ impl ItemTables {
     {
         self.raw_names.insert(name)?;
         Ok(())
+    }
+
+    /// Whether a name is printed as raw. Takes no memory: one look-up.
+    pub fn has_raw_name(&self, name: &Name) -> bool
+        ensures { result ≡ list_any (same_name name.now) self.now.raw_names }
+    {
+        self.raw_names.contains(name)
     }
 
     /// Sets the visibilities of fields.

@@ -1,0 +1,106 @@
+//! What chains of imports and dumps read of a world. None of these calls takes memory.
+ghost use Rattle.std.specs.Prelude.{◌≡◌, ◌^◌, ◌-◌, IsTrue, IfSome, is_some, slice_get, unwrap_or, length, min};
+ghost use Rattle.std.specs.List.{flat_map};
+ghost use Rattle.std.specs.Option.{ForSome, option_copied};
+ghost use Rattle.dm_held.specs.declared.held.HeldId.TheVariants as held;
+ghost use Rattle.dm_maps.specs.Known.{knows};
+ghost use Rattle.dm_maps.specs.ScopeTables.{scope_at_place, scope_tables};
+ghost use Rattle.dm_maps.specs.World.{own_scope, scope_of};
+ghost use Rattle.dm_scope.specs.ChainSteps.{record_count};
+ghost use Rattle.dm_scope.specs.Records.{records_in};
+ghost use Rattle.dm_scope.specs.Tables.{no_style};
+
+use crate::builder::WorldBuilder;
+use crate::place::Place;
+use crate::world::World;
+use dm_base::ids::{ModuleId, UseId};
+use dm_base::item_ids::MacroId;
+use dm_base::macros::MacroCallStyles;
+use dm_base::name::Name;
+use dm_base::per_ns::Namespace;
+use dm_scope::item_scope::ItemScope;
+use dm_scope::scope_tables::ScopeTables;
+
+#[tactic(auto, unfolding(crate::specs::ScopeTables::scope_tables))]
+impl ScopeTables for World {
+    ghost use Rattle.dm_maps.specs.ScopeTables.{scope_tables};
+
+    ghost tables = { scope_tables };
+
+    /// The module that a `use` item stands in, if the world has it. The module is the world's.
+    fn use_container(&self, use_: UseId) -> Option<ModuleId>
+        ensures value { result ≡ (scope_tables self.now).container use_ }
+        ensures known { ForSome result (λ m. IsTrue (knows self.now (held.Module m))) }
+        ensures there { is_some result ≡ knows self.now (held.Use use_) }
+    {
+        self.tables.uses.get(use_.0 as usize).copied()
+    }
+
+    /// The scope of a module, if it is the world's.
+    fn scope_of(&self, m: ModuleId) -> Option<&ItemScope>
+        ensures value { option_copied result ≡ slice_get (scope_tables self.now).scopes m.0 }
+        ensures own { IfSome result (λ s. s.now ≡ scope_of self.now m) }
+        ensures there { is_some result ≡ knows self.now (held.Module m) }
+    {
+        self.tables().scope_of(m)
+    }
+
+    fn macro_styles(&self, id: MacroId) -> MacroCallStyles
+        ensures { result ≡ unwrap_or ((scope_tables self.now).styles id) no_style }
+    {
+        self.tables.styles_of(id)
+    }
+
+    fn prints_raw(&self, name: &Name) -> bool
+        ensures { result ≡ (scope_tables self.now).prints_raw name.now }
+    {
+        self.tables.item_tables.has_raw_name(name)
+    }
+
+    fn records(&self, namespace: Namespace) -> usize
+        ensures { result ≡ record_count namespace (scope_tables self.now) }
+    {
+        self.tables().records(namespace)
+    }
+}
+
+impl WorldBuilder {
+    /// The scope of a module, by its number.
+    fn scope_of(&self, m: ModuleId) -> Option<&ItemScope>
+        ensures { option_copied result ≡ own_scope self.now m }
+    {
+        match self.module_of(m) {
+            None => None,
+            Some(data) => Some(data.scope()),
+        }
+    }
+
+    /// The number of records of a namespace in all scopes, or the greatest `usize` where it is more.
+    fn records(&self, namespace: Namespace) -> usize
+        ensures { result ≡ record_count namespace (scope_tables self.now) }
+    {
+        counted(self, &self.places, namespace)
+    }
+}
+
+/// The number of records of a namespace in the scopes at these places, or the greatest `usize` where it is more.
+fn counted(world: &WorldBuilder, places: &[Place], namespace: Namespace) -> usize
+    ensures { result ≡ min (length (flat_map (λ p. records_in namespace (scope_at_place world.now p)) places.now)) (2 ^ 64 - 1) }
+{
+    let mut count = 0usize;
+    for place in places {
+        count = count.saturating_add(counted_at(world, *place, namespace));
+    }
+    count
+}
+
+/// The number of records of a namespace in the scope at a place.
+#[tactic(auto, using(crate::proofs::RecordLemmas::records_none))]
+fn counted_at(world: &WorldBuilder, place: Place, namespace: Namespace) -> usize
+    ensures { result ≡ length (records_in namespace (scope_at_place world.now place)) }
+{
+    match world.module_in(place) {
+        None => 0,
+        Some(data) => data.scope().record_count(namespace),
+    }
+}
