@@ -25,7 +25,9 @@ pub mod InOrder
 pub mod CutPush
 pub mod StayLemmas
 pub mod RawLemmas
+pub mod NameOrder
 pub mod OutwardLemmas
+pub mod TreeLemmas
 pub mod ListLemmas
 pub mod FamilyLemmas
 pub mod MapFacts

@@ -17,6 +17,9 @@ pub mod Holds
 pub mod Known
 pub mod LendingMaps
 pub mod LendingWorld
+pub mod MapDumps
+pub mod MapDumpRows
+pub mod Branches
 pub mod Maps
 pub mod Outwards
 pub mod RawTables

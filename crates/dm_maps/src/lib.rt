@@ -4,6 +4,7 @@
 pub mod build_fault;
 pub mod builder;
 mod check;
+pub mod laws;
 mod maps;
 pub mod place;
 pub mod world;

@@ -16,6 +16,7 @@ ghost use Rattle.dm_maps.specs.Trees.{IsWorld};
 mod in_order;
 mod item_modules;
 mod knows;
+mod map_dump;
 pub mod maps_of;
 mod outwards;
 mod path_look_ups;

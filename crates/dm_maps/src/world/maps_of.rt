@@ -1,23 +1,27 @@
 //! The maps of a world, by crate and by block.
-ghost use Rattle.std.specs.Prelude.{◌≡◌, IsTrue, Some, None, nat_lt, length, slice_get};
+ghost use Rattle.std.specs.Prelude.{◌≡◌, IsTrue, IfOk, Some, None, nat_lt, length, slice_get, string_bytes};
 ghost use Rattle.dm_held.specs.declared.held.HeldId.TheVariants as held;
 ghost use Rattle.dm_maps.specs.Known.{knows, KnowsAll};
 ghost use Rattle.dm_held.specs.Holding.{def_holds, local_holds};
+ghost use Rattle.dm_maps.specs.MapDumps.{map_dump};
 ghost use Rattle.dm_maps.specs.MapFacts.{IsMapOf};
 ghost use Rattle.dm_maps.specs.Outwards.{maps_outwards, AsksMaps};
 ghost use Rattle.dm_maps.specs.Readings.{root_of, styles_in};
+ghost use Rattle.dm_maps.specs.ScopeTables.{scope_tables};
 ghost use Rattle.dm_maps.specs.World.{crate_map, numbered_map};
 ghost use Rattle.dm_modules.specs.Maps.{Map};
 ghost use Rattle.dm_base.specs.declared.item_ids.ModuleDefId.TheVariants as def;
 
 use crate::builder::WorldBuilder;
 use crate::world::World;
+use crate::world::map_dump::dump_map;
 use crate::world::outwards::ask_outwards;
 use dm_base::ids::{BlockId, Crate, ModuleId};
 use dm_base::item_ids::MacroId;
 use dm_base::macros::MacroCallStyles;
 use dm_def_map::def_map::DefMap;
 use dm_modules::local_def_map::LocalDefMap;
+use std::alloc::AllocError;
 
 /// The map of a crate.
 pub fn crate_def_map(world: &World, krate: Crate) -> &DefMap
@@ -58,7 +62,7 @@ pub fn macro_styles_from_id(world: &World, m: MacroId) -> MacroCallStyles
     world.styles_of(m)
 }
 
-/// The calls of a map that ask the world. None of them takes memory.
+/// The calls of a map that ask the world. `dump` alone takes memory.
 pub trait AskWorld {
     /// The map, as contracts see it.
     ghost map: { Self → Map };
@@ -80,6 +84,13 @@ pub trait AskWorld {
     ) -> Option<T>
         requires { F.IsAlwaysCallable f }
         ensures { (last : F) × AsksMaps F.step (maps_outwards world.now (map self.now) m) f result last };
+
+    /// The dump of the map, and of those from it outwards (docs/RULES.md, "Dumps"). The map has to be the world's of its id.
+    ///
+    /// Fails where memory runs out.
+    fn dump(&self, world: &World) -> Result<String, AllocError>
+        requires { numbered_map world.now (map self.now).id ≡ Some (map self.now) }
+        ensures { IfOk result (λ text. string_bytes text ≡ map_dump (scope_tables world.now) world.now (map self.now)) };
 }
 
 impl AskWorld for DefMap {
@@ -96,6 +107,11 @@ impl AskWorld for DefMap {
         f: F,
     ) -> Option<T> {
         ask_outwards(world, self, m, f)
+    }
+
+    fn dump(&self, world: &World) -> Result<String, AllocError> {
+        let text = dump_map(world, self)?;
+        Ok(text)
     }
 }
 

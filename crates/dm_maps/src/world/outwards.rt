@@ -1,6 +1,7 @@
 //! From a map outwards. Nothing here takes memory.
-ghost use Rattle.std.specs.Prelude.{◌≡◌};
+ghost use Rattle.std.specs.Prelude.{◌≡◌, IfSome};
 ghost use Rattle.std.specs.Option.{option_map};
+ghost use Rattle.dm_maps.specs.MapFacts.{IsMapOf};
 ghost use Rattle.dm_maps.specs.Outwards.{maps_outwards, next_outwards, AsksMaps};
 ghost use Rattle.dm_maps.specs.Trees.{IsWorld};
 
@@ -36,8 +37,9 @@ pub(crate) fn ask_outwards<T, F: FnMut(&DefMap, ModuleId) -> Option<T> + Drop>(
 }
 
 /// The map of the module that contains a map's block, with that module; none for a crate's map.
-fn next_outwards<'a>(world: &'a World, map: &DefMap) -> Option<(&'a DefMap, ModuleId)>
+pub(super) fn next_outwards<'a>(world: &'a World, map: &DefMap) -> Option<(&'a DefMap, ModuleId)>
     ensures value { option_map (λ x. (x.0.now, x.1)) result ≡ next_outwards world.now map.now }
+    ensures facts { IfSome result (λ x. IsMapOf world.now x.0.now) }
     ensures lawful { IsWorld world.now }
 {
     let _tables = world.tables();

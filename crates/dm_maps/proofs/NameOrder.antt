@@ -1,0 +1,163 @@
+-- Names in order: they are put so, and there is one way.
+use Rattle.std.proofs.Common.{◌≡◌, ◌↔◌, ℕ, zero, suc, Bool, true, false, cond, List, [], ◌∷◌, ◌+◌, ◌<◌, refl, ap, sym, subst, ◌∙◌, map, length, arith}
+use Rattle.std.proofs.lemmas.List.{get_or-map, length-map}
+use Rattle.std.specs.Cmp.Lexicographic.{slice_cmp, nat_list_cmp_total}
+use Rattle.std.specs.FinMap.{nat_cmp-IsAntisymmetric, slice_cmp-IsAntisymmetric}
+use Rattle.std.specs.List.{Contains, AllByRecursion, dedup, dedup_from, slice_index_or}
+use Rattle.std.specs.List.Sorted.{IsSorted, IsStrictlySortedBy}
+use Rattle.std.specs.Ordering.{is_lt, nat_cmp, ordering_reverse}
+use Rattle.std.specs.declared.cmp.Ordering.{Ordering}
+use Rattle.std.specs.declared.cmp.Ordering.TheVariants.{Less, Equal, Greater}
+use Rattle.dm_base.specs.Names.{Name}
+use Rattle.dm_scope.specs.Dumps.{IsDump}
+use Rattle.dm_scope.specs.Scope.{Scope}
+use Rattle.dm_scope.specs.Sorted.{AreInOrder, names_of}
+use Rattle.dm_scope.specs.Tables.{Tables}
+use Rattle.dm_maps.specs.MapDumps.{placed, in_order, scope_text}
+
+abbrev cmp : Name → Name → Ordering
+cmp = slice_cmp nat_cmp
+
+-- what holds of an element of a list: it is the first, or it stands behind it
+in_either : {X : Type 0} (G : Type 0) (y : X) (ys : List X) (x : X) → (y ≡ x → G) → (Contains ys x → G) → Contains (y ∷ ys) x → G
+in_either G y ys x first behind h = by h.0 h.1 h.2
+  where
+    by : (k : ℕ) → k < length (y ∷ ys) → slice_index_or (y ∷ ys) k x ≡ x → G
+    by zero less is = first is
+    by (suc k) less is = behind (k, omega arith, is)
+
+in_front : {X : Type 0} (x : X) (xs : List X) → Contains (x ∷ xs) x
+in_front x xs = (0, omega arith, refl)
+
+in_back : {X : Type 0} (y : X) (ys : List X) (x : X) → Contains ys x → Contains (y ∷ ys) x
+in_back y ys x h = (suc h.0, omega (arith, h.1), h.2)
+
+of_each : {X : Type 0} (P : X → Type 0) (xs : List X) (x : X) → AllByRecursion P xs → Contains xs x → P x
+of_each P [] x all h = absurd (omega (arith, h.1))
+of_each P (y ∷ ys) x all h = in_either (P x) y ys x (λ e. subst P e all.0) (λ t. of_each P ys x all.1 t) h
+
+-- ---- A name in its place
+
+turned : (n m : Name) → cmp n m ≡ Greater → cmp m n ≡ Less
+turned n m h = nat_list_cmp_total.antisymm m n ∙ ap ordering_reverse h
+
+all-below : (k n : Name) (ms : List Name) → cmp k n ≡ Less → AllByRecursion (λ y. cmp n y ≡ Less) ms → AllByRecursion (λ y. cmp k y ≡ Less) ms
+all-below k n [] less h = tt
+all-below k n (m ∷ ms) less h = (nat_list_cmp_total.trans k n m less h.0, all-below k n ms less h.1)
+
+placed-below : (k n : Name) (ms : List Name) → cmp k n ≡ Less → AllByRecursion (λ y. cmp k y ≡ Less) ms → AllByRecursion (λ y. cmp k y ≡ Less) (placed n ms)
+placed-below k n [] less h = (less, tt)
+placed-below k n (m ∷ ms) less h = by (cmp n m) (placed-below k n ms less h.1)
+  where
+    by : (o : Ordering) → AllByRecursion (λ y. cmp k y ≡ Less) (placed n ms) → AllByRecursion (λ y. cmp k y ≡ Less) (elim o as (λ _. List Name) [ Less ↦ n ∷ m ∷ ms | Equal ↦ m ∷ ms | Greater ↦ m ∷ placed n ms ])
+    by Less rest = (less, h)
+    by Equal rest = h
+    by Greater rest = (h.0, rest)
+
+placed-sorted : (n : Name) (ms : List Name) → IsStrictlySortedBy cmp ms → IsStrictlySortedBy cmp (placed n ms)
+unfolding IsStrictlySortedBy
+placed-sorted n [] h = (tt, tt)
+placed-sorted n (m ∷ ms) h = by (cmp n m) refl (placed-sorted n ms h.1)
+  where
+    by : (o : Ordering) → cmp n m ≡ o → IsStrictlySortedBy cmp (placed n ms) → IsStrictlySortedBy cmp (elim o as (λ _. List Name) [ Less ↦ n ∷ m ∷ ms | Equal ↦ m ∷ ms | Greater ↦ m ∷ placed n ms ])
+    by Less e rest = ((e, all-below n m ms e h.0), h)
+    by Equal e rest = h
+    by Greater e rest = (placed-below m n ms (turned n m e) h.0, rest)
+
+placed-has : (n : Name) (ms : List Name) (x : Name) → Contains (placed n ms) x → Contains (n ∷ ms) x
+placed-has n [] x h = h
+placed-has n (m ∷ ms) x h = by (cmp n m) h (placed-has n ms x)
+  where
+    by : (o : Ordering) → Contains (elim o as (λ _. List Name) [ Less ↦ n ∷ m ∷ ms | Equal ↦ m ∷ ms | Greater ↦ m ∷ placed n ms ]) x → (Contains (placed n ms) x → Contains (n ∷ ms) x) → Contains (n ∷ m ∷ ms) x
+    by Less g rest = g
+    by Equal g rest = in_back n (m ∷ ms) x g
+    by Greater g rest =
+        in_either (Contains (n ∷ m ∷ ms) x) m (placed n ms) x (λ e. in_back n (m ∷ ms) x (subst (Contains (m ∷ ms)) e (in_front m ms)))
+        (λ k. in_either (Contains (n ∷ m ∷ ms) x) n ms x (λ e. subst (Contains (n ∷ m ∷ ms)) e (in_front n (m ∷ ms))) (λ b. in_back n (m ∷ ms) x (in_back m ms x b)) (rest k)) g
+
+has-placed : (n : Name) (ms : List Name) (x : Name) → Contains (n ∷ ms) x → Contains (placed n ms) x
+has-placed n [] x h = h
+has-placed n (m ∷ ms) x h = by (cmp n m) refl (has-placed n ms x)
+  where
+    by : (o : Ordering) → cmp n m ≡ o → (Contains (n ∷ ms) x → Contains (placed n ms) x) → Contains (elim o as (λ _. List Name) [ Less ↦ n ∷ m ∷ ms | Equal ↦ m ∷ ms | Greater ↦ m ∷ placed n ms ]) x
+    by Less e rest = h
+    by Equal e rest =
+        let same : n ≡ m = slice_cmp-IsAntisymmetric nat_cmp-IsAntisymmetric n m e in
+        in_either (Contains (m ∷ ms) x) n (m ∷ ms) x (λ is. subst (Contains (m ∷ ms)) (sym same ∙ is) (in_front m ms)) (λ k. k) h
+    by Greater e rest =
+        in_either (Contains (m ∷ placed n ms) x) n (m ∷ ms) x (λ is. in_back m (placed n ms) x (rest (subst (Contains (n ∷ ms)) is (in_front n ms))))
+        (λ k. in_either (Contains (m ∷ placed n ms) x) m ms x (λ is. subst (Contains (m ∷ placed n ms)) is (in_front m (placed n ms))) (λ b. in_back m (placed n ms) x (rest (in_back n ms x b))) k) h
+
+-- ---- Names in order
+
+in_order-sorted : (ns : List Name) → IsStrictlySortedBy cmp (in_order ns)
+unfolding IsStrictlySortedBy
+in_order-sorted [] = tt
+in_order-sorted (n ∷ ns) = placed-sorted n (in_order ns) (in_order-sorted ns)
+
+behind : (n : Name) (ns ms : List Name) (x : Name) → (Contains ns x → Contains ms x) → Contains (n ∷ ns) x → Contains (n ∷ ms) x
+behind n ns ms x f h = in_either (Contains (n ∷ ms) x) n ns x (λ e. subst (Contains (n ∷ ms)) e (in_front n ms)) (λ k. in_back n ms x (f k)) h
+
+in_order-same : (ns : List Name) (x : Name) → Contains (in_order ns) x ↔ Contains ns x
+in_order-same [] x = (λ h. h, λ h. h)
+in_order-same (n ∷ ns) x =
+    let rest = in_order-same ns x in (
+      λ h. behind n (in_order ns) ns x rest.0 (placed-has n (in_order ns) x h),
+      λ h. has-placed n (in_order ns) x (behind n ns (in_order ns) x rest.1 h),
+    )
+
+pub in_order-AreInOrder : (ns : List Name) → AreInOrder (in_order ns) ns
+in_order-AreInOrder ns = record { sorted = in_order-sorted ns; same = in_order-same ns }
+
+-- the lines of a scope, its names in order, are its dump
+pub IsDump-scope_text : (t : Tables) (s : Scope) → IsDump t s (scope_text t s)
+IsDump-scope_text t s = record {
+  names = in_order (names_of s);
+  legacy = in_order (map (λ e. e.0) s.legacy_macros);
+  names_in_order = in_order-AreInOrder (names_of s);
+  legacy_in_order = in_order-AreInOrder (map (λ e. e.0) s.legacy_macros);
+  is = refl;
+}
+
+not_below_itself : (n : Name) → cmp n n ≡ Less → ⊥
+not_below_itself n h = let f : Less ≡ Greater = sym h ∙ nat_list_cmp_total.antisymm n n ∙ ap ordering_reverse h in cc
+
+-- names in order that are the same names are one list
+one : (ns ms : List Name) → IsStrictlySortedBy cmp ns → IsStrictlySortedBy cmp ms → ((x : Name) → Contains ns x → Contains ms x) → ((x : Name) → Contains ms x → Contains ns x) → ns ≡ ms
+unfolding IsStrictlySortedBy
+one [] [] s t f g = refl
+one [] (m ∷ ms) s t f g = absurd (omega (arith, (g m (in_front m ms)).1))
+one (n ∷ ns) [] s t f g = absurd (omega (arith, (f n (in_front n ns)).1))
+one (n ∷ ns) (m ∷ ms) s t f g =
+    let crossed : Contains ms n → Contains ns m → ⊥ = λ h k. not_below_itself n (nat_list_cmp_total.trans n m n (of_each (λ y. cmp n y ≡ Less) ns m s.0 k) (of_each (λ y. cmp m y ≡ Less) ms n t.0 h)) in
+    let same : n ≡ m = in_either (n ≡ m) m ms n sym (λ h. in_either (n ≡ m) n ns m (λ e. e) (λ k. absurd (crossed h k)) (g m (in_front m ms))) (f n (in_front n ns)) in
+    ap (λ l. n ∷ l)
+    (one ns ms s.1 t.1
+    (λ x h. in_either (Contains ms x) m ms x (λ e. absurd (not_below_itself n (subst (λ y. cmp n y ≡ Less) (sym (same ∙ e)) (of_each (λ y. cmp n y ≡ Less) ns x s.0 h)))) (λ k. k) (f x (in_back n ns x h)))
+    (λ x h. in_either (Contains ns x) n ns x (λ e. absurd (not_below_itself m (subst (λ y. cmp m y ≡ Less) (sym (sym same ∙ e)) (of_each (λ y. cmp m y ≡ Less) ms x t.0 h)))) (λ k. k) (g x (in_back m ms x h))))
+    ∙ ap (λ k. k ∷ ms) same
+
+pub AreInOrder-is : (ns all : List Name) → AreInOrder ns all → ns ≡ in_order all
+AreInOrder-is ns all a = one ns (in_order all) a.sorted (in_order-sorted all) (λ x h. (in_order-same all x).1 ((a.same x).0 h)) (λ x h. (a.same x).1 ((in_order-same all x).0 h))
+
+-- ---- Names behind references
+
+pub IsSorted-map : {X Y : Type 0} (f : X → Y) (cmp : Y → Y → Ordering) (xs : List X) → IsSorted (λ a b. cmp (f a) (f b)) xs → IsSorted cmp (map f xs)
+IsSorted-map f cmp [] h k d low less = absurd (omega arith)
+IsSorted-map f cmp (x ∷ xs) h k d low less =
+    let n : length (map f (x ∷ xs)) ≡ length (x ∷ xs) = length-map (x ∷ xs) f in
+    let a : k + 1 < length (x ∷ xs) = omega arith in
+    let b : k < length (x ∷ xs) = omega arith in
+    (λ i. is_lt (cmp (get_or-map f (x ∷ xs) (k + 1) x d a i) (get_or-map f (x ∷ xs) k x d b i))) ∙ h k x low a
+
+dedup_from-map : {X Y : Type 0} (f : X → Y) (same : Y → Y → Bool) (k : X) (xs : List X) → map f (dedup_from (λ a b. same (f a) (f b)) k xs) ≡ dedup_from same (f k) (map f xs)
+dedup_from-map f same k [] = refl
+dedup_from-map {X} {Y} f same k (x ∷ xs) = by (same (f x) (f k)) (dedup_from-map f same k xs) (dedup_from-map f same x xs)
+  where
+    by : (b : Bool) → map f (dedup_from (λ a c. same (f a) (f c)) k xs) ≡ dedup_from same (f k) (map f xs) → map f (dedup_from (λ a c. same (f a) (f c)) x xs) ≡ dedup_from same (f x) (map f xs) → map f (cond b (dedup_from (λ a c. same (f a) (f c)) k xs) (k ∷ dedup_from (λ a c. same (f a) (f c)) x xs)) ≡ cond b (dedup_from same (f k) (map f xs)) (f k ∷ dedup_from same (f x) (map f xs))
+    by true skip keep = skip
+    by false skip keep = ap (λ l. f k ∷ l) keep
+
+pub dedup-map : {X Y : Type 0} (f : X → Y) (same : Y → Y → Bool) (xs : List X) → map f (dedup (λ a b. same (f a) (f b)) xs) ≡ dedup same (map f xs)
+dedup-map f same [] = refl
+dedup-map f same (x ∷ xs) = dedup_from-map f same x xs
