@@ -5,7 +5,7 @@ use Rattle.dm_scope.specs.Flags.{no_globs}
 use Rattle.dm_scope.specs.Scope.{no_scope}
 use Rattle.dm_maps.specs.Asked.{with_push}
 use Rattle.dm_maps.specs.Build.{no_world}
-use Rattle.dm_maps.specs.Cut.{cut, cut_local}
+use Rattle.dm_maps.specs.Cut.{cut, cut_local, cut_module, cut_prelude}
 use Rattle.dm_maps.specs.World.{World}
 use Rattle.hir_def_map.specs.Written.{a_struct, by_rules, crate_id, block_id, number, module_with, a_map}
 use Rattle.hir_def_map.specs.WorldS.{world_s, a_type, outer_scope, inner_scope}
@@ -47,3 +47,11 @@ of_no_name = refl
 -- of a local map the entries under the names
 pub of_local_maps : cut_local ((codes "dep", (number 0, None)) ∷ (codes "core", (number 1, None)) ∷ []) (codes "core" ∷ []) ≡ (codes "core", (number 1, None)) ∷ []
 of_local_maps = refl
+
+-- of a module its children go, also those under the names
+pub of_children : cut_module (codes "c" ∷ []) (record (module_with 0 None no_scope).1 { children = (codes "c", number 1) ∷ [] }) ≡ (module_with 0 None no_scope).1
+of_children = refl
+
+-- of a prelude its module stays, and not the use that named it
+pub of_preludes : cut_prelude (number 1, Some (record { 0 = 0 })) ≡ (number 1, None)
+of_preludes = refl

@@ -1,12 +1,13 @@
 //! The callers that docs/USING.md shows.
-ghost use Rattle.std.specs.Prelude.{◌≡◌, false, IfOk, IsTrue, None, OnErr, Some};
+ghost use Rattle.std.specs.Prelude.{◌≡◌, false, IfOk, IsTrue, None, OnErr, Some, slice_get};
 ghost use Rattle.dm_base.specs.declared.imports.ImportOrExternCrate.TheVariants.{Import};
 ghost use Rattle.dm_held.specs.declared.held.HeldId.TheVariants as held;
 ghost use Rattle.dm_held.specs.Holding.{local_holds, path_holds, res_holds};
 ghost use Rattle.dm_held.specs.Pushes.{push_holds};
 ghost use Rattle.dm_maps.specs.Cut.{among};
 ghost use Rattle.dm_maps.specs.Known.{knows, KnowsAll};
-ghost use Rattle.dm_maps.specs.World.{scope_of};
+ghost use Rattle.dm_maps.specs.World.{crate_map, scope_of};
+ghost use Rattle.dm_modules.specs.Maps.{LocalMap, Map};
 ghost use Rattle.dm_modules.specs.declared.modes.BuiltinShadowMode.TheVariants.{Module};
 ghost use Rattle.dm_scope.specs.Shows.{PushShows, push_of};
 ghost use Rattle.hir_def_map.specs.Paths.{answer, asked};
@@ -31,7 +32,8 @@ use std::alloc::AllocError;
 pub fn meaning_in_root(world: &World, krate: Crate, path: &ModPath) -> PerNs
     requires krate { IsTrue (knows world.now (held.Crate krate)) }
     requires path { KnowsAll world.now (path_holds path.now.kind) }
-    ensures { KnowsAll world.now (res_holds result) }
+    ensures value { (map : Map) (local : LocalMap) → crate_map world.now krate ≡ Some map → slice_get world.now.local_maps krate.0 ≡ Some local → result ≡ (answer world.now local (asked map.root Other Module None path.now.kind) path.now.segments).resolved_def }
+    ensures known { KnowsAll world.now (res_holds result) }
 {
     let map = crate_def_map(world, krate);
     let local = local_def_map(world, krate);
