@@ -45,7 +45,7 @@ one_block =
     2 (codes "T") (def.AdtId (adt.StructId (record { 0 = 0 }))) (Module (number 2) Implicit)
 
 -- the block's map first, and then the crate's
-block_and_crate : option_map (map_dump (scope_tables one_block) one_block) (slice_get one_block.block_maps 0)
+block_and_crate : option_map (map_dump one_block) (slice_get one_block.block_maps 0)
     ≡ Some (codes "(block scope)\n- T : type\n\ncrate\n- a : type\n\ncrate::a\n")
 unfolding scope_tables
 block_and_crate = refl
@@ -54,7 +54,7 @@ block_and_crate = refl
 abbrev three_modules : World
 three_modules = and_module (and_module (and_module (with_crate no_world Edition2021 file) 0 (codes "b")) 1 (codes "c")) 0 (codes "a")
 
-children_first : option_map (map_dump (scope_tables three_modules) three_modules) (slice_get three_modules.crate_maps 0)
+children_first : option_map (map_dump three_modules) (slice_get three_modules.crate_maps 0)
     ≡ Some (codes "crate\n\ncrate::a\n\ncrate::b\n\ncrate::b::c\n")
 unfolding scope_tables
 children_first = refl

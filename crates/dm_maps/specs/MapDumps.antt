@@ -13,6 +13,7 @@ use Rattle.dm_scope.specs.Sorted.{names_of}
 use Rattle.dm_scope.specs.Tables.{Tables}
 use Rattle.dm_modules.specs.Maps.{Map, Module, Modules, module_at}
 use Rattle.dm_maps.specs.Outwards.{maps_outwards}
+use Rattle.dm_maps.specs.ScopeTables.{scope_tables}
 use Rattle.dm_maps.specs.World.{World}
 
 -- a name at its place among names in order, where it is not there yet
@@ -48,17 +49,14 @@ tree_within zero t ms path m = []
 tree_within (suc n) t ms path m =
     option_map_or (λ d. module_text t path d ++ of_children (λ name c. codes "\n" ++ tree_within n t ms (path_and t path name) c) d) (module_at ms m) []
 
--- The tree of a module. A child has a greater number than its parent, so there are no more levels than modules.
-abbrev pub tree : Tables → World → Modules → Text → ModuleId → Text
-tree t w ms path m = tree_within (length w.places) t ms path m
+-- The tree of a module of a map. A child has a greater number than its parent, so there are no more levels than modules.
+abbrev pub tree : World → Map → Text → ModuleId → Text
+tree w M path m = tree_within (length w.places) (scope_tables w) M.modules path m
 
 -- what a dump has of one map: its root's tree, and for a block's map an empty line behind it
-abbrev pub map_text : Tables → World → Map → Text
-map_text t w M = elim M.id.block [
-  | None ↦ tree t w M.modules (codes "crate") M.root
-  | Some b ↦ tree t w M.modules (codes "(block scope)") M.root ++ codes "\n"
-]
+abbrev pub map_text : World → Map → Text
+map_text w M = elim M.id.block [ None ↦ tree w M (codes "crate") M.root | Some b ↦ tree w M (codes "(block scope)") M.root ++ codes "\n" ]
 
 -- The dump of a map: of the map itself, and then of each next one outwards.
-abbrev pub map_dump : Tables → World → Map → Text
-map_dump t w M = flat_map (λ x. map_text t w x.0) (maps_outwards w M M.root)
+abbrev pub map_dump : World → Map → Text
+map_dump w M = flat_map (λ x. map_text w x.0) (maps_outwards w M M.root)

@@ -1,6 +1,6 @@
 //! The dump of a map.
-ghost use Rattle.std.specs.Prelude.{◌≡◌, ◌++◌, ◌<◌, ◌≤◌, All, IfOk, IsSome, OnOk, Some, length, map, string_bytes};
-ghost use Rattle.dm_maps.specs.Branches.{branch_text, child_text, children_text, left_text};
+ghost use Rattle.std.specs.Prelude.{◌≡◌, ◌++◌, ◌<◌, ◌≤◌, IfOk, IsSome, OnOk, Some, length, map, string_bytes};
+ghost use Rattle.dm_maps.specs.Branches.{AllLie, branch_text, child_text, children_text, left_text};
 ghost use Rattle.dm_maps.specs.MapDumps.{in_order, map_dump, map_text, path_and, scope_text, tree};
 ghost use Rattle.dm_maps.specs.MapFacts.{IsMapOf};
 ghost use Rattle.dm_maps.specs.ScopeTables.{scope_tables};
@@ -37,7 +37,7 @@ impl Drop for Branch {
 /// The dump of a map, and of those from it outwards.
 pub(crate) fn dump_map(world: &World, first: &DefMap) -> Result<String, AllocError>
     requires { numbered_map world.now first.now.id ≡ Some first.now }
-    ensures { IfOk result (λ text. string_bytes text ≡ map_dump (scope_tables world.now) world.now first.now) }
+    ensures { IfOk result (λ text. string_bytes text ≡ map_dump world.now first.now) }
 {
     let mut text = String::new(world.tables().alloc);
     let mut map = first;
@@ -53,7 +53,7 @@ pub(crate) fn dump_map(world: &World, first: &DefMap) -> Result<String, AllocErr
 /// Adds what a dump has of one map.
 fn write_map(world: &World, map: &DefMap, text: &mut String) -> Result<(), AllocError>
     requires { IsMapOf world.now map.now }
-    ensures { OnOk result (string_bytes text.new ≡ string_bytes text.old ++ map_text (scope_tables world.now) world.now map.now) }
+    ensures { OnOk result (string_bytes text.new ≡ string_bytes text.old ++ map_text world.now map.now) }
 {
     match map.block_id() {
         None => write_tree(world, map, "crate", text)?,
@@ -68,7 +68,7 @@ fn write_map(world: &World, map: &DefMap, text: &mut String) -> Result<(), Alloc
 /// Adds the tree of a map's root, which stands under a path.
 fn write_tree(world: &World, map: &DefMap, path: &str, text: &mut String) -> Result<(), AllocError>
     requires { IsMapOf world.now map.now }
-    ensures { OnOk result (string_bytes text.new ≡ string_bytes text.old ++ tree (scope_tables world.now) world.now map.now.modules path.now map.now.root) }
+    ensures { OnOk result (string_bytes text.new ≡ string_bytes text.old ++ tree world.now map.now path.now map.now.root) }
 {
     let mut left = Vec::new(world.tables().alloc);
     write_module(world, map, path, map.root_module_id(), text, &mut left)?;
@@ -88,10 +88,10 @@ fn write_branch(
 ) -> Result<(), AllocError>
     requires facts { IsMapOf world.now map.now }
     requires lies { IsSome (module_at map.now.modules branch.child) }
-    requires left { All (λ b. IsSome (module_at map.now.modules b.child)) left.old.items }
-    ensures text { OnOk result (string_bytes text.new ++ left_text (scope_tables world.now) world.now map.now.modules left.new.items ≡ string_bytes text.old ++ branch_text (scope_tables world.now) world.now map.now.modules branch ++ left_text (scope_tables world.now) world.now map.now.modules left.old.items) }
+    requires left { AllLie map.now left.old.items }
+    ensures text { OnOk result (string_bytes text.new ++ left_text world.now map.now left.new.items ≡ string_bytes text.old ++ branch_text world.now map.now branch ++ left_text world.now map.now left.old.items) }
     ensures grows { OnOk result (length (string_bytes text.old) < length (string_bytes text.new)) }
-    ensures lie { OnOk result (All (λ b. IsSome (module_at map.now.modules b.child)) left.new.items) }
+    ensures lie { OnOk result (AllLie map.now left.new.items) }
 {
     text.push_str("\n")?;
     write_module(world, map, branch.path.as_str(), branch.child, text, left)?;
@@ -109,10 +109,10 @@ fn write_module(
 ) -> Result<(), AllocError>
     requires facts { IsMapOf world.now map.now }
     requires lies { IsSome (module_at map.now.modules m) }
-    requires left { All (λ b. IsSome (module_at map.now.modules b.child)) left.old.items }
-    ensures text { OnOk result (string_bytes text.new ++ left_text (scope_tables world.now) world.now map.now.modules left.new.items ≡ string_bytes text.old ++ tree (scope_tables world.now) world.now map.now.modules path.now m ++ left_text (scope_tables world.now) world.now map.now.modules left.old.items) }
+    requires left { AllLie map.now left.old.items }
+    ensures text { OnOk result (string_bytes text.new ++ left_text world.now map.now left.new.items ≡ string_bytes text.old ++ tree world.now map.now path.now m ++ left_text world.now map.now left.old.items) }
     ensures grows { OnOk result (length (string_bytes text.old) ≤ length (string_bytes text.new)) }
-    ensures lie { OnOk result (All (λ b. IsSome (module_at map.now.modules b.child)) left.new.items) }
+    ensures lie { OnOk result (AllLie map.now left.new.items) }
 {
     let parent = map.module(m);
     text.push_str(path)?;
@@ -141,9 +141,9 @@ fn add_children(
 ) -> Result<(), AllocError>
     requires facts { IsMapOf world.now map.now }
     requires is { module_at map.now.modules m ≡ Some parent.now }
-    requires left { All (λ b. IsSome (module_at map.now.modules b.child)) left.old.items }
-    ensures text { OnOk result (left_text (scope_tables world.now) world.now map.now.modules left.new.items ≡ children_text (scope_tables world.now) world.now map.now.modules path.now parent.now ++ left_text (scope_tables world.now) world.now map.now.modules left.old.items) }
-    ensures lie { OnOk result (All (λ b. IsSome (module_at map.now.modules b.child)) left.new.items) }
+    requires left { AllLie map.now left.old.items }
+    ensures text { OnOk result (left_text world.now map.now left.new.items ≡ children_text world.now map.now path.now parent.now ++ left_text world.now map.now left.old.items) }
+    ensures lie { OnOk result (AllLie map.now left.new.items) }
 {
     let mut names = child_names(world, parent)?;
     while let Some(name) = names.pop() {
@@ -164,9 +164,9 @@ fn add_child(
 ) -> Result<(), AllocError>
     requires facts { IsMapOf world.now map.now }
     requires is { module_at map.now.modules m ≡ Some parent.now }
-    requires left { All (λ b. IsSome (module_at map.now.modules b.child)) left.old.items }
-    ensures text { OnOk result (left_text (scope_tables world.now) world.now map.now.modules left.new.items ≡ child_text (scope_tables world.now) world.now map.now.modules path.now parent.now name.now ++ left_text (scope_tables world.now) world.now map.now.modules left.old.items) }
-    ensures lie { OnOk result (All (λ b. IsSome (module_at map.now.modules b.child)) left.new.items) }
+    requires left { AllLie map.now left.old.items }
+    ensures text { OnOk result (left_text world.now map.now left.new.items ≡ child_text world.now map.now path.now parent.now name.now ++ left_text world.now map.now left.old.items) }
+    ensures lie { OnOk result (AllLie map.now left.new.items) }
 {
     let Some(child) = parent.child(name) else {
         return Ok(());

@@ -7,7 +7,6 @@ ghost use Rattle.dm_maps.specs.MapDumps.{map_dump};
 ghost use Rattle.dm_maps.specs.MapFacts.{IsMapOf};
 ghost use Rattle.dm_maps.specs.Outwards.{maps_outwards, AsksMaps};
 ghost use Rattle.dm_maps.specs.Readings.{root_of, styles_in};
-ghost use Rattle.dm_maps.specs.ScopeTables.{scope_tables};
 ghost use Rattle.dm_maps.specs.World.{crate_map, numbered_map};
 ghost use Rattle.dm_modules.specs.Maps.{Map};
 ghost use Rattle.dm_base.specs.declared.item_ids.ModuleDefId.TheVariants as def;
@@ -90,7 +89,7 @@ pub trait AskWorld {
     /// Fails where memory runs out.
     fn dump(&self, world: &World) -> Result<String, AllocError>
         requires { numbered_map world.now (map self.now).id ≡ Some (map self.now) }
-        ensures { IfOk result (λ text. string_bytes text ≡ map_dump (scope_tables world.now) world.now (map self.now)) };
+        ensures { IfOk result (λ text. string_bytes text ≡ map_dump world.now (map self.now)) };
 }
 
 impl AskWorld for DefMap {

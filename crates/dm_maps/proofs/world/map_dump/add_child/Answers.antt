@@ -11,9 +11,9 @@ pub returns-clause-text : goal.returns-clause-text
 returns-clause-text c =
     let w = c.args.world.now in
     let t = scope_tables w in
-    let ms = c.args.map.now.modules in
-    ap (left_text t w ms) c.in_ok-push.ensures.items
-    ∙ left_text-push t w ms c.args.left.now.items (record { path = c.in_ok-path.path; child = c.in-Some.child })
-    ∙ ap (λ x. x ++ left_text t w ms c.args.left.now.items)
-    (ap (λ p. codes "\n" ++ tree t w ms p c.in-Some.child) c.in_ok-path.ensures
-    ∙ ap (λ (o : Option ModuleId). option_map_or (λ k. codes "\n" ++ tree t w ms (path_and t c.args.path.now c.args.name.now) k) o []) c.in-Some.ensures)
+    let own = c.args.map.now in
+    ap (left_text w own) c.in_ok-push.ensures.items
+    ∙ left_text-push w own c.args.left.now.items (record { path = c.in_ok-path.path; child = c.in-Some.child })
+    ∙ ap (λ x. x ++ left_text w own c.args.left.now.items)
+    (ap (λ p. codes "\n" ++ tree w own p c.in-Some.child) c.in_ok-path.ensures
+    ∙ ap (λ (o : Option ModuleId). option_map_or (λ k. codes "\n" ++ tree w own (path_and t c.args.path.now c.args.name.now) k) o []) c.in-Some.ensures)

@@ -14,7 +14,7 @@ returns-clause-text c =
     let d = c.module-parent.result.now in
     let path = c.args.path.now in
     let before = string_bytes c.args.text.now in
-    let rest = left_text t w own.modules c.args.left.now.items in
+    let rest = left_text w own c.args.left.now.items in
     let scope = scope_text t d.scope in
     let written : string_bytes c.write_scope.new.text ≡ before ++ module_text t path d =
     c.in_ok-write_scope.ensures
@@ -22,7 +22,7 @@ returns-clause-text c =
     ∙ ap (λ x. x ++ scope) (c.in_ok-push_str-2.ensures.bytes ∙ ap (λ x. x ++ codes "\n") c.in_ok-push_str.ensures.bytes ∙ append_assoc before path (codes "\n"))
     ∙ append_assoc before (path ++ codes "\n") scope in
     (λ i. written i ++ c.in_ok-add_children.ensures.text i)
-    ∙ sym (append_assoc (before ++ module_text t path d) (children_text t w own.modules path d) rest)
+    ∙ sym (append_assoc (before ++ module_text t path d) (children_text w own path d) rest)
     ∙ ap (λ x. x ++ rest)
-    (append_assoc before (module_text t path d) (children_text t w own.modules path d)
-    ∙ ap (λ x. before ++ x) (sym (tree-step t w own c.requires.facts path c.args.m d c.module-parent.ensures)))
+    (append_assoc before (module_text t path d) (children_text w own path d)
+    ∙ ap (λ x. before ++ x) (sym (tree-step w own c.requires.facts path c.args.m d c.module-parent.ensures)))
