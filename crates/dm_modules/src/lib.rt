@@ -1,6 +1,7 @@
 //! The modules of a map, the extern prelude of a crate, and what crates and items have beside them.
 #![tactic(auto)]
 
+pub mod building;
 mod growth;
 pub mod local_def_map;
 mod local_hash;
