@@ -2,6 +2,7 @@
 #![tactic(auto)]
 
 pub mod building;
+pub mod choosing;
 mod growth;
 pub mod local_def_map;
 mod local_hash;
@@ -10,3 +11,4 @@ pub mod module_data;
 pub mod module_origin;
 pub mod modules_iter;
 pub mod modules_map;
+mod origins;
