@@ -8,7 +8,6 @@ pub mod Cut
 pub mod BuildItems
 pub mod BuildBlocks
 pub mod BuildMaps
-pub mod Facts
 pub mod Faults
 pub mod ItemFaults
 pub mod First
