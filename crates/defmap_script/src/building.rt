@@ -191,11 +191,7 @@ fn map_id(builder: &WorldBuilder, map: MapName) -> MapId
 fn crate_of_block(builder: &WorldBuilder, b: BlockId) -> Crate
     ensures { result ≡ crate_of_block builder.now b }
 {
-    let by_number = MapId {
-        krate: Crate(0),
-        block: Some(b),
-    };
-    match builder.numbered_map(by_number) {
+    match builder.block_map(b) {
         None => Crate(0),
         Some(map) => map.krate(),
     }

@@ -1,15 +1,11 @@
 //! The map of a crate or of a block.
-ghost use Rattle.std.specs.Prelude.{◌≡◌, ◌↔◌, false, IsTrue, IsSome, Some, None, IsOk, IfOk, OnOk, OnErr};
-ghost use Rattle.std.specs.Option.{option_copied, option_copied_mut};
-ghost use Rattle.std.specs.Borrow.{sem};
+ghost use Rattle.std.specs.Prelude.{◌≡◌, ◌↔◌, IsTrue, IsSome};
+ghost use Rattle.std.specs.Option.{option_copied};
 ghost use Rattle.std.specs.Map.{lookup};
 ghost use Rattle.dm_base.specs.Names.{find_name};
 ghost use Rattle.dm_base.specs.Sameness.{same_ast};
-ghost use Rattle.dm_modules.specs.Maps.{module_at, nth_module, scope_at, fresh_map, map_with_child};
-ghost use Rattle.dm_def_map.specs.LendingMap.{LendsMapScope};
-ghost use Rattle.dm_def_map.specs.MapChanges.{changed, grows};
+ghost use Rattle.dm_modules.specs.Maps.{module_at, nth_module};
 
-use crate::map_change::MapChange;
 use dm_base::ids::{BlockId, Crate, ExternCrateId, MapId, ModuleId, UseId};
 use dm_base::item_ids::MacroId;
 use dm_base::name::Name;
@@ -17,28 +13,26 @@ use dm_base::source::{AstId, Edition};
 use dm_modules::module_data::ModuleData;
 use dm_modules::modules_map::ModulesMap;
 use dm_scope::diagnostics::DefDiagnostic;
-use dm_scope::item_scope::ItemScope;
 use dm_tables::crate_data::CrateData;
-use dm_tables::derive_helpers::{DeriveHelper, DeriveHelpers, add_helper};
-use dm_tables::keyed_tables::{helpers_of, macro_def_of, put_macro_def};
+use dm_tables::derive_helpers::{DeriveHelper, DeriveHelpers};
+use dm_tables::keyed_tables::{helpers_of, macro_def_of};
 use indexmap::IndexMap;
-use std::alloc::{AllocError, Global};
 use std::marker::Model;
 use std::rc::Rc;
 
 /// The modules of a crate, or of a block in it.
 pub struct DefMap {
-    id: MapId,
-    edition: Edition,
-    root: ModuleId,
-    parent: Option<ModuleId>,
-    modules: ModulesMap,
-    prelude: Option<(ModuleId, Option<UseId>)>,
-    macro_use_prelude: IndexMap<Name, (MacroId, Option<ExternCrateId>)>,
-    macro_defs: IndexMap<AstId, MacroId>,
-    derive_helpers: IndexMap<AstId, DeriveHelpers>,
-    diagnostics: Vec<DefDiagnostic>,
-    shared: Rc<CrateData>,
+    pub(crate) id: MapId,
+    pub(crate) edition: Edition,
+    pub(crate) root: ModuleId,
+    pub(crate) parent: Option<ModuleId>,
+    pub(crate) modules: ModulesMap,
+    pub(crate) prelude: Option<(ModuleId, Option<UseId>)>,
+    pub(crate) macro_use_prelude: IndexMap<Name, (MacroId, Option<ExternCrateId>)>,
+    pub(crate) macro_defs: IndexMap<AstId, MacroId>,
+    pub(crate) derive_helpers: IndexMap<AstId, DeriveHelpers>,
+    pub(crate) diagnostics: Vec<DefDiagnostic>,
+    pub(crate) shared: Rc<CrateData>,
 }
 
 /// Written out, so that what lets one go has one call to prove.
@@ -69,34 +63,6 @@ impl Model for DefMap {
 }
 
 impl DefMap {
-    /// A new map, with its root alone, and what all maps of its crate share.
-    pub fn with_root(
-        id: MapId,
-        edition: Edition,
-        parent: Option<ModuleId>,
-        root: ModuleId,
-        added: ModuleData,
-        shared: Rc<CrateData>,
-        alloc: Global,
-    ) -> Result<DefMap, AllocError>
-        ensures { IfOk result (λ map. map ≡ record (fresh_map id edition parent root added) { shared = shared.value }) }
-    {
-        let modules = ModulesMap::with_root(root, added, alloc)?;
-        Ok(DefMap {
-            id,
-            edition,
-            root,
-            parent,
-            modules,
-            prelude: None,
-            macro_use_prelude: IndexMap::new(alloc),
-            macro_defs: IndexMap::new(alloc),
-            derive_helpers: IndexMap::new(alloc),
-            diagnostics: Vec::new(alloc),
-            shared,
-        })
-    }
-
     /// Whose map it is.
     pub fn id(&self) -> MapId
         ensures { result ≡ self.now.id }
@@ -203,66 +169,11 @@ impl DefMap {
         macro_def_of(&self.macro_defs, id)
     }
 
-    /// Adds a module, as a child of the one at place `i`.
-    pub fn add_child(
-        &mut self,
-        i: usize,
-        name: Name,
-        m: ModuleId,
-        added: ModuleData,
-    ) -> Result<(), AllocError>
-        requires { module_at self.old.modules m ≡ None }
-        ensures ok { OnOk result (self.new ≡ map_with_child self.old i name m added) }
-        ensures err { OnErr result (self.new ≡ self.old) }
-    {
-        self.modules.add_child(i, name, m, added)?;
-        Ok(())
-    }
-
-    /// Makes a change.
-    pub fn change(&mut self, change: MapChange, alloc: Global) -> Result<(), AllocError>
-        ensures ok { OnOk result (self.new ≡ changed change self.old) }
-        ensures err { OnErr result (self.new ≡ self.old) }
-        ensures free { grows change ≡ false → IsOk result }
-    {
-        match change {
-            MapChange::Prelude(named) => self.prelude = named,
-            MapChange::MacroUse(name, entry) => {
-                self.macro_use_prelude.insert(name, entry)?;
-            }
-            MapChange::MacroDef(ast, m) => {
-                put_macro_def(&mut self.macro_defs, ast, m)?;
-            }
-            MapChange::Helper(ast, helper) => {
-                add_helper(&mut self.derive_helpers, ast, helper, alloc)?;
-            }
-            MapChange::Diagnostic(diagnostic) => {
-                self.diagnostics.push(diagnostic)?;
-            }
-        }
-        Ok(())
-    }
-
-    /// What the module at place `i` binds, to be changed.
-    pub fn scope_mut(&mut self, i: usize) -> Option<&mut ItemScope>
-        ensures* writes_back { sem 𝓛 (LendsMapScope self.entry i result) }
-        ensures value { option_copied_mut result ≡ scope_at self.old.modules i }
-    {
-        self.modules.scope_mut(i)
-    }
-
     /// What all maps of the crate share.
-    pub fn shared(&self) -> &Rc<CrateData>
+    pub(crate) fn shared(&self) -> &Rc<CrateData>
         ensures { result.now.value ≡ self.now.shared }
     {
         &self.shared
-    }
-
-    /// Shares other data.
-    pub fn set_shared(&mut self, shared: Rc<CrateData>)
-        ensures { self.new ≡ record self.old { shared = shared.value } }
-    {
-        self.shared = shared;
     }
 
     /// The macro that each item of the syntax defines.

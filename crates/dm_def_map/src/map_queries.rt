@@ -7,8 +7,9 @@ ghost use Rattle.dm_modules.specs.Queries.{containing_in, fills, is_inline_in, m
 
 use crate::def_map::DefMap;
 use dm_base::ids::{FileId, MacroCallId, ModuleId};
+use dm_modules::choosing::{filling, inline_in};
 use dm_modules::module_data::ModuleData;
-use dm_modules::modules_iter::{FilledBy, InlineIn, ModulesWith};
+use dm_modules::modules_iter::{InlineModules, ModulesForFile};
 
 impl DefMap {
     /// The module of that number, which has to lie in this map: `has` tests it.
@@ -33,18 +34,18 @@ impl DefMap {
     }
 
     /// The modules of this map that fill the file, under whatever edition, in order of number.
-    pub fn modules_for_file(&self, file: FileId) -> ModulesWith<'_, FilledBy>
+    pub fn modules_for_file(&self, file: FileId) -> ModulesForFile<'_>
         ensures rest { result ≡ modules_with (fills file) self.now.modules }
         ensures runs { ShowsInOrder (λ (m : ModuleId). m) }
     {
-        ModulesWith::new(self.modules(), FilledBy(file))
+        filling(self.modules(), file)
     }
 
     /// The modules of this map that are written out in what the macro call expands to, in order of number.
-    pub fn inline_modules_for_macro_file(&self, call: MacroCallId) -> ModulesWith<'_, InlineIn>
+    pub fn inline_modules_for_macro_file(&self, call: MacroCallId) -> InlineModules<'_>
         ensures rest { result ≡ modules_with (is_inline_in call) self.now.modules }
         ensures runs { ShowsInOrder (λ (m : ModuleId). m) }
     {
-        ModulesWith::new(self.modules(), InlineIn(call))
+        inline_in(self.modules(), call)
     }
 }

@@ -1,5 +1,5 @@
 -- How each module of a world stands.
-use Rattle.std.proofs.Common.{◌≡◌, ◌<◌, ℕ, suc, Bool, true, false, cond, [], ◌∷◌, Option, None, Some, length, map, slice_get, nat_eq, refl, sym, ap, ◌∙◌, IsSome, true≢false, arith}
+use Rattle.std.proofs.Common.{◌≡◌, ◌↔◌, ◌<◌, ℕ, suc, Bool, true, false, cond, [], ◌∷◌, Option, None, Some, length, map, slice_get, nat_eq, refl, sym, ap, ◌∙◌, IsTrue, IsSome, true≢false, arith}
 use Rattle.std.proofs.lemmas.Bool.{ltb-true, eqb-true}
 use Rattle.std.proofs.lemmas.Option.{slice_get-map, slice_get_within}
 use Rattle.std.specs.Option.{option_map, option_map_or, option_and_then}
@@ -7,16 +7,36 @@ use Rattle.dm_ids.specs.declared.BlockId.{BlockId}
 use Rattle.dm_ids.specs.declared.MapId.{MapId}
 use Rattle.dm_ids.specs.declared.ModuleId.{ModuleId}
 use Rattle.dm_maps.specs.declared.place.Place.{Place}
-use Rattle.dm_maps.specs.Facts.{IsAscending, HasContainer, Standing, IsInOrder}
+use Rattle.dm_maps.specs.MapFacts.{IsAscending, HasContainer}
 use Rattle.dm_modules.specs.Maps.{Map, Module, Modules, module_at, nth_module}
 use Rattle.dm_maps.specs.Trees.{no_map, Outline, outline, containers_of, map_id_in, IsMap, IsWorld}
-use Rattle.dm_maps.specs.World.{World, map_of, module_in, numbered_map}
+use Rattle.dm_held.specs.declared.held.HeldId.TheVariants as held
+use Rattle.dm_maps.specs.Known.{knows}
+use Rattle.dm_maps.specs.World.{World, map_of, module_in, module_of, numbered_map}
 use Rattle.dm_maps.proofs.GrowthLemmas.{get-within}
 use Rattle.dm_maps.proofs.MapLemmas.{map-lists, map-own}
 use Rattle.dm_maps.proofs.ModuleGrowth.{entry}
 use Rattle.dm_maps.proofs.SoundLemmas.{map-lawful}
 use Rattle.dm_maps.proofs.WorldFacts.{module-there}
 use Rattle.dm_maps.proofs.WorldGrowth.{numbered-outlines}
+
+-- how a module m stands in its world
+pub record Standing (w : World) (m : ModuleId) : Type 0 where
+  -- it lies in a map of the world, which has it under its number
+  pub map : Map
+  pub there : Module
+  pub lies : map_of w m ≡ Some map
+  pub own : numbered_map w map.id ≡ Some map
+  pub is : module_of w m ≡ Some there
+  pub listed : module_at map.modules m ≡ Some there
+  -- which lists its modules in order of number
+  pub ascending : IsAscending map.modules
+  -- a parent has a smaller number, and lies in the same map
+  pub parent : (q : ModuleId) → there.parent ≡ Some q → (q.0 < m.0) × (map_of w q ≡ Some map)
+  -- a map has one module without a parent, its root
+  pub root : (there.parent ≡ None) ↔ (m ≡ map.root)
+  -- in a block's map: a module of smaller number and of the same crate contains the block
+  pub block : (b : BlockId) → map.id.block ≡ Some b → HasContainer w m map
 
 -- what a look-up by number finds stands at a place
 pub found-at : (es : Modules) (m : ModuleId) (d : Module) → module_at es m ≡ Some d → (i : ℕ) × (nth_module es i ≡ Some d) × (slice_get (map entry es) i ≡ Some (m, d.parent))
@@ -151,7 +171,7 @@ module _ (w : World) (is : IsWorld w) where
       block = block-stands;
     }
 
-pub in_order : (w : World) → IsWorld w → IsInOrder w
+pub in_order : (w : World) → IsWorld w → (m : ModuleId) → IsTrue (knows w (held.Module m)) → Standing w m
 in_order w is m known =
     let at = get-within w.places m.0 (ltb-true m.0 (length w.places) known) in
     stands w is m at.0 at.1

@@ -1,5 +1,5 @@
 -- What holds of each map of a checked world.
-use Rattle.std.proofs.Common.{◌≡◌, ◌↔◌, ◌∙◌, Bool, true, false, cond, List, [], ◌∷◌, Option, None, Some, length, map, slice_get, nat_eq, is_some, refl, sym, ap, subst, true≢false, IsTrue, IsSome}
+use Rattle.std.proofs.Common.{◌≡◌, ◌↔◌, ◌<◌, ◌∙◌, Bool, true, false, cond, List, [], ◌∷◌, Option, None, Some, length, map, slice_get, nat_eq, is_some, refl, sym, ap, subst, true≢false, IsTrue, IsSome}
 use Rattle.std.specs.List.{AllByRecursion}
 use Rattle.std.specs.Option.{ForSome, option_map, option_map_or, option_and_then, option_or}
 use Rattle.std.proofs.lemmas.Bool.{eqb-true, lt-ltb}
@@ -14,16 +14,15 @@ use Rattle.dm_maps.proofs.AllLemmas.{all-weaker}
 use Rattle.dm_modules.specs.Maps.{Map, Module, Modules, module_at}
 use Rattle.dm_modules.specs.Queries.{containing_in}
 use Rattle.dm_maps.specs.declared.place.Place.{Place}
-use Rattle.dm_maps.specs.Facts.{Standing}
 use Rattle.dm_maps.specs.Family.{IsParent, AreParents, common, HaveFamilies, IsFamily}
 use Rattle.dm_maps.specs.Known.{knows}
-use Rattle.dm_maps.specs.MapFacts.{IsChild, IsMapOf}
+use Rattle.dm_maps.specs.MapFacts.{IsAscending, HasContainer, IsChild, IsMapOf}
 use Rattle.dm_maps.specs.Sound.{IsCheckedWorld}
 use Rattle.dm_maps.specs.Trees.{no_map, outline, containers_of, container_in, parent_in, map_id_in, tree_of, IsMap, IsWorld}
-use Rattle.dm_maps.specs.World.{World, crate_map, map_of, module_in, numbered_map}
+use Rattle.dm_maps.specs.World.{World, crate_map, map_of, module_in, module_of, numbered_map}
 use Rattle.dm_maps.proofs.AllLemmas.{all-get}
 use Rattle.dm_maps.proofs.FamilyLemmas.{families}
-use Rattle.dm_maps.proofs.InOrder.{found-at, in_order}
+use Rattle.dm_maps.proofs.InOrder.{Standing, found-at, in_order}
 use Rattle.dm_maps.proofs.MapLemmas.{map-lists}
 use Rattle.dm_maps.proofs.SoundLemmas.{lies-there, map-lawful, placed-known}
 use Rattle.dm_maps.proofs.WorldFacts.{module-there}
@@ -79,6 +78,33 @@ module _ (w : World) (is : IsWorld w) (fam : IsFamily w) (own : Map) (there : nu
 
   root-lies : IsSome (module_at own.modules own.root)
   root-lies = map-lists w is own.root own (ap (option_and_then (λ (p : Place). numbered_map w p.map)) (lawful.listed 0 own.root None lawful.root) ∙ there)
+
+  -- the standing of a module, said of this map
+  own-standing : (m : ModuleId) → IsSome (module_at own.modules m) → (s : Standing w m) × (s.map ≡ own)
+  own-standing m some = (stands m some, its-own m (stands m some) (lies m some))
+
+  found : (m : ModuleId) → IsSome (module_at own.modules m) → module_of w m ≡ module_at own.modules m
+  found m some =
+      let s = own-standing m some in
+      s.0.is ∙ sym (ap (λ (x : Map). module_at x.modules m) (sym s.1) ∙ s.0.listed)
+
+  ascending : IsAscending own.modules
+  ascending =
+      let s = own-standing own.root root-lies in
+      subst (λ (x : Map). IsAscending x.modules) s.1 s.0.ascending
+
+  block : (m : ModuleId) → IsSome (module_at own.modules m) → (b : BlockId) → own.id.block ≡ Some b → HasContainer w m own
+  block m some b e =
+      let s = own-standing m some in
+      subst (HasContainer w m) s.1 (s.0.block b (ap (λ (x : Map). x.id.block) s.1 ∙ e))
+
+  above : (m q : ModuleId) (d : Module) → module_at own.modules m ≡ Some d → d.parent ≡ Some q → (q.0 < m.0) × IsSome (module_at own.modules q)
+  above m q d e up =
+      let s = own-standing m (ap is_some e) in
+      let same : Some s.0.there ≡ Some d = sym s.0.listed ∙ ap (λ (x : Map). module_at x.modules m) s.1 ∙ e in
+      let is_there : s.0.there ≡ d = cc in
+      let over = s.0.parent q (ap (λ (x : Module). x.parent) is_there ∙ up) in
+      (over.0, map-lists w is q own (over.1 ∙ ap Some s.1))
 
   one-root : (m : ModuleId) (d : Module) → module_at own.modules m ≡ Some d → (d.parent ≡ None) ↔ (m ≡ own.root)
   one-root m d e =
@@ -153,11 +179,15 @@ module _ (w : World) (is : IsWorld w) (fam : IsFamily w) (own : Map) (there : nu
   whole = record {
     known = known;
     its_map = lies;
+    found = found;
+    ascending = ascending;
     root = root-lies;
     one_root = one-root;
+    parent = above;
     children = λ m d e. All-from_recursion (λ (x : Name × ModuleId). IsChild own m x.1) d.children (listed-children m d e);
     child = λ m d e n. by-name (IsChild own m) d.children n (listed-children m d e);
     contains = contains;
+    block = block;
     outermost = outermost;
     shared = shared;
   }

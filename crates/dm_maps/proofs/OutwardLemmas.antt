@@ -5,11 +5,11 @@ use Rattle.std.proofs.lemmas.Bool.{ltb-true}
 use Rattle.dm_ids.specs.declared.BlockId.{BlockId}
 use Rattle.dm_ids.specs.declared.ModuleId.{ModuleId}
 use Rattle.dm_modules.specs.Maps.{Map}
-use Rattle.dm_maps.specs.Facts.{Standing, HasContainer}
+use Rattle.dm_maps.specs.MapFacts.{HasContainer}
 use Rattle.dm_maps.specs.Outwards.{container_of, next_outwards, outwards_within, maps_outwards, AsksMaps}
 use Rattle.dm_maps.specs.Trees.{IsWorld}
 use Rattle.dm_maps.specs.World.{World, map_of}
-use Rattle.dm_maps.proofs.InOrder.{in_order}
+use Rattle.dm_maps.proofs.InOrder.{Standing, in_order}
 use Rattle.dm_maps.proofs.SoundLemmas.{placed-known}
 
 abbrev none : Map → ModuleId → List (Map × ModuleId)

@@ -9,7 +9,6 @@ pub mod CutLaws
 pub mod BuildItems
 pub mod BuildBlocks
 pub mod BuildMaps
-pub mod Facts
 pub mod Faults
 pub mod ItemFaults
 pub mod First

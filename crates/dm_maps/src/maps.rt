@@ -10,6 +10,7 @@ pub(crate) mod share;
 
 use dm_base::ids::{MapId, ModuleId};
 use dm_base::name::Name;
+use dm_def_map::building;
 use dm_def_map::def_map::DefMap;
 use dm_def_map::map_change::MapChange;
 use dm_modules::module_data::ModuleData;
@@ -94,7 +95,7 @@ impl Maps {
         ensures value { option_copied_mut result ≡ scope_in self.old id i }
     {
         let map = self.get_mut(id)?;
-        match map.scope_mut(i) {
+        match building::scope_mut(map, i) {
             Some(scope) => Some(scope),
             None => None,
         }
@@ -114,7 +115,7 @@ impl Maps {
     {
         match self.get_mut(id) {
             None => Ok(()),
-            Some(map) => map.change(change, alloc),
+            Some(map) => building::change(map, change, alloc),
         }
     }
 
@@ -134,7 +135,7 @@ impl Maps {
     {
         match self.get_mut(id) {
             None => Ok(()),
-            Some(map) => map.add_child(i, name, m, added),
+            Some(map) => building::add_child(map, i, name, m, added),
         }
     }
 

@@ -11,9 +11,7 @@ ghost use Rattle.dm_held.specs.Holding.{res_holds};
 ghost use Rattle.dm_modules.specs.Maps.{module_at};
 ghost use Rattle.dm_maps.specs.MapFacts.{IsMapOf};
 ghost use Rattle.dm_maps.specs.Sound.{IsCheckedWorld};
-ghost use Rattle.dm_maps.specs.Trees.{IsWorld};
 
-mod in_order;
 mod item_modules;
 mod knows;
 mod map_dump;
@@ -29,7 +27,7 @@ mod tree;
 
 use crate::builder::WorldBuilder;
 use crate::world::record_counts::RecordCounts;
-use dm_base::ids::{MapId, ModuleId};
+use dm_base::ids::ModuleId;
 use dm_base::name::Name;
 use dm_base::per_ns::PerNs;
 use dm_def_map::def_map::DefMap;
@@ -103,22 +101,16 @@ impl World {
         ensures lies { IfSome result (λ map. IsSome (module_at map.now.modules m)) }
         ensures there { IsTrue (knows self.now (held.Module m)) → IsSome result }
         ensures facts { IfSome result (λ map. IsMapOf self.now map.now) }
-
-        // What holds of the modules and maps of every world.
-        ensures lawful { IsWorld self.now }
     {
         self.tables().map_of(m)
     }
 
-    /// The map of that id, by its number.
-    pub fn numbered_map(&self, id: MapId) -> Option<&DefMap>
-        ensures value { option_copied result ≡ numbered_map self.now id }
-
-        // It is the world's of its own id.
-        ensures own { IfSome result (λ map. numbered_map self.now map.now.id ≡ Some map.now) }
-        ensures facts { IfSome result (λ map. IsMapOf self.now map.now) }
+    /// What holds of a map that is the world's of its id. It does nothing: a caller whose proof needs it calls it.
+    pub fn facts_of(&self, map: &DefMap)
+        requires { numbered_map self.now map.now.id ≡ Some map.now }
+        ensures { IsMapOf self.now map.now }
     {
-        self.tables().numbered_map(id)
+        let _tables = self.tables();
     }
 
     /// What a module's scope binds under a name; nothing where there is no such module.

@@ -11,6 +11,7 @@ mod reading;
 use dm_base::ids::{BlockId, Crate, FileAstId, FileId, MacroCallId, MapId, ModuleId};
 use dm_base::source::{AstId, Edition, EditionedFileId, HirFileId};
 use dm_maps::builder::WorldBuilder;
+use dm_maps::def_map::DefMap;
 use dm_maps::fault::WorldFault;
 use dm_maps::world::World;
 use std::alloc::Global;
@@ -36,6 +37,15 @@ const FILE: EditionedFileId = EditionedFileId {
 
 /// The macro call that module 1 is written out in.
 const CALL: MacroCallId = MacroCallId(6);
+
+/// The map of that id.
+fn map_at(world: &World, id: MapId) -> Option<&DefMap> {
+    let root = match id.block {
+        None => world.root_of(id.krate)?,
+        Some(block) => world.block_root_of(block)?,
+    };
+    world.map_of(root)
+}
 
 /// An item of that file.
 fn ast(item: u32) -> AstId {

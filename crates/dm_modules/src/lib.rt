@@ -1,6 +1,8 @@
 //! The modules of a map, the extern prelude of a crate, and what crates and items have beside them.
 #![tactic(auto)]
 
+pub mod building;
+pub mod choosing;
 mod growth;
 pub mod local_def_map;
 mod local_hash;
@@ -9,3 +11,4 @@ pub mod module_data;
 pub mod module_origin;
 pub mod modules_iter;
 pub mod modules_map;
+mod origins;

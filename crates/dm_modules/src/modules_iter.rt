@@ -1,16 +1,15 @@
 //! Iterators over the modules of a map. Each is seen as the list of what it has left.
-ghost use Rattle.std.specs.Prelude.{◌≡◌, Bool, Some, IfSome, length};
+ghost use Rattle.std.specs.Prelude.{◌≡◌, Some, IfSome, length};
 ghost use Rattle.std.specs.Iterator.{at_most, UpTo};
 ghost use Rattle.std.specs.Iterator.SizeHint.{IsWithinCount};
 ghost use Rattle.std.specs.Map.Iter.{TakesFirst, ShowsInOrder};
 ghost use Rattle.dm_ids.specs.declared.ModuleId.{ModuleId};
-ghost use Rattle.dm_modules.specs.declared.module_origin.ModuleOrigin.{ModuleOrigin};
-ghost use Rattle.dm_modules.specs.Queries.{deref_module, fills, is_inline_in, modules_with};
+ghost use Rattle.dm_modules.specs.Queries.{deref_module, modules_with};
 
 use crate::module_data::ModuleData;
-use crate::module_origin::ModuleOrigin;
 use crate::modules_map::ModulesMap;
-use dm_base::ids::{FileId, MacroCallId, ModuleId};
+use crate::origins::{FilledBy, InlineIn, Origins};
+use dm_base::ids::ModuleId;
 use indexmap::map;
 use std::marker::Model;
 
@@ -75,50 +74,6 @@ impl<'a> IntoIterator for &'a ModulesMap {
     }
 }
 
-/// A choice of modules by where they come from.
-pub trait Origins: Copy {
-    ghost passes: { Self → ModuleOrigin → Bool };
-
-    fn passes(&self, origin: ModuleOrigin) -> bool
-        ensures { result ≡ passes self.now origin };
-}
-
-/// The modules that fill a file, under whatever edition.
-#[derive(Clone, Copy)]
-pub struct FilledBy(pub FileId);
-
-impl Origins for FilledBy {
-    ghost passes = { λ by. fills by.0 };
-
-    fn passes(&self, origin: ModuleOrigin) -> bool {
-        match origin.file_id() {
-            None => false,
-            Some(own) => self.0 == own.file_id(),
-        }
-    }
-}
-
-/// The modules that are written out in what a macro call expands to.
-#[derive(Clone, Copy)]
-pub struct InlineIn(pub MacroCallId);
-
-impl Origins for InlineIn {
-    ghost passes = { λ by. is_inline_in by.0 };
-
-    fn passes(&self, origin: ModuleOrigin) -> bool {
-        match origin {
-            ModuleOrigin::Inline {
-                definition_tree_id,
-                ..
-            } => match definition_tree_id.file_id().macro_file() {
-                None => false,
-                Some(own) => self.0 == own,
-            },
-            _ => false,
-        }
-    }
-}
-
 /// The modules of a map whose origins pass, in order of number.
 #[derive(Drop)]
 pub struct ModulesWith<'a, P: Origins> {
@@ -138,7 +93,7 @@ impl<'a, P: Origins> Model for ModulesWith<'a, P> {
 
 impl<'a, P: Origins> ModulesWith<'a, P> {
     /// The modules whose origins pass, in order of number. Takes no memory.
-    pub fn new(modules: &'a ModulesMap, origins: P) -> Self
+    pub(crate) fn new(modules: &'a ModulesMap, origins: P) -> Self
         ensures rest { result ≡ modules_with (P.passes origins) modules.now }
         ensures runs { ShowsInOrder (λ (m : ModuleId). m) }
     {
@@ -148,6 +103,12 @@ impl<'a, P: Origins> ModulesWith<'a, P> {
         }
     }
 }
+
+/// The modules of a map that fill a file, in order of number.
+pub type ModulesForFile<'a> = ModulesWith<'a, FilledBy>;
+
+/// The modules of a map that are written out in what a macro call expands to, in order of number.
+pub type InlineModules<'a> = ModulesWith<'a, InlineIn>;
 
 /// The next module whose origin passes.
 fn next_passing<P: Origins>(

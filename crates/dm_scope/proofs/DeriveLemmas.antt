@@ -1,6 +1,6 @@
 -- Derive attributes found and filled.
 use Rattle.std.proofs.Common.{◌≡◌, ◌<◌, ◌≤◌, ◌+◌, ℕ, suc, Bool, true, false, cond, List, [], ◌∷◌, length, map, position, nat_lt, slice_set, slice_index_or, None, Some, refl, sym, ap, ◌∙◌, arith, ltb-true, not}
-use Rattle.std.specs.List.{position_or_len}
+use Rattle.std.specs.List.{find, position_or_len}
 use Rattle.std.proofs.lemmas.Bool.{ltb-false}
 use Rattle.std.specs.Option.{option_map}
 use Rattle.std.specs.Map.{lookup, set_value}
@@ -47,6 +47,16 @@ position-none t xs h = by (nat_lt (position_or_len t xs) (length xs)) refl h
         let more : length xs ≤ position_or_len t xs = ltb-false _ _ e in
         let is : position_or_len t xs ≡ place t xs = place-is t xs in
         omega arith
+
+-- the first entry of an attribute, as contracts see it
+pub find-derive_of : (id : AttrId) (ds : List DeriveMacroInvocation) → option_map derive_of (find (has_id id) ds) ≡ find_derive id (map derive_of ds)
+find-derive_of id [] = refl
+find-derive_of id (x ∷ xs) = by (has_id id x) (find-derive_of id xs)
+  where
+    by : (b : Bool) → option_map derive_of (find (has_id id) xs) ≡ find_derive id (map derive_of xs)
+        → option_map derive_of (cond b (Some x) (find (has_id id) xs)) ≡ cond b (Some (derive_of x)) (find_derive id (map derive_of xs))
+    by true rest = refl
+    by false rest = rest
 
 module _ (id : AttrId) (d : DeriveMacroInvocation) where
   -- the entry at that place is the one that is found

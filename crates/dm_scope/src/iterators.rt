@@ -8,14 +8,15 @@ ghost use Rattle.dm_ids.specs.declared.TraitId.{TraitId};
 ghost use Rattle.dm_ids.specs.declared.MacroCallId.{MacroCallId};
 ghost use Rattle.dm_base.specs.declared.source.AstId.{AstId};
 ghost use Rattle.dm_scope.specs.Derives.{derives_of, deref_derives};
-ghost use Rattle.dm_scope.specs.Iterators.{any_impl, trait_impl, inherent_impl, module_of, trait_of, deref_legacy};
+ghost use Rattle.dm_scope.specs.Iterators.{trait_of, deref_legacy};
 ghost use Rattle.dm_scope.specs.TableLists.{lists_of};
 
 use crate::derives::DeriveMacroInvocation;
-use crate::picked::{Pick, Picked};
-use dm_base::ids::{ImplId, MacroCallId, ModuleId, TraitId};
+use crate::picked::Picked;
+use crate::picks::{AnyImpl, InherentImpl, ModuleType, TraitImpl, TraitType};
+use dm_base::ids::{ImplId, MacroCallId, TraitId};
 use dm_base::imports::ImportId;
-use dm_base::item_ids::{MacroId, ModuleDefId};
+use dm_base::item_ids::MacroId;
 use dm_base::name::Name;
 use dm_base::per_ns::TypesItem;
 use dm_base::source::AstId;
@@ -71,94 +72,17 @@ impl<'a, T: Copy> Iterator for Listed<'a, T> {
     }
 }
 
-/// Shows each `impl` block.
-#[derive(Clone, Copy)]
-pub struct AnyImpl;
-
-impl Pick<(ImplId, bool)> for AnyImpl {
-    type Shown = ImplId;
-
-    ghost shown = { any_impl };
-
-    fn pick(&self, x: &(ImplId, bool)) -> Option<ImplId> {
-        let (id, _) = *x;
-        Some(id)
-    }
-}
-
 /// The `impl` blocks of a scope.
 pub type Impls<'a> = Picked<'a, (ImplId, bool), AnyImpl>;
-
-/// Shows each `impl` block of a trait.
-#[derive(Clone, Copy)]
-pub struct TraitImpl;
-
-impl Pick<(ImplId, bool)> for TraitImpl {
-    type Shown = ImplId;
-
-    ghost shown = { trait_impl };
-
-    fn pick(&self, x: &(ImplId, bool)) -> Option<ImplId> {
-        if x.1 { Some(x.0) } else { None }
-    }
-}
 
 /// The `impl` blocks of traits in a scope.
 pub type TraitImpls<'a> = Picked<'a, (ImplId, bool), TraitImpl>;
 
-/// Shows each `impl` block without a trait.
-#[derive(Clone, Copy)]
-pub struct InherentImpl;
-
-impl Pick<(ImplId, bool)> for InherentImpl {
-    type Shown = ImplId;
-
-    ghost shown = { inherent_impl };
-
-    fn pick(&self, x: &(ImplId, bool)) -> Option<ImplId> {
-        if x.1 { None } else { Some(x.0) }
-    }
-}
-
 /// The `impl` blocks without a trait in a scope.
 pub type InherentImpls<'a> = Picked<'a, (ImplId, bool), InherentImpl>;
 
-/// Shows the module that a type is, and who sees it.
-#[derive(Clone, Copy)]
-pub struct ModuleType;
-
-impl Pick<TypesItem> for ModuleType {
-    type Shown = (ModuleId, Visibility);
-
-    ghost shown = { module_of };
-
-    fn pick(&self, x: &TypesItem) -> Option<(ModuleId, Visibility)> {
-        match x.def {
-            ModuleDefId::ModuleId(m) => Some((m, x.vis)),
-            _ => None,
-        }
-    }
-}
-
 /// The modules among the types of a scope.
 pub type ModulesInScope<'a> = Picked<'a, TypesItem, ModuleType>;
-
-/// Shows the trait that a type is.
-#[derive(Clone, Copy)]
-pub struct TraitType;
-
-impl Pick<TypesItem> for TraitType {
-    type Shown = TraitId;
-
-    ghost shown = { trait_of };
-
-    fn pick(&self, x: &TypesItem) -> Option<TraitId> {
-        match x.def {
-            ModuleDefId::TraitId(tr) => Some(tr),
-            _ => None,
-        }
-    }
-}
 
 /// The traits of a scope: those among its types, then the unnamed ones.
 #[derive(Drop)]

@@ -12,6 +12,7 @@ pub mod iterators;
 mod keys;
 pub mod macro_calls;
 mod picked;
+mod picks;
 pub mod reads;
 pub mod scope_tables;
 mod steps;

@@ -6,39 +6,23 @@ ghost use Rattle.std.specs.Map.Iter.{TakesFirst, ShowsInOrder};
 ghost use Rattle.std.specs.Option.{MatchOption};
 ghost use Rattle.std.specs.Slice.Iter.{iter_rest};
 ghost use Rattle.dm_ids.specs.declared.MacroCallId.{MacroCallId};
-ghost use Rattle.dm_scope.specs.MacroCalls.{Takes, call_in, attribute_calls, item_calls};
+ghost use Rattle.dm_scope.specs.MacroCalls.{Takes, attribute_calls, item_calls};
 
 use crate::derives::DeriveMacroInvocation;
-use crate::picked::{Pick, Picked};
+use crate::picked::Picked;
+use crate::picks::CallInSlot;
 use dm_base::ids::{BuiltinDeriveImplId, MacroCallId};
 use either::Either;
 use smallvec::SmallVec;
 use std::marker::Model;
 use std::slice;
 
-/// Shows the macro call that a derive's slot holds.
-#[derive(Clone, Copy)]
-pub struct CallInSlot;
-
-impl Pick<Option<Either<MacroCallId, BuiltinDeriveImplId>>> for CallInSlot {
-    type Shown = MacroCallId;
-
-    ghost shown = { call_in };
-
-    fn pick(&self, x: &Option<Either<MacroCallId, BuiltinDeriveImplId>>) -> Option<MacroCallId> {
-        match *x {
-            Some(Either::Left(call)) => Some(call),
-            Some(Either::Right(_)) | None => None,
-        }
-    }
-}
-
 /// The macro calls in the slots of a derive attribute.
-pub type SlotCalls<'a> = Picked<'a, Option<Either<MacroCallId, BuiltinDeriveImplId>>, CallInSlot>;
+type SlotCalls<'a> = Picked<'a, Option<Either<MacroCallId, BuiltinDeriveImplId>>, CallInSlot>;
 
 /// The macro calls in the slots of an item's derive attributes.
 #[derive(Drop)]
-pub struct AttributeCalls<'a> {
+struct AttributeCalls<'a> {
     slots: SlotCalls<'a>,
     attributes: slice::Iter<'a, DeriveMacroInvocation>,
 }
@@ -99,7 +83,7 @@ impl<'a> Iterator for AttributeCalls<'a> {
 
 /// The macro calls in the slots of the derive attributes of some items.
 #[derive(Drop)]
-pub struct DeriveCalls<'a> {
+struct DeriveCalls<'a> {
     attributes: AttributeCalls<'a>,
     items: slice::Iter<'a, SmallVec<DeriveMacroInvocation, 1>>,
 }
@@ -177,7 +161,7 @@ impl<'a> Model for AllMacroCalls<'a> {
 }
 
 impl<'a> AllMacroCalls<'a> {
-    pub fn new(
+    pub(crate) fn new(
         macro_invocations: &'a [MacroCallId],
         attr_macros: &'a [MacroCallId],
         derives: &'a [SmallVec<DeriveMacroInvocation, 1>],

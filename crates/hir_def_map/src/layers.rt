@@ -25,6 +25,7 @@ use dm_base::visibility::Visibility;
 use dm_maps::local_def_map::LocalDefMap;
 use dm_maps::modes::MacroSubNs;
 use dm_maps::world::World;
+use dm_maps::world::maps_of::macro_styles_from_id;
 
 /// Whether a macro may be called as is expected.
 #[tactic(auto, unfolding(dm_maps::specs::Readings::setting_of))]
@@ -33,9 +34,9 @@ fn fits(world: &World, expected: Option<MacroSubNs>, m: MacroId) -> bool
 {
     match expected {
         None => true,
-        Some(MacroSubNs::Bang) => world.styles_of(m).contains(MacroCallStyles::FN_LIKE),
+        Some(MacroSubNs::Bang) => macro_styles_from_id(world, m).contains(MacroCallStyles::FN_LIKE),
         Some(MacroSubNs::Attr) => {
-            let styles = world.styles_of(m);
+            let styles = macro_styles_from_id(world, m);
             styles.contains(MacroCallStyles::ATTR) || styles.contains(MacroCallStyles::DERIVE)
         }
     }

@@ -1,12 +1,14 @@
 //! Paths, resolved over a checked world.
-ghost use Rattle.std.specs.Prelude.{◌≡◌, None, length};
+ghost use Rattle.std.specs.Prelude.{◌≡◌, None, Some, IsSome, length};
 ghost use Rattle.std.specs.Option.{ForSome};
+ghost use Rattle.dm_base.specs.Tree.{IsKnown};
 ghost use Rattle.dm_base.specs.Visibility.{NamesKnown};
 ghost use Rattle.dm_held.specs.Holding.{res_holds};
 ghost use Rattle.dm_maps.specs.Cut.{cut, cut_local};
 ghost use Rattle.dm_maps.specs.Known.{KnowsAll};
 ghost use Rattle.dm_maps.specs.Trees.{tree_of};
-ghost use Rattle.dm_modules.specs.Maps.{Map};
+ghost use Rattle.dm_maps.specs.World.{numbered_map};
+ghost use Rattle.dm_modules.specs.Maps.{Map, module_at};
 ghost use Rattle.hir_def_map.specs.declared.result.ResolveMode.TheVariants.{Other};
 ghost use Rattle.hir_def_map.specs.Laws.{IsAnswer};
 ghost use Rattle.hir_def_map.specs.Paths.{asked, answer, answer_alone, prelude_answer};
@@ -153,7 +155,7 @@ impl ResolvePath for DefMap {
         shadow: BuiltinShadowMode,
         expected_macro_subns: Option<MacroSubNs>,
     ) -> ResolvePathResult {
-        let _known = world.has_module_of(self, original_module);
+        origin_known(world, self, original_module);
         let ask = Ask::new(
             original_module,
             mode,
@@ -175,7 +177,7 @@ impl ResolvePath for DefMap {
         shadow: BuiltinShadowMode,
         expected_macro_subns: Option<MacroSubNs>,
     ) -> ResolvePathResult {
-        let _known = world.has_module_of(self, original_module);
+        origin_known(world, self, original_module);
         let ask = Ask::new(
             original_module,
             mode,
@@ -255,7 +257,7 @@ impl ResolvePath for DefMap {
         visibility: &RawVisibility,
         within_impl: bool,
     ) -> Option<Visibility> {
-        let _known = world.has_module_of(self, original_module);
+        origin_known(world, self, original_module);
         match visibility {
             RawVisibility::Public => Some(Visibility::Public),
             RawVisibility::PubCrate => Some(Visibility::PubCrate(self.krate())),
@@ -277,4 +279,14 @@ impl ResolvePath for DefMap {
             }
         }
     }
+}
+
+/// A module of a map of the world is known, and so is the map's root. It does nothing: what a question requires says it.
+fn origin_known(world: &World, map: &DefMap, m: ModuleId)
+    requires map { numbered_map world.now map.now.id ≡ Some map.now }
+    requires lies { IsSome (module_at map.now.modules m) }
+    ensures known { IsKnown (tree_of world.now) m }
+    ensures root { IsKnown (tree_of world.now) map.now.root }
+{
+    world.facts_of(map);
 }

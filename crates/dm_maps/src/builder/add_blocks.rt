@@ -12,6 +12,7 @@ use crate::place::Place;
 use dm_base::ids::{BlockId, Crate, MapId, ModuleId};
 use dm_base::source::AstId;
 use dm_base::visibility::{Visibility, VisibilityExplicitness};
+use dm_def_map::building;
 use dm_def_map::def_map::DefMap;
 use dm_modules::module_data::ModuleData;
 use dm_modules::module_origin::ModuleOrigin;
@@ -103,7 +104,7 @@ fn fresh_block(
         block: Some(b),
     };
     let shared = shared_of(of)?;
-    let map = DefMap::with_root(
+    let map = building::with_root(
         id,
         of.edition(),
         Some(containing),

@@ -13,6 +13,7 @@ use dm_base::ids::{Crate, MapId, ModuleId};
 use dm_base::name::Name;
 use dm_base::source::{Edition, EditionedFileId};
 use dm_base::visibility::Visibility;
+use dm_def_map::building;
 use dm_def_map::def_map::DefMap;
 use dm_modules::module_data::ModuleData;
 use dm_modules::module_origin::ModuleOrigin;
@@ -205,6 +206,6 @@ fn fresh_crate(
     let id = MapId { krate, block: None };
     let added = ModuleData::fresh(origin, Visibility::Public, None, alloc);
     let shared = share(CrateData::fresh(alloc)?, alloc)?;
-    let map = DefMap::with_root(id, edition, None, root, added, shared, alloc)?;
+    let map = building::with_root(id, edition, None, root, added, shared, alloc)?;
     Ok(map)
 }

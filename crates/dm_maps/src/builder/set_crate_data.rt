@@ -9,6 +9,7 @@ use crate::build_fault::BuildFault;
 use crate::builder::WorldBuilder;
 use dm_base::ids::{Crate, FunctionId, MapId, ProcMacroId};
 use dm_base::symbol::Symbol;
+use dm_def_map::building;
 use dm_tables::crate_data::CrateData;
 use std::alloc::AllocError;
 
@@ -113,7 +114,7 @@ impl WorldBuilder {
         match self.numbered_map(MapId { krate, block: None }) {
             None => Err(BuildFault::NoSuchCrate),
             Some(map) => {
-                let data = map.shared().copy(self.alloc)?;
+                let data = building::shared(map).copy(self.alloc)?;
                 Ok(data)
             }
         }

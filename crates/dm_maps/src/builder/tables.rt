@@ -26,10 +26,17 @@ impl WorldBuilder {
     }
 
     /// The map of that id, by its number: a block's is found by the block alone, whatever crate the id names.
-    pub fn numbered_map(&self, id: MapId) -> Option<&DefMap>
+    pub(crate) fn numbered_map(&self, id: MapId) -> Option<&DefMap>
         ensures { option_copied result ≡ numbered_map self.now id }
     {
         self.maps.get(id)
+    }
+
+    /// The map of a block: its id is what a change of the map takes.
+    pub fn block_map(&self, block: BlockId) -> Option<&DefMap>
+        ensures { option_copied result ≡ slice_get self.now.block_maps block.0 }
+    {
+        self.maps.blocks().get(block.0 as usize)
     }
 
     /// The map that a module lies in.

@@ -13,6 +13,7 @@ use crate::builder::WorldBuilder;
 use crate::check::note_maps::{note_local_map, note_map, note_module};
 use crate::place::Place;
 use dm_base::ids::ModuleId;
+use dm_def_map::building;
 use dm_def_map::def_map::DefMap;
 use dm_held::fault::{Holder, WorldFault};
 use dm_held::held::HeldFault;
@@ -56,7 +57,7 @@ fn crate_map_fault(
 {
     let own = note_map(world, map);
     let local = note_local_map_at(world, locals, k);
-    let beside = lesser(local, note_data(world, map.shared()));
+    let beside = lesser(local, note_data(world, building::shared(map)));
     let least = lesser(own, beside);
     fault_of(Holder::Map(map.id()), least)
 }

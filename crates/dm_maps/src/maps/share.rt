@@ -4,6 +4,7 @@ ghost use Rattle.dm_maps.specs.BuildCrateData.{with_shared, map_with_shared, map
 
 use crate::maps::Maps;
 use dm_base::ids::Crate;
+use dm_def_map::building;
 use dm_def_map::def_map::DefMap;
 use dm_tables::crate_data::CrateData;
 use std::alloc::{AllocError, Global};
@@ -21,7 +22,7 @@ pub(crate) fn share(new: CrateData, alloc: Global) -> Result<Rc<CrateData>, Allo
 pub(crate) fn shared_of(map: &DefMap) -> Result<Rc<CrateData>, AllocError>
     ensures { IfOk result (λ r. r.value ≡ map.now.shared) }
 {
-    let shared = map.shared().clone()?;
+    let shared = building::shared(map).clone()?;
     Ok(shared)
 }
 
@@ -52,7 +53,7 @@ fn hand_over(map: &mut DefMap, krate: Crate, handles: &mut Vec<Rc<CrateData>>, n
 {
     if map.krate() == krate {
         if let Some(handle) = handles.pop() {
-            map.set_shared(handle);
+            building::set_shared(map, handle);
         }
     }
 }

@@ -2,14 +2,13 @@
 ghost use Rattle.std.specs.Prelude.{◌≡◌, IsTrue, IfOk, Some, None, nat_lt, length, slice_get, string_bytes};
 ghost use Rattle.dm_held.specs.declared.held.HeldId.TheVariants as held;
 ghost use Rattle.dm_maps.specs.Known.{knows, KnowsAll};
-ghost use Rattle.dm_held.specs.Holding.{def_holds, local_holds};
+ghost use Rattle.dm_held.specs.Holding.{local_holds};
 ghost use Rattle.dm_maps.specs.MapDumps.{map_dump};
 ghost use Rattle.dm_maps.specs.MapFacts.{IsMapOf};
 ghost use Rattle.dm_maps.specs.Outwards.{maps_outwards, AsksMaps};
 ghost use Rattle.dm_maps.specs.Readings.{root_of, styles_in};
 ghost use Rattle.dm_maps.specs.World.{crate_map, numbered_map};
 ghost use Rattle.dm_modules.specs.Maps.{Map};
-ghost use Rattle.dm_base.specs.declared.item_ids.ModuleDefId.TheVariants as def;
 
 use crate::builder::WorldBuilder;
 use crate::world::World;
@@ -53,12 +52,11 @@ pub fn local_def_map(world: &World, krate: Crate) -> &LocalDefMap
     world.tables().local_map_at(krate)
 }
 
-/// The ways in which a macro of the world may be called.
+/// The ways in which a macro may be called: none for one that is not the world's.
 pub fn macro_styles_from_id(world: &World, m: MacroId) -> MacroCallStyles
-    requires { KnowsAll world.now (def_holds (def.MacroId m)) }
     ensures { result ≡ styles_in world.now m }
 {
-    world.styles_of(m)
+    world.tables().styles_of(m)
 }
 
 /// The calls of a map that ask the world. `dump` alone takes memory.

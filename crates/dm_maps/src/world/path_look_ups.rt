@@ -1,39 +1,23 @@
 //! What paths read of a world beside its scopes. None of these calls takes memory.
-ghost use Rattle.std.specs.Prelude.{◌≡◌, IsTrue, IsSome, Some, true, slice_get};
+ghost use Rattle.std.specs.Prelude.{◌≡◌, IsTrue, Some, slice_get};
 ghost use Rattle.std.specs.Option.{ForSome};
 ghost use Rattle.dm_base.specs.Names.{find_name};
 ghost use Rattle.dm_base.specs.Tree.{IsKnown};
 ghost use Rattle.dm_held.specs.declared.held.HeldId.TheVariants as held;
 ghost use Rattle.dm_maps.specs.Known.{knows};
-ghost use Rattle.dm_maps.specs.Readings.{variants_of, root_of, block_root_of, is_2015_in, prelude_in, macro_uses_of, styles_in};
+ghost use Rattle.dm_maps.specs.Readings.{variants_of, root_of, block_root_of, is_2015_in, prelude_in, macro_uses_of};
 ghost use Rattle.dm_maps.specs.Trees.{tree_of};
-ghost use Rattle.dm_maps.specs.World.{scope_of, map_of, numbered_map};
-ghost use Rattle.dm_modules.specs.Maps.{module_at};
+ghost use Rattle.dm_maps.specs.World.{scope_of};
 ghost use Rattle.dm_scope.specs.Scope.{legacy_in};
 
 use crate::world::World;
 use dm_base::fields_shape::FieldsShape;
 use dm_base::ids::{BlockId, Crate, EnumId, EnumVariantId, ExternCrateId, MapId, ModuleId};
 use dm_base::item_ids::MacroId;
-use dm_base::macros::MacroCallStyles;
 use dm_base::name::Name;
 use dm_base::source::Edition;
-use dm_def_map::def_map::DefMap;
 
 impl World {
-    /// Whether a module of a map is one of the world's: it is, where the map is the world's of its id. So is the map's root.
-    pub fn has_module_of(&self, map: &DefMap, m: ModuleId) -> bool
-        requires map { numbered_map self.now map.now.id ≡ Some map.now }
-        requires lies { IsSome (module_at map.now.modules m) }
-        ensures value { result ≡ true }
-        ensures known { IsKnown (tree_of self.now) m }
-        ensures its_map { map_of self.now m ≡ Some map.now }
-        ensures root { IsKnown (tree_of self.now) map.now.root }
-    {
-        let _tables = &self.tables;
-        true
-    }
-
     /// The root of a crate.
     pub fn root_of(&self, krate: Crate) -> Option<ModuleId>
         ensures value { result ≡ root_of self.now krate }
@@ -82,13 +66,6 @@ impl World {
         ensures known { ForSome result (λ l. IsTrue (knows self.now (held.Macro l))) }
     {
         self.tables.legacy_of(m, name)
-    }
-
-    /// The styles of a macro: none for one that is not the world's.
-    pub fn styles_of(&self, m: MacroId) -> MacroCallStyles
-        ensures { result ≡ styles_in self.now m }
-    {
-        self.tables.styles_of(m)
     }
 
     /// The variant of an enum under a name, with its shape.

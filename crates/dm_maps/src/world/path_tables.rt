@@ -37,7 +37,7 @@ impl WorldBuilder {
     pub(crate) fn block_root_of(&self, block: BlockId) -> Option<ModuleId>
         ensures { result ≡ block_root_of self.now block }
     {
-        match self.maps.blocks().get(block.0 as usize) {
+        match self.block_map(block) {
             None => None,
             Some(map) => Some(map.root_module_id()),
         }

@@ -1,5 +1,5 @@
 //! What the maps of a crate answer of its data.
-use super::{BLOCK_MAP, Building, CRATE_MAP};
+use super::{BLOCK_MAP, Building, CRATE_MAP, map_at};
 use dm_base::ids::MapId;
 use dm_base::symbol::Symbol;
 use dm_maps::build_fault::BuildFault;
@@ -12,7 +12,7 @@ type Data = (u32, [bool; 3]);
 
 /// What a map answers.
 fn told(world: &World, id: MapId, feature: &Symbol) -> Option<Data> {
-    let map = world.numbered_map(id)?;
+    let map = map_at(world, id)?;
     let flags = [
         map.is_no_std(),
         map.is_no_core(),
@@ -37,7 +37,7 @@ fn data(alloc: Global, changed: bool, id: MapId) -> Result<Option<Data>, BuildFa
 
 /// Adds the tools of a crate, each with a space behind it.
 fn add_tools(text: &mut String, world: &World) -> Result<(), AllocError> {
-    let Some(map) = world.numbered_map(BLOCK_MAP) else {
+    let Some(map) = map_at(world, BLOCK_MAP) else {
         return Ok(());
     };
     for tool in map.registered_tools() {

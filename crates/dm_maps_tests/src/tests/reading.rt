@@ -1,5 +1,5 @@
 //! Where items were declared, and which modules a file has.
-use super::{Building, CALL, CRATE_MAP, ROOT};
+use super::{Building, CALL, CRATE_MAP, ROOT, map_at};
 use dm_base::ids::{Crate, EnumVariantId, FileId, ModuleId, ProcMacroId, StructId};
 use dm_base::item_ids::{AdtId, MacroId, ModuleDefId};
 use dm_base::item_in_ns::ItemInNs;
@@ -26,7 +26,7 @@ fn homes_in(world: &World) -> Homes {
 
 /// The first module that fills file 0, and the first that is written out in the macro call.
 fn first_modules_in(world: &World) -> Option<[Option<ModuleId>; 2]> {
-    let map = world.numbered_map(CRATE_MAP)?;
+    let map = map_at(world, CRATE_MAP)?;
     Some([
         map.modules_for_file(FileId(0)).next(),
         map.inline_modules_for_macro_file(CALL).next(),

@@ -1,5 +1,5 @@
 //! The derive attributes of a scope.
-ghost use Rattle.std.specs.Prelude.{◌≡◌, ◌<◌, length, position, OnOk, OnErr, map};
+ghost use Rattle.std.specs.Prelude.{◌≡◌, ◌<◌, length, find, position, OnOk, OnErr, map};
 ghost use Rattle.std.specs.Map.Iter.{ShowsInOrder};
 ghost use Rattle.std.specs.Option.{ForSome, option_map, option_copied};
 ghost use Rattle.dm_scope.specs.Derives.{deref_derives, fresh_derive, derive_of, derives_of, has_id, derive_at, find_derive, fill_slot, fill_first, with_slot};
@@ -89,14 +89,9 @@ impl ItemScope {
 
 /// The first entry of an attribute.
 fn find_derive(derives: &[DeriveMacroInvocation], id: AttrId) -> Option<&DeriveMacroInvocation>
-    ensures { option_map derive_of (option_copied result) ≡ find_derive id (map derive_of derives.now) }
+    ensures { option_copied result ≡ find (has_id id) derives.now }
 {
-    for derive in derives {
-        if derive.attr_id == id {
-            return Some(derive);
-        }
-    }
-    None
+    derives.iter().find(|derive| derive.attr_id == id)
 }
 
 /// Fills a slot of the first entry of an item's attribute.

@@ -28,11 +28,12 @@ use super::ItemScope;
 use crate::bindings::Iter;
 use crate::import_records::ImportRecords;
 use crate::iterators::{
-    AnyImpl, AttrMacroInvocations, Impls, InherentImpl, InherentImpls, LegacyMacros, Listed,
-    MacroInvocations, ModuleType, ModulesInScope, TraitImpl, TraitImpls, Traits,
+    AttrMacroInvocations, Impls, InherentImpls, LegacyMacros, Listed, MacroInvocations,
+    ModulesInScope, TraitImpls, Traits,
 };
 use crate::macro_calls::AllMacroCalls;
 use crate::picked::Picked;
+use crate::picks::{AnyImpl, InherentImpl, ModuleType, TraitImpl};
 use dm_base::ids::{BuiltinDeriveImplId, ConstId, ExternBlockId, ExternCrateId, TraitId, UseId};
 use dm_base::imports::{ImportId, ImportOrExternCrate, ImportOrGlob};
 use dm_base::item_ids::{MacroId, ModuleDefId};

@@ -3,7 +3,7 @@ use Rattle.std.specs.Option.{option_map, option_copied, option_and_then}
 use Rattle.smallvec.specs.SmallVec.{SmallVec}
 use Rattle.dm_scope.specs.declared.derives.DeriveMacroInvocation.{DeriveMacroInvocation}
 use Rattle.dm_scope.specs.Derives.{derive_of, find_derive, derive_at}
-use Rattle.dm_scope.proofs.DeriveLemmas.{lookup-derives_of}
+use Rattle.dm_scope.proofs.DeriveLemmas.{find-derive_of, lookup-derives_of}
 use Rattle.dm_scope.proofs.item_scope.ItemScope.first_derive.Goals as goal
 
 pub returns-in_err-derives : goal.returns-in_err-derives
@@ -15,7 +15,8 @@ returns-in_err-derives c =
 
 pub returns : goal.returns
 returns c =
-    c.find_derive.ensures
+    ap (option_map derive_of) c.find_derive.ensures
+    ∙ find-derive_of c.args.attr_id c.as_slice.result.now
     ∙ ap (λ ds. find_derive c.args.attr_id (map derive_of ds)) c.as_slice.ensures
     ∙ sym (ap (option_and_then (find_derive c.args.attr_id)) (lookup-derives_of c.args.adt c.self.inside.derive_macros.entries
     ∙ ap (option_map (λ (v : SmallVec DeriveMacroInvocation). map derive_of v.items)) (sym c.in_ok-derives.ensures.value)))

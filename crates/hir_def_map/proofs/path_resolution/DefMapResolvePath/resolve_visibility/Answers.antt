@@ -5,7 +5,7 @@ use Rattle.hir_def_map.proofs.VisibilityLemmas.{reached-known, restricted-known,
 use Rattle.hir_def_map.proofs.path_resolution.DefMapResolvePath.resolve_visibility.Goals as goal
 
 pub returns-in-PubSelf-clause-known : goal.returns-in-PubSelf-clause-known
-returns-in-PubSelf-clause-known c = names-known c.args.world.now c.args.original_module c.in-PubSelf.explicitness c.has_module_of-known.ensures.known
+returns-in-PubSelf-clause-known c = names-known c.args.world.now c.args.original_module c.in-PubSelf.explicitness c.origin_known.ensures.known
 
 pub returns-in_ok-m-in-Module-clause-known : goal.returns-in_ok-m-in-Module-clause-known
 returns-in_ok-m-in-Module-clause-known c =
@@ -13,4 +13,4 @@ returns-in_ok-m-in-Module-clause-known c =
     let m = c.in_ok-m-in-Module.m in
     let known = reached-known w _ _ m c.resolve_path-left.ensures.known (sym c.module_reached.ensures ∙ c.in_ok-m-in-Module.was) in
     names-known w c.restricted-seen_in.result c.in-Module.explicitness
-    (subst (IsKnown (tree_of w)) (sym c.restricted-seen_in.ensures) (restricted-known w c.args.self.now c.args.within_impl m known c.has_module_of-known.ensures.root))
+    (subst (IsKnown (tree_of w)) (sym c.restricted-seen_in.ensures) (restricted-known w c.args.self.now c.args.within_impl m known c.origin_known.ensures.root))

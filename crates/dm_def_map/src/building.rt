@@ -1,0 +1,112 @@
+//! For the crates of this repository which build maps: how a map begins, grows, and is changed.
+ghost use Rattle.std.specs.Prelude.{◌≡◌, false, None, IsOk, IfOk, OnOk, OnErr};
+ghost use Rattle.std.specs.Option.{option_copied_mut};
+ghost use Rattle.std.specs.Borrow.{sem};
+ghost use Rattle.dm_modules.specs.Maps.{module_at, scope_at, fresh_map, map_with_child};
+ghost use Rattle.dm_def_map.specs.LendingMap.{LendsMapScope};
+ghost use Rattle.dm_def_map.specs.MapChanges.{changed, grows};
+
+use crate::def_map::DefMap;
+use crate::map_change::MapChange;
+use dm_base::ids::{MapId, ModuleId};
+use dm_base::name::Name;
+use dm_base::source::Edition;
+use dm_modules::building;
+use dm_modules::module_data::ModuleData;
+use dm_scope::item_scope::ItemScope;
+use dm_tables::crate_data::CrateData;
+use dm_tables::derive_helpers::add_helper;
+use dm_tables::keyed_tables::put_macro_def;
+use indexmap::IndexMap;
+use std::alloc::{AllocError, Global};
+use std::rc::Rc;
+
+/// A new map, with its root alone, and what all maps of its crate share.
+pub fn with_root(
+    id: MapId,
+    edition: Edition,
+    parent: Option<ModuleId>,
+    root: ModuleId,
+    added: ModuleData,
+    shared: Rc<CrateData>,
+    alloc: Global,
+) -> Result<DefMap, AllocError>
+    ensures { IfOk result (λ map. map ≡ record (fresh_map id edition parent root added) { shared = shared.value }) }
+{
+    let modules = building::with_root(root, added, alloc)?;
+    Ok(DefMap {
+        id,
+        edition,
+        root,
+        parent,
+        modules,
+        prelude: None,
+        macro_use_prelude: IndexMap::new(alloc),
+        macro_defs: IndexMap::new(alloc),
+        derive_helpers: IndexMap::new(alloc),
+        diagnostics: Vec::new(alloc),
+        shared,
+    })
+}
+
+/// Adds a module, as a child of the one at place `i`.
+pub fn add_child(
+    map: &mut DefMap,
+    i: usize,
+    name: Name,
+    m: ModuleId,
+    added: ModuleData,
+) -> Result<(), AllocError>
+    requires { module_at map.old.modules m ≡ None }
+    ensures ok { OnOk result (map.new ≡ map_with_child map.old i name m added) }
+    ensures err { OnErr result (map.new ≡ map.old) }
+{
+    building::add_child(&mut map.modules, i, name, m, added)?;
+    Ok(())
+}
+
+/// Makes a change.
+pub fn change(map: &mut DefMap, change: MapChange, alloc: Global) -> Result<(), AllocError>
+    ensures ok { OnOk result (map.new ≡ changed change map.old) }
+    ensures err { OnErr result (map.new ≡ map.old) }
+    ensures free { grows change ≡ false → IsOk result }
+{
+    match change {
+        MapChange::Prelude(named) => map.prelude = named,
+        MapChange::MacroUse(name, entry) => {
+            map.macro_use_prelude.insert(name, entry)?;
+        }
+        MapChange::MacroDef(ast, m) => {
+            put_macro_def(&mut map.macro_defs, ast, m)?;
+        }
+        MapChange::Helper(ast, helper) => {
+            add_helper(&mut map.derive_helpers, ast, helper, alloc)?;
+        }
+        MapChange::Diagnostic(diagnostic) => {
+            map.diagnostics.push(diagnostic)?;
+        }
+    }
+    Ok(())
+}
+
+/// What the module at place `i` binds, to be changed.
+pub fn scope_mut(map: &mut DefMap, i: usize) -> Option<&mut ItemScope>
+    ensures* writes_back { sem 𝓛 (LendsMapScope map.entry i result) }
+    ensures value { option_copied_mut result ≡ scope_at map.old.modules i }
+{
+    building::scope_mut(&mut map.modules, i)
+}
+
+/// What all maps of the crate share.
+pub fn shared(map: &DefMap) -> &Rc<CrateData>
+    ensures { result.now.value ≡ map.now.shared }
+{
+    map.shared()
+}
+
+/// Shares other data.
+pub fn set_shared(map: &mut DefMap, shared: Rc<CrateData>)
+    ensures { map.new ≡ record map.old { shared = shared.value } }
+{
+    map.shared = shared;
+}

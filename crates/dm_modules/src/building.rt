@@ -1,0 +1,58 @@
+//! For the crates of this repository which build maps: how the modules of a map begin, grow, and are changed.
+ghost use Rattle.std.specs.Prelude.{◌≡◌, [], ◌∷◌, None, IfOk, OnOk, OnErr};
+ghost use Rattle.std.specs.Option.{option_copied_mut};
+ghost use Rattle.std.specs.Borrow.{sem};
+ghost use Rattle.dm_modules.specs.Maps.{module_at, scope_at, with_new_child};
+ghost use Rattle.dm_modules.specs.LendingModules.{LendsNthScope};
+
+use crate::growth::{drop_last, list_child};
+use crate::module_data::ModuleData;
+use crate::modules_map::ModulesMap;
+use dm_base::ids::ModuleId;
+use dm_base::name::Name;
+use dm_scope::item_scope::ItemScope;
+use dm_tables::growth::put_last;
+use indexmap::IndexMap;
+use std::alloc::{AllocError, Global};
+
+/// The modules of a new map: its root alone.
+pub fn with_root(m: ModuleId, added: ModuleData, alloc: Global) -> Result<ModulesMap, AllocError>
+    ensures { IfOk result (λ modules. modules ≡ (m, added) ∷ []) }
+{
+    let mut entries = IndexMap::new(alloc);
+    put_last(&mut entries, m, added)?;
+    Ok(ModulesMap { entries })
+}
+
+/// Adds a module, as a child of the one at place `i`.
+pub fn add_child(
+    modules: &mut ModulesMap,
+    i: usize,
+    name: Name,
+    m: ModuleId,
+    added: ModuleData,
+) -> Result<(), AllocError>
+    requires { module_at modules.old m ≡ None }
+    ensures ok { OnOk result (modules.new ≡ with_new_child modules.old i name m added) }
+    ensures err { OnErr result (modules.new ≡ modules.old) }
+{
+    put_last(&mut modules.entries, m, added)?;
+    match list_child(&mut modules.entries, i, name, m) {
+        Ok(()) => Ok(()),
+        Err(refused) => {
+            drop_last(&mut modules.entries);
+            Err(refused)
+        }
+    }
+}
+
+/// What the module at place `i` binds, to be changed.
+pub fn scope_mut(modules: &mut ModulesMap, i: usize) -> Option<&mut ItemScope>
+    ensures* writes_back { sem 𝓛 (LendsNthScope modules.entry i result) }
+    ensures value { option_copied_mut result ≡ scope_at modules.old i }
+{
+    match modules.entries.get_index_mut(i) {
+        Some(data) => Some(data.scope_mut()),
+        None => None,
+    }
+}

@@ -1,0 +1,51 @@
+//! What the iterators over modules choose by.
+ghost use Rattle.std.specs.Prelude.{◌≡◌, Bool};
+ghost use Rattle.dm_modules.specs.declared.module_origin.ModuleOrigin.{ModuleOrigin};
+ghost use Rattle.dm_modules.specs.Queries.{fills, is_inline_in};
+
+use crate::module_origin::ModuleOrigin;
+use dm_base::ids::{FileId, MacroCallId};
+
+/// A choice of modules by where they come from.
+pub trait Origins: Copy {
+    ghost passes: { Self → ModuleOrigin → Bool };
+
+    fn passes(&self, origin: ModuleOrigin) -> bool
+        ensures { result ≡ passes self.now origin };
+}
+
+/// The modules that fill a file, under whatever edition.
+#[derive(Clone, Copy)]
+pub struct FilledBy(pub FileId);
+
+impl Origins for FilledBy {
+    ghost passes = { λ by. fills by.0 };
+
+    fn passes(&self, origin: ModuleOrigin) -> bool {
+        match origin.file_id() {
+            None => false,
+            Some(own) => self.0 == own.file_id(),
+        }
+    }
+}
+
+/// The modules that are written out in what a macro call expands to.
+#[derive(Clone, Copy)]
+pub struct InlineIn(pub MacroCallId);
+
+impl Origins for InlineIn {
+    ghost passes = { λ by. is_inline_in by.0 };
+
+    fn passes(&self, origin: ModuleOrigin) -> bool {
+        match origin {
+            ModuleOrigin::Inline {
+                definition_tree_id,
+                ..
+            } => match definition_tree_id.file_id().macro_file() {
+                None => false,
+                Some(own) => self.0 == own,
+            },
+            _ => false,
+        }
+    }
+}
