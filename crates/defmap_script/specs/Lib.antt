@@ -3,6 +3,7 @@ pub mod BuildWords
 pub mod Building
 pub mod Engine
 pub mod Faults
+pub mod Following
 pub mod Lines
 pub mod Runs
 pub mod Seeing

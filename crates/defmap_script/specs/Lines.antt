@@ -8,6 +8,7 @@ use Rattle.dm_base.specs.Path.{Path}
 use Rattle.dm_ids.specs.declared.ModuleId.{ModuleId}
 use Rattle.dm_base.specs.declared.item_ids.MacroId.{MacroId}
 use Rattle.dm_base.specs.declared.item_ids.ModuleDefId.{ModuleDefId}
+use Rattle.dm_base.specs.declared.imports.ImportId.{ImportId}
 use Rattle.dm_base.specs.declared.imports.ImportOrExternCrate.{ImportOrExternCrate}
 use Rattle.dm_base.specs.declared.imports.ImportOrGlob.{ImportOrGlob}
 use Rattle.dm_base.specs.declared.per_ns.Item.{Item}
@@ -51,6 +52,7 @@ pub data Asked : Type 0 where
   Checks : Asked
   Reopens : Asked
   Asks : Asking → Asked
+  Follows : ModuleId → ImportId → Asked
   Looks : Sight → Asked
 
 abbrev pub asking : Question → Asking
@@ -70,6 +72,7 @@ asked (commands.Push p) = Pushes p.module p.name.now p.res p.import
 asked commands.Check = Checks
 asked commands.Build = Reopens
 asked (commands.Path q) = Asks (asking q)
+asked (commands.Import m i) = Follows m i
 asked (commands.See s) = Looks s
 
 -- three items and an import
@@ -104,10 +107,19 @@ abbrev pub path_line : Reach → List Name → Option Asked
 path_line reach (m ∷ mode ∷ shadow ∷ expected ∷ kind ∷ segments) = path_parts reach (number m) (find_name mode modes) (find_name shadow shadow_modes) (find_name expected expectations) (path_kind kind) segments
 path_line reach _ = None
 
+abbrev pub import_parts : Option ℕ → Option ℕ → Option ℕ → Option Asked
+import_parts (Some m) (Some u) (Some i) = Some (Follows (record { 0 = m }) (record { use_ = record { 0 = u }; idx = record { 0 = i } }))
+import_parts _ _ _ = None
+
+abbrev pub import_line : List Name → Option Asked
+import_line (m ∷ u ∷ i ∷ []) = import_parts (number m) (number u) (number i)
+import_line _ = None
+
 -- what reads the words behind each first word; behind every other, the line adds
 abbrev pub line_forms : List (Name × (List Name → Option Asked))
 line_forms =
     (codes "push", push_line) ∷ (codes "check", check_line) ∷ (codes "build", build_line) ∷ (codes "path", path_line Outwards) ∷ (codes "single", path_line Alone)
+    ∷ (codes "import", import_line)
     ∷ (codes "max", λ ws. option_map (λ s. Looks s) (max_line ws)) ∷ (codes "min", λ ws. option_map (λ s. Looks s) (min_line ws))
     ∷ (codes "sees", λ ws. option_map (λ s. Looks s) (sees_line ws)) ∷ []
 

@@ -5,11 +5,13 @@ ghost use Rattle.defmap_script.specs.Lines.{asked, asking, Checks, Reopens, word
 
 use crate::building::add;
 use crate::fault::Fault;
+use crate::following::follow;
 use crate::lines::{Command, Pushing, Question, Reach, Words};
-use crate::print::{AnswerWords, VisibilityWord};
+use crate::print::{AnswerWords, ItemWords, VisibilityWord};
 use crate::seeing::sight;
 use dm_base::mod_path::ModPath;
 use dm_base::name::Name;
+use dm_base::per_ns::PerNs;
 use dm_base::visibility::Visibility;
 use dm_maps::builder::WorldBuilder;
 use dm_maps::def_map::DefMap;
@@ -36,6 +38,7 @@ pub(crate) enum Reply {
     Nothing,
     Pushed(bool),
     Answered(ResolvePathResult),
+    Ended(PerNs),
     Sees(bool),
     Compared(Option<Visibility>),
 }
@@ -49,6 +52,7 @@ impl fmt::Display for Reply {
             Reply::Pushed(true) | Reply::Sees(true) => f.write_str("true\n"),
             Reply::Pushed(false) | Reply::Sees(false) => f.write_str("false\n"),
             Reply::Answered(answer) => write!(f, "{}\n", AnswerWords(answer)),
+            Reply::Ended(items) => write!(f, "{}\n", ItemWords(items)),
             Reply::Compared(None) => f.write_str("none\n"),
             Reply::Compared(Some(visibility)) => write!(f, "{}\n", VisibilityWord(visibility)),
         }
@@ -95,11 +99,14 @@ impl Engine {
                 }
                 Command::Push(pushing) => push(builder, &mut self.globs, self.alloc, pushing),
                 Command::Check => self.check(),
-                Command::Build | Command::Path(_) | Command::See(_) => Err(Fault::NeedsWorld),
+                Command::Build | Command::Path(_) | Command::Import(_, _) | Command::See(_) => {
+                    Err(Fault::NeedsWorld)
+                }
             },
             Stage::Checked(world) => match command {
                 Command::Push(pushing) => push_within(world, &mut self.globs, self.alloc, pushing),
                 Command::Path(question) => answer(world, self.alloc, question),
+                Command::Import(m, import) => follow(world, m, import),
                 Command::See(question) => sight(world, question),
                 Command::Build => self.build(),
                 Command::Add(_) | Command::Check => Err(Fault::NeedsBuilder),

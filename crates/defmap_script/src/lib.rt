@@ -6,6 +6,7 @@ mod build_words;
 mod building;
 mod engine;
 mod fault;
+mod following;
 mod lines;
 pub mod print;
 pub mod read;

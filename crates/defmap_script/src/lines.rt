@@ -3,7 +3,7 @@ ghost use Rattle.std.specs.Prelude.{◌≡◌, ◌≢◌, [], ◌∷◌, Some, N
 ghost use Rattle.std.specs.Iterator.{YieldsFirstRef, item_count};
 ghost use Rattle.std.specs.Option.{option_map};
 ghost use Rattle.std.specs.Str.{is_utf8};
-ghost use Rattle.defmap_script.specs.Lines.{words, words_left, asked, said, said_in, said_of, command, push_line, pushed, check_line, build_line, path_line};
+ghost use Rattle.defmap_script.specs.Lines.{words, words_left, asked, said, said_in, said_of, command, push_line, pushed, check_line, build_line, path_line, import_line};
 ghost use Rattle.defmap_script.specs.Words.{cut};
 
 use crate::build_lines::{Addition, addition_of};
@@ -12,8 +12,8 @@ use crate::words::{
     expected_macro, import, macros_item, number, path_kind, resolve_mode, shadow_mode, types_item,
     values_item,
 };
-use dm_base::ids::ModuleId;
-use dm_base::imports::ImportOrExternCrate;
+use dm_base::ids::{ModuleId, UseId, UseTreeIdx};
+use dm_base::imports::{ImportId, ImportOrExternCrate};
 use dm_base::mod_path::PathKind;
 use dm_base::per_ns::PerNs;
 use dm_maps::modes::{BuiltinShadowMode, MacroSubNs};
@@ -27,6 +27,8 @@ pub(crate) enum Command<'a> {
     Check,
     Build,
     Path(Question<'a>),
+    /// What an import stands for in the end, from the scope of a module.
+    Import(ModuleId, ImportId),
     See(Sight),
 }
 
@@ -160,6 +162,7 @@ fn command_of<'a>(first: &str, words: Words<'a>) -> Option<Command<'a>>
         "build" => build_line(words),
         "path" => path_line(Reach::Outwards, words),
         "single" => path_line(Reach::Alone, words),
+        "import" => import_line(words),
         "max" => Some(Command::See(max_line(words)?)),
         "min" => Some(Command::See(min_line(words)?)),
         "sees" => Some(Command::See(sees_line(words)?)),
@@ -230,4 +233,15 @@ fn path_line(reach: Reach, mut words: Words<'_>) -> Option<Command<'_>>
         kind: path_kind(words.next()?)?,
         segments: words,
     }))
+}
+
+/// `import MODULE USE IDX`, behind its first word.
+fn import_line(mut words: Words<'_>) -> Option<Command<'_>>
+    ensures { option_map asked result ≡ import_line (words_left words.entry) }
+{
+    let module = ModuleId(number(words.next()?)?);
+    let use_ = UseId(number(words.next()?)?);
+    let idx = UseTreeIdx(number(words.next()?)?);
+    words.end()?;
+    Some(Command::Import(module, ImportId { use_, idx }))
 }

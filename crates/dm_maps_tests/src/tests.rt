@@ -7,6 +7,7 @@ mod crate_data;
 mod faults;
 mod local_maps;
 mod reading;
+mod records;
 
 use dm_base::ids::{BlockId, Crate, FileAstId, FileId, MacroCallId, MapId, ModuleId};
 use dm_base::source::{AstId, Edition, EditionedFileId, HirFileId};

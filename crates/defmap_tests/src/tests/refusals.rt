@@ -74,6 +74,13 @@ legacy 0 m struct:0
 legacy 0 m rules:0 none
 raw
 raw match self
+import
+import 0
+import 0 0
+import 0 0 0 0
+import a 0 0
+import 0 import:0:0
+import 0 0 -1
 path 0 other module any
 path 0 both module any plain a
 path 0 other type any plain a
@@ -91,6 +98,9 @@ path 0 other module any plain x
 => refused 2 NeedsWorld
 
 path 9 import other attr dollar:9
+=> refused 1 NeedsWorld
+
+import 9 9 9
 => refused 1 NeedsWorld
 
 check

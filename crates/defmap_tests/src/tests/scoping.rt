@@ -189,7 +189,7 @@ sees in:6:implicit 5
 => false";
 
 /// The lines of a script, and behind them what they print, as a transcript has it.
-fn transcript(alloc: Global, script: &str, printed: &str) -> Result<String, AllocError> {
+pub(crate) fn transcript(alloc: Global, script: &str, printed: &str) -> Result<String, AllocError> {
     let mut transcript = String::new(alloc);
     transcript.push_str(script)?;
     for line in printed.lines() {
