@@ -1,4 +1,5 @@
 //! Scripts, and what they have to print.
+mod dumps;
 mod forms;
 mod paths;
 mod refusals;
