@@ -15,11 +15,13 @@ use Rattle.defmap_script.specs.declared.engine.Reply.TheVariants.{Nothing}
 use Rattle.defmap_script.specs.declared.engine.Stage.TheVariants.{Checked}
 use Rattle.defmap_script.specs.declared.fault.Fault.{Fault}
 use Rattle.defmap_script.specs.declared.fault.Fault.TheVariants.{OutOfMemory}
+use Rattle.defmap_script.specs.declared.dump_lines.Dumping.{Dumping}
 use Rattle.defmap_script.specs.BuildLines.{Added}
 use Rattle.defmap_script.specs.Building.{added_to}
-use Rattle.defmap_script.specs.Engine.{Tool, Answers, IsAnswered, IsKnownQuestion, IsLineStep, IsSaidStep, IsStep, PushesWithinBy, Steps, added_on, answer_of, building, pushed_within, reply_text}
+use Rattle.defmap_script.specs.Dumping.{dumped, Dumps as DumpsOf}
+use Rattle.defmap_script.specs.Engine.{Tool, Answers, IsAnswered, IsKnownQuestion, IsLineStep, IsSaidStep, IsStep, PushesWithinBy, Steps, added_on, answer_of, building, held_on, pushed_within, reply_text}
 use Rattle.defmap_script.specs.Faults.{IsRefused}
-use Rattle.defmap_script.specs.Lines.{Asked, Asking, Adds, Asks, Said, Sense, said}
+use Rattle.defmap_script.specs.Lines.{Asked, Asking, Adds, Asks, Dumps, Said, Sense, said}
 
 refused-addition : (w : World) (g : Globs) (a : Added) (f : Fault) → IsRefused (λ s. added_to w a ≡ s) f → IsRefused (IsStep (building w g) (Adds a)) f
 refused-addition w g a f (inl e) = inl (sym (ap (added_on g) e))
@@ -45,6 +47,16 @@ pub answered-steps : (w : World) (g : Globs) (q : Asking) (r : Result Reply Faul
 answered-steps w g q (Ok reply) e = (Ok reply, e, refl)
 answered-steps w g q (Err f) (inl e) = inl (Err f, e, refl)
 answered-steps w g q (Err f) (inr (want, reply, e)) = inr (want, (record { stage = Checked w; globs = g }, reply), (Ok reply, e, refl))
+
+pub refused-dump : (w : World) (d : Dumping) (reply : Reply) (r : Result Reply Fault) → dumped w d ≡ Ok reply → IsErr r → IsErrAnd r (λ f. f ≡ OutOfMemory) → DumpsOf w d r
+refused-dump w d reply (Ok made) e is want = Prim.search rules
+refused-dump w d reply (Err f) e is want = inr (want, reply, e)
+
+pub dumped-steps : (w : World) (g : Globs) (d : Dumping) (r : Result Reply Fault) → DumpsOf w d r
+    → Steps (record { stage = Checked w; globs = g }) (Dumps d) r (record { stage = Checked w; globs = g })
+dumped-steps w g d (Ok reply) e = sym (ap (held_on (Checked w) g) e)
+dumped-steps w g d (Err f) (inl e) = inl (sym (ap (held_on (Checked w) g) e))
+dumped-steps w g d (Err f) (inr (want, reply, e)) = inr (want, (record { stage = Checked w; globs = g }, reply), sym (ap (held_on (Checked w) g) e))
 
 refused-sense : (t : Tool) (a : Asked) (f : Fault) → IsRefused (IsStep t a) f → IsRefused (IsSaidStep t (Sense a)) f
 refused-sense t a f (inl e) = inl (Err f, e, refl)

@@ -20,7 +20,7 @@ use Rattle.dm_maps.specs.Asked.{with_push}
 use Rattle.dm_maps.specs.World.{World, map_of, numbered_map, own_scope, scope_of, with_scope}
 use Rattle.hir_def_map.specs.Paths.{asked, answer, answer_alone}
 use Rattle.defmap_script.specs.declared.engine.Reply.{Reply}
-use Rattle.defmap_script.specs.declared.engine.Reply.TheVariants.{Nothing, Pushed, Answered, Ended, Sees, Compared}
+use Rattle.defmap_script.specs.declared.engine.Reply.TheVariants.{Nothing, Pushed, Answered, Ended, Sees, Compared, Dumped}
 use Rattle.defmap_script.specs.declared.engine.Stage.{Stage}
 use Rattle.defmap_script.specs.declared.engine.Stage.TheVariants.{Building, Checked}
 use Rattle.defmap_script.specs.declared.fault.Fault.{Fault}
@@ -28,9 +28,10 @@ use Rattle.defmap_script.specs.declared.fault.Fault.TheVariants as faults
 use Rattle.defmap_script.specs.declared.lines.Pushing.{Pushing}
 use Rattle.defmap_script.specs.declared.lines.Reach.TheVariants.{Outwards, Alone}
 use Rattle.defmap_script.specs.Building.{added_to}
+use Rattle.defmap_script.specs.Dumping.{dumped}
 use Rattle.defmap_script.specs.Faults.{IsRefused}
 use Rattle.defmap_script.specs.Following.{IsFollowed}
-use Rattle.defmap_script.specs.Lines.{Asked, Asking, Said, said, Adds, Pushes, Checks, Reopens, Asks, Follows, Looks, Silence, Sense, Nonsense}
+use Rattle.defmap_script.specs.Lines.{Asked, Asking, Said, said, Adds, Pushes, Checks, Reopens, Asks, Follows, Looks, Dumps, Silence, Sense, Nonsense}
 use Rattle.defmap_script.specs.Seeing.{sight}
 use Rattle.defmap_script.specs.Texts.{answer_text, items_text, visibility_text}
 
@@ -56,6 +57,7 @@ reply_text (Sees true) = codes "true\n"
 reply_text (Sees false) = codes "false\n"
 reply_text (Compared None) = codes "none\n"
 reply_text (Compared (Some v)) = visibility_text v ++ codes "\n"
+reply_text (Dumped text) = text
 
 -- ---- With the builder
 
@@ -121,6 +123,7 @@ IsBuildStep w g Reopens r = r ≡ Err faults.NeedsWorld
 IsBuildStep w g (Asks q) r = r ≡ Err faults.NeedsWorld
 IsBuildStep w g (Follows m i) r = r ≡ Err faults.NeedsWorld
 IsBuildStep w g (Looks s) r = r ≡ Err faults.NeedsWorld
+IsBuildStep w g (Dumps d) r = r ≡ Err faults.NeedsWorld
 
 abbrev pub IsWorldStep : World → Globs → Asked → Result (Tool × Reply) Fault → Type 0
 IsWorldStep w g (Asks q) r = (answered : Result Reply Fault) × IsAnswered w q answered × (r ≡ held_on (Checked w) g answered)
@@ -128,6 +131,7 @@ IsWorldStep w g (Follows m i) r = (followed : Result Reply Fault) × IsFollowed 
 IsWorldStep w g (Pushes m n x i) r = IsWorldPush w g m n x i r
 IsWorldStep w g Reopens r = r ≡ Ok (building w g, Nothing)
 IsWorldStep w g (Looks s) r = r ≡ held_on (Checked w) g (sight w s)
+IsWorldStep w g (Dumps d) r = r ≡ held_on (Checked w) g (dumped w d)
 IsWorldStep w g _ r = r ≡ Err faults.NeedsBuilder
 
 abbrev pub IsStepAt : Stage → Globs → Asked → Result (Tool × Reply) Fault → Type 0

@@ -1,6 +1,8 @@
 pub mod BuildLines
 pub mod BuildWords
 pub mod Building
+pub mod DumpLines
+pub mod Dumping
 pub mod Engine
 pub mod Faults
 pub mod Following

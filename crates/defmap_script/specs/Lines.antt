@@ -17,6 +17,7 @@ use Rattle.dm_base.specs.declared.per_ns.PerNs.{PerNs}
 use Rattle.dm_modules.specs.declared.modes.BuiltinShadowMode.{BuiltinShadowMode}
 use Rattle.dm_modules.specs.declared.modes.MacroSubNs.{MacroSubNs}
 use Rattle.hir_def_map.specs.declared.result.ResolveMode.{ResolveMode}
+use Rattle.defmap_script.specs.declared.dump_lines.Dumping.{Dumping}
 use Rattle.defmap_script.specs.declared.lines.BadLine.{BadLine}
 use Rattle.defmap_script.specs.declared.lines.Command.{Command}
 use Rattle.defmap_script.specs.declared.lines.Command.TheVariants as commands
@@ -26,6 +27,7 @@ use Rattle.defmap_script.specs.declared.lines.Reach.TheVariants.{Outwards, Alone
 use Rattle.defmap_script.specs.declared.lines.Words.{Words}
 use Rattle.defmap_script.specs.declared.seeing_lines.Sight.{Sight}
 use Rattle.defmap_script.specs.BuildLines.{Added, added, addition}
+use Rattle.defmap_script.specs.DumpLines.{dump_line, dumpmap_line}
 use Rattle.defmap_script.specs.SeeingLines.{max_line, min_line, sees_line}
 use Rattle.defmap_script.specs.Words.{number, expectations, import_word, macros_word, modes, path_kind, shadow_modes, types_word, values_word}
 
@@ -54,6 +56,7 @@ pub data Asked : Type 0 where
   Asks : Asking → Asked
   Follows : ModuleId → ImportId → Asked
   Looks : Sight → Asked
+  Dumps : Dumping → Asked
 
 abbrev pub asking : Question → Asking
 asking q = record {
@@ -74,6 +77,7 @@ asked commands.Build = Reopens
 asked (commands.Path q) = Asks (asking q)
 asked (commands.Import m i) = Follows m i
 asked (commands.See s) = Looks s
+asked (commands.Dump d) = Dumps d
 
 -- three items and an import
 abbrev pub pushed_parts : Option (Option (Item ModuleDefId ImportOrExternCrate)) → Option (Option (Item ModuleDefId ImportOrGlob)) → Option (Option (Item MacroId ImportOrExternCrate)) → Option (Option ImportOrExternCrate) → Option (PerNs × Option ImportOrExternCrate)
@@ -121,7 +125,8 @@ line_forms =
     (codes "push", push_line) ∷ (codes "check", check_line) ∷ (codes "build", build_line) ∷ (codes "path", path_line Outwards) ∷ (codes "single", path_line Alone)
     ∷ (codes "import", import_line)
     ∷ (codes "max", λ ws. option_map (λ s. Looks s) (max_line ws)) ∷ (codes "min", λ ws. option_map (λ s. Looks s) (min_line ws))
-    ∷ (codes "sees", λ ws. option_map (λ s. Looks s) (sees_line ws)) ∷ []
+    ∷ (codes "sees", λ ws. option_map (λ s. Looks s) (sees_line ws))
+    ∷ (codes "dump", λ ws. option_map (λ d. Dumps d) (dump_line ws)) ∷ (codes "dumpmap", λ ws. option_map (λ d. Dumps d) (dumpmap_line ws)) ∷ []
 
 abbrev pub command : List Name → Option Asked
 command [] = None

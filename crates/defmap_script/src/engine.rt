@@ -4,6 +4,8 @@ ghost use Rattle.defmap_script.specs.Engine.{fresh, Answers, Finds, PushesInto, 
 ghost use Rattle.defmap_script.specs.Lines.{asked, asking, Checks, Reopens, words_left};
 
 use crate::building::add;
+use crate::dump_text::DumpText;
+use crate::dumping::dumped;
 use crate::fault::Fault;
 use crate::following::follow;
 use crate::lines::{Command, Pushing, Question, Reach, Words};
@@ -33,7 +35,7 @@ pub(crate) enum Stage {
 }
 
 /// What a line prints.
-#[derive(Clone, Copy)]
+#[derive(Drop)]
 pub(crate) enum Reply {
     Nothing,
     Pushed(bool),
@@ -41,20 +43,22 @@ pub(crate) enum Reply {
     Ended(PerNs),
     Sees(bool),
     Compared(Option<Visibility>),
+    Dumped(DumpText),
 }
 
 impl fmt::Display for Reply {
     ghost output = { λ reply. Some (reply_text reply) };
 
     fn fmt<W: fmt::Write>(&self, f: &mut fmt::Formatter<W>) -> fmt::Result {
-        match *self {
+        match self {
             Reply::Nothing => Ok(()),
             Reply::Pushed(true) | Reply::Sees(true) => f.write_str("true\n"),
             Reply::Pushed(false) | Reply::Sees(false) => f.write_str("false\n"),
-            Reply::Answered(answer) => write!(f, "{}\n", AnswerWords(answer)),
-            Reply::Ended(items) => write!(f, "{}\n", ItemWords(items)),
+            Reply::Answered(answer) => write!(f, "{}\n", AnswerWords(*answer)),
+            Reply::Ended(items) => write!(f, "{}\n", ItemWords(*items)),
             Reply::Compared(None) => f.write_str("none\n"),
-            Reply::Compared(Some(visibility)) => write!(f, "{}\n", VisibilityWord(visibility)),
+            Reply::Compared(Some(visibility)) => write!(f, "{}\n", VisibilityWord(*visibility)),
+            Reply::Dumped(dump) => f.write_str(dump.as_str()),
         }
     }
 }
@@ -99,15 +103,18 @@ impl Engine {
                 }
                 Command::Push(pushing) => push(builder, &mut self.globs, self.alloc, pushing),
                 Command::Check => self.check(),
-                Command::Build | Command::Path(_) | Command::Import(_, _) | Command::See(_) => {
-                    Err(Fault::NeedsWorld)
-                }
+                Command::Build
+                | Command::Path(_)
+                | Command::Import(_, _)
+                | Command::See(_)
+                | Command::Dump(_) => Err(Fault::NeedsWorld),
             },
             Stage::Checked(world) => match command {
                 Command::Push(pushing) => push_within(world, &mut self.globs, self.alloc, pushing),
                 Command::Path(question) => answer(world, self.alloc, question),
                 Command::Import(m, import) => follow(world, m, import),
                 Command::See(question) => sight(world, question),
+                Command::Dump(dumping) => dumped(world, self.alloc, dumping),
                 Command::Build => self.build(),
                 Command::Add(_) | Command::Check => Err(Fault::NeedsBuilder),
             },

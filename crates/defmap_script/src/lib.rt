@@ -4,6 +4,9 @@
 mod build_lines;
 mod build_words;
 mod building;
+mod dump_lines;
+mod dump_text;
+mod dumping;
 mod engine;
 mod fault;
 mod following;

@@ -7,6 +7,7 @@ ghost use Rattle.defmap_script.specs.Lines.{words, words_left, asked, said, said
 ghost use Rattle.defmap_script.specs.Words.{cut};
 
 use crate::build_lines::{Addition, addition_of};
+use crate::dump_lines::{Dumping, dump_line, dumpmap_line};
 use crate::seeing_lines::{Sight, max_line, min_line, sees_line};
 use crate::words::{
     expected_macro, import, macros_item, number, path_kind, resolve_mode, shadow_mode, types_item,
@@ -30,6 +31,7 @@ pub(crate) enum Command<'a> {
     /// What an import stands for in the end, from the scope of a module.
     Import(ModuleId, ImportId),
     See(Sight),
+    Dump(Dumping),
 }
 
 /// What a name resolved to, and by which import.
@@ -166,6 +168,8 @@ fn command_of<'a>(first: &str, words: Words<'a>) -> Option<Command<'a>>
         "max" => Some(Command::See(max_line(words)?)),
         "min" => Some(Command::See(min_line(words)?)),
         "sees" => Some(Command::See(sees_line(words)?)),
+        "dump" => Some(Command::Dump(dump_line(words)?)),
+        "dumpmap" => Some(Command::Dump(dumpmap_line(words)?)),
         _ => Some(Command::Add(addition_of(first, words)?)),
     }
 }

@@ -1,5 +1,6 @@
 //! Scripts, and what they have to print.
 mod chains;
+mod dumps;
 mod forms;
 mod paths;
 mod refusals;

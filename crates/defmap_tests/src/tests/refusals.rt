@@ -90,7 +90,7 @@ path 0 other module any super:256 a
 path 0 other module any super: a
 path 0 other module any dollar a
  # no comment
-dump 0";
+dumps 0";
 
 /// Scripts that end at a refused line.
 const REFUSALS: &str = "crate 2021 0

@@ -1,5 +1,5 @@
 use Rattle.std.proofs.Common.{rules}
-use Rattle.defmap_script.proofs.Refusals.{refused-add, answered-steps}
+use Rattle.defmap_script.proofs.Refusals.{refused-add, answered-steps, dumped-steps}
 use Rattle.defmap_script.proofs.engine.Engine.run.Goals as goal
 
 pub returns-in_err-add-in-Add : goal.returns-in_err-add-in-Add
@@ -8,3 +8,6 @@ returns-in_err-add-in-Add c =
 
 pub returns-in-Path : goal.returns-in-Path
 returns-in-Path c = search (rules, answered-steps)
+
+pub returns-in-Dump : goal.returns-in-Dump
+returns-in-Dump c = search (rules, dumped-steps)
