@@ -119,10 +119,14 @@ fn thousand(
     script.push_str("crate 2021 0\nuse 0\nitem struct 0\nitem fn 0\nmacro rules 0 eager\n")?;
     for k in 0..999u32 {
         let next = k + 1;
-        let push = format!(in alloc; "push 0 N{k} {before}{item}/pub/import:0:{next}{behind} import:0:{k}\n=> true")?;
+        let push = format!(in alloc;
+            "push 0 N{k} {before}{item}/pub/import:0:{next}{behind} import:0:{k}\n=> true"
+        )?;
         push_line(&mut script, push.as_str())?;
     }
-    let push = format!(in alloc; "push 0 N999 {before}{item}/pub/{last}{behind} import:0:999\n=> true\ncheck\nimport 0 0 0")?;
+    let push = format!(in alloc;
+        "push 0 N999 {before}{item}/pub/{last}{behind} import:0:999\n=> true\ncheck\nimport 0 0 0"
+    )?;
     push_line(&mut script, push.as_str())?;
     Ok(script)
 }

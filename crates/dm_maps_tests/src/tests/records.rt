@@ -1,6 +1,8 @@
 //! How many records the scopes of a world have: once it is checked, behind pushes, and once it is checked again.
 use super::{Building, Checked, ROOT};
-use dm_base::ids::{ExternCrateId, FunctionId, MacroRulesId, ModuleId, StructId, UseId, UseTreeIdx};
+use dm_base::ids::{
+    ExternCrateId, FunctionId, MacroRulesId, ModuleId, StructId, UseId, UseTreeIdx,
+};
 use dm_base::imports::{GlobId, ImportId, ImportOrExternCrate};
 use dm_base::item_ids::{AdtId, MacroId, ModuleDefId};
 use dm_base::name::Name;
@@ -75,7 +77,12 @@ impl Building {
     fn with_records(alloc: Global) -> Result<Building, BuildFault> {
         let mut building = Building::one_of_each(alloc)?;
         building.push(alloc, (ROOT, "A"), structure(), import(0))?;
-        building.push(alloc, (ModuleId(1), "A"), structure().or(rules()), import(0))?;
+        building.push(
+            alloc,
+            (ModuleId(1), "A"),
+            structure().or(rules()),
+            import(0),
+        )?;
         building.push(alloc, (ModuleId(2), "B"), function(), glob())?;
         building.push(alloc, (ModuleId(2), "C"), function(), None)?;
         Ok(building)
