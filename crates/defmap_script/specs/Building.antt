@@ -23,11 +23,11 @@ use Rattle.dm_modules.specs.declared.module_origin.ModuleOrigin.TheVariants.{Inl
 use Rattle.dm_maps.specs.Build.{with_crate, with_module, with_item}
 use Rattle.dm_maps.specs.BuildBlocks.{with_block, block_fault}
 use Rattle.dm_maps.specs.BuildItems.{with_use, with_macro, with_variant}
-use Rattle.dm_maps.specs.BuildMaps.{with_prelude, with_macro_use, with_extern_of, map_fault, krate_fault}
+use Rattle.dm_maps.specs.BuildMaps.{with_prelude, with_macro_use, with_extern_of, map_fault, crate_fault}
 use Rattle.dm_maps.specs.BuildTables.{with_raw}
-use Rattle.dm_maps.specs.Faults.{crate_fault, child_fault, item_fault}
+use Rattle.dm_maps.specs.Faults.{new_crate_fault, child_fault, item_fault}
 use Rattle.dm_maps.specs.ItemFaults.{use_fault, macro_fault, variant_fault}
-use Rattle.dm_maps.specs.World.{World, own_scope, with_scope}
+use Rattle.dm_maps.specs.World.{World, scope_if_known, with_scope}
 use Rattle.defmap_script.specs.declared.build_words.MapName.{MapName}
 use Rattle.defmap_script.specs.declared.build_words.MapName.TheVariants as named
 use Rattle.defmap_script.specs.declared.fault.Fault.{Fault}
@@ -72,7 +72,7 @@ with_legacy w m n l (Some s) = Ok (with_scope w m (scope_with_legacy s n l))
 
 -- what a line that adds leaves of the tables, or why it is refused
 abbrev pub added_to : World → Added → Result World Fault
-added_to w (NewCrate e f) = built (crate_fault w) (with_crate w e (file_of f e))
+added_to w (NewCrate e f) = built (new_crate_fault w) (with_crate w e (file_of f e))
 added_to w (NewModule m n v) = built (child_fault w m n) (with_module w m n inline v)
 added_to w (NewBlock m a) = built (block_fault w m) (with_block w m (ast_of a))
 added_to w (NewUse m) = built (use_fault w m) (with_use w m)
@@ -81,8 +81,8 @@ added_to w (NewVariant e n s) = built (variant_fault w e n) (with_variant w e n 
 added_to w (NewMacro m l) = built (macro_fault w m) (with_macro w m l)
 added_to w (NewPrelude map m) = built (map_fault w (map_id w map)) (with_prelude w (map_id w map) (Some (m, None)))
 added_to w (NewMacroUse map n m x) = built (map_fault w (map_id w map)) (with_macro_use w (map_id w map) n m x)
-added_to w (NewExtern k n m x) = built (krate_fault w k) (with_extern_of w k n m x)
-added_to w (NewLegacy m n l) = with_legacy w m n l (own_scope w m)
+added_to w (NewExtern k n m x) = built (crate_fault w k) (with_extern_of w k n m x)
+added_to w (NewLegacy m n l) = with_legacy w m n l (scope_if_known w m)
 added_to w (NewRaw n) = Ok (with_raw w n)
 
 -- a call that leaves what r has, or is refused: for its fault, or for want of memory where it has none

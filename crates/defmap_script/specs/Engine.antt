@@ -16,8 +16,8 @@ use Rattle.dm_maps.specs.Known.{knows, KnowsAll}
 use Rattle.dm_held.specs.Holding.{local_holds, path_holds}
 use Rattle.dm_modules.specs.Maps.{Map, LocalMap, module_at}
 use Rattle.dm_held.specs.Pushes.{push_holds}
-use Rattle.dm_maps.specs.Asked.{with_push}
-use Rattle.dm_maps.specs.World.{World, map_of, numbered_map, own_scope, scope_of, with_scope}
+use Rattle.dm_maps.specs.PushRes.{with_push}
+use Rattle.dm_maps.specs.World.{World, map_of, numbered_map, scope_if_known, scope_of, with_scope}
 use Rattle.hir_def_map.specs.Paths.{asked, answer, answer_alone}
 use Rattle.defmap_script.specs.declared.engine.Reply.{Reply}
 use Rattle.defmap_script.specs.declared.engine.Reply.TheVariants.{Nothing, Pushed, Answered, Ended, Sees, Compared, Dumped}
@@ -117,7 +117,7 @@ held_on s g (Err f) = Err f
 -- what a line that asks for something makes of the tool, and what it prints; or its fault
 abbrev pub IsBuildStep : World → Globs → Asked → Result (Tool × Reply) Fault → Type 0
 IsBuildStep w g (Adds a) r = r ≡ added_on g (added_to w a)
-IsBuildStep w g (Pushes m n x i) r = r ≡ pushed w g m n x i (own_scope w m)
+IsBuildStep w g (Pushes m n x i) r = r ≡ pushed w g m n x i (scope_if_known w m)
 IsBuildStep w g Checks r = IsCheck w g r
 IsBuildStep w g Reopens r = r ≡ Err faults.NeedsWorld
 IsBuildStep w g (Asks q) r = r ≡ Err faults.NeedsWorld
@@ -171,8 +171,8 @@ LineSteps t line out r u new = MatchResult r
 -- a push of x under the name n of m by i, from the scope that m has
 abbrev pub PushesBy : World → Globs → ModuleId → Name → PerNs → Option ImportOrExternCrate → Result Reply Fault → World → Globs → Type 0
 PushesBy w g m n x i r v h = MatchResult r
-    (λ reply. pushed w g m n x i (own_scope w m) ≡ Ok (building v h, reply))
-    (IsRefused (λ s. pushed w g m n x i (own_scope w m) ≡ s))
+    (λ reply. pushed w g m n x i (scope_if_known w m) ≡ Ok (building v h, reply))
+    (IsRefused (λ s. pushed w g m n x i (scope_if_known w m) ≡ s))
 
 abbrev pub PushesInto : World → Globs → Pushing → Result Reply Fault → World → Globs → Type 0
 PushesInto w g p r v h = PushesBy w g p.module p.name.now p.res p.import r v h

@@ -2,7 +2,7 @@
 ghost use Rattle.std.specs.Prelude.{◌≡◌, false, None, IsOk, IfOk, OnOk, OnErr};
 ghost use Rattle.std.specs.Option.{option_copied_mut};
 ghost use Rattle.std.specs.Borrow.{sem};
-ghost use Rattle.dm_modules.specs.Maps.{module_at, scope_at, fresh_map, map_with_child};
+ghost use Rattle.dm_modules.specs.Maps.{module_at, nth_scope, fresh_map, map_with_child};
 ghost use Rattle.dm_def_map.specs.LendingMap.{LendsMapScope};
 ghost use Rattle.dm_def_map.specs.MapChanges.{changed, grows};
 
@@ -92,7 +92,7 @@ pub fn change(map: &mut DefMap, change: MapChange, alloc: Global) -> Result<(), 
 /// What the module at place `i` binds, to be changed.
 pub fn scope_mut(map: &mut DefMap, i: usize) -> Option<&mut ItemScope>
     ensures* writes_back { sem 𝓛 (LendsMapScope map.entry i result) }
-    ensures value { option_copied_mut result ≡ scope_at map.old.modules i }
+    ensures value { option_copied_mut result ≡ nth_scope map.old.modules i }
 {
     building::scope_mut(&mut map.modules, i)
 }

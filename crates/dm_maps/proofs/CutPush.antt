@@ -19,9 +19,9 @@ use Rattle.dm_modules.specs.Maps.{Map, Module, Modules, nth_module, put_scope, m
 use Rattle.dm_maps.proofs.MapWrites.{put-cases, with-cases}
 use Rattle.dm_maps.proofs.ModuleGrowth.{map-set_own}
 use Rattle.dm_maps.specs.declared.place.Place.{Place}
-use Rattle.dm_maps.specs.Asked.{with_push}
+use Rattle.dm_maps.specs.PushRes.{with_push}
 use Rattle.dm_maps.specs.Maps.{Maps}
-use Rattle.dm_maps.specs.World.{World, maps_of, with_maps, place_of, scope_of, with_scope, with_scope_in, module_in}
+use Rattle.dm_maps.specs.World.{World, maps_of, with_maps, place_of, scope_of, with_scope, with_scope_in, placed_module}
 use Rattle.dm_maps.specs.Cut.{among, kept, cut_bound, cut_scope, cut_module, cut_map, cut}
 
 kept-insert : {A : Type 0} (N : List Name) (n : Name) (v : A) → among N n ≡ false → (es : List (Name × A)) → kept N (insert_entry same_name es n v) ≡ kept N es
@@ -69,7 +69,7 @@ map-cut N m k s same = ap (λ es. record (cut_map N m) { modules = es }) (go (nt
     go None is p = refl
     go (Some d) is p = entries-cut N m.modules k d (record d { scope = s }) is (ap (λ c. record d { scope = c; children = [] }) p)
 
-world-cut : (w : World) (N : List Name) (p : Place) (s : Scope) → cut_scope N s ≡ cut_scope N (scope_of_module (module_in w p)) → cut (with_scope_in w (Some p) s) N ≡ cut w N
+world-cut : (w : World) (N : List Name) (p : Place) (s : Scope) → cut_scope N s ≡ cut_scope N (scope_of_module (placed_module w p)) → cut (with_scope_in w (Some p) s) N ≡ cut w N
 world-cut w N p s same =
     let P : Maps → Type 0 = λ ms. cut (with_maps w ms) N ≡ cut w N in
     with-cases (maps_of w) p.map (λ x. map_with_scope x p.index s) P refl
@@ -83,7 +83,7 @@ world-cut w N p s same =
 with_scope-cut : (w : World) (N : List Name) (m : ModuleId) (s : Scope) → cut_scope N s ≡ cut_scope N (scope_of w m) → cut (with_scope w m s) N ≡ cut w N
 with_scope-cut w N m s same = go (place_of w m) same
   where
-    go : (o : Option Place) → cut_scope N s ≡ cut_scope N (scope_of_module (option_and_then (module_in w) o)) → cut (with_scope_in w o s) N ≡ cut w N
+    go : (o : Option Place) → cut_scope N s ≡ cut_scope N (scope_of_module (option_and_then (placed_module w) o)) → cut (with_scope_in w o s) N ≡ cut w N
     go None p = refl
     go (Some q) p = world-cut w N q s p
 

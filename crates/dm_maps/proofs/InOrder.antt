@@ -12,7 +12,7 @@ use Rattle.dm_modules.specs.Maps.{Map, Module, Modules, module_at, nth_module}
 use Rattle.dm_maps.specs.Trees.{no_map, Outline, outline, containers_of, map_id_in, IsMap, IsWorld}
 use Rattle.dm_held.specs.declared.held.HeldId.TheVariants as held
 use Rattle.dm_maps.specs.Known.{knows}
-use Rattle.dm_maps.specs.World.{World, map_of, module_in, module_of, numbered_map}
+use Rattle.dm_maps.specs.World.{World, map_of, placed_module, module_of, numbered_map}
 use Rattle.dm_maps.proofs.GrowthLemmas.{get-within}
 use Rattle.dm_maps.proofs.MapLemmas.{map-lists, map-own}
 use Rattle.dm_maps.proofs.ModuleGrowth.{entry}
@@ -83,7 +83,7 @@ module _ (w : World) (is : IsWorld w) where
     abbrev own_map : Map
     own_map = at.0
 
-    found : (d : Module) × (module_in w p ≡ Some d) × (d.parent ≡ p.parent)
+    found : (d : Module) × (placed_module w p ≡ Some d) × (d.parent ≡ p.parent)
     found = module-there w is m p e
 
     within : m.0 < length w.places
@@ -163,7 +163,7 @@ module _ (w : World) (is : IsWorld w) where
       there = found.0;
       lies = lies;
       own = map-own w is m own_map lies;
-      is = ap (option_and_then (module_in w)) e ∙ found.1;
+      is = ap (option_and_then (placed_module w)) e ∙ found.1;
       listed = listed;
       ascending = ascending;
       parent = parent-stands;

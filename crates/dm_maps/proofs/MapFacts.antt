@@ -19,7 +19,7 @@ use Rattle.dm_maps.specs.Known.{knows}
 use Rattle.dm_maps.specs.MapFacts.{IsAscending, HasContainer, IsChild, IsMapOf}
 use Rattle.dm_maps.specs.Sound.{IsCheckedWorld}
 use Rattle.dm_maps.specs.Trees.{no_map, outline, containers_of, container_in, parent_in, map_id_in, tree_of, IsMap, IsWorld}
-use Rattle.dm_maps.specs.World.{World, crate_map, map_of, module_in, module_of, numbered_map}
+use Rattle.dm_maps.specs.World.{World, crate_map, map_of, placed_module, module_of, numbered_map}
 use Rattle.dm_maps.proofs.AllLemmas.{all-get}
 use Rattle.dm_maps.proofs.FamilyLemmas.{families}
 use Rattle.dm_maps.proofs.InOrder.{Standing, found-at, in_order}
@@ -124,7 +124,7 @@ module _ (w : World) (is : IsWorld w) (fam : IsFamily w) (own : Map) (there : nu
       by (Some p) e g =
           let s = in_order w is c (lt-ltb c.0 (length w.places) (slice_get_within w.places c.0 p e)) in
           let d = module-there w is c p e in
-          let found : Some d.0 ≡ Some s.there = sym d.1 ∙ ap (option_and_then (module_in w)) (sym e) ∙ s.is in
+          let found : Some d.0 ≡ Some s.there = sym d.1 ∙ ap (option_and_then (placed_module w)) (sym e) ∙ s.is in
           let is_there : d.0 ≡ s.there = cc in
           let parent : s.there.parent ≡ Some m = ap (λ (x : Module). x.parent) (sym is_there) ∙ d.2 ∙ g in
           let above = s.parent m parent in

@@ -26,10 +26,10 @@ use Rattle.dm_scope.specs.Scope.{Scope, no_scope}
 use Rattle.dm_scope.specs.Tables.{all_records}
 use Rattle.dm_maps.specs.declared.place.Place.{Place}
 use Rattle.dm_modules.specs.Maps.{Module}
-use Rattle.dm_maps.specs.Asked.{with_push}
+use Rattle.dm_maps.specs.PushRes.{with_push}
 use Rattle.dm_maps.specs.ScopeTables.{scope_at_place, scope_tables}
 use Rattle.dm_maps.specs.Trees.{IsWorld}
-use Rattle.dm_maps.specs.World.{World, module_in, own_scope, scope_of, with_scope}
+use Rattle.dm_maps.specs.World.{World, placed_module, scope_if_known, scope_of, with_scope}
 use Rattle.dm_maps.proofs.ScopeWrites.{places-kept, scope_of-own, scope_of-other}
 
 -- ---- A push takes no record away.
@@ -101,9 +101,9 @@ other-module m k n = by (nat_eq m.0 k.0) refl
 
 -- what a place has as its scope, if it is a place
 abbrev scope_by : World → Option Place → Scope
-scope_by w o = option_map_or (λ (d : Module). d.scope) (option_and_then (module_in w) o) no_scope
+scope_by w o = option_map_or (λ (d : Module). d.scope) (option_and_then (placed_module w) o) no_scope
 
-module _ (ns : Namespace) (w : World) (is : IsWorld w) (m : ModuleId) (s : Scope) (there : IsSome (own_scope w m)) where
+module _ (ns : Namespace) (w : World) (is : IsWorld w) (m : ModuleId) (s : Scope) (there : IsSome (scope_if_known w m)) where
   abbrev v : World
   v = with_scope w m s
 
@@ -145,7 +145,7 @@ module _ (ns : Namespace) (w : World) (is : IsWorld w) (m : ModuleId) (s : Scope
           let new = ap length new_all in
           omega (arith, pieces, before, after, old, new)
 
-      by : (o : Option Place) → slice_get w.places m.0 ≡ o → IsSome (option_map (λ (d : Module). d.scope) (option_and_then (module_in w) o))
+      by : (o : Option Place) → slice_get w.places m.0 ≡ o → IsSome (option_map (λ (d : Module). d.scope) (option_and_then (placed_module w) o))
           → length (all_records ns (scope_tables v)) + length (records_in ns (scope_of w m)) ≡ length (all_records ns (scope_tables w)) + length (records_in ns s)
       by None e h = absurd (true≢false (sym h))
       by (Some p) e h = at p e
@@ -157,7 +157,7 @@ count-more : (old new before after : ℕ) → new + before ≡ old + after → b
 count-more old new before after all more = grind (arith)
 
 -- the count of a world v that is another, w, after a push
-module _ (w : World) (is : IsWorld w) (m : ModuleId) (there : IsSome (own_scope w m)) (g : Globs) (n : Name) (x : PerNs) (by : Option ImportOrExternCrate) (v : World) (same : v ≡ with_push w g m n x by) where
+module _ (w : World) (is : IsWorld w) (m : ModuleId) (there : IsSome (scope_if_known w m)) (g : Globs) (n : Name) (x : PerNs) (by : Option ImportOrExternCrate) (v : World) (same : v ≡ with_push w g m n x by) where
   pub counted-pushed : (ns : Namespace) (old before after new : ℕ) → old ≡ record_count ns (scope_tables w) → before ≡ length (records_in ns (scope_of w m)) → after ≡ length (records_in ns (scope_of v m))
       → new ≡ min (old + (after - before)) (2 ^ 64 - 1) → new ≡ record_count ns (scope_tables v)
   counted-pushed ns old before after new o b a is_new =

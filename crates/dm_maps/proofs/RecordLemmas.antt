@@ -14,7 +14,7 @@ use Rattle.dm_maps.specs.declared.place.Place.{Place}
 use Rattle.dm_modules.specs.Maps.{Module}
 use Rattle.dm_maps.specs.ScopeTables.{scope_at_place}
 use Rattle.dm_maps.specs.Trees.{IsWorld}
-use Rattle.dm_maps.specs.World.{World, module_in, own_scope}
+use Rattle.dm_maps.specs.World.{World, placed_module, scope_if_known}
 use Rattle.dm_maps.proofs.WorldFacts.{module-there}
 
 -- a scope that binds nothing has no record
@@ -24,10 +24,10 @@ records_none Values = refl
 records_none Macros = refl
 
 -- the scope of a module stands at its number
-pub scope-numbered : (w : World) → IsWorld w → (m : ModuleId) → own_scope w m ≡ slice_get (map (scope_at_place w) w.places) m.0
+pub scope-numbered : (w : World) → IsWorld w → (m : ModuleId) → scope_if_known w m ≡ slice_get (map (scope_at_place w) w.places) m.0
 scope-numbered w is m = by (slice_get w.places m.0) refl ∙ sym (slice_get-map (scope_at_place w) w.places m.0)
   where
-    by : (o : Option Place) → slice_get w.places m.0 ≡ o → option_map (λ (d : Module). d.scope) (option_and_then (module_in w) o) ≡ option_map (scope_at_place w) o
+    by : (o : Option Place) → slice_get w.places m.0 ≡ o → option_map (λ (d : Module). d.scope) (option_and_then (placed_module w) o) ≡ option_map (scope_at_place w) o
     by None e = refl
     by (Some p) e =
         let d = module-there w is m p e in
@@ -41,7 +41,7 @@ some-within xs i =
     ]
 
 -- a module has one exactly if it is the world's
-pub scope-within : (w : World) → IsWorld w → (m : ModuleId) → is_some (own_scope w m) ≡ nat_lt m.0 (length w.places)
+pub scope-within : (w : World) → IsWorld w → (m : ModuleId) → is_some (scope_if_known w m) ≡ nat_lt m.0 (length w.places)
 scope-within w is m =
     ap is_some (scope-numbered w is m)
     ∙ some-within (map (scope_at_place w) w.places) m.0

@@ -12,7 +12,7 @@ use Rattle.dm_held.specs.declared.held.HeldId.TheVariants as held
 use Rattle.dm_maps.specs.declared.place.Place.{Place}
 use Rattle.dm_modules.specs.Maps.{Map, Module, Modules, nth_module, put_scope, with_scope_at, map_with_scope}
 use Rattle.dm_maps.specs.Maps.{Maps, map_at, put_map, maps_with_scope}
-use Rattle.dm_maps.specs.World.{World, maps_of, with_maps, place_of, module_in, module_of, scope_of, own_scope, numbered_map, with_scope_in, with_scope}
+use Rattle.dm_maps.specs.World.{World, maps_of, with_maps, place_of, placed_module, module_of, scope_of, scope_if_known, numbered_map, with_scope_in, with_scope}
 use Rattle.dm_maps.specs.Known.{knows, KnowsAll}
 use Rattle.dm_held.specs.Holding.{vis_holds}
 use Rattle.dm_held.specs.Holds.{scope_holds}
@@ -40,7 +40,7 @@ abbrev nth_of : Option Map → ℕ → Option Module
 nth_of o j = option_and_then (λ (x : Map). nth_module x.modules j) o
 
 abbrev module_by : World → Option Place → Option Module
-module_by w o = option_and_then (module_in w) o
+module_by w o = option_and_then (placed_module w) o
 
 abbrev scope_by : Option Module → Scope
 scope_by o = option_map_or (λ (d : Module). d.scope) o no_scope
@@ -66,9 +66,9 @@ module _ (s : Scope) where
   abbrev Slot : World → Place → Place → Type 0
   Slot w q p = (numbered_map w p.map ≡ numbered_map w q.map) × (p.index ≡ q.index)
 
-  kept-in : (w : World) (q p : Place) → Kept (Slot w q p) (module_in w p) (module_in (with_scope_in w (Some q) s) p)
+  kept-in : (w : World) (q p : Place) → Kept (Slot w q p) (placed_module w p) (placed_module (with_scope_in w (Some q) s) p)
   kept-in w q p =
-      with-cases (maps_of w) q.map (λ x. map_with_scope x q.index s) (λ ms. Kept (Slot w q p) (module_in w p) (nth_of (map_at ms p.map) p.index)) (inl refl)
+      with-cases (maps_of w) q.map (λ x. map_with_scope x q.index s) (λ ms. Kept (Slot w q p) (placed_module w p) (nth_of (map_at ms p.map) p.index)) (inl refl)
       (λ x e. elim (put-other (maps_of w) q.map p.map x (map_with_scope x q.index s) e) [
         | inl h ↦ inl (ap (λ o. nth_of o p.index) h)
         | inr h ↦
@@ -85,10 +85,10 @@ module _ (s : Scope) where
       ∙ ap (λ l. slice_get l i) (values-set es i (scoped d))
       ∙ get-set_same (map (λ x. x.1) es) i d (scoped d) e
 
-  in-own : (w : World) (q : Place) (d : Module) → module_in w q ≡ Some d → module_in (with_scope_in w (Some q) s) q ≡ Some (scoped d)
+  in-own : (w : World) (q : Place) (d : Module) → placed_module w q ≡ Some d → placed_module (with_scope_in w (Some q) s) q ≡ Some (scoped d)
   in-own w q d h = by (numbered_map w q.map) refl h
     where
-      by : (o : Option Map) → numbered_map w q.map ≡ o → nth_of o q.index ≡ Some d → module_in (with_scope_in w (Some q) s) q ≡ Some (scoped d)
+      by : (o : Option Map) → numbered_map w q.map ≡ o → nth_of o q.index ≡ Some d → placed_module (with_scope_in w (Some q) s) q ≡ Some (scoped d)
       by None e g = cc
       by (Some x) e g =
           ap (λ ms. nth_of (map_at ms q.map) q.index) (with-there (maps_of w) q.map (λ m. map_with_scope m q.index s) x e)
@@ -110,7 +110,7 @@ module _ (s : Scope) where
           ∙ ap scope_by (in-own w q d g)
 
   -- the module's own
-  pub scope_of-own : (w : World) (m : ModuleId) → IsSome (own_scope w m) → scope_of (with_scope w m s) m ≡ s
+  pub scope_of-own : (w : World) (m : ModuleId) → IsSome (scope_if_known w m) → scope_of (with_scope w m s) m ≡ s
   scope_of-own w m h = of (module_of w m) refl h
     where
       of : (o : Option Module) → module_of w m ≡ o → IsSome (option_map (λ (d : Module). d.scope) o) → scope_of (with_scope w m s) m ≡ s
@@ -133,7 +133,7 @@ module _ (s : Scope) where
           let pair : (k, p.parent) ≡ (m, q.parent) = cc in
           eq-eqb m.0 k.0 (sym (ap (λ (x : ModuleId × Option ModuleId). x.0.0) pair))
 
-      at : (q p : Place) → slice_get w.places m.0 ≡ Some q → slice_get w.places k.0 ≡ Some p → module_in (with_scope_in w (Some q) s) p ≡ module_in w p
+      at : (q p : Place) → slice_get w.places m.0 ≡ Some q → slice_get w.places k.0 ≡ Some p → placed_module (with_scope_in w (Some q) s) p ≡ placed_module w p
       at q p e f = elim (kept-in w q p) [ inl h ↦ h | inr h ↦ absurd (true≢false (sym (one q p e f h.0) ∙ other)) ]
 
       others : (q : Place) → slice_get w.places m.0 ≡ Some q → (o : Option Place) → slice_get w.places k.0 ≡ o → scope_by (module_by (with_scope_in w (Some q) s) o) ≡ scope_by (module_by w o)
@@ -150,7 +150,7 @@ module _ (s : Scope) where
   nth-again : (es : Modules) (i : ℕ) (d : Module) → nth_module es i ≡ Some d → d.scope ≡ s → with_scope_at es i s ≡ es
   nth-again es i d e same = ap (λ o. put_scope es i o s) e ∙ ap (λ x. set_value_at es i (record d { scope = x })) (sym same) ∙ set_value_at-own es i d e
 
-  in-again : (w : World) (q : Place) (d : Module) → module_in w q ≡ Some d → d.scope ≡ s → with_scope_in w (Some q) s ≡ w
+  in-again : (w : World) (q : Place) (d : Module) → placed_module w q ≡ Some d → d.scope ≡ s → with_scope_in w (Some q) s ≡ w
   in-again w q d h same = by (numbered_map w q.map) refl h
     where
       by : (o : Option Map) → numbered_map w q.map ≡ o → nth_of o q.index ≡ Some d → with_scope_in w (Some q) s ≡ w
@@ -161,16 +161,16 @@ module _ (s : Scope) where
           ∙ ap (λ es. put_map (maps_of w) q.map (record x { modules = es })) (nth-again x.modules q.index d g same)
           ∙ put_own (maps_of w) q.map x e)
 
-  pub with_scope-own : (w : World) (m : ModuleId) → own_scope w m ≡ Some s → with_scope w m s ≡ w
+  pub with_scope-own : (w : World) (m : ModuleId) → scope_if_known w m ≡ Some s → with_scope w m s ≡ w
   with_scope-own w m h = by (place_of w m) h
     where
-      at : (q : Place) (o : Option Module) → module_in w q ≡ o → option_map (λ (d : Module). d.scope) o ≡ Some s → with_scope_in w (Some q) s ≡ w
+      at : (q : Place) (o : Option Module) → placed_module w q ≡ o → option_map (λ (d : Module). d.scope) o ≡ Some s → with_scope_in w (Some q) s ≡ w
       at q None e g = cc
       at q (Some d) e g = let same : d.scope ≡ s = cc in in-again w q d e same
 
-      by : (o : Option Place) → option_map (λ (d : Module). d.scope) (option_and_then (module_in w) o) ≡ Some s → with_scope_in w o s ≡ w
+      by : (o : Option Place) → option_map (λ (d : Module). d.scope) (option_and_then (placed_module w) o) ≡ Some s → with_scope_in w o s ≡ w
       by None g = refl
-      by (Some q) g = at q (module_in w q) refl g
+      by (Some q) g = at q (placed_module w q) refl g
 
 -- ---- A checked world with a scope of which each id is the world's is checked.
 
@@ -206,7 +206,7 @@ module _ (w v : World) (same : (h : HeldId) → knows v h ≡ knows w h) (s : Sc
       subst (λ x. KnowsAll v (option_map_or module_holds x [])) (sym e.3) (knows-all (vis_holds d.visibility ++ scope_holds s) new)
 
   -- maps, then modules, then a rest: if the maps hold what they held, and the modules what they held or what s holds
-  fine-holders : (cs ds bs es rest : List Held) (ps : List Place) (Slot_of : Place → Type 0) → ds ≡ cs → es ≡ bs → ((p : Place) → Kept s (Slot_of p) (module_in w p) (module_in v p))
+  fine-holders : (cs ds bs es rest : List Held) (ps : List Place) (Slot_of : Place → Type 0) → ds ≡ cs → es ≡ bs → ((p : Place) → Kept s (Slot_of p) (placed_module w p) (placed_module v p))
       → AllByRecursion (Fine w) (cs ++ (bs ++ (each_from (module_holder w) 0 ps ++ rest))) → AllByRecursion (Fine v) (ds ++ (es ++ (each_from (module_holder v) 0 ps ++ rest)))
   fine-holders cs ds bs es rest ps Slot_of crates blocks kept h =
       let old = each_from (module_holder w) 0 ps in
@@ -216,7 +216,7 @@ module _ (w v : World) (same : (h : HeldId) → knows v h ≡ knows w h) (s : Sc
       all-append (Fine v) ds (es ++ (new ++ rest)) (subst (λ l. AllByRecursion (Fine v) l) (sym crates) (fine-list cs (all-left (Fine w) cs (bs ++ (old ++ rest)) h)))
       (all-append (Fine v) es (new ++ rest) (subst (λ l. AllByRecursion (Fine v) l) (sym blocks) (fine-list bs (all-left (Fine w) bs (old ++ rest) after_crates)))
       (all-append (Fine v) new rest
-      (each-weaker (Fine w) (Fine v) (module_holder w) (module_holder v) (λ i p g. module-fine (module_in w p) (module_in v p) (Slot_of p) (kept p) g) 0 ps (all-left (Fine w) old rest after_blocks))
+      (each-weaker (Fine w) (Fine v) (module_holder w) (module_holder v) (λ i p g. module-fine (placed_module w p) (placed_module v p) (Slot_of p) (kept p) g) 0 ps (all-left (Fine w) old rest after_blocks))
       (fine-list rest (all-right (Fine w) old rest after_blocks))))
 
 -- maps that hold what the world's hold, beside their modules

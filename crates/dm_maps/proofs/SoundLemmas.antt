@@ -18,14 +18,14 @@ use Rattle.dm_held.specs.declared.held.HeldId.{HeldId}
 use Rattle.dm_held.specs.declared.held.HeldId.TheVariants as held
 use Rattle.dm_maps.specs.declared.place.Place.{Place}
 use Rattle.dm_modules.specs.Maps.{Map, Module, Modules, LocalMap, module_at}
-use Rattle.dm_maps.specs.World.{World, scope_of, module_in, numbered_map, map_of}
+use Rattle.dm_maps.specs.World.{World, scope_of, placed_module, numbered_map, map_of}
 use Rattle.dm_maps.specs.Known.{knows, KnowsAll}
 use Rattle.dm_held.specs.Holding.{res_holds, local_holds, type_holds, value_holds, macro_holds, vis_holds}
 use Rattle.dm_maps.specs.Holds.{map_holds, preludes_hold, module_holds}
 use Rattle.dm_held.specs.Holds.{scope_holds, prelude_holds, macro_uses_hold, types_hold, values_hold, macros_hold, legacies_hold, bindings_hold, records_hold, lists_hold}
 use Rattle.dm_held.specs.TablesHold.{macro_defs_hold, helpers_hold, diagnostics_hold, data_holds}
 use Rattle.dm_maps.specs.First.{Held, each_from, crate_holder, block_holder, module_holder, tables_holder, local_at, IsChecked}
-use Rattle.dm_maps.specs.Readings.{macro_uses_of, prelude_in}
+use Rattle.dm_maps.specs.Readings.{macro_uses_of, prelude_of}
 use Rattle.dm_maps.specs.Built.{IsBuilt}
 use Rattle.dm_maps.specs.Trees.{tree_of, outline, outlines, IsWorld, IsMap, AreMaps, is_crate_id, is_block_id}
 use Rattle.dm_maps.specs.Sound.{IsSound}
@@ -80,7 +80,7 @@ module _ (w : World) where
     fine_block : (b : ℕ) (m : Map) → slice_get w.block_maps b ≡ Some m → KnowsAll w (map_holds m)
     fine_block b m e = all-get (λ (x : Map). KnowsAll w (map_holds x)) w.block_maps b m (all-map Fine block_holder w.block_maps (all-left Fine blocks (modules ++ tables_holder w ∷ []) after_crates)) e
 
-    fine_module : (m : ModuleId) (p : Place) (d : Module) → slice_get w.places m.0 ≡ Some p → module_in w p ≡ Some d → KnowsAll w (module_holds d)
+    fine_module : (m : ModuleId) (p : Place) (d : Module) → slice_get w.places m.0 ≡ Some p → placed_module w p ≡ Some d → KnowsAll w (module_holds d)
     fine_module m p d e g =
         subst (λ o. KnowsAll w (option_map_or module_holds o [])) g
         (each-fine (module_holder w) 0 m.0 w.places p (all-left Fine modules (tables_holder w ∷ []) (all-right Fine blocks (modules ++ tables_holder w ∷ []) after_crates)) e)
@@ -138,13 +138,13 @@ module _ (w : World) where
     pub of_scope : (Q : Scope → Type 0) → Q no_scope → ((s : Scope) → KnowsAll w (scope_holds s) → Q s) → (m : ModuleId) → Q (scope_of w m)
     of_scope Q none some m = by (slice_get w.places m.0) refl
       where
-        at : (p : Place) → slice_get w.places m.0 ≡ Some p → (o : Option Module) → module_in w p ≡ o → Q (option_map_or (λ (d : Module). d.scope) o no_scope)
+        at : (p : Place) → slice_get w.places m.0 ≡ Some p → (o : Option Module) → placed_module w p ≡ o → Q (option_map_or (λ (d : Module). d.scope) o no_scope)
         at p e None g = none
         at p e (Some d) g = some d.scope (all-right Known (vis_holds d.visibility) (scope_holds d.scope) (fine_module m p d e g))
 
-        by : (o : Option Place) → slice_get w.places m.0 ≡ o → Q (option_map_or (λ (d : Module). d.scope) (option_and_then (module_in w) o) no_scope)
+        by : (o : Option Place) → slice_get w.places m.0 ≡ o → Q (option_map_or (λ (d : Module). d.scope) (option_and_then (placed_module w) o) no_scope)
         by None e = none
-        by (Some p) e = at p e (module_in w p) refl
+        by (Some p) e = at p e (placed_module w p) refl
 
     macro_use-known : (id : MapId) (n : Name) → ForSome (find_name n (macro_uses_of w id)) (λ e. IsTrue (knows w (held.Macro e.0)))
     macro_use-known id n = by (numbered_map w id) refl
@@ -163,7 +163,7 @@ module _ (w : World) where
         by None e = for_none (λ y. IsTrue (knows w (held.Macro y.0)))
         by (Some m) e = at m (all-right Known (option_map_or prelude_holds m.prelude []) (macro_uses_hold m.macro_use) (fine_preludes id m e)) (find_name n m.macro_use) refl
 
-    prelude-known : (id : MapId) → ForSome (prelude_in w id) (λ m. IsTrue (knows w (held.Module m)))
+    prelude-known : (id : MapId) → ForSome (prelude_of w id) (λ m. IsTrue (knows w (held.Module m)))
     prelude-known id = by (numbered_map w id) refl
       where
         Q : Option ModuleId → Type 0

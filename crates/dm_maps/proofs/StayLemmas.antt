@@ -8,7 +8,7 @@ use Rattle.dm_base.specs.Names.{Name}
 use Rattle.dm_scope.specs.Flags.{Globs}
 use Rattle.dm_scope.specs.Push.{scope_after}
 use Rattle.dm_held.specs.declared.held.HeldId.{HeldId}
-use Rattle.dm_maps.specs.Asked.{with_push}
+use Rattle.dm_maps.specs.PushRes.{with_push}
 use Rattle.dm_maps.specs.Cut.{cut}
 use Rattle.dm_maps.specs.CutLaws.{setting-cut, numbered-outline-cut}
 use Rattle.dm_maps.specs.Known.{knows}

@@ -7,7 +7,7 @@ use Rattle.dm_held.specs.declared.held.HeldId.TheVariants as held
 use Rattle.dm_maps.specs.declared.place.Place.{Place}
 use Rattle.dm_maps.specs.Known.{knows}
 use Rattle.dm_modules.specs.Maps.{Map, Module, Modules, nth_module}
-use Rattle.dm_maps.specs.World.{World, module_in, own_scope, numbered_map}
+use Rattle.dm_maps.specs.World.{World, placed_module, scope_if_known, numbered_map}
 use Rattle.dm_maps.specs.Trees.{Outline, outline, IsWorld}
 use Rattle.dm_maps.proofs.GrowthLemmas.{get-within}
 use Rattle.dm_maps.proofs.ModuleGrowth.{entry}
@@ -21,7 +21,7 @@ entry-there (e ∷ es) (suc i) m q h = entry-there es i m q h
 
 module _ (w : World) (is : IsWorld w) where
   -- a module stands at its place, with the parent that the place says
-  pub module-there : (m : ModuleId) (p : Place) → slice_get w.places m.0 ≡ Some p → (d : Module) × (module_in w p ≡ Some d) × (d.parent ≡ p.parent)
+  pub module-there : (m : ModuleId) (p : Place) → slice_get w.places m.0 ≡ Some p → (d : Module) × (placed_module w p ≡ Some d) × (d.parent ≡ p.parent)
   module-there m p e =
       let s = is.stands m p e in
       by (numbered_map w p.map) (sym (numbered-outlines w p.map) ∙ s.is_map) s.is_module
@@ -34,9 +34,9 @@ module _ (w : World) (is : IsWorld w) where
           entry-there x.modules p.index m p.parent (ap (λ (o : Outline). slice_get o.modules p.index) same ∙ h)
 
   -- so a module of the world has a scope
-  pub scope-there : (m : ModuleId) → IsTrue (knows w (held.Module m)) → IsSome (own_scope w m)
+  pub scope-there : (m : ModuleId) → IsTrue (knows w (held.Module m)) → IsSome (scope_if_known w m)
   scope-there m known =
       let at = get-within w.places m.0 (ltb-true m.0 (length w.places) known) in
       let d = module-there m at.0 at.1 in
-      ap (λ o. is_some (option_map (λ (x : Module). x.scope) (option_and_then (module_in w) o))) at.1
+      ap (λ o. is_some (option_map (λ (x : Module). x.scope) (option_and_then (placed_module w) o))) at.1
       ∙ ap (λ o. is_some (option_map (λ (x : Module). x.scope) o)) d.1

@@ -63,8 +63,8 @@ abbrev pub map_fault : World → MapId → Option BuildFault
 map_fault w id = first_fault (record none_found { no_crate = lacks_map w id })
 
 -- of what is set for a crate
-abbrev pub krate_fault : World → Crate → Option BuildFault
-krate_fault w k = first_fault (record none_found { no_crate = not (knows w (held.Crate k)) })
+abbrev pub crate_fault : World → Crate → Option BuildFault
+crate_fault w k = first_fault (record none_found { no_crate = not (knows w (held.Crate k)) })
 
 -- the fault that there is, and none else, since no memory is taken
 abbrev pub AnswersFree : {A : Type 0} → Option BuildFault → Result A BuildFault → Type 0

@@ -23,9 +23,9 @@ use Rattle.dm_scope.specs.Scope.{Scope, no_scope, bound_in, legacy_in, last_of}
 use Rattle.dm_tables.specs.Variants.{same_enum}
 use Rattle.dm_modules.specs.Maps.{Map, Module, Modules, LocalMap, nth_module}
 use Rattle.dm_maps.specs.declared.place.Place.{Place}
-use Rattle.dm_maps.specs.Readings.{setting_of, read, is_edition_2015, styles_in, variants_of, macro_uses_of}
+use Rattle.dm_maps.specs.Readings.{setting_of, read, is_edition_2015, styles_of, variants_of, macro_uses_of}
 use Rattle.dm_maps.specs.Trees.{tree_of, tree_by, outline}
-use Rattle.dm_maps.specs.World.{World, numbered_map, crate_map, place_of, module_in, scope_of}
+use Rattle.dm_maps.specs.World.{World, numbered_map, crate_map, place_of, placed_module, scope_of}
 use Rattle.dm_maps.specs.Cut.{among, kept, last_alone, cut_scope, cut_module, cut_prelude, cut_map, cut, cut_local}
 
 -- ---- look-ups in cut tables
@@ -55,7 +55,7 @@ nth-cut N es i =
     ap (λ ds. slice_get ds i) (map-map (λ (e : ModuleId × Module). e.1) (λ e. (e.0, cut_module N e.1)) es ∙ sym (map-map (cut_module N) (λ (e : ModuleId × Module). e.1) es))
     ∙ slice_get-map (cut_module N) (map (λ (e : ModuleId × Module). e.1) es) i
 
-module-cut : (w : World) (N : List Name) (p : Place) → module_in (cut w N) p ≡ option_map (cut_module N) (module_in w p)
+module-cut : (w : World) (N : List Name) (p : Place) → placed_module (cut w N) p ≡ option_map (cut_module N) (placed_module w p)
 module-cut w N p = ap (λ o. option_and_then (λ m. nth_module m.modules p.index) o) (numbered-cut w N p.map) ∙ go (numbered_map w p.map)
   where
     go : (o : Option Map) → option_and_then (λ m. nth_module m.modules p.index) (option_map (cut_map N) o) ≡ option_map (cut_module N) (option_and_then (λ m. nth_module m.modules p.index) o)
@@ -72,9 +72,9 @@ scope-cut w N m = by (place_of w m)
     cut_after None = refl
     cut_after (Some d) = refl
 
-    by : (o : Option Place) → scope (option_and_then (module_in (cut w N)) o) ≡ cut_scope N (scope (option_and_then (module_in w) o))
+    by : (o : Option Place) → scope (option_and_then (placed_module (cut w N)) o) ≡ cut_scope N (scope (option_and_then (placed_module w) o))
     by None = refl
-    by (Some p) = ap scope (module-cut w N p) ∙ cut_after (module_in w p)
+    by (Some p) = ap scope (module-cut w N p) ∙ cut_after (placed_module w p)
 
 -- ---- what the cut leaves of maps
 
@@ -121,7 +121,7 @@ setting-cut w N = λ i. record {
   is_2015 = λ k. (ap (λ o. option_map_or (λ m. is_edition_2015 m.edition) o false) (slice_get-map (cut_map N) w.crate_maps k.0) ∙ read-map N (λ m. is_edition_2015 m.edition) false (λ m. refl) (crate_map w k)) i;
   block_root = λ b. (ap (λ o. option_map (λ m. m.root) o) (slice_get-map (cut_map N) w.block_maps b.0) ∙ root-cut N (slice_get w.block_maps b.0)) i;
   prelude = λ id. (ap (λ o. option_and_then (λ m. option_map (λ (p : ModuleId × Option UseId). p.0) m.prelude) o) (numbered-cut w N id) ∙ prelude-cut N (numbered_map w id)) i;
-  styles = styles_in w;
+  styles = styles_of w;
 }
 
 bound-cut : (N : List Name) (n : Name) → among N n ≡ true → (s : Scope) → bound_in (cut_scope N s) n ≡ bound_in s n

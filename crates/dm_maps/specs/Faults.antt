@@ -54,8 +54,8 @@ abbrev pub has_child : World → ModuleId → Name → Bool
 has_child w m n = option_map_or (λ d. is_some (find_name n d.children)) (module_of w m) false
 
 -- of a new crate
-abbrev pub crate_fault : World → Option BuildFault
-crate_fault w = first_fault (record none_found { full = is_full w.places })
+abbrev pub new_crate_fault : World → Option BuildFault
+new_crate_fault w = first_fault (record none_found { full = is_full w.places })
 
 -- of a new child of a module
 unfoldable pub child_fault : World → ModuleId → Name → Option BuildFault

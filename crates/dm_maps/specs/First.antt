@@ -9,7 +9,7 @@ use Rattle.dm_held.specs.declared.held.HeldId.{HeldId}
 use Rattle.dm_held.specs.declared.held.HeldFault.{HeldFault}
 use Rattle.dm_maps.specs.declared.place.Place.{Place}
 use Rattle.dm_modules.specs.Maps.{Map, LocalMap}
-use Rattle.dm_maps.specs.World.{World, module_in}
+use Rattle.dm_maps.specs.World.{World, placed_module}
 use Rattle.dm_maps.specs.Known.{knows, KnowsAll}
 use Rattle.dm_held.specs.Holding.{local_holds}
 use Rattle.dm_maps.specs.Holds.{map_holds, module_holds}
@@ -39,7 +39,7 @@ block_holder m = (holder.Map m.id, map_holds m)
 
 -- a module, by number and place
 abbrev pub module_holder : World → ℕ → Place → Held
-module_holder w i p = (holder.Module (record { 0 = i }), option_map_or module_holds (module_in w p) [])
+module_holder w i p = (holder.Module (record { 0 = i }), option_map_or module_holds (placed_module w p) [])
 
 -- the tables that belong to none of them
 abbrev pub tables_holder : World → Held

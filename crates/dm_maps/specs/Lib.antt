@@ -1,5 +1,5 @@
 pub mod World
-pub mod Asked
+pub mod PushRes
 pub mod ItemHomes
 pub mod BuildCrateData
 pub mod BuildTables

@@ -14,7 +14,7 @@ use Rattle.dm_base.specs.declared.visibility.VisibilityExplicitness.TheVariants.
 use Rattle.dm_base.specs.Names.{Name}
 use Rattle.dm_scope.specs.Flags.{no_globs}
 use Rattle.dm_modules.specs.declared.module_origin.ModuleOrigin.TheVariants.{Inline}
-use Rattle.dm_maps.specs.Asked.{with_push}
+use Rattle.dm_maps.specs.PushRes.{with_push}
 use Rattle.dm_maps.specs.Build.{no_world, with_crate, with_module}
 use Rattle.dm_maps.specs.BuildBlocks.{with_block}
 use Rattle.dm_maps.specs.MapDumps.{map_dump}

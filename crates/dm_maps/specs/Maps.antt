@@ -5,7 +5,7 @@ use Rattle.dm_ids.specs.declared.MapId.{MapId}
 use Rattle.dm_ids.specs.declared.ModuleId.{ModuleId}
 use Rattle.dm_base.specs.Names.{Name}
 use Rattle.dm_scope.specs.Scope.{Scope}
-use Rattle.dm_modules.specs.Maps.{Map, Module, module_at, scope_at, map_with_child, map_with_scope}
+use Rattle.dm_modules.specs.Maps.{Map, Module, module_at, nth_scope, map_with_child, map_with_scope}
 
 -- the map of each crate, and of each block, by number
 pub record Maps : Type 0 where
@@ -32,8 +32,8 @@ abbrev pub maps_with_scope : Maps → MapId → ℕ → Scope → Maps
 maps_with_scope ms id i s = maps_with ms id (λ m. map_with_scope m i s)
 
 -- the scope at place i of that map
-abbrev pub scope_in : Maps → MapId → ℕ → Option Scope
-scope_in ms id i = option_and_then (λ m. scope_at m.modules i) (map_at ms id)
+abbrev pub nth_scope_in : Maps → MapId → ℕ → Option Scope
+nth_scope_in ms id i = option_and_then (λ m. nth_scope m.modules i) (map_at ms id)
 
 -- with a module more in that map, a child of the module at place i
 abbrev pub maps_with_child : Maps → MapId → ℕ → Name → ModuleId → Module → Maps

@@ -22,7 +22,7 @@ use Rattle.dm_base.specs.declared.source.Edition.TheVariants.{Edition2015, Editi
 use Rattle.dm_base.specs.Names.{Name, find_name}
 use Rattle.dm_base.specs.Tree.{Tree}
 use Rattle.dm_base.specs.Builtins.{builtin_words}
-use Rattle.dm_base.specs.Styles.{styles_of}
+use Rattle.dm_base.specs.Styles as kinds
 use Rattle.dm_scope.specs.Scope.{bound_in, legacy_in}
 use Rattle.dm_modules.specs.Maps.{LocalMap}
 use Rattle.dm_tables.specs.Variants.{same_enum}
@@ -68,14 +68,14 @@ is_edition_2015 Edition2024 = false
 
 -- the styles of a macro, where what stands under its number is of its kind
 abbrev pub styles_by : MacroId → MacroLoc → MacroCallStyles
-styles_by (Macro2Id n) (loc.Macro2 e) = styles_of (loc.Macro2 e)
-styles_by (MacroRulesId n) (loc.MacroRules e) = styles_of (loc.MacroRules e)
-styles_by (ProcMacroId n) (loc.Proc k) = styles_of (loc.Proc k)
+styles_by (Macro2Id n) (loc.Macro2 e) = kinds.styles_of (loc.Macro2 e)
+styles_by (MacroRulesId n) (loc.MacroRules e) = kinds.styles_of (loc.MacroRules e)
+styles_by (ProcMacroId n) (loc.Proc k) = kinds.styles_of (loc.Proc k)
 styles_by _ _ = no_style
 
 -- no style for a macro that is not the world's
-abbrev pub styles_in : World → MacroId → MacroCallStyles
-styles_in w m = option_map_or (λ e. styles_by m e.1) (slice_get w.macros (macro_number m)) no_style
+abbrev pub styles_of : World → MacroId → MacroCallStyles
+styles_of w m = option_map_or (λ e. styles_by m e.1) (slice_get w.macros (macro_number m)) no_style
 
 abbrev pub variants_of : World → EnumId → List (Name × (EnumVariantId × FieldsShape))
 variants_of w e = option_map_or (λ vs. vs) (lookup (same_enum e) w.enums) []
@@ -94,8 +94,8 @@ abbrev pub is_2015_in : World → Crate → Bool
 is_2015_in w k = option_map_or (λ m. is_edition_2015 m.edition) (crate_map w k) false
 
 -- the prelude module of a map
-abbrev pub prelude_in : World → MapId → Option ModuleId
-prelude_in w id = option_and_then (λ m. option_map (λ p. p.0) m.prelude) (numbered_map w id)
+abbrev pub prelude_of : World → MapId → Option ModuleId
+prelude_of w id = option_and_then (λ m. option_map (λ p. p.0) m.prelude) (numbered_map w id)
 
 unfoldable pub setting_of : World → Setting
 unfolding tree_of
@@ -104,8 +104,8 @@ setting_of w = record {
   root_of = root_of w;
   is_2015 = is_2015_in w;
   block_root = block_root_of w;
-  prelude = prelude_in w;
-  styles = styles_in w;
+  prelude = prelude_of w;
+  styles = styles_of w;
 }
 
 unfoldable pub read : World → LocalMap → Name → Reading

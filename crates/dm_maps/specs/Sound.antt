@@ -20,7 +20,7 @@ use Rattle.dm_maps.specs.World.{World, place_of, scope_of, map_of, numbered_map}
 use Rattle.dm_maps.specs.ItemHomes.{module_of_def, module_of_macro}
 use Rattle.dm_maps.specs.Known.{knows, KnowsAll}
 use Rattle.dm_held.specs.Holding.{res_holds}
-use Rattle.dm_maps.specs.Readings.{macro_uses_of, variants_of, block_root_of, root_of, prelude_in}
+use Rattle.dm_maps.specs.Readings.{macro_uses_of, variants_of, block_root_of, root_of, prelude_of}
 use Rattle.dm_maps.specs.First.{IsChecked}
 use Rattle.dm_maps.specs.Family.{IsFamily}
 use Rattle.dm_maps.specs.Lists.{IsListed}
@@ -32,7 +32,7 @@ pub record IsSound (w : World) : Type 0 where
   pub bound : (m : ModuleId) (n : Name) → KnowsAll w (res_holds (bound_in (scope_of w m) n))
   pub roots : (k : Crate) → ForSome (root_of w k) (IsKnown (tree_of w))
   pub block_roots : (b : BlockId) → ForSome (block_root_of w b) (IsKnown (tree_of w))
-  pub preludes : (id : MapId) → ForSome (prelude_in w id) (IsKnown (tree_of w))
+  pub preludes : (id : MapId) → ForSome (prelude_of w id) (IsKnown (tree_of w))
   pub macro_uses : (id : MapId) (n : Name) → ForSome (find_name n (macro_uses_of w id)) (λ e. IsTrue (knows w (held.Macro e.0)))
   pub legacies : (m : ModuleId) (n : Name) → ForSome (legacy_in (scope_of w m) n) (λ l. IsTrue (knows w (held.Macro l)))
   pub lies : (map : Map) (m : ModuleId) → numbered_map w map.id ≡ Some map → IsSome (module_at map.modules m) → map_of w m ≡ Some map

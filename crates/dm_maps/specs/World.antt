@@ -57,12 +57,12 @@ abbrev pub map_of : World → ModuleId → Option Map
 map_of w m = option_and_then (λ p. numbered_map w p.map) (place_of w m)
 
 -- what stands at a place
-abbrev pub module_in : World → Place → Option Module
-module_in w p = option_and_then (λ map. nth_module map.modules p.index) (numbered_map w p.map)
+abbrev pub placed_module : World → Place → Option Module
+placed_module w p = option_and_then (λ map. nth_module map.modules p.index) (numbered_map w p.map)
 
 -- a module, by its number
 abbrev pub module_of : World → ModuleId → Option Module
-module_of w m = option_and_then (module_in w) (place_of w m)
+module_of w m = option_and_then (placed_module w) (place_of w m)
 
 -- its scope; where there is no such module, one that binds nothing
 abbrev pub scope_of : World → ModuleId → Scope
@@ -82,5 +82,5 @@ abbrev pub with_scope : World → ModuleId → Scope → World
 with_scope w m s = with_scope_in w (place_of w m) s
 
 -- the scope of a module, where there is such a module
-abbrev pub own_scope : World → ModuleId → Option Scope
-own_scope w m = option_map (λ d. d.scope) (module_of w m)
+abbrev pub scope_if_known : World → ModuleId → Option Scope
+scope_if_known w m = option_map (λ d. d.scope) (module_of w m)

@@ -4,7 +4,7 @@ ghost use Rattle.std.specs.Option.{option_copied, option_copied_mut};
 ghost use Rattle.std.specs.Borrow.{sem};
 ghost use Rattle.dm_def_map.specs.MapChanges.{changed, grows};
 ghost use Rattle.dm_maps.specs.LendingMaps.{LendsMap, LendsScopeIn};
-ghost use Rattle.dm_maps.specs.Maps.{IsFree, map_at, maps_with, maps_with_child, maps_and, scope_in};
+ghost use Rattle.dm_maps.specs.Maps.{IsFree, map_at, maps_with, maps_with_child, maps_and, nth_scope_in};
 
 pub(crate) mod share;
 
@@ -92,7 +92,7 @@ impl Maps {
     #[tactic(auto, using(crate::proofs::MapWrites::put_own))]
     pub(crate) fn scope_mut(&mut self, id: MapId, i: usize) -> Option<&mut ItemScope>
         ensures* writes_back { sem 𝓛 (LendsScopeIn self.entry id i result) }
-        ensures value { option_copied_mut result ≡ scope_in self.old id i }
+        ensures value { option_copied_mut result ≡ nth_scope_in self.old id i }
     {
         let map = self.get_mut(id)?;
         match building::scope_mut(map, i) {

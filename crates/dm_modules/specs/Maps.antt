@@ -60,8 +60,8 @@ abbrev pub nth_module : Modules → ℕ → Option Module
 nth_module es i = slice_get (map (λ e. e.1) es) i
 
 -- its scope
-abbrev pub scope_at : Modules → ℕ → Option Scope
-scope_at es i = option_map (λ d. d.scope) (nth_module es i)
+abbrev pub nth_scope : Modules → ℕ → Option Scope
+nth_scope es i = option_map (λ d. d.scope) (nth_module es i)
 
 abbrev pub put_scope : Modules → ℕ → Option Module → Scope → Modules
 put_scope es i None s = es

@@ -2,7 +2,7 @@
 ghost use Rattle.std.specs.Prelude.{◌≡◌, [], ◌∷◌, None, IfOk, OnOk, OnErr};
 ghost use Rattle.std.specs.Option.{option_copied_mut};
 ghost use Rattle.std.specs.Borrow.{sem};
-ghost use Rattle.dm_modules.specs.Maps.{module_at, scope_at, with_new_child};
+ghost use Rattle.dm_modules.specs.Maps.{module_at, nth_scope, with_new_child};
 ghost use Rattle.dm_modules.specs.LendingModules.{LendsNthScope};
 
 use crate::growth::{drop_last, list_child};
@@ -49,7 +49,7 @@ pub fn add_child(
 /// What the module at place `i` binds, to be changed.
 pub fn scope_mut(modules: &mut ModulesMap, i: usize) -> Option<&mut ItemScope>
     ensures* writes_back { sem 𝓛 (LendsNthScope modules.entry i result) }
-    ensures value { option_copied_mut result ≡ scope_at modules.old i }
+    ensures value { option_copied_mut result ≡ nth_scope modules.old i }
 {
     match modules.entries.get_index_mut(i) {
         Some(data) => Some(data.scope_mut()),

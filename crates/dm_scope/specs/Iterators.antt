@@ -17,12 +17,12 @@ abbrev pub deref_name : {X : Type 0} → Bor Name × X → Name × X
 deref_name p = (p.0.now, p.1)
 
 -- the module that a type is, with who sees it
-abbrev pub module_at : ModuleDefId → Visibility → Option (ModuleId × Visibility)
-module_at (def.ModuleId m) v = Some (m, v)
-module_at d v = None
+abbrev pub seen_module : ModuleDefId → Visibility → Option (ModuleId × Visibility)
+seen_module (def.ModuleId m) v = Some (m, v)
+seen_module d v = None
 
-abbrev pub module_of : Item ModuleDefId ImportOrExternCrate → Option (ModuleId × Visibility)
-module_of x = module_at x.def x.vis
+abbrev pub item_module : Item ModuleDefId ImportOrExternCrate → Option (ModuleId × Visibility)
+item_module x = seen_module x.def x.vis
 
 -- the trait that a type is
 abbrev pub trait_at : ModuleDefId → Option TraitId

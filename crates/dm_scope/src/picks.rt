@@ -1,5 +1,5 @@
 //! What the iterators of a scope choose: each names what an element shows.
-ghost use Rattle.dm_scope.specs.Iterators.{any_impl, trait_impl, inherent_impl, module_of, trait_of};
+ghost use Rattle.dm_scope.specs.Iterators.{any_impl, trait_impl, inherent_impl, item_module, trait_of};
 ghost use Rattle.dm_scope.specs.MacroCalls.{call_in};
 
 use crate::picked::Pick;
@@ -59,7 +59,7 @@ pub struct ModuleType;
 impl Pick<TypesItem> for ModuleType {
     type Shown = (ModuleId, Visibility);
 
-    ghost shown = { module_of };
+    ghost shown = { item_module };
 
     fn pick(&self, x: &TypesItem) -> Option<(ModuleId, Visibility)> {
         match x.def {

@@ -3,7 +3,7 @@ use Rattle.std.specs.Prelude.{◌≡◌, [], ◌∷◌, Some, None, codes, refl}
 use Rattle.dm_base.specs.declared.source.Edition.TheVariants.{Edition2021}
 use Rattle.dm_scope.specs.Flags.{no_globs}
 use Rattle.dm_scope.specs.Scope.{no_scope}
-use Rattle.dm_maps.specs.Asked.{with_push}
+use Rattle.dm_maps.specs.PushRes.{with_push}
 use Rattle.dm_maps.specs.Build.{no_world}
 use Rattle.dm_maps.specs.Cut.{cut, cut_local, cut_module, cut_prelude}
 use Rattle.dm_maps.specs.World.{World}

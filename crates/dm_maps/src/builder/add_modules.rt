@@ -1,7 +1,7 @@
 //! Crates and modules, added to a builder.
 ghost use Rattle.std.specs.Prelude.{◌≡◌, ◌<◌, [], IsTrue, IfOk, OnOk, OnErr, None, Some, length};
 ghost use Rattle.dm_maps.specs.Build.{with_crate, with_module, with_child_of, next_crate, next_module, next_place, fresh_crate};
-ghost use Rattle.dm_maps.specs.Faults.{Answers, crate_fault, child_fault, has_child, is_full};
+ghost use Rattle.dm_maps.specs.Faults.{Answers, new_crate_fault, child_fault, has_child, is_full};
 ghost use Rattle.dm_modules.specs.Origins.{is_child};
 
 use crate::build_fault::BuildFault;
@@ -35,7 +35,7 @@ impl WorldBuilder {
     ) -> Result<Crate, BuildFault>
         ensures ok { OnOk result (self.new ≡ with_crate self.old edition file) }
         ensures number { IfOk result (λ krate. krate ≡ next_crate self.old) }
-        ensures fault { Answers (crate_fault self.old) result }
+        ensures fault { Answers (new_crate_fault self.old) result }
         ensures err { OnErr result (self.new ≡ self.old) }
     {
         if self.is_full() {

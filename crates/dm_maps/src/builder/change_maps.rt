@@ -1,6 +1,6 @@
 //! What is set in the maps of a builder, and in its extern preludes.
 ghost use Rattle.std.specs.Prelude.{◌≡◌, false, IsOk, OnOk, OnErr};
-ghost use Rattle.dm_maps.specs.BuildMaps.{AnswersFree, with_map, with_prelude, with_macro_use, with_macro_def, with_helper, locals_with, with_extern_of, lacks_map, map_fault, krate_fault};
+ghost use Rattle.dm_maps.specs.BuildMaps.{AnswersFree, with_map, with_prelude, with_macro_use, with_macro_def, with_helper, locals_with, with_extern_of, lacks_map, map_fault, crate_fault};
 ghost use Rattle.dm_maps.specs.Faults.{Answers};
 ghost use Rattle.dm_modules.specs.Locals.{with_extern};
 ghost use Rattle.dm_def_map.specs.MapChanges.{changed, grows};
@@ -117,7 +117,7 @@ impl WorldBuilder {
         named_by: Option<ExternCrateId>,
     ) -> Result<(), BuildFault>
         ensures ok { OnOk result (self.new ≡ with_extern_of self.old krate name m named_by) }
-        ensures fault { Answers (krate_fault self.old krate) result }
+        ensures fault { Answers (crate_fault self.old krate) result }
         ensures err { OnErr result (self.new ≡ self.old) }
     {
         if !self.knows(HeldId::Crate(krate)) {

@@ -2,7 +2,7 @@
 ghost use Rattle.std.specs.Prelude.{◌≡◌};
 ghost use Rattle.std.specs.Option.{option_copied_mut};
 ghost use Rattle.std.specs.Borrow.{sem};
-ghost use Rattle.dm_maps.specs.World.{own_scope};
+ghost use Rattle.dm_maps.specs.World.{scope_if_known};
 ghost use Rattle.dm_maps.specs.LendingWorld.{LendsScope};
 
 use crate::builder::WorldBuilder;
@@ -16,7 +16,7 @@ impl WorldBuilder {
     /// may be no id of the builder's: `check` finds that.
     pub fn scope_mut(&mut self, m: ModuleId) -> Option<&mut ItemScope>
         ensures* writes_back { sem 𝓛 (LendsScope self.entry m result) }
-        ensures value { option_copied_mut result ≡ own_scope self.old m }
+        ensures value { option_copied_mut result ≡ scope_if_known self.old m }
     {
         let place = self.place_of(m)?;
         self.maps.scope_mut(place.map, place.index)

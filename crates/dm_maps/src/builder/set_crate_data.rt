@@ -1,7 +1,7 @@
 //! What is set for all maps of a crate.
 ghost use Rattle.std.specs.Prelude.{◌≡◌, ◌++◌, ◌∷◌, [], true, Some, IfOk, OnOk, OnErr};
 ghost use Rattle.dm_maps.specs.BuildCrateData.{sharing, data_of, with_data};
-ghost use Rattle.dm_maps.specs.BuildMaps.{krate_fault};
+ghost use Rattle.dm_maps.specs.BuildMaps.{crate_fault};
 ghost use Rattle.dm_tables.specs.CrateData.{with_feature, with_proc_macro};
 ghost use Rattle.dm_maps.specs.Faults.{Answers};
 
@@ -19,7 +19,7 @@ impl WorldBuilder {
     /// Says that a crate goes without `std`.
     pub fn set_no_std(&mut self, krate: Crate) -> Result<(), BuildFault>
         ensures ok { OnOk result (self.new ≡ with_data self.old krate (λ d. record d { no_std = true })) }
-        ensures fault { Answers (krate_fault self.old krate) result }
+        ensures fault { Answers (crate_fault self.old krate) result }
         ensures err { OnErr result (self.new ≡ self.old) }
     {
         let mut data = self.copy_data(krate)?;
@@ -31,7 +31,7 @@ impl WorldBuilder {
     /// Says that a crate goes without `core`.
     pub fn set_no_core(&mut self, krate: Crate) -> Result<(), BuildFault>
         ensures ok { OnOk result (self.new ≡ with_data self.old krate (λ d. record d { no_core = true })) }
-        ensures fault { Answers (krate_fault self.old krate) result }
+        ensures fault { Answers (crate_fault self.old krate) result }
         ensures err { OnErr result (self.new ≡ self.old) }
     {
         let mut data = self.copy_data(krate)?;
@@ -43,7 +43,7 @@ impl WorldBuilder {
     /// Says that a crate counts as `core` where traits are implemented.
     pub fn set_coherence_is_core(&mut self, krate: Crate) -> Result<(), BuildFault>
         ensures ok { OnOk result (self.new ≡ with_data self.old krate (λ d. record d { coherence_is_core = true })) }
-        ensures fault { Answers (krate_fault self.old krate) result }
+        ensures fault { Answers (crate_fault self.old krate) result }
         ensures err { OnErr result (self.new ≡ self.old) }
     {
         let mut data = self.copy_data(krate)?;
@@ -55,7 +55,7 @@ impl WorldBuilder {
     /// Sets how deep macros of a crate may expand.
     pub fn set_recursion_limit(&mut self, krate: Crate, limit: u32) -> Result<(), BuildFault>
         ensures ok { OnOk result (self.new ≡ with_data self.old krate (λ d. record d { recursion_limit = Some limit })) }
-        ensures fault { Answers (krate_fault self.old krate) result }
+        ensures fault { Answers (crate_fault self.old krate) result }
         ensures err { OnErr result (self.new ≡ self.old) }
     {
         let mut data = self.copy_data(krate)?;
@@ -67,7 +67,7 @@ impl WorldBuilder {
     /// Adds a tool whose attributes a crate may have, the last.
     pub fn add_tool(&mut self, krate: Crate, tool: Symbol) -> Result<(), BuildFault>
         ensures ok { OnOk result (self.new ≡ with_data self.old krate (λ d. record d { tools = d.tools ++ tool ∷ [] })) }
-        ensures fault { Answers (krate_fault self.old krate) result }
+        ensures fault { Answers (crate_fault self.old krate) result }
         ensures err { OnErr result (self.new ≡ self.old) }
     {
         let mut data = self.copy_data(krate)?;
@@ -79,7 +79,7 @@ impl WorldBuilder {
     /// Adds an unstable feature that a crate asks for. One that is there stays at its place.
     pub fn add_feature(&mut self, krate: Crate, feature: Symbol) -> Result<(), BuildFault>
         ensures ok { OnOk result (self.new ≡ with_data self.old krate (λ d. with_feature d feature)) }
-        ensures fault { Answers (krate_fault self.old krate) result }
+        ensures fault { Answers (crate_fault self.old krate) result }
         ensures err { OnErr result (self.new ≡ self.old) }
     {
         let mut data = self.copy_data(krate)?;
@@ -98,7 +98,7 @@ impl WorldBuilder {
         m: ProcMacroId,
     ) -> Result<(), BuildFault>
         ensures ok { OnOk result (self.new ≡ with_data self.old krate (λ d. with_proc_macro d f m)) }
-        ensures fault { Answers (krate_fault self.old krate) result }
+        ensures fault { Answers (crate_fault self.old krate) result }
         ensures err { OnErr result (self.new ≡ self.old) }
     {
         let data = self.copy_data(krate)?.with_proc_macro(f, m)?;
@@ -109,7 +109,7 @@ impl WorldBuilder {
     /// The data of a crate, to be changed.
     fn copy_data(&self, krate: Crate) -> Result<CrateData, BuildFault>
         ensures value { IfOk result (λ d. d ≡ data_of self.now krate) }
-        ensures fault { Answers (krate_fault self.now krate) result }
+        ensures fault { Answers (crate_fault self.now krate) result }
     {
         match self.numbered_map(MapId { krate, block: None }) {
             None => Err(BuildFault::NoSuchCrate),

@@ -4,7 +4,7 @@ ghost use Rattle.std.specs.Option.{option_copied, option_map};
 ghost use Rattle.dm_base.specs.Names.{find_name};
 ghost use Rattle.dm_base.specs.Tree.{IsTree, IsKnown};
 ghost use Rattle.dm_scope.specs.Scope.{bound_in};
-ghost use Rattle.dm_maps.specs.World.{place_of, numbered_map, map_of, module_in, module_of, scope_of};
+ghost use Rattle.dm_maps.specs.World.{place_of, numbered_map, map_of, placed_module, module_of, scope_of};
 ghost use Rattle.dm_maps.specs.Readings.{variants_of};
 ghost use Rattle.dm_maps.specs.Trees.{IsWorld, map_id_in, parent_in, container_in, containers_of};
 
@@ -55,12 +55,12 @@ impl WorldBuilder {
     {
         match self.place_of(m) {
             None => None,
-            Some(place) => self.module_in(place),
+            Some(place) => self.placed_module(place),
         }
     }
 
-    pub(crate) fn module_in(&self, place: Place) -> Option<&ModuleData>
-        ensures { option_copied result ≡ module_in self.now place }
+    pub(crate) fn placed_module(&self, place: Place) -> Option<&ModuleData>
+        ensures { option_copied result ≡ placed_module self.now place }
     {
         match self.numbered_map(place.map) {
             None => None,

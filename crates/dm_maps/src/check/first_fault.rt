@@ -74,7 +74,7 @@ fn block_map_fault(world: &WorldBuilder, map: &DefMap) -> Option<WorldFault>
 fn module_fault(world: &WorldBuilder, i: u32, place: Place) -> Option<WorldFault>
     ensures { IsAnswer world.now (module_holder world.now i place ∷ []) result }
 {
-    match world.module_in(place) {
+    match world.placed_module(place) {
         None => None,
         Some(data) => {
             let least = note_module(world, data);

@@ -6,7 +6,7 @@ ghost use Rattle.dm_held.specs.Holding.{local_holds};
 ghost use Rattle.dm_maps.specs.MapDumps.{map_dump};
 ghost use Rattle.dm_maps.specs.MapFacts.{IsMapOf};
 ghost use Rattle.dm_maps.specs.Outwards.{maps_outwards, AsksMaps};
-ghost use Rattle.dm_maps.specs.Readings.{root_of, styles_in};
+ghost use Rattle.dm_maps.specs.Readings.{root_of, styles_of};
 ghost use Rattle.dm_maps.specs.World.{crate_map, numbered_map};
 ghost use Rattle.dm_modules.specs.Maps.{Map};
 
@@ -54,7 +54,7 @@ pub fn local_def_map(world: &World, krate: Crate) -> &LocalDefMap
 
 /// The ways in which a macro may be called: none for one that is not the world's.
 pub fn macro_styles_from_id(world: &World, m: MacroId) -> MacroCallStyles
-    ensures { result ≡ styles_in world.now m }
+    ensures { result ≡ styles_of world.now m }
 {
     world.tables().styles_of(m)
 }

@@ -5,7 +5,7 @@ ghost use Rattle.dm_base.specs.Names.{find_name};
 ghost use Rattle.dm_base.specs.Tree.{IsKnown};
 ghost use Rattle.dm_held.specs.declared.held.HeldId.TheVariants as held;
 ghost use Rattle.dm_maps.specs.Known.{knows};
-ghost use Rattle.dm_maps.specs.Readings.{variants_of, root_of, block_root_of, is_2015_in, prelude_in, macro_uses_of};
+ghost use Rattle.dm_maps.specs.Readings.{variants_of, root_of, block_root_of, is_2015_in, prelude_of, macro_uses_of};
 ghost use Rattle.dm_maps.specs.Trees.{tree_of};
 ghost use Rattle.dm_maps.specs.World.{scope_of};
 ghost use Rattle.dm_scope.specs.Scope.{legacy_in};
@@ -46,7 +46,7 @@ impl World {
 
     /// The prelude module of a map.
     pub fn prelude_of(&self, id: MapId) -> Option<ModuleId>
-        ensures value { result ≡ prelude_in self.now id }
+        ensures value { result ≡ prelude_of self.now id }
         ensures known { ForSome result (IsKnown (tree_of self.now)) }
     {
         self.tables.prelude_of(id)

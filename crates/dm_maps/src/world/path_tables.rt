@@ -2,7 +2,7 @@
 ghost use Rattle.std.specs.Prelude.{◌≡◌};
 ghost use Rattle.std.specs.Option.{option_copied};
 ghost use Rattle.dm_base.specs.Names.{find_name};
-ghost use Rattle.dm_maps.specs.Readings.{root_of, block_root_of, prelude_in, macro_uses_of, styles_by, styles_in, no_style};
+ghost use Rattle.dm_maps.specs.Readings.{root_of, block_root_of, prelude_of, macro_uses_of, styles_by, styles_of, no_style};
 ghost use Rattle.dm_maps.specs.World.{crate_map, scope_of};
 ghost use Rattle.dm_scope.specs.Scope.{legacy_in, last_of};
 
@@ -45,7 +45,7 @@ impl WorldBuilder {
 
     /// The prelude module of a map.
     pub(crate) fn prelude_of(&self, id: MapId) -> Option<ModuleId>
-        ensures { result ≡ prelude_in self.now id }
+        ensures { result ≡ prelude_of self.now id }
     {
         match self.numbered_map(id) {
             None => None,
@@ -85,7 +85,7 @@ impl WorldBuilder {
 
     /// The styles of a macro: none for one that is not there.
     pub(crate) fn styles_of(&self, m: MacroId) -> MacroCallStyles
-        ensures { result ≡ styles_in self.now m }
+        ensures { result ≡ styles_of self.now m }
     {
         match self.macros.get(macro_number(m) as usize) {
             None => MacroCallStyles::empty(),

@@ -5,14 +5,14 @@ ghost use Rattle.dm_base.specs.Tree.{same_module};
 ghost use Rattle.dm_scope.specs.Push.{scope_after, globs_after, push_answer};
 ghost use Rattle.dm_scope.specs.Shows.{ScopePush, Shows, PushAnswers, PushShows, ShowsElsewhere, StillShows, push_of};
 ghost use Rattle.dm_held.specs.Pushes.{push_holds};
-ghost use Rattle.dm_maps.specs.Asked.{with_push};
+ghost use Rattle.dm_maps.specs.PushRes.{with_push};
 ghost use Rattle.dm_base.specs.Names.{Name};
 ghost use Rattle.dm_maps.specs.Cut.{among, cut};
 ghost use Rattle.dm_maps.specs.First.{IsChecked};
 ghost use Rattle.dm_maps.specs.Known.{KnowsAll};
 ghost use Rattle.dm_maps.specs.Built.{IsBuilt};
 ghost use Rattle.dm_maps.specs.Stays.{StaysKnown};
-ghost use Rattle.dm_maps.specs.World.{own_scope, scope_of};
+ghost use Rattle.dm_maps.specs.World.{scope_if_known, scope_of};
 
 use crate::builder::WorldBuilder;
 use crate::world::World;
@@ -82,7 +82,7 @@ impl WorldBuilder {
         res: PerNs,
         import: Option<ImportOrExternCrate>,
     ) -> Result<bool, AllocError>
-        requires there { IsSome (own_scope self.old lookup.0) }
+        requires there { IsSome (scope_if_known self.old lookup.0) }
         ensures answer { IfOk result (λ answer. answer ≡ push_answer (scope_of self.old lookup.0) glob_imports.old lookup.0 lookup.1 res import) }
         ensures world { OnOk result (self.new ≡ with_push self.old glob_imports.old lookup.0 lookup.1 res import) }
         ensures globs { OnOk result (glob_imports.new ≡ globs_after (scope_of self.old lookup.0) glob_imports.old lookup.0 lookup.1 res import) }

@@ -107,7 +107,7 @@ fn counted(world: &WorldBuilder, places: &[Place], namespace: Namespace) -> usiz
 fn counted_at(world: &WorldBuilder, place: Place, namespace: Namespace) -> usize
     ensures { result ≡ length (records_in namespace (scope_at_place world.now place)) }
 {
-    match world.module_in(place) {
+    match world.placed_module(place) {
         None => 0,
         Some(data) => data.scope().record_count(namespace),
     }

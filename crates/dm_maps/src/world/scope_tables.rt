@@ -4,7 +4,7 @@ ghost use Rattle.std.specs.Option.{ForSome, option_copied};
 ghost use Rattle.dm_held.specs.declared.held.HeldId.TheVariants as held;
 ghost use Rattle.dm_maps.specs.Known.{knows};
 ghost use Rattle.dm_maps.specs.ScopeTables.{scope_tables};
-ghost use Rattle.dm_maps.specs.World.{own_scope, scope_of};
+ghost use Rattle.dm_maps.specs.World.{scope_if_known, scope_of};
 ghost use Rattle.dm_scope.specs.ChainSteps.{record_count};
 ghost use Rattle.dm_scope.specs.Tables.{no_style};
 
@@ -64,7 +64,7 @@ impl ScopeTables for World {
 impl WorldBuilder {
     /// The scope of a module, by its number.
     pub(crate) fn scope_of(&self, m: ModuleId) -> Option<&ItemScope>
-        ensures { option_copied result ≡ own_scope self.now m }
+        ensures { option_copied result ≡ scope_if_known self.now m }
     {
         match self.module_of(m) {
             None => None,

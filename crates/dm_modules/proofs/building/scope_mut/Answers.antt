@@ -1,7 +1,7 @@
 use Rattle.std.proofs.Common.{◌∙◌, inl, ap, Some}
 use Rattle.std.specs.Option.{option_map}
 use Rattle.dm_scope.specs.Scope.{Scope}
-use Rattle.dm_modules.specs.Maps.{with_scope_at, put_scope, scope_at}
+use Rattle.dm_modules.specs.Maps.{with_scope_at, put_scope, nth_scope}
 use Rattle.dm_modules.proofs.building.scope_mut.Goals as goal
 
 pub returns-in-Some : goal.returns-in-Some
@@ -11,6 +11,6 @@ returns-in-Some c =
       ap (λ f. inl (c.scope_mut.result.ghost_name, f)) (λ j w. same w j),
       record {
         writes_back = tt;
-        value = ap Some c.scope_mut.ensures.value ∙ ap (option_map (λ d. d.scope)) there ∙ ap (λ s. scope_at s c.args.i) c.modules.view_is;
+        value = ap Some c.scope_mut.ensures.value ∙ ap (option_map (λ d. d.scope)) there ∙ ap (λ s. nth_scope s c.args.i) c.modules.view_is;
       },
     )

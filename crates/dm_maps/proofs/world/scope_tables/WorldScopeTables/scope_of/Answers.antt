@@ -1,13 +1,13 @@
 use Rattle.std.proofs.Common.{◌≡◌, ◌∙◌, ap, is_some}
 use Rattle.std.specs.Option.{option_copied}
 use Rattle.dm_maps.specs.ScopeTables.{scope_tables}
-use Rattle.dm_maps.specs.World.{World, own_scope}
+use Rattle.dm_maps.specs.World.{World, scope_if_known}
 use Rattle.dm_maps.proofs.RecordLemmas.{scope-numbered, scope-within, some-copied}
 use Rattle.dm_maps.proofs.world.scope_tables.WorldScopeTables.scope_of.Goals as goal
 use Rattle.dm_maps.proofs.world.scope_tables.WorldScopeTables.scope_of.Goals.{After-scope_of}
 
-found : (c : After-scope_of) → option_copied c.scope_of.result ≡ own_scope c.args.self.now c.args.m
-found c = c.scope_of.ensures ∙ ap (λ (w : World). own_scope w c.args.m) c.tables.ensures.value
+found : (c : After-scope_of) → option_copied c.scope_of.result ≡ scope_if_known c.args.self.now c.args.m
+found c = c.scope_of.ensures ∙ ap (λ (w : World). scope_if_known w c.args.m) c.tables.ensures.value
 
 pub returns-clause-value : goal.returns-clause-value
 unfolding scope_tables
