@@ -14,13 +14,14 @@ use Rattle.dm_base.specs.declared.item_ids.MacroId.{MacroId}
 use Rattle.dm_base.specs.declared.macros.MacroLoc.{MacroLoc}
 use Rattle.dm_base.specs.declared.source.Edition.{Edition}
 use Rattle.dm_base.specs.declared.visibility.Visibility.{Visibility}
+use Rattle.dm_maps.specs.declared.rules.Rules.{Rules}
 use Rattle.defmap_script.specs.declared.build_lines.Addition.{Addition}
 use Rattle.defmap_script.specs.declared.build_lines.Addition.TheVariants as additions
 use Rattle.defmap_script.specs.declared.build_words.MapName.{MapName}
 use Rattle.defmap_script.specs.Words.{number, editions, item_kinds, visibility}
-use Rattle.defmap_script.specs.BuildWords.{map_name, shapes, macro_id, macro_loc, extern_crate}
+use Rattle.defmap_script.specs.BuildWords.{map_name, shapes, versions, macro_id, macro_loc, extern_crate}
 
--- what a line adds
+-- what a line adds, or sets
 pub data Added : Type 0 where
   NewCrate : Edition → FileId → Added
   NewModule : ModuleId → Name → Visibility → Added
@@ -34,6 +35,7 @@ pub data Added : Type 0 where
   NewExtern : Crate → Name → ModuleId → Option ExternCrateId → Added
   NewLegacy : ModuleId → Name → MacroId → Added
   NewRaw : Name → Added
+  NewRules : Rules → Added
 
 -- what an addition adds
 abbrev pub added : Addition → Added
@@ -49,6 +51,7 @@ added (additions.MacroUse map n m x) = NewMacroUse map n.now m x
 added (additions.Extern k n m x) = NewExtern k n.now m x
 added (additions.Legacy m n l) = NewLegacy m n.now l
 added (additions.Raw n) = NewRaw n.now
+added (additions.Rules r) = NewRules r
 
 -- the words behind the first of each kind of line
 abbrev pub crate_line : List Name → Option Added
@@ -107,13 +110,17 @@ abbrev pub raw_line : List Name → Option Added
 raw_line (name ∷ []) = Some (NewRaw name)
 raw_line _ = None
 
+abbrev pub rules_line : List Name → Option Added
+rules_line (v ∷ []) = option_map (λ r. NewRules r) (find_name v versions)
+rules_line _ = None
+
 -- what reads the words behind each first word
 abbrev pub addition_forms : List (Name × (List Name → Option Added))
 addition_forms =
     (codes "crate", crate_line) ∷ (codes "module", module_line) ∷ (codes "block", block_line) ∷ (codes "use", use_line)
     ∷ (codes "item", item_line) ∷ (codes "variant", variant_line) ∷ (codes "macro", macro_line) ∷ (codes "prelude", prelude_line)
     ∷ (codes "macrouse", macro_use_line) ∷ (codes "extern", extern_line) ∷ (codes "legacy", legacy_line)
-    ∷ (codes "raw", raw_line) ∷ []
+    ∷ (codes "raw", raw_line) ∷ (codes "rules", rules_line) ∷ []
 
 abbrev pub addition : List Name → Option Added
 addition [] = None

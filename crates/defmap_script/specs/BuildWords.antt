@@ -12,6 +12,8 @@ use Rattle.dm_base.specs.declared.macros.MacroLoc.{MacroLoc}
 use Rattle.dm_base.specs.declared.macros.MacroLoc.TheVariants as loc
 use Rattle.dm_base.specs.declared.macros.ProcMacroKind.{ProcMacroKind}
 use Rattle.dm_base.specs.declared.macros.ProcMacroKind.TheVariants as proc
+use Rattle.dm_maps.specs.declared.rules.Rules.{Rules}
+use Rattle.dm_maps.specs.declared.rules.Rules.TheVariants.{V1, V2}
 use Rattle.defmap_script.specs.declared.build_words.MapName.{MapName}
 use Rattle.defmap_script.specs.declared.build_words.MapName.TheVariants as named
 use Rattle.defmap_script.specs.Words.{number, Forms, by_form, macro_forms}
@@ -33,6 +35,10 @@ map_name w = option_map_or crate_named (behind 99 w) (option_and_then block_name
 
 abbrev pub shapes : List (Name × FieldsShape)
 shapes = (codes "record", Record) ∷ (codes "tuple", Tuple) ∷ (codes "unit", Unit) ∷ []
+
+-- `1` or `2`, as they are written here
+abbrev pub versions : List (Name × Rules)
+versions = (codes "1", V1) ∷ (codes "2", V2) ∷ []
 
 -- `macro2:N`, `rules:N` or `proc:N`
 abbrev pub macro_id : Name → Option MacroId

@@ -20,7 +20,7 @@ use Rattle.dm_scope.specs.TableLists.{add_to_list}
 use Rattle.dm_maps.specs.declared.build_fault.BuildFault.{BuildFault}
 use Rattle.dm_modules.specs.declared.module_origin.ModuleOrigin.{ModuleOrigin}
 use Rattle.dm_modules.specs.declared.module_origin.ModuleOrigin.TheVariants.{Inline}
-use Rattle.dm_maps.specs.Build.{with_crate, with_module, with_item}
+use Rattle.dm_maps.specs.Build.{with_crate, with_module, with_item, with_rules}
 use Rattle.dm_maps.specs.BuildBlocks.{with_block, block_fault}
 use Rattle.dm_maps.specs.BuildItems.{with_use, with_macro, with_variant}
 use Rattle.dm_maps.specs.BuildMaps.{with_prelude, with_macro_use, with_extern_of, map_fault, crate_fault}
@@ -32,7 +32,7 @@ use Rattle.defmap_script.specs.declared.build_words.MapName.{MapName}
 use Rattle.defmap_script.specs.declared.build_words.MapName.TheVariants as named
 use Rattle.defmap_script.specs.declared.fault.Fault.{Fault}
 use Rattle.defmap_script.specs.declared.fault.Fault.TheVariants as faults
-use Rattle.defmap_script.specs.BuildLines.{Added, NewCrate, NewModule, NewBlock, NewUse, NewItem, NewVariant, NewMacro, NewPrelude, NewMacroUse, NewExtern, NewLegacy, NewRaw}
+use Rattle.defmap_script.specs.BuildLines.{Added, NewCrate, NewModule, NewBlock, NewUse, NewItem, NewVariant, NewMacro, NewPrelude, NewMacroUse, NewExtern, NewLegacy, NewRaw, NewRules}
 use Rattle.defmap_script.specs.Faults.{build_fault, IsRefused}
 
 abbrev pub file_of : FileId → Edition → EditionedFileId
@@ -84,6 +84,7 @@ added_to w (NewMacroUse map n m x) = built (map_fault w (map_id w map)) (with_ma
 added_to w (NewExtern k n m x) = built (crate_fault w k) (with_extern_of w k n m x)
 added_to w (NewLegacy m n l) = with_legacy w m n l (scope_if_known w m)
 added_to w (NewRaw n) = Ok (with_raw w n)
+added_to w (NewRules r) = Ok (with_rules w r)
 
 -- a call that leaves what r has, or is refused: for its fault, or for want of memory where it has none
 abbrev pub Leaves : Result World Fault → Result (Unit {0}) Fault → World → Type 0

@@ -1,10 +1,10 @@
 //! The lines that add to a builder, as what they ask for.
 ghost use Rattle.std.specs.Prelude.{◌≡◌, ◌∷◌};
 ghost use Rattle.std.specs.Option.{option_map};
-ghost use Rattle.defmap_script.specs.BuildLines.{added, addition, crate_line, module_line, block_line, use_line, item_line, variant_line, macro_line, prelude_line, macro_use_line, extern_line, legacy_line, raw_line};
+ghost use Rattle.defmap_script.specs.BuildLines.{added, addition, crate_line, module_line, block_line, use_line, item_line, variant_line, macro_line, prelude_line, macro_use_line, extern_line, legacy_line, raw_line, rules_line};
 ghost use Rattle.defmap_script.specs.Lines.{words_left};
 
-use crate::build_words::{MapName, extern_crate, macro_id, macro_loc, map_name, shape};
+use crate::build_words::{MapName, extern_crate, macro_id, macro_loc, map_name, shape, version};
 use crate::lines::Words;
 use crate::words::{edition, item_kind, number, visibility};
 use dm_base::fields_shape::FieldsShape;
@@ -13,8 +13,9 @@ use dm_base::item_ids::{ItemKind, MacroId};
 use dm_base::macros::MacroLoc;
 use dm_base::source::Edition;
 use dm_base::visibility::Visibility;
+use dm_maps::rules::Rules;
 
-/// What a line adds to a builder.
+/// What a line adds to a builder, or sets in it.
 #[derive(Clone, Copy)]
 pub(crate) enum Addition<'a> {
     Crate {
@@ -70,6 +71,9 @@ pub(crate) enum Addition<'a> {
     Raw {
         name: &'a str,
     },
+    Rules {
+        version: Rules,
+    },
 }
 
 /// The addition of a first word and the words behind it.
@@ -89,6 +93,7 @@ pub(crate) fn addition_of<'a>(first: &str, words: Words<'a>) -> Option<Addition<
         "extern" => extern_line(words),
         "legacy" => legacy_line(words),
         "raw" => raw_line(words),
+        "rules" => rules_line(words),
         _ => None,
     }
 }
@@ -226,4 +231,13 @@ fn raw_line(mut words: Words<'_>) -> Option<Addition<'_>>
     let name = words.next()?;
     words.end()?;
     Some(Addition::Raw { name })
+}
+
+/// `rules 1|2`, behind its first word.
+fn rules_line(mut words: Words<'_>) -> Option<Addition<'_>>
+    ensures { option_map added result ≡ rules_line (words_left words.entry) }
+{
+    let version = version(words.next()?)?;
+    words.end()?;
+    Some(Addition::Rules { version })
 }

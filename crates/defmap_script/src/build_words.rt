@@ -3,13 +3,14 @@ ghost use Rattle.std.specs.Prelude.{◌≡◌};
 ghost use Rattle.std.specs.Option.{option_map};
 ghost use Rattle.dm_base.specs.Names.{find_name};
 ghost use Rattle.defmap_script.specs.Words.{by_form};
-ghost use Rattle.defmap_script.specs.BuildWords.{behind, expander, expander_forms, extern_crate, macro_id, macro_loc, map_name, proc_kinds, shapes};
+ghost use Rattle.defmap_script.specs.BuildWords.{behind, expander, expander_forms, extern_crate, macro_id, macro_loc, map_name, proc_kinds, shapes, versions};
 
 use crate::words::{cut_at_colon, number};
 use dm_base::fields_shape::FieldsShape;
 use dm_base::ids::{BlockId, Crate, ExternCrateId, Macro2Id, MacroRulesId, ProcMacroId};
 use dm_base::item_ids::MacroId;
 use dm_base::macros::{MacroCallStyles, MacroExpander, MacroLoc, ProcMacroKind};
+use dm_maps::rules::Rules;
 
 /// A map, by the number of its crate or of its block.
 #[derive(Clone, Copy)]
@@ -49,6 +50,17 @@ pub(crate) fn shape(word: &str) -> Option<FieldsShape>
         "record" => Some(FieldsShape::Record),
         "tuple" => Some(FieldsShape::Tuple),
         "unit" => Some(FieldsShape::Unit),
+        _ => None,
+    }
+}
+
+/// `1` or `2`, as they are written here.
+pub(crate) fn version(word: &str) -> Option<Rules>
+    ensures { result ≡ find_name word.now versions }
+{
+    match word {
+        "1" => Some(Rules::V1),
+        "2" => Some(Rules::V2),
         _ => None,
     }
 }

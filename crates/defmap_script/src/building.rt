@@ -3,7 +3,7 @@ ghost use Rattle.std.specs.Prelude.{◌≡◌};
 ghost use Rattle.std.specs.Option.{option_map_or};
 ghost use Rattle.defmap_script.specs.Faults.{build_fault};
 ghost use Rattle.defmap_script.specs.declared.fault.Fault.TheVariants.{OutOfMemory};
-ghost use Rattle.defmap_script.specs.BuildLines.{added, NewCrate, NewModule, NewBlock, NewUse, NewItem, NewVariant, NewMacro, NewPrelude, NewMacroUse, NewExtern, NewLegacy, NewRaw};
+ghost use Rattle.defmap_script.specs.BuildLines.{added, NewCrate, NewModule, NewBlock, NewUse, NewItem, NewVariant, NewMacro, NewPrelude, NewMacroUse, NewExtern, NewLegacy, NewRaw, NewRules};
 ghost use Rattle.defmap_script.specs.Building.{added_to, ast_of, crate_of_block, inline, map_id, own_file, Leaves};
 
 use crate::build_lines::Addition;
@@ -21,6 +21,7 @@ use dm_held::known_ids::KnownIds;
 use dm_maps::build_fault::BuildFault;
 use dm_maps::builder::WorldBuilder;
 use dm_maps::module_origin::ModuleOrigin;
+use dm_maps::rules::Rules;
 use std::alloc::Global;
 
 /// Why a line is refused whose name memory does not suffice for: that comes last.
@@ -65,6 +66,7 @@ pub(crate) fn add(
         } => add_extern(builder, alloc, krate, name, module, by),
         Addition::Legacy { module, name, id } => define_legacy(builder, alloc, module, name, id),
         Addition::Raw { name } => add_raw_name(builder, alloc, name),
+        Addition::Rules { version } => set_rules(builder, version),
     }
 }
 
@@ -267,5 +269,12 @@ fn add_raw_name(builder: &mut WorldBuilder, alloc: Global, name: &str) -> Result
 {
     let name = Name::new(alloc, name)?;
     builder.add_raw_name(name)?;
+    Ok(())
+}
+
+fn set_rules(builder: &mut WorldBuilder, version: Rules) -> Result<(), Fault>
+    ensures { Leaves (added_to builder.old (NewRules version)) result builder.new }
+{
+    builder.set_rules(version);
     Ok(())
 }

@@ -4,6 +4,7 @@ mod dumps;
 mod forms;
 mod paths;
 mod refusals;
+mod rules;
 mod scoping;
 mod seeing;
 mod texts;

@@ -1,5 +1,4 @@
 pub mod EntryLemmas
-pub mod Tables
 pub mod EntryChanges
 pub mod GrowthLemmas
 pub mod ModuleGrowth

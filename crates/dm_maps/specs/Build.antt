@@ -15,6 +15,8 @@ use Rattle.dm_base.specs.declared.item_ids.ModuleDefId.TheVariants as def
 use Rattle.dm_base.specs.declared.item_ids.AdtId.TheVariants as adt
 use Rattle.dm_base.specs.Names.{Name}
 use Rattle.dm_maps.specs.declared.place.Place.{Place}
+use Rattle.dm_maps.specs.declared.rules.Rules.{Rules}
+use Rattle.dm_maps.specs.declared.rules.Rules.TheVariants.{V1}
 use Rattle.dm_modules.specs.declared.module_origin.ModuleOrigin.{ModuleOrigin}
 use Rattle.dm_modules.specs.declared.module_origin.ModuleOrigin.TheVariants.{CrateRoot}
 use Rattle.dm_modules.specs.Maps.{Map, Module, fresh_module, fresh_map}
@@ -22,7 +24,7 @@ use Rattle.dm_tables.specs.ItemTables.{no_tables}
 use Rattle.dm_maps.specs.Maps.{maps_with_child}
 use Rattle.dm_maps.specs.World.{World, place_of, numbered_map, maps_of, with_maps}
 
--- a builder of nothing
+-- a builder of nothing, by the first version of the rules
 abbrev pub no_world : World
 no_world = record {
   crate_maps = [];
@@ -35,7 +37,12 @@ no_world = record {
   variants = [];
   macros = [];
   item_tables = no_tables;
+  rules = V1;
 }
+
+-- the world by that version of the rules
+abbrev pub with_rules : World → Rules → World
+with_rules w r = record w { rules = r }
 
 -- the number of the next module, and of the next crate
 abbrev pub next_module : World → ModuleId

@@ -122,6 +122,7 @@ setting-cut w N = λ i. record {
   block_root = λ b. (ap (λ o. option_map (λ m. m.root) o) (slice_get-map (cut_map N) w.block_maps b.0) ∙ root-cut N (slice_get w.block_maps b.0)) i;
   prelude = λ id. (ap (λ o. option_and_then (λ m. option_map (λ (p : ModuleId × Option UseId). p.0) m.prelude) o) (numbered-cut w N id) ∙ prelude-cut N (numbered_map w id)) i;
   styles = styles_of w;
+  rules = w.rules;
 }
 
 bound-cut : (N : List Name) (n : Name) → among N n ≡ true → (s : Scope) → bound_in (cut_scope N s) n ≡ bound_in s n

@@ -1,4 +1,5 @@
 pub mod World
+pub mod Tables
 pub mod PushRes
 pub mod ItemHomes
 pub mod BuildCrateData

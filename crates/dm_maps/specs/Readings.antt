@@ -26,6 +26,7 @@ use Rattle.dm_base.specs.Styles as kinds
 use Rattle.dm_scope.specs.Scope.{bound_in, legacy_in}
 use Rattle.dm_modules.specs.Maps.{LocalMap}
 use Rattle.dm_tables.specs.Variants.{same_enum}
+use Rattle.dm_maps.specs.declared.rules.Rules.{Rules}
 use Rattle.dm_maps.specs.World.{World, crate_map, numbered_map, scope_of}
 use Rattle.dm_maps.specs.Trees.{tree_of}
 use Rattle.dm_held.specs.Kinds.{macro_number}
@@ -42,6 +43,8 @@ pub record Setting : Type 0 where
   pub prelude : MapId → Option ModuleId
   -- the styles of each macro
   pub styles : MacroId → MacroCallStyles
+  -- the version of the rules
+  pub rules : Rules
 
 -- What a world and a local map say of one name: all that a path reads of it.
 pub record Reading : Type 0 where
@@ -106,6 +109,7 @@ setting_of w = record {
   block_root = block_root_of w;
   prelude = prelude_of w;
   styles = styles_of w;
+  rules = w.rules;
 }
 
 unfoldable pub read : World → LocalMap → Name → Reading

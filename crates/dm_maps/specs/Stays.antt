@@ -13,7 +13,7 @@ pub record StaysKnown (w v : World) : Type 0 where
   -- each id is known if it was, and so is what holds ids: a path, a local map, a set of items, a push
   pub id : (h : HeldId) → knows v h ≡ knows w h
   pub all : (hs : List HeldId) → KnowsAll w hs → KnowsAll v hs
-  -- the tree of modules, roots, editions, prelude modules and styles are the same
+  -- the tree of modules, roots, editions, prelude modules, styles and the version of the rules are the same
   pub setting : setting_of v ≡ setting_of w
   -- each map is there, with its id, its root and its modules
   pub maps : (id : MapId) → option_map outline (numbered_map v id) ≡ option_map outline (numbered_map w id)

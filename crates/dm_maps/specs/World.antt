@@ -12,6 +12,7 @@ use Rattle.dm_base.specs.declared.macros.MacroLoc.{MacroLoc}
 use Rattle.dm_base.specs.Names.{Name}
 use Rattle.dm_scope.specs.Scope.{Scope, no_scope}
 use Rattle.dm_maps.specs.declared.place.Place.{Place}
+use Rattle.dm_maps.specs.declared.rules.Rules.{Rules}
 use Rattle.dm_tables.specs.ItemTables.{ItemTables}
 use Rattle.dm_modules.specs.Maps.{Map, Module, LocalMap, nth_module}
 use Rattle.dm_maps.specs.Maps.{Maps, map_at, maps_with_scope}
@@ -36,6 +37,8 @@ pub record World : Type 0 where
   pub macros : List (ModuleId × MacroLoc)
   -- the tables that belong to no map and no module
   pub item_tables : ItemTables
+  -- the version of the rules by which it answers
+  pub rules : Rules
 
 -- the maps of a world, and the world with others in their place
 abbrev pub maps_of : World → Maps

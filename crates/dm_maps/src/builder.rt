@@ -1,6 +1,6 @@
 //! A world that is being built.
 ghost use Rattle.std.specs.Prelude.{◌≡◌};
-ghost use Rattle.dm_maps.specs.Build.{no_world};
+ghost use Rattle.dm_maps.specs.Build.{no_world, with_rules};
 
 mod add_blocks;
 mod add_diagnostics;
@@ -17,6 +17,7 @@ mod tables;
 
 use crate::maps::Maps;
 use crate::place::Place;
+use crate::rules::Rules;
 use dm_base::ids::{EnumId, ModuleId};
 use dm_base::item_ids::ItemKind;
 use dm_base::macros::MacroLoc;
@@ -38,6 +39,7 @@ pub struct WorldBuilder {
     pub(crate) variants: Vec<EnumId>,
     pub(crate) macros: Vec<(ModuleId, MacroLoc)>,
     pub(crate) item_tables: ItemTables,
+    pub(crate) rules: Rules,
     pub(crate) alloc: Global,
 }
 
@@ -54,6 +56,7 @@ impl Drop for WorldBuilder {
             variants: _variants,
             macros: _macros,
             item_tables: _item_tables,
+            rules: _rules,
             alloc: _alloc,
         } = self;
     }
@@ -65,13 +68,15 @@ impl Model for WorldBuilder {
 
     ghost Value = { World };
 
-    ghost view = { λ w. record { crate_maps = w.maps.crates; block_maps = w.maps.blocks; places = w.places.items; local_maps = w.local_maps.items; uses = w.uses.items; items = w.items.items; enums = w.enums.entries; variants = w.variants.items; macros = w.macros.items; item_tables = w.item_tables } };
+    ghost use Rattle.dm_maps.specs.Tables.{tables_of};
 
-    ghost invariant = { λ w. IsBuilt (record { crate_maps = w.maps.crates; block_maps = w.maps.blocks; places = w.places.items; local_maps = w.local_maps.items; uses = w.uses.items; items = w.items.items; enums = w.enums.entries; variants = w.variants.items; macros = w.macros.items; item_tables = w.item_tables }) };
+    ghost view = { tables_of };
+
+    ghost invariant = { λ w. IsBuilt (tables_of w) };
 }
 
 impl WorldBuilder {
-    /// A builder of nothing, which takes its memory from `alloc`. It takes none yet.
+    /// A builder of nothing, by the first version of the rules, which takes its memory from `alloc`. It takes none yet.
     #[tactic(auto, unfolding(crate::specs::Family::AreFamilies, crate::specs::Lists::AreListed))]
     pub fn new(alloc: Global) -> WorldBuilder
         ensures { result ≡ no_world }
@@ -86,7 +91,15 @@ impl WorldBuilder {
             variants: Vec::new(alloc),
             macros: Vec::new(alloc),
             item_tables: ItemTables::new(alloc),
+            rules: Rules::V1,
             alloc,
         }
+    }
+
+    /// Sets the version of the rules by which the world will answer. The last one set counts.
+    pub fn set_rules(&mut self, rules: Rules)
+        ensures { self.new ≡ with_rules self.old rules }
+    {
+        self.rules = rules;
     }
 }

@@ -7,6 +7,7 @@ mod check;
 pub mod laws;
 mod maps;
 pub mod place;
+pub mod rules;
 pub mod world;
 
 pub use dm_def_map::def_map;

@@ -26,6 +26,7 @@ mod scope_tables;
 mod tree;
 
 use crate::builder::WorldBuilder;
+use crate::rules::Rules;
 use crate::world::record_counts::RecordCounts;
 use dm_base::ids::ModuleId;
 use dm_base::name::Name;
@@ -90,6 +91,13 @@ impl World {
             records: _records,
         } = self;
         tables
+    }
+
+    /// The version of the rules by which the world answers paths.
+    pub fn rules(&self) -> Rules
+        ensures { result ≡ self.now.rules }
+    {
+        self.tables.rules
     }
 
     /// The map that a module lies in.

@@ -8,9 +8,11 @@ pub mod RawVisibilities
 pub mod Written
 pub mod WorldA
 pub mod WorldS
+pub mod WorldP
 pub mod WorldT
 pub mod RowsA
 pub mod RowsS
+pub mod RowsP
 pub mod RowsT
 pub mod RowsV
 pub mod CutRows

@@ -31,6 +31,7 @@ use Rattle.dm_modules.specs.declared.modes.BuiltinShadowMode.TheVariants as shad
 use Rattle.dm_modules.specs.declared.modes.MacroSubNs.{MacroSubNs}
 use Rattle.dm_modules.specs.declared.modes.MacroSubNs.TheVariants.{Bang, Attr}
 use Rattle.dm_modules.specs.Maps.{LocalMap}
+use Rattle.dm_maps.specs.declared.rules.Rules.TheVariants.{V1, V2}
 use Rattle.dm_maps.specs.World.{World}
 use Rattle.dm_maps.specs.Readings.{Setting, Reading, setting_of, read}
 use Rattle.hir_def_map.specs.declared.place.Place.{Place}
@@ -153,6 +154,10 @@ fits w (Some Attr) m = has_styles (w.styles m) attr || has_styles (w.styles m) d
 abbrev pub fitting : Setting → Option MacroSubNs → PerNs → PerNs
 fitting w e x = record x { macros = keep (λ i. fits w e i.def) x.macros }
 
+-- what a prelude has: in version 2 of the rules without a macro that does not fit
+abbrev pub of_prelude : Setting → Option MacroSubNs → PerNs → PerNs
+of_prelude w e x = elim w.rules [ V1 ↦ x | V2 ↦ fitting w e x ]
+
 abbrev pub by_crate : Option ExternCrateId → Option ImportOrExternCrate
 by_crate e = option_map import.ExternCrate e
 
@@ -207,7 +212,8 @@ abbrev pub root_scope : Setting → ModuleId → Reading → PerNs
 root_scope w m s = option_map_or s.bound (w.root_of (crate_of w.tree m)) nothing
 
 -- What a first segment selects, layer by layer. By the 2015 rule: the scope of the crate's root, the extern prelude. After `::`: the
--- extern prelude. Else: legacy macros, the scope and the builtin types, the extern prelude, the macro_use prelude, the prelude module.
+-- extern prelude. Else: legacy macros, the scope and the builtin types, the extern prelude, the macro_use prelude, the prelude module;
+-- of the last two what the version of the rules leaves.
 abbrev pub layers_by_2015_rule : Setting → Place → Reading → List PerNs
 layers_by_2015_rule w (In m) s = root_scope w m s ∷ unless_block_root w m (extern_prelude s) ∷ []
 layers_by_2015_rule w (Preludes id f) s = extern_prelude s ∷ []
@@ -219,10 +225,11 @@ plain_layers w q (In m) s is_last =
     ∷ builtins_or_scope w q m s builtins_first
     ∷ builtins_or_scope w q m s (not builtins_first)
     ∷ unless_block_root w m (extern_prelude s)
-    ∷ macro_use_prelude (w.tree.map_of m) s
-    ∷ unless_block_root w m (prelude w (w.tree.map_of m) s)
+    ∷ of_prelude w q.expected (macro_use_prelude (w.tree.map_of m) s)
+    ∷ unless_block_root w m (of_prelude w q.expected (prelude w (w.tree.map_of m) s))
     ∷ []
-plain_layers w q (Preludes id f) s is_last = extern_prelude s ∷ macro_use_prelude id s ∷ prelude w id s ∷ []
+plain_layers w q (Preludes id f) s is_last =
+    extern_prelude s ∷ of_prelude w q.expected (macro_use_prelude id s) ∷ of_prelude w q.expected (prelude w id s) ∷ []
 
 abbrev pub layers : Setting → Ask → Place → Reading → Bool → List PerNs
 layers w q p s is_last =

@@ -10,11 +10,11 @@ ghost use Rattle.dm_maps.specs.Readings.{setting_of, read, is_2015_in};
 ghost use Rattle.dm_maps.specs.Trees.{tree_of};
 ghost use Rattle.dm_maps.specs.World.{World, scope_of};
 ghost use Rattle.dm_scope.specs.Scope.{bound_in};
-ghost use Rattle.hir_def_map.specs.Paths.{asks_root, are_builtins_first, builtins_of, builtins_or_scope, unless_block_root, layers_by_2015_rule, extern_prelude, prelude, plain_layers, layers, missed, IsKnownPlace};
+ghost use Rattle.hir_def_map.specs.Paths.{asks_root, are_builtins_first, builtins_of, builtins_or_scope, unless_block_root, layers_by_2015_rule, extern_prelude, prelude, of_prelude, plain_layers, layers, missed, IsKnownPlace};
 ghost use Rattle.hir_def_map.specs.declared.place.Place.TheVariants.{In};
 
 use crate::layers::{
-    builtin, extern_prelude, fitting, legacy, macro_use_prelude, prelude, root_scope,
+    builtin, extern_prelude, fitting, legacy, macro_use_layer, prelude_layer, root_scope,
 };
 use crate::place::Place;
 use crate::question::Ask;
@@ -26,7 +26,7 @@ use dm_base::module_tree::ModuleTree;
 use dm_base::name::Name;
 use dm_base::per_ns::PerNs;
 use dm_maps::local_def_map::LocalDefMap;
-use dm_maps::modes::BuiltinShadowMode;
+use dm_maps::modes::{BuiltinShadowMode, MacroSubNs};
 use dm_maps::world::World;
 
 /// Whether edition 2015 answers the question from the crate's root.
@@ -117,15 +117,21 @@ fn extern_layer(world: &World, local: &LocalDefMap, m: ModuleId, segment: &Name)
 
 /// What the prelude module of a module's map binds, which a block's root skips.
 #[tactic(auto, unfolding(dm_maps::specs::Readings::setting_of))]
-fn prelude_layer(world: &World, m: ModuleId, id: MapId, segment: &Name) -> PerNs
+fn prelude_layer_at(
+    world: &World,
+    expected: Option<MacroSubNs>,
+    m: ModuleId,
+    id: MapId,
+    segment: &Name,
+) -> PerNs
     requires { IsKnown (tree_of world.now) m }
-    ensures value { (L : LocalMap) → result ≡ unless_block_root (setting_of world.now) m (prelude (setting_of world.now) id (read world.now L segment.now)) }
+    ensures value { (L : LocalMap) → result ≡ unless_block_root (setting_of world.now) m (of_prelude (setting_of world.now) expected (prelude (setting_of world.now) id (read world.now L segment.now))) }
     ensures known { KnowsAll world.now (res_holds result) }
 {
     if world.is_block_root(m) {
         return PerNs::none();
     }
-    prelude(world, id, segment)
+    prelude_layer(world, expected, id, segment)
 }
 
 /// What the layers of a path without `::` select at a module of the map `id`.
@@ -151,8 +157,8 @@ fn plain_layers_at(
         builtins_or_scope(world, ask, m, segment, bound, builtins_first),
         builtins_or_scope(world, ask, m, segment, bound, !builtins_first),
         extern_layer(world, local, m, segment),
-        macro_use_prelude(world, id, segment),
-        prelude_layer(world, m, id, segment),
+        macro_use_layer(world, ask.expected, id, segment),
+        prelude_layer_at(world, ask.expected, m, id, segment),
     ])
 }
 
@@ -175,8 +181,8 @@ fn plain_layers(
         Place::In(m) => plain_layers_at(world, local, ask, m, segment, is_last),
         Place::Preludes(id, _) => overlay(&[
             extern_prelude(world, local, segment),
-            macro_use_prelude(world, id, segment),
-            prelude(world, id, segment),
+            macro_use_layer(world, ask.expected, id, segment),
+            prelude_layer(world, ask.expected, id, segment),
         ]),
     }
 }

@@ -10,7 +10,7 @@ ghost use Rattle.dm_held.specs.Holding.{res_holds, local_holds};
 ghost use Rattle.dm_modules.specs.Maps.{LocalMap};
 ghost use Rattle.dm_maps.specs.World.{World};
 ghost use Rattle.dm_maps.specs.Readings.{setting_of, read};
-ghost use Rattle.hir_def_map.specs.Paths.{fits, fitting, by_crate, legacy, extern_prelude, macro_use_prelude, prelude, builtin, root_scope};
+ghost use Rattle.hir_def_map.specs.Paths.{fits, fitting, by_crate, legacy, extern_prelude, macro_use_prelude, prelude, of_prelude, builtin, root_scope};
 
 use bitflags::Flags;
 use dm_base::builtin_type::BuiltinType;
@@ -24,6 +24,7 @@ use dm_base::per_ns::{MacrosItem, PerNs};
 use dm_base::visibility::Visibility;
 use dm_maps::local_def_map::LocalDefMap;
 use dm_maps::modes::MacroSubNs;
+use dm_maps::rules::Rules;
 use dm_maps::world::World;
 use dm_maps::world::maps_of::macro_styles_from_id;
 
@@ -71,6 +72,19 @@ pub(crate) fn fitting(world: &World, expected: Option<MacroSubNs>, x: PerNs) -> 
     }
 }
 
+/// What a prelude has, by the version of the rules: in the second without a macro that does not fit.
+#[tactic(auto, unfolding(dm_maps::specs::Readings::setting_of))]
+fn of_prelude(world: &World, expected: Option<MacroSubNs>, x: PerNs) -> PerNs
+    requires { KnowsAll world.now (res_holds x) }
+    ensures value { result ≡ of_prelude (setting_of world.now) expected x }
+    ensures known { KnowsAll world.now (res_holds result) }
+{
+    match world.rules() {
+        Rules::V1 => x,
+        Rules::V2 => fitting(world, expected, x),
+    }
+}
+
 fn by_crate(krate: Option<ExternCrateId>) -> Option<ImportOrExternCrate>
     ensures { result ≡ by_crate krate }
 {
@@ -97,9 +111,9 @@ pub(crate) fn extern_prelude(world: &World, local: &LocalDefMap, segment: &Name)
     }
 }
 
-/// The macro of a map's macro_use prelude.
+/// The macro of a map's macro_use prelude, whatever is expected.
 #[tactic(auto, unfolding(dm_maps::specs::Readings::read))]
-pub(crate) fn macro_use_prelude(world: &World, id: MapId, segment: &Name) -> PerNs
+fn macro_use_prelude(world: &World, id: MapId, segment: &Name) -> PerNs
     ensures value { (L : LocalMap) → result ≡ macro_use_prelude id (read world.now L segment.now) }
     ensures known { KnowsAll world.now (res_holds result) }
 {
@@ -109,9 +123,23 @@ pub(crate) fn macro_use_prelude(world: &World, id: MapId, segment: &Name) -> Per
     }
 }
 
-/// What the scope of a map's prelude module binds.
+/// The macro of a map's macro_use prelude, by the version of the rules.
+pub(crate) fn macro_use_layer(
+    world: &World,
+    expected: Option<MacroSubNs>,
+    id: MapId,
+    segment: &Name,
+) -> PerNs
+    ensures value { (L : LocalMap) → result ≡ of_prelude (setting_of world.now) expected (macro_use_prelude id (read world.now L segment.now)) }
+    ensures known { KnowsAll world.now (res_holds result) }
+{
+    let found = macro_use_prelude(world, id, segment);
+    of_prelude(world, expected, found)
+}
+
+/// What the scope of a map's prelude module binds, whatever is expected.
 #[tactic(auto, unfolding(dm_maps::specs::Readings::read, dm_maps::specs::Readings::setting_of))]
-pub(crate) fn prelude(world: &World, id: MapId, segment: &Name) -> PerNs
+fn prelude(world: &World, id: MapId, segment: &Name) -> PerNs
     ensures value { (L : LocalMap) → result ≡ prelude (setting_of world.now) id (read world.now L segment.now) }
     ensures known { KnowsAll world.now (res_holds result) }
 {
@@ -119,6 +147,20 @@ pub(crate) fn prelude(world: &World, id: MapId, segment: &Name) -> PerNs
         None => PerNs::none(),
         Some(m) => world.bound_in(m, segment),
     }
+}
+
+/// What the scope of a map's prelude module binds, by the version of the rules.
+pub(crate) fn prelude_layer(
+    world: &World,
+    expected: Option<MacroSubNs>,
+    id: MapId,
+    segment: &Name,
+) -> PerNs
+    ensures value { (L : LocalMap) → result ≡ of_prelude (setting_of world.now) expected (prelude (setting_of world.now) id (read world.now L segment.now)) }
+    ensures known { KnowsAll world.now (res_holds result) }
+{
+    let found = prelude(world, id, segment);
+    of_prelude(world, expected, found)
 }
 
 /// The builtin type.

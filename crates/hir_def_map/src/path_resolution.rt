@@ -75,6 +75,23 @@ pub trait ResolvePath {
         ensures local { result ≡ answer_alone (cut world.now path.now.segments) (cut_local local.now path.now.segments) (asked original_module mode shadow expected_macro_subns path.now.kind) path.now.segments };
 
     /// What the preludes of this map alone answer, seen from a module, which may lie in any map of the crate.
+    fn resolve_path_fp_in_all_preludes_with_macro(
+        &self,
+        local: &LocalDefMap,
+        world: &World,
+        mode: ResolveMode,
+        original_module: ModuleId,
+        path: &ModPath,
+        shadow: BuiltinShadowMode,
+        expected_macro_subns: Option<MacroSubNs>,
+    ) -> ResolvePathResult
+        requires { IsKnownInCrate world.now (map self.now) local.now original_module path.now.kind }
+        ensures value { result ≡ prelude_answer world.now local.now (map self.now).id (asked original_module mode shadow expected_macro_subns path.now.kind) path.now.segments }
+        ensures lawful { IsAnswer (length path.now.segments) result }
+        ensures known { KnowsAll world.now (res_holds result.resolved_def) }
+        ensures local { result ≡ prelude_answer (cut world.now path.now.segments) (cut_local local.now path.now.segments) (map self.now).id (asked original_module mode shadow expected_macro_subns path.now.kind) path.now.segments };
+
+    /// What the preludes of this map alone answer, where nothing is expected of a macro.
     fn resolve_path_fp_in_all_preludes(
         &self,
         local: &LocalDefMap,
@@ -190,6 +207,27 @@ impl ResolvePath for DefMap {
     }
 
     #[tactic(auto, unfolding(crate::specs::Paths::prelude_answer))]
+    fn resolve_path_fp_in_all_preludes_with_macro(
+        &self,
+        local: &LocalDefMap,
+        world: &World,
+        mode: ResolveMode,
+        original_module: ModuleId,
+        path: &ModPath,
+        shadow: BuiltinShadowMode,
+        expected_macro_subns: Option<MacroSubNs>,
+    ) -> ResolvePathResult {
+        let ask = Ask::new(
+            original_module,
+            mode,
+            shadow,
+            expected_macro_subns,
+            path.kind(),
+        );
+        let preludes = Place::Preludes(self.id(), original_module);
+        single(world, local, &ask, preludes, path.segments())
+    }
+
     fn resolve_path_fp_in_all_preludes(
         &self,
         local: &LocalDefMap,
@@ -199,9 +237,15 @@ impl ResolvePath for DefMap {
         path: &ModPath,
         shadow: BuiltinShadowMode,
     ) -> ResolvePathResult {
-        let ask = Ask::new(original_module, mode, shadow, None, path.kind());
-        let preludes = Place::Preludes(self.id(), original_module);
-        single(world, local, &ask, preludes, path.segments())
+        self.resolve_path_fp_in_all_preludes_with_macro(
+            local,
+            world,
+            mode,
+            original_module,
+            path,
+            shadow,
+            None,
+        )
     }
 
     fn resolve_path(

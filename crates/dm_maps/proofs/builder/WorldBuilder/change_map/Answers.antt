@@ -2,7 +2,7 @@ use Rattle.std.proofs.Common.{sym, subst}
 use Rattle.dm_maps.specs.Built.{IsBuilt}
 use Rattle.dm_maps.specs.World.{with_maps}
 use Rattle.dm_maps.proofs.BuiltGrowth.{IsBuilt-changed}
-use Rattle.dm_maps.proofs.Tables.{tables_of}
+use Rattle.dm_maps.specs.Tables.{tables_of}
 use Rattle.dm_maps.proofs.builder.WorldBuilder.change_map.Goals as goal
 
 pub invariant_of-self-2 : goal.invariant_of-self-2

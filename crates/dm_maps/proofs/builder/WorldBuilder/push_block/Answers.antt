@@ -6,7 +6,7 @@ use Rattle.dm_maps.specs.BuildBlocks.{crate_in, next_block}
 use Rattle.dm_maps.specs.Built.{IsBuilt}
 use Rattle.dm_maps.proofs.BlockMade.{block-made}
 use Rattle.dm_maps.proofs.BuiltGrowth.{IsBuilt-block}
-use Rattle.dm_maps.proofs.Tables.{tables_of}
+use Rattle.dm_maps.specs.Tables.{tables_of}
 use Rattle.dm_maps.proofs.builder.WorldBuilder.push_block.Goals as goal
 
 pub invariant_of-self-in-Some : goal.invariant_of-self-in-Some

@@ -2,7 +2,7 @@ use Rattle.std.proofs.Common.{◌∙◌, ap, sym, subst, ◌<◌, length}
 use Rattle.dm_maps.specs.World.{World}
 use Rattle.dm_maps.specs.Build.{next_crate, next_module}
 use Rattle.dm_maps.specs.Built.{IsBuilt}
-use Rattle.dm_maps.proofs.Tables.{tables_of}
+use Rattle.dm_maps.specs.Tables.{tables_of}
 use Rattle.dm_maps.proofs.BuiltGrowth.{IsBuilt-crate}
 use Rattle.dm_maps.proofs.WorldGrowth.{crate-made}
 use Rattle.dm_maps.proofs.builder.WorldBuilder.push_crate.Goals as goal

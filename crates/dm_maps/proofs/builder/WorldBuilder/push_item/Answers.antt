@@ -2,7 +2,7 @@ use Rattle.std.proofs.Common.{◌≡◌, ◌++◌, ◌∷◌, [], length, rules,
 use Rattle.dm_maps.specs.Lists.{IsAmong, IsListed}
 use Rattle.dm_maps.specs.World.{World}
 use Rattle.dm_maps.proofs.ListLemmas.{IsListed-item}
-use Rattle.dm_maps.proofs.Tables.{tables_of}
+use Rattle.dm_maps.specs.Tables.{tables_of}
 use Rattle.dm_maps.proofs.builder.WorldBuilder.push_item.Goals as goal
 
 pub invariant_of-self-2 : goal.invariant_of-self-2

@@ -6,7 +6,7 @@ use Rattle.dm_maps.specs.Build.{with_child_of, next_module}
 use Rattle.dm_maps.specs.Built.{IsBuilt}
 use Rattle.dm_maps.proofs.BuiltGrowth.{IsBuilt-child}
 use Rattle.dm_maps.proofs.WorldGrowth.{IsFree-next, child-made}
-use Rattle.dm_maps.proofs.Tables.{tables_of}
+use Rattle.dm_maps.specs.Tables.{tables_of}
 use Rattle.dm_maps.proofs.builder.WorldBuilder.push_module.Goals as goal
 
 pub add_child-requires : goal.add_child-requires

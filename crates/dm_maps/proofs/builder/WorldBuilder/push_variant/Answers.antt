@@ -4,7 +4,7 @@ use Rattle.dm_maps.specs.Lists.{IsEnum, IsListed}
 use Rattle.dm_maps.specs.World.{World}
 use Rattle.dm_tables.specs.Variants.{Enums, enums_with_variant}
 use Rattle.dm_maps.proofs.ListLemmas.{IsListed-variant}
-use Rattle.dm_maps.proofs.Tables.{tables_of}
+use Rattle.dm_maps.specs.Tables.{tables_of}
 use Rattle.dm_maps.proofs.builder.WorldBuilder.push_variant.Goals as goal
 
 pub invariant_of-self-in-Ok : goal.invariant_of-self-in-Ok

@@ -1,5 +1,5 @@
 use Rattle.dm_maps.proofs.BuiltGrowth.{IsBuilt-scoped}
-use Rattle.dm_maps.proofs.Tables.{tables_of}
+use Rattle.dm_maps.specs.Tables.{tables_of}
 use Rattle.dm_maps.proofs.builder.WorldBuilder.scope_mut.Goals as goal
 
 pub invariant_of-self-lent : goal.invariant_of-self-lent

@@ -1,4 +1,4 @@
-use Rattle.std.proofs.Common.{◌∙◌, None, length, map, ap, subst, sym}
+use Rattle.std.proofs.Common.{◌∙◌, length, map, ap, subst, sym}
 use Rattle.dm_base.specs.declared.mod_path.PathKind.{PathKind}
 use Rattle.dm_maps.specs.Readings.{setting_of, read}
 use Rattle.hir_def_map.specs.Laws.{IsAnswer}
@@ -6,7 +6,7 @@ use Rattle.hir_def_map.specs.Paths.{prelude_answer, asked, single}
 use Rattle.hir_def_map.specs.declared.place.Place.TheVariants.{Preludes}
 use Rattle.hir_def_map.proofs.AnswerLaws.{single-names}
 use Rattle.hir_def_map.proofs.CutLemmas.{preludes-cut}
-use Rattle.hir_def_map.proofs.path_resolution.DefMapResolvePath.resolve_path_fp_in_all_preludes.Goals as goal
+use Rattle.hir_def_map.proofs.path_resolution.DefMapResolvePath.resolve_path_fp_in_all_preludes_with_macro.Goals as goal
 
 pub returns-clause-lawful : goal.returns-clause-lawful
 returns-clause-lawful c =
@@ -22,7 +22,7 @@ returns-clause-local c =
     let w = c.args.world.now in
     let L = c.args.local.now in
     let m = c.args.original_module in
-    let q = λ (k : PathKind). asked m c.args.mode c.args.shadow None k in
+    let q = λ (k : PathKind). asked m c.args.mode c.args.shadow c.args.expected_macro_subns k in
     c.single.ensures.value
     ∙ (λ i. single (setting_of w) ((c.new-ask.ensures ∙ ap q c.kind.ensures) i) (map (read w L) (c.segments.ensures i)) (Preludes (c.id.ensures i) m))
     ∙ sym (preludes-cut w L c.args.self.now.id (q c.args.path.now.kind) c.args.path.now.segments)

@@ -14,4 +14,5 @@ tables_of w = record {
   variants = w.variants.items;
   macros = w.macros.items;
   item_tables = w.item_tables;
+  rules = w.rules;
 }
