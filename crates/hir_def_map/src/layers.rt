@@ -133,8 +133,7 @@ pub(crate) fn macro_use_layer(
     ensures value { (L : LocalMap) → result ≡ of_prelude (setting_of world.now) expected (macro_use_prelude id (read world.now L segment.now)) }
     ensures known { KnowsAll world.now (res_holds result) }
 {
-    let found = macro_use_prelude(world, id, segment);
-    of_prelude(world, expected, found)
+    of_prelude(world, expected, macro_use_prelude(world, id, segment))
 }
 
 /// What the scope of a map's prelude module binds, whatever is expected.
@@ -159,8 +158,7 @@ pub(crate) fn prelude_layer(
     ensures value { (L : LocalMap) → result ≡ of_prelude (setting_of world.now) expected (prelude (setting_of world.now) id (read world.now L segment.now)) }
     ensures known { KnowsAll world.now (res_holds result) }
 {
-    let found = prelude(world, id, segment);
-    of_prelude(world, expected, found)
+    of_prelude(world, expected, prelude(world, id, segment))
 }
 
 /// The builtin type.

@@ -5,4 +5,4 @@ use Rattle.hir_def_map.proofs.layers.prelude_layer.Goals as goal
 
 pub returns-clause-value : goal.returns-clause-value
 returns-clause-value c = λ L.
-    c.of_prelude.ensures.value ∙ ap (of_prelude (setting_of c.args.world.now) c.args.expected) (c.prelude-found.ensures.value L)
+    c.of_prelude.ensures.value ∙ ap (of_prelude (setting_of c.args.world.now) c.args.expected) (c.prelude.ensures.value L)
