@@ -15,6 +15,7 @@ use dm_base::name::Name;
 use dm_def_map::def_map::DefMap;
 use dm_modules::module_data::ModuleData;
 use dm_scope::item_scope::ItemScope;
+use dm_scope::name_order::sort_names;
 use dm_scope::scope_tables::ScopeTables;
 use std::alloc::AllocError;
 
@@ -196,14 +197,13 @@ fn child_names<'a>(world: &World, parent: &'a ModuleData) -> Result<Vec<&'a Name
     for name in parent.children().keys() {
         names.push(name)?;
     }
-    sort_names(&mut names);
+    put_in_order(&mut names);
     Ok(names)
 }
 
 /// Puts names in order of their bytes, each once.
-fn sort_names(names: &mut Vec<&Name>)
+fn put_in_order(names: &mut Vec<&Name>)
     ensures { seen names.new.items ≡ in_order (seen names.old.items) }
 {
-    names.sort_unstable();
-    names.dedup();
+    sort_names(names);
 }

@@ -5,7 +5,8 @@ ghost use Rattle.dm_scope.specs.Dumps.{Text, IsDump, mark, style_marks, macro_wo
 ghost use Rattle.dm_scope.specs.Sorted.{AreInOrder, seen};
 
 use super::ItemScope;
-use super::sorted::{add_names, in_name_order, resolution_of};
+use super::sorted::{add_names, resolution_of};
+use crate::name_order::sort_names;
 use crate::scope_tables::ScopeTables;
 use bitflags::Flags;
 use dm_base::ids::TraitId;
@@ -44,8 +45,8 @@ impl ItemScope {
     {
         let mut names = Vec::new(self.alloc);
         add_names(&mut names, self.legacy_macros.keys().as_slice())?;
-        let sorted = in_name_order(self.alloc, names)?;
-        Ok(sorted)
+        sort_names(&mut names);
+        Ok(names)
     }
 
     /// Adds the lines of names.
