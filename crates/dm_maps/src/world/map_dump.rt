@@ -6,6 +6,7 @@ ghost use Rattle.dm_maps.specs.MapFacts.{IsMapOf};
 ghost use Rattle.dm_maps.specs.ScopeTables.{scope_tables};
 ghost use Rattle.dm_maps.specs.World.{numbered_map};
 ghost use Rattle.dm_modules.specs.Maps.{module_at};
+ghost use Rattle.dm_scope.specs.Dumps.{Appends};
 ghost use Rattle.dm_scope.specs.Sorted.{seen};
 
 use crate::world::World;
@@ -54,7 +55,7 @@ pub(crate) fn dump_map(world: &World, first: &DefMap) -> Result<String, AllocErr
 /// Adds what a dump has of one map.
 fn write_map(world: &World, map: &DefMap, text: &mut String) -> Result<(), AllocError>
     requires { IsMapOf world.now map.now }
-    ensures { OnOk result (string_bytes text.new ≡ string_bytes text.old ++ map_text world.now map.now) }
+    ensures { Appends text.old text.new (map_text world.now map.now) result }
 {
     match map.block_id() {
         None => write_tree(world, map, "crate", text)?,
@@ -69,7 +70,7 @@ fn write_map(world: &World, map: &DefMap, text: &mut String) -> Result<(), Alloc
 /// Adds the tree of a map's root, which stands under a path.
 fn write_tree(world: &World, map: &DefMap, path: &str, text: &mut String) -> Result<(), AllocError>
     requires { IsMapOf world.now map.now }
-    ensures { OnOk result (string_bytes text.new ≡ string_bytes text.old ++ tree world.now map.now path.now map.now.root) }
+    ensures { Appends text.old text.new (tree world.now map.now path.now map.now.root) result }
 {
     let mut left = Vec::new(world.tables().alloc);
     write_module(world, map, path, map.root_module_id(), text, &mut left)?;
@@ -125,7 +126,7 @@ fn write_module(
 
 /// Adds the dump of a scope.
 fn write_scope(world: &World, scope: &ItemScope, text: &mut String) -> Result<(), AllocError>
-    ensures { OnOk result (string_bytes text.new ≡ string_bytes text.old ++ scope_text (scope_tables world.now) scope.now) }
+    ensures { Appends text.old text.new (scope_text (scope_tables world.now) scope.now) result }
 {
     scope.dump(world, text)?;
     Ok(())
