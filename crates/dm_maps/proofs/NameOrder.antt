@@ -1,11 +1,10 @@
 -- Names in order: they are put so, and there is one way.
 use Rattle.std.proofs.Common.{◌≡◌, ◌↔◌, ℕ, zero, suc, Bool, true, false, cond, List, [], ◌∷◌, ◌+◌, ◌<◌, refl, ap, sym, subst, ◌∙◌, map, length, arith}
-use Rattle.std.proofs.lemmas.List.{get_or-map, length-map}
 use Rattle.std.specs.Cmp.Lexicographic.{slice_cmp, nat_list_cmp_total}
 use Rattle.std.specs.FinMap.{nat_cmp-IsAntisymmetric, slice_cmp-IsAntisymmetric}
-use Rattle.std.specs.List.{Contains, AllByRecursion, dedup, dedup_from, slice_index_or}
-use Rattle.std.specs.List.Sorted.{IsSorted, IsStrictlySortedBy}
-use Rattle.std.specs.Ordering.{is_lt, nat_cmp, ordering_reverse}
+use Rattle.std.specs.List.{Contains, AllByRecursion, slice_index_or}
+use Rattle.std.specs.List.Sorted.{IsStrictlySortedBy}
+use Rattle.std.specs.Ordering.{nat_cmp, ordering_reverse}
 use Rattle.std.specs.declared.cmp.Ordering.{Ordering}
 use Rattle.std.specs.declared.cmp.Ordering.TheVariants.{Less, Equal, Greater}
 use Rattle.dm_base.specs.Names.{Name}
@@ -139,25 +138,3 @@ one (n ∷ ns) (m ∷ ms) s t f g =
 
 pub AreInOrder-is : (ns all : List Name) → AreInOrder ns all → ns ≡ in_order all
 AreInOrder-is ns all a = one ns (in_order all) a.sorted (in_order-sorted all) (λ x h. (in_order-same all x).1 ((a.same x).0 h)) (λ x h. (a.same x).1 ((in_order-same all x).0 h))
-
--- ---- Names behind references
-
-pub IsSorted-map : {X Y : Type 0} (f : X → Y) (cmp : Y → Y → Ordering) (xs : List X) → IsSorted (λ a b. cmp (f a) (f b)) xs → IsSorted cmp (map f xs)
-IsSorted-map f cmp [] h k d low less = absurd (omega arith)
-IsSorted-map f cmp (x ∷ xs) h k d low less =
-    let n : length (map f (x ∷ xs)) ≡ length (x ∷ xs) = length-map (x ∷ xs) f in
-    let a : k + 1 < length (x ∷ xs) = omega arith in
-    let b : k < length (x ∷ xs) = omega arith in
-    (λ i. is_lt (cmp (get_or-map f (x ∷ xs) (k + 1) x d a i) (get_or-map f (x ∷ xs) k x d b i))) ∙ h k x low a
-
-dedup_from-map : {X Y : Type 0} (f : X → Y) (same : Y → Y → Bool) (k : X) (xs : List X) → map f (dedup_from (λ a b. same (f a) (f b)) k xs) ≡ dedup_from same (f k) (map f xs)
-dedup_from-map f same k [] = refl
-dedup_from-map {X} {Y} f same k (x ∷ xs) = by (same (f x) (f k)) (dedup_from-map f same k xs) (dedup_from-map f same x xs)
-  where
-    by : (b : Bool) → map f (dedup_from (λ a c. same (f a) (f c)) k xs) ≡ dedup_from same (f k) (map f xs) → map f (dedup_from (λ a c. same (f a) (f c)) x xs) ≡ dedup_from same (f x) (map f xs) → map f (cond b (dedup_from (λ a c. same (f a) (f c)) k xs) (k ∷ dedup_from (λ a c. same (f a) (f c)) x xs)) ≡ cond b (dedup_from same (f k) (map f xs)) (f k ∷ dedup_from same (f x) (map f xs))
-    by true skip keep = skip
-    by false skip keep = ap (λ l. f k ∷ l) keep
-
-pub dedup-map : {X Y : Type 0} (f : X → Y) (same : Y → Y → Bool) (xs : List X) → map f (dedup (λ a b. same (f a) (f b)) xs) ≡ dedup same (map f xs)
-dedup-map f same [] = refl
-dedup-map f same (x ∷ xs) = dedup_from-map f same x xs

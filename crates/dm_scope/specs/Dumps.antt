@@ -1,5 +1,5 @@
 -- The dump of a scope: a line for each name, with what it is bound to and how it came there.
-use Rattle.std.specs.Prelude.{◌≡◌, ◌++◌, ◌||◌, ℕ, List, [], map, Option, None, Some, unwrap_or, if◌then◌else◌, codes}
+use Rattle.std.specs.Prelude.{◌≡◌, ◌++◌, ◌||◌, ℕ, List, [], map, Option, None, Some, Result, String, OnOk, string_bytes, unwrap_or, if◌then◌else◌, codes}
 use Rattle.std.specs.List.{flat_map}
 use Rattle.std.specs.Option.{option_map}
 use Rattle.dm_ids.specs.declared.TraitId.{TraitId}
@@ -23,6 +23,10 @@ use Rattle.dm_scope.specs.Tables.{Tables, no_style}
 
 abbrev pub Text : Type 0
 Text = List ℕ
+
+-- what a call adds to a text that goes through
+abbrev pub Appends : {Z A E : Type 0} → String Z → String Z → Text → Result A E → Type 0
+Appends old new added result = OnOk result (string_bytes new ≡ string_bytes old ++ added)
 
 -- the mark of an import; what no import brought has none
 abbrev pub mark : Option ImportOrExternCrate → Text

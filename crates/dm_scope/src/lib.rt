@@ -11,6 +11,7 @@ pub mod item_scope;
 pub mod iterators;
 mod keys;
 pub mod macro_calls;
+pub mod name_order;
 mod picked;
 mod picks;
 pub mod reads;

@@ -1,6 +1,7 @@
 pub mod Answers
 pub mod Overlays
 pub mod Paths
+pub mod Local
 pub mod Questions
 pub mod Laws
 pub mod Walk

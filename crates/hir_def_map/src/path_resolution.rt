@@ -4,13 +4,13 @@ ghost use Rattle.std.specs.Option.{ForSome};
 ghost use Rattle.dm_base.specs.Tree.{IsKnown};
 ghost use Rattle.dm_base.specs.Visibility.{NamesKnown};
 ghost use Rattle.dm_held.specs.Holding.{res_holds};
-ghost use Rattle.dm_maps.specs.Cut.{cut, cut_local};
 ghost use Rattle.dm_maps.specs.Known.{KnowsAll};
 ghost use Rattle.dm_maps.specs.Trees.{tree_of};
 ghost use Rattle.dm_maps.specs.World.{numbered_map};
 ghost use Rattle.dm_modules.specs.Maps.{Map, module_at};
 ghost use Rattle.hir_def_map.specs.declared.result.ResolveMode.TheVariants.{Other};
 ghost use Rattle.hir_def_map.specs.Laws.{IsAnswer};
+ghost use Rattle.hir_def_map.specs.Local.{local_answer, local_answer_alone, local_prelude_answer};
 ghost use Rattle.hir_def_map.specs.Paths.{asked, answer, answer_alone, prelude_answer};
 ghost use Rattle.hir_def_map.specs.Questions.{IsKnownQuestion, IsKnownInCrate};
 ghost use Rattle.hir_def_map.specs.RawVisibilities.{raw_visibility, IsKnownVisibility};
@@ -55,7 +55,7 @@ pub trait ResolvePath {
         ensures known { KnowsAll world.now (res_holds result.resolved_def) }
 
         // It is the answer of what world and local map have under the path's segments: where two have the same, they answer alike.
-        ensures local { result ≡ answer (cut world.now path.now.segments) (cut_local local.now path.now.segments) (asked original_module mode shadow expected_macro_subns path.now.kind) path.now.segments };
+        ensures local { result ≡ local_answer world.now local.now (asked original_module mode shadow expected_macro_subns path.now.kind) path.now.segments };
 
     /// What the origin alone answers, without the modules outside its block and without the preludes.
     fn resolve_path_fp_with_macro_single(
@@ -72,7 +72,7 @@ pub trait ResolvePath {
         ensures value { result ≡ answer_alone world.now local.now (asked original_module mode shadow expected_macro_subns path.now.kind) path.now.segments }
         ensures lawful { IsAnswer (length path.now.segments) result }
         ensures known { KnowsAll world.now (res_holds result.resolved_def) }
-        ensures local { result ≡ answer_alone (cut world.now path.now.segments) (cut_local local.now path.now.segments) (asked original_module mode shadow expected_macro_subns path.now.kind) path.now.segments };
+        ensures local { result ≡ local_answer_alone world.now local.now (asked original_module mode shadow expected_macro_subns path.now.kind) path.now.segments };
 
     /// What the preludes of this map alone answer, seen from a module, which may lie in any map of the crate.
     fn resolve_path_fp_in_all_preludes_with_macro(
@@ -105,7 +105,7 @@ pub trait ResolvePath {
         ensures value { result ≡ prelude_answer world.now local.now (map self.now).id (asked original_module mode shadow None path.now.kind) path.now.segments }
         ensures lawful { IsAnswer (length path.now.segments) result }
         ensures known { KnowsAll world.now (res_holds result.resolved_def) }
-        ensures local { result ≡ prelude_answer (cut world.now path.now.segments) (cut_local local.now path.now.segments) (map self.now).id (asked original_module mode shadow None path.now.kind) path.now.segments };
+        ensures local { result ≡ local_prelude_answer world.now local.now (map self.now).id (asked original_module mode shadow None path.now.kind) path.now.segments };
 
     /// The definitions of a path that is no import, and the first segment that is left.
     fn resolve_path(
@@ -121,8 +121,8 @@ pub trait ResolvePath {
         ensures found { result.0 ≡ (answer world.now local.now (asked original_module Other shadow expected_macro_subns path.now.kind) path.now.segments).resolved_def }
         ensures left { result.1 ≡ (answer world.now local.now (asked original_module Other shadow expected_macro_subns path.now.kind) path.now.segments).segment_index }
         ensures known { KnowsAll world.now (res_holds result.0) }
-        ensures local_found { result.0 ≡ (answer (cut world.now path.now.segments) (cut_local local.now path.now.segments) (asked original_module Other shadow expected_macro_subns path.now.kind) path.now.segments).resolved_def }
-        ensures local_left { result.1 ≡ (answer (cut world.now path.now.segments) (cut_local local.now path.now.segments) (asked original_module Other shadow expected_macro_subns path.now.kind) path.now.segments).segment_index };
+        ensures local_found { result.0 ≡ (local_answer world.now local.now (asked original_module Other shadow expected_macro_subns path.now.kind) path.now.segments).resolved_def }
+        ensures local_left { result.1 ≡ (local_answer world.now local.now (asked original_module Other shadow expected_macro_subns path.now.kind) path.now.segments).segment_index };
 
     /// The definitions that the origin alone gives a path that is no import, where nothing is expected of a macro, the first segment
     /// that is left, and what the path went through.
@@ -139,9 +139,9 @@ pub trait ResolvePath {
         ensures left { result.1 ≡ (answer_alone world.now local.now (asked original_module Other shadow None path.now.kind) path.now.segments).segment_index }
         ensures through { result.2 ≡ (answer_alone world.now local.now (asked original_module Other shadow None path.now.kind) path.now.segments).prefix_info }
         ensures known { KnowsAll world.now (res_holds result.0) }
-        ensures local_found { result.0 ≡ (answer_alone (cut world.now path.now.segments) (cut_local local.now path.now.segments) (asked original_module Other shadow None path.now.kind) path.now.segments).resolved_def }
-        ensures local_left { result.1 ≡ (answer_alone (cut world.now path.now.segments) (cut_local local.now path.now.segments) (asked original_module Other shadow None path.now.kind) path.now.segments).segment_index }
-        ensures local_through { result.2 ≡ (answer_alone (cut world.now path.now.segments) (cut_local local.now path.now.segments) (asked original_module Other shadow None path.now.kind) path.now.segments).prefix_info };
+        ensures local_found { result.0 ≡ (local_answer_alone world.now local.now (asked original_module Other shadow None path.now.kind) path.now.segments).resolved_def }
+        ensures local_left { result.1 ≡ (local_answer_alone world.now local.now (asked original_module Other shadow None path.now.kind) path.now.segments).segment_index }
+        ensures local_through { result.2 ≡ (local_answer_alone world.now local.now (asked original_module Other shadow None path.now.kind) path.now.segments).prefix_info };
 
     /// What a visibility means that is written in a module of this map; none where its path leads to no module. Within an `impl` it
     /// may name a module of any block; elsewhere the map's root stands for a module of another block.

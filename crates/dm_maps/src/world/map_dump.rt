@@ -6,6 +6,7 @@ ghost use Rattle.dm_maps.specs.MapFacts.{IsMapOf};
 ghost use Rattle.dm_maps.specs.ScopeTables.{scope_tables};
 ghost use Rattle.dm_maps.specs.World.{numbered_map};
 ghost use Rattle.dm_modules.specs.Maps.{module_at};
+ghost use Rattle.dm_scope.specs.Dumps.{Appends};
 ghost use Rattle.dm_scope.specs.Sorted.{seen};
 
 use crate::world::World;
@@ -15,6 +16,7 @@ use dm_base::name::Name;
 use dm_def_map::def_map::DefMap;
 use dm_modules::module_data::ModuleData;
 use dm_scope::item_scope::ItemScope;
+use dm_scope::name_order::sort_names;
 use dm_scope::scope_tables::ScopeTables;
 use std::alloc::AllocError;
 
@@ -53,7 +55,7 @@ pub(crate) fn dump_map(world: &World, first: &DefMap) -> Result<String, AllocErr
 /// Adds what a dump has of one map.
 fn write_map(world: &World, map: &DefMap, text: &mut String) -> Result<(), AllocError>
     requires { IsMapOf world.now map.now }
-    ensures { OnOk result (string_bytes text.new ≡ string_bytes text.old ++ map_text world.now map.now) }
+    ensures { Appends text.old text.new (map_text world.now map.now) result }
 {
     match map.block_id() {
         None => write_tree(world, map, "crate", text)?,
@@ -68,7 +70,7 @@ fn write_map(world: &World, map: &DefMap, text: &mut String) -> Result<(), Alloc
 /// Adds the tree of a map's root, which stands under a path.
 fn write_tree(world: &World, map: &DefMap, path: &str, text: &mut String) -> Result<(), AllocError>
     requires { IsMapOf world.now map.now }
-    ensures { OnOk result (string_bytes text.new ≡ string_bytes text.old ++ tree world.now map.now path.now map.now.root) }
+    ensures { Appends text.old text.new (tree world.now map.now path.now map.now.root) result }
 {
     let mut left = Vec::new(world.tables().alloc);
     write_module(world, map, path, map.root_module_id(), text, &mut left)?;
@@ -124,7 +126,7 @@ fn write_module(
 
 /// Adds the dump of a scope.
 fn write_scope(world: &World, scope: &ItemScope, text: &mut String) -> Result<(), AllocError>
-    ensures { OnOk result (string_bytes text.new ≡ string_bytes text.old ++ scope_text (scope_tables world.now) scope.now) }
+    ensures { Appends text.old text.new (scope_text (scope_tables world.now) scope.now) result }
 {
     scope.dump(world, text)?;
     Ok(())
@@ -196,14 +198,13 @@ fn child_names<'a>(world: &World, parent: &'a ModuleData) -> Result<Vec<&'a Name
     for name in parent.children().keys() {
         names.push(name)?;
     }
-    sort_names(&mut names);
+    put_in_order(&mut names);
     Ok(names)
 }
 
 /// Puts names in order of their bytes, each once.
-fn sort_names(names: &mut Vec<&Name>)
+fn put_in_order(names: &mut Vec<&Name>)
     ensures { seen names.new.items ≡ in_order (seen names.old.items) }
 {
-    names.sort_unstable();
-    names.dedup();
+    sort_names(names);
 }

@@ -3,9 +3,9 @@ ghost use Rattle.std.specs.Prelude.{◌≡◌, false, List, IsSome, IfOk, OnOk, 
 ghost use Rattle.dm_ids.specs.declared.ModuleId.{ModuleId};
 ghost use Rattle.dm_base.specs.Tree.{same_module};
 ghost use Rattle.dm_scope.specs.Push.{scope_after, globs_after, push_answer};
-ghost use Rattle.dm_scope.specs.Shows.{ScopePush, Shows, PushAnswers, PushShows, ShowsElsewhere, StillShows, push_of};
+ghost use Rattle.dm_scope.specs.Shows.{PushAnswers, PushShows, ShowsElsewhere, StillShows, push_of};
 ghost use Rattle.dm_held.specs.Pushes.{push_holds};
-ghost use Rattle.dm_maps.specs.PushRes.{with_push};
+ghost use Rattle.dm_maps.specs.PushRes.{with_push, StaysShown};
 ghost use Rattle.dm_base.specs.Names.{Name};
 ghost use Rattle.dm_maps.specs.Cut.{among, cut};
 ghost use Rattle.dm_maps.specs.First.{IsChecked};
@@ -61,7 +61,7 @@ impl World {
         ensures shown { PushShows (scope_of self.old lookup.0) glob_imports.old (scope_of self.new lookup.0) glob_imports.new lookup.0 (push_of lookup.1 res import) result }
         ensures shown_answer { PushAnswers (scope_of self.old lookup.0) glob_imports.old lookup.0 (push_of lookup.1 res import) result }
         ensures refused { (k : ModuleId) → StillShows (scope_of self.old k) glob_imports.old (scope_of self.new k) glob_imports.new k result }
-        ensures elsewhere { (k : ModuleId) (ps : List ScopePush) → same_module lookup.0 k ≡ false → Shows (scope_of self.old k) glob_imports.old k ps → Shows (scope_of self.new k) glob_imports.new k ps }
+        ensures elsewhere { (k : ModuleId) → same_module lookup.0 k ≡ false → StaysShown self.old glob_imports.old self.new glob_imports.new k }
     {
         let m = lookup.0;
         let before = RecordCounts::of_scope(&self.tables, m);

@@ -1,11 +1,12 @@
 //! The dump of a scope.
 ghost use Rattle.std.specs.Prelude.{◌≡◌, ◌++◌, OnOk, OnErr, IfOk, map, string_bytes};
 ghost use Rattle.std.specs.List.{flat_map};
-ghost use Rattle.dm_scope.specs.Dumps.{Text, IsDump, mark, style_marks, macro_word, type_text, value_text, macro_text, bound_text, name_text, unnamed_line, name_line, legacies, legacy_line};
+ghost use Rattle.dm_scope.specs.Dumps.{Text, Appends, IsDump, mark, style_marks, macro_word, type_text, value_text, macro_text, bound_text, name_text, unnamed_line, name_line, legacies, legacy_line};
 ghost use Rattle.dm_scope.specs.Sorted.{AreInOrder, seen};
 
 use super::ItemScope;
-use super::sorted::{add_names, in_name_order, resolution_of};
+use super::sorted::{add_names, resolution_of};
+use crate::name_order::sort_names;
 use crate::scope_tables::ScopeTables;
 use bitflags::Flags;
 use dm_base::ids::TraitId;
@@ -44,8 +45,8 @@ impl ItemScope {
     {
         let mut names = Vec::new(self.alloc);
         add_names(&mut names, self.legacy_macros.keys().as_slice())?;
-        let sorted = in_name_order(self.alloc, names)?;
-        Ok(sorted)
+        sort_names(&mut names);
+        Ok(names)
     }
 
     /// Adds the lines of names.
@@ -55,7 +56,7 @@ impl ItemScope {
         tables: &T,
         names: &[&Name],
     ) -> Result<(), AllocError>
-        ensures { OnOk result (string_bytes text.new ≡ string_bytes text.old ++ flat_map (name_line (T.tables tables.now) self.now) (seen names.now)) }
+        ensures { Appends text.old text.new (flat_map (name_line (T.tables tables.now) self.now) (seen names.now)) result }
     {
         for name in names {
             self.write_name_line(text, tables, *name)?;
@@ -70,7 +71,7 @@ impl ItemScope {
         tables: &T,
         name: &Name,
     ) -> Result<(), AllocError>
-        ensures { OnOk result (string_bytes text.new ≡ string_bytes text.old ++ name_line (T.tables tables.now) self.now name.now) }
+        ensures { Appends text.old text.new (name_line (T.tables tables.now) self.now name.now) result }
     {
         text.push_str("- ")?;
         write_name(text, tables, name)?;
@@ -87,7 +88,7 @@ impl ItemScope {
         tables: &T,
         names: &[&Name],
     ) -> Result<(), AllocError>
-        ensures { OnOk result (string_bytes text.new ≡ string_bytes text.old ++ flat_map (legacy_line (T.tables tables.now) self.now) (seen names.now)) }
+        ensures { Appends text.old text.new (flat_map (legacy_line (T.tables tables.now) self.now) (seen names.now)) result }
     {
         for name in names {
             self.write_legacy_line(text, tables, *name)?;
@@ -102,7 +103,7 @@ impl ItemScope {
         tables: &T,
         name: &Name,
     ) -> Result<(), AllocError>
-        ensures { OnOk result (string_bytes text.new ≡ string_bytes text.old ++ legacy_line (T.tables tables.now) self.now name.now) }
+        ensures { Appends text.old text.new (legacy_line (T.tables tables.now) self.now name.now) result }
     {
         text.push_str("- (legacy) ")?;
         write_name(text, tables, name)?;
@@ -126,7 +127,7 @@ fn write_unnamed<T: ScopeTables>(
     tables: &T,
     traits: &[(TraitId, Visibility, Option<ImportId>)],
 ) -> Result<(), AllocError>
-    ensures { OnOk result (string_bytes text.new ≡ string_bytes text.old ++ flat_map (unnamed_line (T.tables tables.now)) traits.now) }
+    ensures { Appends text.old text.new (flat_map (unnamed_line (T.tables tables.now)) traits.now) result }
 {
     for unnamed in traits {
         write_unnamed_line(text, tables, unnamed)?;
@@ -140,7 +141,7 @@ fn write_unnamed_line<T: ScopeTables>(
     tables: &T,
     unnamed: &(TraitId, Visibility, Option<ImportId>),
 ) -> Result<(), AllocError>
-    ensures { OnOk result (string_bytes text.new ≡ string_bytes text.old ++ unnamed_line (T.tables tables.now) unnamed.now) }
+    ensures { Appends text.old text.new (unnamed_line (T.tables tables.now) unnamed.now) result }
 {
     text.push_str("- _ :")?;
     write_bound(text, tables, resolution_of(unnamed))?;
@@ -150,7 +151,7 @@ fn write_unnamed_line<T: ScopeTables>(
 
 /// Adds a name.
 fn write_name<T: ScopeTables>(text: &mut String, tables: &T, name: &Name) -> Result<(), AllocError>
-    ensures { OnOk result (string_bytes text.new ≡ string_bytes text.old ++ name_text (T.tables tables.now) name.now) }
+    ensures { Appends text.old text.new (name_text (T.tables tables.now) name.now) result }
 {
     text.push_str(if tables.prints_raw(name) { "r#" } else { "" })?;
     text.push_str(name.as_str())?;
@@ -159,7 +160,7 @@ fn write_name<T: ScopeTables>(text: &mut String, tables: &T, name: &Name) -> Res
 
 /// Adds what a name is bound to.
 fn write_bound<T: ScopeTables>(text: &mut String, tables: &T, res: PerNs) -> Result<(), AllocError>
-    ensures { OnOk result (string_bytes text.new ≡ string_bytes text.old ++ bound_text (T.tables tables.now) res) }
+    ensures { Appends text.old text.new (bound_text (T.tables tables.now) res) result }
 {
     write_type(text, res.types)?;
     write_value(text, res.values)?;
@@ -170,7 +171,7 @@ fn write_bound<T: ScopeTables>(text: &mut String, tables: &T, res: PerNs) -> Res
 
 /// Adds what a name is bound to as a type.
 fn write_type(text: &mut String, item: Option<TypesItem>) -> Result<(), AllocError>
-    ensures { OnOk result (string_bytes text.new ≡ string_bytes text.old ++ type_text item) }
+    ensures { Appends text.old text.new (type_text item) result }
 {
     let Some(item) = item else {
         return Ok(());
@@ -182,7 +183,7 @@ fn write_type(text: &mut String, item: Option<TypesItem>) -> Result<(), AllocErr
 
 /// Adds what a name is bound to as a value.
 fn write_value(text: &mut String, item: Option<ValuesItem>) -> Result<(), AllocError>
-    ensures { OnOk result (string_bytes text.new ≡ string_bytes text.old ++ value_text item) }
+    ensures { Appends text.old text.new (value_text item) result }
 {
     let Some(item) = item else {
         return Ok(());
@@ -198,7 +199,7 @@ fn write_macro<T: ScopeTables>(
     tables: &T,
     item: Option<MacrosItem>,
 ) -> Result<(), AllocError>
-    ensures { OnOk result (string_bytes text.new ≡ string_bytes text.old ++ macro_text (T.tables tables.now) item) }
+    ensures { Appends text.old text.new (macro_text (T.tables tables.now) item) result }
 {
     let Some(item) = item else {
         return Ok(());
@@ -214,7 +215,7 @@ fn write_macros<T: ScopeTables>(
     tables: &T,
     macros: &[MacroId],
 ) -> Result<(), AllocError>
-    ensures { OnOk result (string_bytes text.new ≡ string_bytes text.old ++ flat_map (macro_word (T.tables tables.now)) macros.now) }
+    ensures { Appends text.old text.new (flat_map (macro_word (T.tables tables.now)) macros.now) result }
 {
     for id in macros {
         write_macro_word(text, tables, *id)?;
@@ -228,7 +229,7 @@ fn write_macro_word<T: ScopeTables>(
     tables: &T,
     id: MacroId,
 ) -> Result<(), AllocError>
-    ensures { OnOk result (string_bytes text.new ≡ string_bytes text.old ++ macro_word (T.tables tables.now) id) }
+    ensures { Appends text.old text.new (macro_word (T.tables tables.now) id) result }
 {
     text.push_str(" macro")?;
     text.push_str(style_marks(tables.macro_styles(id)))?;

@@ -4,9 +4,10 @@ ghost use Rattle.std.specs.List.{filter_map};
 ghost use Rattle.std.specs.List.Sorted.{IsSorted, IsStrictlySortedBy, IsPermutation};
 ghost use Rattle.dm_scope.specs.Scope.{bound_in};
 ghost use Rattle.dm_base.specs.Imports.{named_import};
-ghost use Rattle.dm_scope.specs.Sorted.{names_of, seen, deref_entry, AreInOrder, AreNames, AreEntries, imports_of, AreImports, deref_resolution, named_resolution, AreResolutions, unnamed_resolution, unnamed_type};
+ghost use Rattle.dm_scope.specs.Sorted.{names_of, seen, deref_entry, AreNames, AreEntries, imports_of, AreImports, deref_resolution, named_resolution, AreResolutions, unnamed_resolution, unnamed_type};
 
 use super::ItemScope;
+use crate::name_order::sort_names;
 use dm_base::ids::TraitId;
 use dm_base::import_source::ImportSource;
 use dm_base::imports::{ImportId, ImportOrExternCrate};
@@ -31,9 +32,9 @@ impl ItemScope {
     pub(super) fn sorted_names(&self) -> Result<Vec<&Name>, AllocError>
         ensures { IfOk result (λ v. AreNames (seen v.items) self.now) }
     {
-        let names = self.all_names()?;
-        let sorted = in_name_order(self.alloc, names)?;
-        Ok(sorted)
+        let mut names = self.all_names()?;
+        sort_names(&mut names);
+        Ok(names)
     }
 
     /// The names that are bound or unresolved, each as often as it is.
@@ -156,15 +157,6 @@ fn add_imports<I: ImportSource>(imports: &mut Vec<ImportId>, more: &[I]) -> Resu
         }
     }
     Ok(())
-}
-
-/// The names in order of their bytes, without repeats.
-pub(super) fn in_name_order(alloc: Global, names: Vec<&Name>) -> Result<Vec<&Name>, AllocError>
-    ensures { IfOk result (λ v. AreInOrder (seen v.items) (seen names.entry.items)) }
-{
-    let mut sorted = in_order(alloc, names)?;
-    sorted.dedup();
-    Ok(sorted)
 }
 
 /// The elements in order, without repeats.

@@ -92,5 +92,5 @@ returns-clause-shown c ps shown =
     subst (λ s. Shows s c.push_res.new.glob_imports c.args.lookup.0 more) (sym (scope_is c)) (subst at c.self.view_is (c.in_ok-answer.ensures.shown ps before))
 
 pub returns-clause-elsewhere : goal.returns-clause-elsewhere
-returns-clause-elsewhere c k ps other shown =
+returns-clause-elsewhere c k other ps shown =
     subst (λ s. Shows s c.push_res.new.glob_imports k ps) (sym (other_is c k other)) (c.in_ok-answer.ensures.elsewhere (scope_of c.args.self.now k) k ps other shown)
