@@ -89,7 +89,7 @@ pub trait ResolvePath {
         ensures value { result ≡ prelude_answer world.now local.now (map self.now).id (asked original_module mode shadow expected_macro_subns path.now.kind) path.now.segments }
         ensures lawful { IsAnswer (length path.now.segments) result }
         ensures known { KnowsAll world.now (res_holds result.resolved_def) }
-        ensures local { result ≡ prelude_answer (cut world.now path.now.segments) (cut_local local.now path.now.segments) (map self.now).id (asked original_module mode shadow expected_macro_subns path.now.kind) path.now.segments };
+        ensures local { result ≡ local_prelude_answer world.now local.now (map self.now).id (asked original_module mode shadow expected_macro_subns path.now.kind) path.now.segments };
 
     /// What the preludes of this map alone answer, where nothing is expected of a macro.
     fn resolve_path_fp_in_all_preludes(
