@@ -1,6 +1,7 @@
 //! A world that is being built.
 ghost use Rattle.std.specs.Prelude.{◌≡◌};
 ghost use Rattle.dm_maps.specs.Build.{no_world, with_rules};
+ghost use Rattle.dm_maps.specs.First.{IsChecked};
 
 mod add_blocks;
 mod add_diagnostics;
@@ -98,7 +99,10 @@ impl WorldBuilder {
 
     /// Sets the version of the rules by which the world will answer. The last one set counts.
     pub fn set_rules(&mut self, rules: Rules)
-        ensures { self.new ≡ with_rules self.old rules }
+        ensures value { self.new ≡ with_rules self.old rules }
+
+        // Tables that were checked still are.
+        ensures checked { IsChecked self.old → IsChecked self.new }
     {
         self.rules = rules;
     }
