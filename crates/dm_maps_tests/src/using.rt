@@ -1,7 +1,7 @@
 //! The callers that docs/USING.md shows.
 ghost use Rattle.std.specs.Prelude.{◌≡◌, None, Some, IfOk, IfSome, IsSome, IsTrue, OnErr, length, nat_lt};
 ghost use Rattle.dm_base.specs.PerNs.{type_alone};
-ghost use Rattle.dm_maps.specs.Build.{no_world, with_crate};
+ghost use Rattle.dm_maps.specs.Build.{no_world, with_crate, with_rules};
 ghost use Rattle.dm_maps.specs.ItemHomes.{homes_of};
 ghost use Rattle.dm_maps.specs.World.{scope_of};
 ghost use Rattle.dm_scope.specs.Shows.{PushShows, push_of};
@@ -17,6 +17,7 @@ use dm_maps::build_fault::BuildFault;
 use dm_maps::builder::WorldBuilder;
 use dm_maps::def_map::DefMap;
 use dm_maps::module_data::ModuleData;
+use dm_maps::rules::Rules;
 use dm_maps::world::World;
 use dm_maps::world::maps_of::{block_def_map, crate_def_map};
 use dm_scope::glob_imports::PerNsGlobImports;
@@ -36,6 +37,18 @@ pub fn rechecked(world: World) -> World
     ensures { result ≡ world }
 {
     match world.into_builder().check() {
+        Ok(world) => world,
+        Err(_fault) => unreachable!(),
+    }
+}
+
+/// The world of the same tables that answers by another version of the rules: they stay checked.
+pub fn by_version(world: World, rules: Rules) -> World
+    ensures { result ≡ with_rules world rules }
+{
+    let mut tables = world.into_builder();
+    tables.set_rules(rules);
+    match tables.check() {
         Ok(world) => world,
         Err(_fault) => unreachable!(),
     }
