@@ -1,12 +1,13 @@
 -- Moves along the chains of a lawful tree.
-use Rattle.std.proofs.Common.{◌≡◌, ◌≤◌, ◌<◌, ◌+◌, ◌-◌, ℕ, zero, suc, Bool, true, false, ◌||◌, List, [], ◌∷◌, Option, None, Some, refl, sym, ap, ◌∙◌, subst, arith, length, unwrap_or, min, slice_index_or}
+use Rattle.std.proofs.Common.{◌≡◌, ◌≤◌, ◌<◌, ◌+◌, ◌-◌, ℕ, zero, suc, Bool, true, false, ◌||◌, List, [], ◌∷◌, Option, None, Some, refl, sym, ap, ◌∙◌, subst, arith, true≢false, length, count_ones, unwrap_or, min, slice_index_or}
 use Rattle.std.proofs.lemmas.Bool.{ne_eqb}
 use Rattle.std.proofs.lemmas.List.{get_or_default}
 use Rattle.std.specs.Option.{option_map_or}
 use Rattle.dm_ids.specs.declared.ModuleId.{ModuleId}
 use Rattle.dm_base.specs.Tree.{Tree, IsTree, IsKnown, same_module, containing, chain_within, chain, is_among}
+use Rattle.dm_base.specs.IdLaws.{same_module-true}
 use Rattle.dm_base.proofs.TreeLemmas.{chain-containing, chain-alone}
-use Rattle.dm_ladders.specs.Ancestry.{depth, member}
+use Rattle.dm_ladders.specs.Ancestry.{depth, member, moves}
 use Rattle.dm_ladders.specs.Ladders.{up, climb}
 
 module _ (t : Tree) where
@@ -107,6 +108,28 @@ module _ (t : Tree) (tree : IsTree t) where
   pub among-climb : (a m : ModuleId) → IsKnown t m → depth t a ≤ depth t m → is_among a (chain t m) ≡ same_module a (climb t (depth t m - depth t a) m)
   among-climb a m known h = among-deeper (depth t m - depth t a) a m known (omega arith)
 
+  -- what stands in the chain of a module of the tree is one too
+  among-known-step : (a m : ModuleId) → IsKnown t m → ((c : ModuleId) → containing t m ≡ Some c → is_among a (chain t c) ≡ true → IsKnown t a) → is_among a (chain t m) ≡ true → IsKnown t a
+  among-known-step a m known rest e = by (containing t m) refl
+    where
+      here : same_module a m ≡ true → IsKnown t a
+      here is = subst (IsKnown t) (sym (same_module-true a m is)) known
+
+      at : (b : Bool) → same_module a m ≡ b → (l : List ModuleId) → chain t m ≡ m ∷ l → (is_among a l ≡ true → IsKnown t a) → IsKnown t a
+      at true is l g then = here is
+      at false is l g then = then (sym (ap (λ b. b || is_among a l) is) ∙ sym (ap (is_among a) g) ∙ e)
+
+      by : (o : Option ModuleId) → containing t m ≡ o → IsKnown t a
+      by None g = at (same_module a m) refl [] (chain-alone t tree m known g) (λ f. absurd (true≢false (sym f)))
+      by (Some c) g = at (same_module a m) refl (chain t c) (chain-containing t tree m c known g) (rest c g)
+
+  among-known-within : (n : ℕ) (a m : ModuleId) → m.0 ≤ n → IsKnown t m → is_among a (chain t m) ≡ true → IsKnown t a
+  among-known-within zero a m h known = among-known-step a m known (λ c e. (let smaller = tree.containing_smaller m c known e in absurd (omega arith)))
+  among-known-within (suc n) a m h known = among-known-step a m known (λ c e. (let smaller = tree.containing_smaller m c known e in among-known-within n a c (omega arith) (tree.containing_known m c known e)))
+
+  pub among-known : (a m : ModuleId) → IsKnown t m → is_among a (chain t m) ≡ true → IsKnown t a
+  among-known a m known = among-known-within m.0 a m (omega arith) known
+
   -- ---- Members of chains.
 
   -- the first of a chain is its module
@@ -152,3 +175,24 @@ module _ (t : Tree) (tree : IsTree t) where
   -- a member of a chain is a module
   pub member-known : (n : ℕ) (m : ModuleId) → IsKnown t m → IsKnown t (member t n m)
   member-known n m known = subst (IsKnown t) (sym (member-climb n m known)) (climb-known n m known)
+
+-- ---- Trees that agree on what contains their modules.
+
+module _ (s t : Tree) (tree : IsTree s) (same : (m : ModuleId) → IsKnown s m → containing s m ≡ containing t m) where
+  within-agree : (n : ℕ) (m : ModuleId) → IsKnown s m → chain_within n s m ≡ chain_within n t m
+  within-agree zero m known = refl
+  within-agree (suc n) m known = by (containing s m) refl (λ c e. within-agree n c (tree.containing_known m c known e))
+    where
+      by : (o : Option ModuleId) → containing s m ≡ o → ((c : ModuleId) → containing s m ≡ Some c → chain_within n s c ≡ chain_within n t c)
+          → m ∷ option_map_or (chain_within n s) (containing s m) [] ≡ m ∷ option_map_or (chain_within n t) (containing t m) []
+      by None e rest = ap (λ o. m ∷ option_map_or (chain_within n s) o []) e ∙ ap (λ o. m ∷ option_map_or (chain_within n t) o []) (sym e ∙ same m known)
+      by (Some c) e rest =
+          ap (λ o. m ∷ option_map_or (chain_within n s) o []) e
+          ∙ ap (λ l. m ∷ l) (rest c e)
+          ∙ ap (λ o. m ∷ option_map_or (chain_within n t) o []) (sym e ∙ same m known)
+
+  pub chains-agree : (m : ModuleId) → IsKnown s m → chain s m ≡ chain t m
+  chains-agree m known = within-agree m.0 m known
+
+  pub moves-agree : (a m : ModuleId) → IsKnown s a → IsKnown s m → moves s a m ≡ moves t a m
+  moves-agree a m ancestor known = λ i. count_ones ((length (chains-agree m known i) - 1) - (length (chains-agree a ancestor i) - 1))

@@ -8,7 +8,7 @@ use Rattle.std.proofs.Math.Nat.{pow-suc}
 use Rattle.dm_ids.specs.declared.ModuleId.{ModuleId}
 use Rattle.dm_base.specs.Tree.{Tree, IsTree, IsKnown, containing}
 use Rattle.dm_ladders.specs.Ancestry.{depth}
-use Rattle.dm_ladders.specs.Ladders.{up, climb, tree_by, tree_of, above, depth_at, entry_at, IsBelow, IsLadder, AreLadders}
+use Rattle.dm_ladders.specs.Ladders.{up, climb, tree_above, tree_of, above, depth_at, entry_at, IsBelow, IsLadder, AreLadders}
 use Rattle.dm_ladders.specs.declared.ladders.Ladder.{Ladder}
 use Rattle.dm_ladders.proofs.ChainLemmas.{climb-add, climb-alone, depth-alone, depth-containing}
 

@@ -15,8 +15,8 @@ climb t zero m = m
 climb t (suc n) m = climb t n (up t m)
 
 -- the tree of modules that the list gives their containing modules
-abbrev pub tree_by : List (Option ModuleId) → Tree
-tree_by ups = record {
+abbrev pub tree_above : List (Option ModuleId) → Tree
+tree_above ups = record {
   has = λ m. nat_lt m.0 (length ups);
   map_of = λ m. record { krate = record { 0 = 0 }; block = None };
   parent = λ m. option_and_then (λ c. c) (slice_get ups m.0);
@@ -28,7 +28,7 @@ abbrev pub above : Ladder → Option ModuleId
 above l = if nat_eq l.depth 0 then None else Some (record { 0 = slice_index l.entries 0 })
 
 abbrev pub tree_of : List Ladder → Tree
-tree_of ls = tree_by (map above ls)
+tree_of ls = tree_above (map above ls)
 
 -- the depth of module m, and entry k of its ladder
 abbrev pub depth_at : List Ladder → ℕ → ℕ

@@ -1,2 +1,3 @@
 pub mod Ancestry
+pub mod AncestryRows
 pub mod Ladders

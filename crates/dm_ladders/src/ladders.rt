@@ -2,7 +2,7 @@
 ghost use Rattle.std.specs.Prelude.{◌≡◌, ◌<◌, ◌-◌, ◌++◌, ◌∷◌, [], Some, IfSome, OnOk, OnErr, length, take, count_ones};
 ghost use Rattle.dm_base.specs.Tree.{chain, is_among};
 ghost use Rattle.dm_ladders.specs.Ancestry.{moves};
-ghost use Rattle.dm_ladders.specs.Ladders.{AreLadders, IsLadder, above, climb, depth_at, entry_at, tree_by, tree_of};
+ghost use Rattle.dm_ladders.specs.Ladders.{AreLadders, IsLadder, above, climb, depth_at, entry_at, tree_above, tree_of};
 
 use dm_base::ids::ModuleId;
 use std::alloc::{AllocError, Global};
@@ -67,8 +67,8 @@ impl Ladders {
     pub fn contains_counted(&self, a: ModuleId, m: ModuleId) -> (bool, u32)
         requires ancestor { a.0 < length self.now }
         requires module { m.0 < length self.now }
-        ensures answer { result.0 ≡ is_among a (chain (tree_by self.now) m) }
-        ensures moves { result.1 ≡ moves (tree_by self.now) a m }
+        ensures answer { result.0 ≡ is_among a (chain (tree_above self.now) m) }
+        ensures moves { result.1 ≡ moves (tree_above self.now) a m }
     {
         let outer = depth_at(&self.ladders, a.0);
         let inner = depth_at(&self.ladders, m.0);

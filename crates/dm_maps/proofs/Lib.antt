@@ -34,3 +34,4 @@ pub mod MapFacts
 pub mod BuiltGrowth
 pub mod RecordLemmas
 pub mod RecordGrowth
+pub mod LadderLemmas

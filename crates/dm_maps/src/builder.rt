@@ -8,8 +8,10 @@ mod add_items;
 mod add_modules;
 mod add_uses;
 mod add_variants;
+mod ancestry;
 mod change_maps;
 mod growth;
+mod ladder_growth;
 mod scopes;
 mod set_crate_data;
 mod set_tables;
@@ -20,6 +22,7 @@ use crate::place::Place;
 use dm_base::ids::{EnumId, ModuleId};
 use dm_base::item_ids::ItemKind;
 use dm_base::macros::MacroLoc;
+use dm_ladders::ladders::Ladders;
 use dm_modules::local_def_map::LocalDefMap;
 use dm_tables::item_tables::ItemTables;
 use dm_tables::variants::EnumVariants;
@@ -38,6 +41,8 @@ pub struct WorldBuilder {
     pub(crate) variants: Vec<EnumId>,
     pub(crate) macros: Vec<(ModuleId, MacroLoc)>,
     pub(crate) item_tables: ItemTables,
+    /// The ladder of each module.
+    pub(crate) ladders: Ladders,
     pub(crate) alloc: Global,
 }
 
@@ -54,6 +59,7 @@ impl Drop for WorldBuilder {
             variants: _variants,
             macros: _macros,
             item_tables: _item_tables,
+            ladders: _ladders,
             alloc: _alloc,
         } = self;
     }
@@ -62,12 +68,13 @@ impl Drop for WorldBuilder {
 impl Model for WorldBuilder {
     ghost use Rattle.dm_maps.specs.World.{World};
     ghost use Rattle.dm_maps.specs.Built.{IsBuilt};
+    ghost use Rattle.dm_maps.specs.Ladders.{AreLaddered};
 
     ghost Value = { World };
 
     ghost view = { λ w. record { crate_maps = w.maps.crates; block_maps = w.maps.blocks; places = w.places.items; local_maps = w.local_maps.items; uses = w.uses.items; items = w.items.items; enums = w.enums.entries; variants = w.variants.items; macros = w.macros.items; item_tables = w.item_tables } };
 
-    ghost invariant = { λ w. IsBuilt (record { crate_maps = w.maps.crates; block_maps = w.maps.blocks; places = w.places.items; local_maps = w.local_maps.items; uses = w.uses.items; items = w.items.items; enums = w.enums.entries; variants = w.variants.items; macros = w.macros.items; item_tables = w.item_tables }) };
+    ghost invariant = { λ w. IsBuilt (record { crate_maps = w.maps.crates; block_maps = w.maps.blocks; places = w.places.items; local_maps = w.local_maps.items; uses = w.uses.items; items = w.items.items; enums = w.enums.entries; variants = w.variants.items; macros = w.macros.items; item_tables = w.item_tables }) × AreLaddered w.places.items w.maps.blocks w.ladders };
 }
 
 impl WorldBuilder {
@@ -86,6 +93,7 @@ impl WorldBuilder {
             variants: Vec::new(alloc),
             macros: Vec::new(alloc),
             item_tables: ItemTables::new(alloc),
+            ladders: Ladders::new(alloc),
             alloc,
         }
     }
