@@ -33,3 +33,4 @@ pub mod MapFacts
 pub mod BuiltGrowth
 pub mod RecordLemmas
 pub mod RecordGrowth
+pub mod LadderLemmas

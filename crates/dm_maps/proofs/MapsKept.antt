@@ -77,7 +77,7 @@ outlines-shared : (k : Crate) (d : CrateData) (ms : List Map) → outlines (with
 outlines-shared k d [] = refl
 outlines-shared k d (m ∷ ms) = (λ i. outline-shared k d m i ∷ outlines-shared k d ms i)
 
-containers-shared : (k : Crate) (d : CrateData) (ms : List Map) → containers_of (with_shared k d ms) ≡ containers_of ms
+pub containers-shared : (k : Crate) (d : CrateData) (ms : List Map) → containers_of (with_shared k d ms) ≡ containers_of ms
 containers-shared k d [] = refl
 containers-shared k d (m ∷ ms) = (λ i. parent-shared k d m i ∷ containers-shared k d ms i)
 

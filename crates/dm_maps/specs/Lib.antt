@@ -33,3 +33,4 @@ pub mod MapFacts
 pub mod Built
 pub mod ScopeTables
 pub mod RecordCounts
+pub mod Ladders

@@ -9,8 +9,10 @@ mod add_items;
 mod add_modules;
 mod add_uses;
 mod add_variants;
+mod ancestry;
 mod change_maps;
 mod growth;
+mod ladder_growth;
 mod scopes;
 mod set_crate_data;
 mod set_tables;
@@ -22,6 +24,7 @@ use crate::rules::Rules;
 use dm_base::ids::{EnumId, ModuleId};
 use dm_base::item_ids::ItemKind;
 use dm_base::macros::MacroLoc;
+use dm_ladders::ladders::Ladders;
 use dm_modules::local_def_map::LocalDefMap;
 use dm_tables::item_tables::ItemTables;
 use dm_tables::variants::EnumVariants;
@@ -41,6 +44,8 @@ pub struct WorldBuilder {
     pub(crate) macros: Vec<(ModuleId, MacroLoc)>,
     pub(crate) item_tables: ItemTables,
     pub(crate) rules: Rules,
+    /// The ladder of each module.
+    pub(crate) ladders: Ladders,
     pub(crate) alloc: Global,
 }
 
@@ -58,6 +63,7 @@ impl Drop for WorldBuilder {
             macros: _macros,
             item_tables: _item_tables,
             rules: _rules,
+            ladders: _ladders,
             alloc: _alloc,
         } = self;
     }
@@ -66,6 +72,7 @@ impl Drop for WorldBuilder {
 impl Model for WorldBuilder {
     ghost use Rattle.dm_maps.specs.World.{World};
     ghost use Rattle.dm_maps.specs.Built.{IsBuilt};
+    ghost use Rattle.dm_maps.specs.Ladders.{AreLaddered};
 
     ghost Value = { World };
 
@@ -73,7 +80,7 @@ impl Model for WorldBuilder {
 
     ghost view = { tables_of };
 
-    ghost invariant = { λ w. IsBuilt (tables_of w) };
+    ghost invariant = { λ w. IsBuilt (tables_of w) × AreLaddered w.places.items w.maps.blocks w.ladders };
 }
 
 impl WorldBuilder {
@@ -93,6 +100,7 @@ impl WorldBuilder {
             macros: Vec::new(alloc),
             item_tables: ItemTables::new(alloc),
             rules: Rules::V1,
+            ladders: Ladders::new(alloc),
             alloc,
         }
     }

@@ -12,6 +12,7 @@ ghost use Rattle.dm_modules.specs.Maps.{module_at};
 ghost use Rattle.dm_maps.specs.MapFacts.{IsMapOf};
 ghost use Rattle.dm_maps.specs.Sound.{IsCheckedWorld};
 
+mod ancestry;
 mod item_modules;
 mod knows;
 mod map_dump;

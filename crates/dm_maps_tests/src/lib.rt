@@ -3,4 +3,5 @@
 
 #[cfg(test)]
 mod tests;
+pub mod climbing;
 pub mod using;

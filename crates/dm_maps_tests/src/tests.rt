@@ -2,6 +2,7 @@
 //!
 //! What a test compares is plain data, and only functions without clauses hold a builder or a world: each comparison made
 //! while one is held would take the prover seconds.
+mod ancestry;
 mod calls;
 mod crate_data;
 mod faults;

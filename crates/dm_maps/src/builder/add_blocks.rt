@@ -6,7 +6,7 @@ ghost use Rattle.dm_maps.specs.Faults.{Answers};
 
 use crate::build_fault::BuildFault;
 use crate::builder::WorldBuilder;
-use crate::builder::growth::add_map;
+use crate::builder::ladder_growth::add_map_in;
 use crate::maps::share::shared_of;
 use crate::place::Place;
 use dm_base::ids::{BlockId, Crate, MapId, ModuleId};
@@ -77,7 +77,14 @@ impl WorldBuilder {
                     index: 0,
                     parent: None,
                 };
-                add_map(&mut self.places, place, &mut self.maps, map)?;
+                add_map_in(
+                    &mut self.ladders,
+                    containing,
+                    &mut self.places,
+                    place,
+                    &mut self.maps,
+                    map,
+                )?;
                 Ok(())
             }
         }

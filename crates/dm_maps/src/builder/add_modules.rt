@@ -6,7 +6,8 @@ ghost use Rattle.dm_modules.specs.Origins.{is_child};
 
 use crate::build_fault::BuildFault;
 use crate::builder::WorldBuilder;
-use crate::builder::growth::{NewChild, add_child, add_crate_map};
+use crate::builder::growth::NewChild;
+use crate::builder::ladder_growth::{add_child_in, add_outmost_map};
 use crate::maps::share::share;
 use crate::place::Place;
 use dm_base::ids::{Crate, MapId, ModuleId};
@@ -66,7 +67,8 @@ impl WorldBuilder {
             index: 0,
             parent: None,
         };
-        add_crate_map(
+        add_outmost_map(
+            &mut self.ladders,
             &mut self.places,
             place,
             &mut self.local_maps,
@@ -187,7 +189,13 @@ impl WorldBuilder {
             m,
             added,
         };
-        add_child(&mut self.places, &mut self.maps, child)?;
+        add_child_in(
+            &mut self.ladders,
+            parent,
+            &mut self.places,
+            &mut self.maps,
+            child,
+        )?;
         Ok(())
     }
 }

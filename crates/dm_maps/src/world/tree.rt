@@ -30,6 +30,11 @@ impl ModuleTree for World {
         self.tables.container_of(self.tables.map_id_of(m).block)
     }
 
+    /// By ladders: in at most 32 moves, however deep the module lies.
+    fn contains(&self, a: ModuleId, m: ModuleId) -> bool {
+        self.tables.contains(a, m)
+    }
+
     fn is_block_root(&self, m: ModuleId) -> bool {
         self.tables.map_id_of(m).block.is_some() && self.tables.parent_of(m).is_none()
     }

@@ -10,4 +10,4 @@ invariant_of-self-2 c =
     let w : World = tables_of c.self.inside in
     let known : IsAmong (length w.places) c.args.m = subst (λ (x : World). IsAmong (length x.places) c.args.m) (sym c.self.view_is) c.requires.known in
     let grown : c.push.new.self.items ≡ w.macros ++ (c.args.m, c.args.loc) ∷ [] = search rules in
-    (c.self.invariant.0, subst (λ l. IsListed (record w { macros = l })) (sym grown) (IsListed-macro w c.self.invariant.1 c.args.m c.args.loc known), c.self.invariant.2)
+    ((c.self.invariant.0.0, subst (λ l. IsListed (record w { macros = l })) (sym grown) (IsListed-macro w c.self.invariant.0.1 c.args.m c.args.loc known), c.self.invariant.0.2), c.self.invariant.1)

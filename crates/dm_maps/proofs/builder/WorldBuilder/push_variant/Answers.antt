@@ -16,4 +16,4 @@ invariant_of-self-in-Ok c =
     let listed : c.add_to_enum.new.enums.entries ≡ enums_with_variant w.enums c.args.e c.args.name (c.args.id, c.args.shape) = c.in-Ok.ensures.ok in
     let enums : c.add_to_enum.new.enums.entries ≡ enums_with_variant w.enums c.args.e c.args.name (record { 0 = length w.variants }, c.args.shape) = listed ∙ ap (λ n. enums_with_variant w.enums c.args.e c.args.name (n, c.args.shape)) number in
     let P : Enums × List EnumId → Type 0 = λ x. IsListed (record w { enums = x.0; variants = x.1 }) in
-    (c.self.invariant.0, subst P (λ i. (sym enums i, sym grown i)) (IsListed-variant w c.self.invariant.1 c.args.e c.args.name c.args.shape known), c.self.invariant.2)
+    ((c.self.invariant.0.0, subst P (λ i. (sym enums i, sym grown i)) (IsListed-variant w c.self.invariant.0.1 c.args.e c.args.name c.args.shape known), c.self.invariant.0.2), c.self.invariant.1)

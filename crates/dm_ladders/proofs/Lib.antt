@@ -1,0 +1,5 @@
+pub mod ChainLemmas
+pub mod RowLemmas
+pub mod TableLemmas
+pub mod MoveLemmas
+pub mod FillLemmas

@@ -1,0 +1,17 @@
+-- How deep modules lie, and how few moves lead from one to a module that contains it.
+use Rattle.std.specs.Prelude.{ℕ, ◌-◌, min, length, slice_index_or, count_ones}
+use Rattle.dm_ids.specs.declared.ModuleId.{ModuleId}
+use Rattle.dm_base.specs.Tree.{Tree, chain}
+
+-- how many modules contain m
+abbrev pub depth : Tree → ModuleId → ℕ
+depth t m = length (chain t m) - 1
+
+-- member n of the chain of m, or the chain's last member where it is shorter
+abbrev pub member : Tree → ℕ → ModuleId → ModuleId
+member t n m = slice_index_or (chain t m) (min n (depth t m)) m
+
+-- The number of moves from m out to the depth of a, each of them to member 2 ^ k of a chain: the ones in the binary form of how
+-- much deeper m is, and none where it is not deeper.
+abbrev pub moves : Tree → ModuleId → ModuleId → ℕ
+moves t a m = count_ones (depth t m - depth t a)

@@ -1,0 +1,3 @@
+pub mod Ancestry
+pub mod AncestryRows
+pub mod Ladders

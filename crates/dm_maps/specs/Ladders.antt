@@ -1,0 +1,15 @@
+-- What contains each module of a world, as the world's table of ladders has it.
+use Rattle.std.specs.Prelude.{◌≡◌, List, Option, map}
+use Rattle.std.specs.Option.{option_or}
+use Rattle.dm_ids.specs.declared.ModuleId.{ModuleId}
+use Rattle.dm_modules.specs.Maps.{Map}
+use Rattle.dm_maps.specs.Trees.{container_in, containers_of}
+use Rattle.dm_maps.specs.declared.place.Place.{Place}
+
+-- the module that contains what stands at a place: its parent, or for a block's root the module that contains the block
+abbrev pub above_place : List (Option ModuleId) → Place → Option ModuleId
+above_place cs p = option_or p.parent (container_in cs p.map.block)
+
+-- the table has the containing module of what stands at each place, in order of number
+pub record AreLaddered (ps : List Place) (bs : List Map) (ups : List (Option ModuleId)) : Type 0 where
+  pub each : ups ≡ map (above_place (containers_of bs)) ps

@@ -1,0 +1,164 @@
+//! Which modules contain which: by ladders, and by climbing.
+use super::{Building, FILE, ast};
+use crate::climbing::Climbing;
+use dm_base::ids::{FileAstId, ModuleId};
+use dm_base::module_tree::ModuleTree;
+use dm_base::name::Name;
+use dm_base::source::{Edition, HirFileId, TreeId};
+use dm_base::visibility::Visibility;
+use dm_maps::build_fault::BuildFault;
+use dm_maps::module_origin::ModuleOrigin;
+use dm_maps::world::World;
+use std::alloc::Global;
+use std::test::Fail;
+
+/// How many modules the mixed tree has.
+const MODULES: u32 = 80;
+
+/// A module that is written where it stands.
+const INLINE: ModuleOrigin = ModuleOrigin::Inline {
+    definition_tree_id: TreeId {
+        file: HirFileId::File(FILE),
+        block: None,
+    },
+    definition: FileAstId(0),
+};
+
+impl Building {
+    /// A module of that name in the module `parent`.
+    fn add_below(&mut self, alloc: Global, parent: u32, name: &str) -> Result<(), BuildFault> {
+        let name = Name::new(alloc, name)?;
+        self.builder
+            .add_module(ModuleId(parent), name, INLINE, Visibility::Public)?;
+        Ok(())
+    }
+
+    /// Modules 0 to 15 each below the one before, 16 below 0, and 17 below 16.
+    fn two_lines(alloc: Global) -> Result<Building, BuildFault> {
+        let mut building = Building::new(alloc);
+        building.builder.add_crate(Edition::Edition2021, FILE)?;
+        for parent in 0..15u32 {
+            building.add_below(alloc, parent, "m")?;
+        }
+        building.add_below(alloc, 0, "beside")?;
+        building.add_below(alloc, 16, "m")?;
+        Ok(building)
+    }
+
+    /// Modules and blocks, each in one of the eight before it, as `number` has it.
+    fn mixed(alloc: Global) -> Result<Building, BuildFault> {
+        let mut building = Building::new(alloc);
+        building.builder.add_crate(Edition::Edition2021, FILE)?;
+        let mut number = 1u32;
+        for n in 1..MODULES {
+            number = number.wrapping_mul(1_664_525).wrapping_add(1_013_904_223);
+            building.add_mixed(alloc, n, number)?;
+        }
+        Ok(building)
+    }
+
+    /// Module `n`: below the one that the number says, or the root of a block in it.
+    fn add_mixed(&mut self, alloc: Global, n: u32, number: u32) -> Result<(), BuildFault> {
+        let back = number / 65536 % 8;
+        let container = n.saturating_sub(back + 1);
+        if number / 4_194_304 % 3 == 0 {
+            self.builder.add_block(ModuleId(container), ast(n))?;
+            return Ok(());
+        }
+        let name = format!(in alloc; "m{n}")?;
+        self.add_below(alloc, container, &name)
+    }
+}
+
+/// Whether one module of a world contains another, and in how many moves; none where the world lacks one of them.
+fn counted(world: &World, a: u32, m: u32) -> Option<(bool, u32)> {
+    let (a, m) = (ModuleId(a), ModuleId(m));
+    if world.has(a) && world.has(m) {
+        Some(world.contains_counted(a, m))
+    } else {
+        None
+    }
+}
+
+/// What the world of two lines answers.
+fn rows(alloc: Global) -> Result<Option<[Option<(bool, u32)>; 6]>, BuildFault> {
+    match Building::two_lines(alloc)?.world() {
+        None => Ok(None),
+        Some(checked) => {
+            let world = &checked.world;
+            Ok(Some([
+                counted(world, 0, 15),
+                counted(world, 1, 15),
+                counted(world, 7, 15),
+                counted(world, 1, 17),
+                counted(world, 15, 3),
+                counted(world, 5, 5),
+            ]))
+        }
+    }
+}
+
+/// Whether ladders and the climb say the same of two modules, which the world has.
+fn agree(world: &World, a: u32, m: u32) -> bool {
+    let climbing = Climbing { world };
+    match counted(world, a, m) {
+        None => false,
+        Some((contains, _moves)) => {
+            contains == climbing.contains(ModuleId(a), ModuleId(m))
+                && contains == world.contains(ModuleId(a), ModuleId(m))
+        }
+    }
+}
+
+/// How many modules contain module `m`, or are it, by ladders; none where the climb says another thing of one of them.
+fn chain_length(world: &World, m: u32) -> Option<u32> {
+    let mut members = 0u32;
+    for a in 0..MODULES {
+        if !agree(world, a, m) {
+            return None;
+        }
+        if world.contains(ModuleId(a), ModuleId(m)) {
+            members += 1;
+        }
+    }
+    Some(members)
+}
+
+/// The length of the longest chain of the mixed world; none where ladders and the climb differ.
+fn longest_chain(world: &World) -> Option<u32> {
+    let mut longest = 0u32;
+    for m in 0..MODULES {
+        longest = longest.max(chain_length(world, m)?);
+    }
+    Some(longest)
+}
+
+/// The same, of the world as it is built.
+fn longest_mixed(alloc: Global) -> Result<Option<u32>, BuildFault> {
+    match Building::mixed(alloc)?.world() {
+        None => Ok(None),
+        Some(checked) => Ok(longest_chain(&checked.world)),
+    }
+}
+
+#[test]
+fn a_move_is_a_power_of_two(rt: HostRuntime) -> Result<(), Fail> {
+    assert_eq!(rt;
+        rows(rt.alloc())?,
+        Some([
+            Some((true, 4)),
+            Some((true, 3)),
+            Some((true, 1)),
+            Some((false, 1)),
+            Some((false, 0)),
+            Some((true, 0)),
+        ])
+    );
+    Ok(())
+}
+
+#[test]
+fn ladders_say_what_the_climb_says(rt: HostRuntime) -> Result<(), Fail> {
+    assert_eq!(rt; longest_mixed(rt.alloc())?, Some(20));
+    Ok(())
+}
