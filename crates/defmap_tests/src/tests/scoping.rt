@@ -5,7 +5,7 @@ use std::alloc::{AllocError, Global};
 use std::test::Fail;
 
 /// Questions to the world of two crates and two blocks.
-const ANSWERS: &str = "path 0 other module any plain
+pub(crate) const ANSWERS: &str = "path 0 other module any plain
 => - - - yes - -
 path 0 other module any plain nope
 => - - - yes - -
