@@ -1,9 +1,21 @@
 //! Scripts, and what they have to print.
+/// What a call answers, which is made once more where it is refused.
+macro_rules! again {
+    ($call:expr) => {
+        match $call {
+            Err(_refused) => $call,
+            done => done,
+        }
+    };
+}
+
+mod calls;
 mod chains;
 mod dumps;
 mod forms;
 mod paths;
 mod refusals;
+mod refused;
 mod rules;
 mod scoping;
 mod seeing;

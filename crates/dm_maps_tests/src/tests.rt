@@ -2,6 +2,16 @@
 //!
 //! What a test compares is plain data, and only functions without clauses hold a builder or a world: each comparison made
 //! while one is held would take the prover seconds.
+/// What a call answers, which is made once more where it is refused.
+macro_rules! again {
+    ($call:expr) => {
+        match $call {
+            Err(_refused) => $call,
+            done => done,
+        }
+    };
+}
+
 mod ancestry;
 mod calls;
 mod crate_data;
@@ -9,6 +19,7 @@ mod faults;
 mod local_maps;
 mod reading;
 mod records;
+mod refused;
 
 use dm_base::ids::{BlockId, Crate, FileAstId, FileId, MacroCallId, MapId, ModuleId};
 use dm_base::source::{AstId, Edition, EditionedFileId, HirFileId};

@@ -2,6 +2,16 @@
 //!
 //! What a test compares is plain data, and only functions without clauses hold a scope: each comparison made while one is
 //! held would take the prover seconds.
+/// What a call answers, which is made once more where it is refused.
+macro_rules! again {
+    ($call:expr) => {
+        match $call {
+            Err(_refused) => $call,
+            done => done,
+        }
+    };
+}
+
 mod bindings;
 mod chains;
 mod changes;
@@ -10,6 +20,8 @@ mod diagnostics;
 mod dumps;
 mod lists;
 mod pushes;
+mod refused;
+mod reported;
 mod sorted;
 
 use dm_base::ids::{FileAstId, FileId, FunctionId, ModuleId, StructId, UseId, UseTreeIdx};

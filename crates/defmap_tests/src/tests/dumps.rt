@@ -108,14 +108,16 @@ dump 0
 }
 
 #[test]
-fn all_styles_and_kinds_of_definitions_are_dumped(rt: HostRuntime) -> Result<(), Fail> {
-    let transcript = "crate 2018 07
-item union 0
+fn every_word_is_read_and_written(rt: HostRuntime) -> Result<(), Fail> {
+    let transcript = "# words
+  crate  2018 07 \nitem union 0
 item trait 0
 item type 0
 item const 0
 item static 0
 item enum 0
+variant 5 R record
+variant 5 U unit
 macro macro2 0 eager
 macro macro2 0 builtin
 macro macro2 0 unimplemented
@@ -147,7 +149,19 @@ dump 0
 => - b : type value
 => - c : type
 => - d : type
-=> - (legacy) l : macro! macro! macro!# macro# macro# macro! macro#";
+=> - (legacy) l : macro! macro! macro!# macro# macro# macro! macro#
+path 0 other module any plain b
+=> trait:1/crate:0/none static:4/in:0:explicit/none - yes - -
+path 0 other module any crate E R
+=> variant:0/pub/none - - yes - e
+path 0 other module any crate E U
+=> variant:1/pub/none variant:1/pub/none - yes - e
+build
+push 0 z - - - none
+=> true
+check
+path 0 other module any plain c
+=> union:0/pub/none - - yes - -";
     assert_transcript(&rt, rt.alloc(), transcript)?;
     Ok(())
 }

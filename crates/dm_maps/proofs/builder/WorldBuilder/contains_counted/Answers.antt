@@ -4,7 +4,7 @@ use Rattle.dm_ladders.specs.Ancestry.{moves}
 use Rattle.dm_maps.specs.Trees.{tree_of}
 use Rattle.dm_maps.specs.World.{World}
 use Rattle.dm_maps.proofs.LadderLemmas.{chain-listed, moves-listed}
-use Rattle.dm_maps.proofs.Tables.{tables_of}
+use Rattle.dm_maps.specs.Tables.{tables_of}
 use Rattle.dm_maps.proofs.builder.WorldBuilder.contains_counted.Goals as goal
 
 pub returns-clause-answer : goal.returns-clause-answer

@@ -1,0 +1,76 @@
+//! Entries of an extern prelude, each put once more where memory is refused.
+//!
+//! With ample memory none is. `tools/refusals` runs this test with each request for memory refused in turn: whichever it
+//! is, a refused call leaves the map as it was, and the call made again puts its entry.
+use dm_base::ids::{ExternCrateId, ModuleId};
+use dm_base::name::Name;
+use dm_maps::local_def_map::LocalDefMap;
+use std::alloc::{AllocError, Global};
+use std::test::Fail;
+
+/// A module, and the item that names it.
+type Entry = (ModuleId, Option<ExternCrateId>);
+
+/// What is put, in order; the last in the place of the first.
+const ENTRIES: [(&str, Entry); 3] = [
+    ("a", (ModuleId(1), None)),
+    ("b", (ModuleId(2), Some(ExternCrateId(3)))),
+    ("a", (ModuleId(4), None)),
+];
+
+/// How many entries a map has, and those under two names.
+type Seen = (usize, [Option<Entry>; 2]);
+
+fn seen(map: &LocalDefMap, names: &[Name; 2]) -> Seen {
+    let entries = [map.get(&names[0]), map.get(&names[1])];
+    (map.extern_prelude().count(), entries)
+}
+
+fn put(
+    alloc: Global,
+    map: &mut LocalDefMap,
+    (name, (m, named_by)): (&str, Entry),
+) -> Result<(), AllocError> {
+    let name = Name::new(alloc, name)?;
+    map.insert(name, m, named_by)
+}
+
+/// Puts an entry, once more where it is refused. Whether a refusal left the map as it was.
+fn insist(
+    alloc: Global,
+    map: &mut LocalDefMap,
+    names: &[Name; 2],
+    entry: (&str, Entry),
+) -> Result<bool, AllocError> {
+    let before = seen(map, names);
+    match put(alloc, map, entry) {
+        Ok(()) => Ok(true),
+        Err(_refused) => {
+            let after = seen(map, names);
+            put(alloc, map, entry)?;
+            Ok(before == after)
+        }
+    }
+}
+
+/// What is seen in the end, and whether each refusal left the map as it was.
+fn filled(alloc: Global) -> Result<(Seen, bool), AllocError> {
+    let names = [
+        again!(Name::new(alloc, "a"))?,
+        again!(Name::new(alloc, "b"))?,
+    ];
+    let mut map = LocalDefMap::new(alloc);
+    let mut is_left = true;
+    for entry in ENTRIES {
+        is_left = insist(alloc, &mut map, &names, entry)? && is_left;
+    }
+    Ok((seen(&map, &names), is_left))
+}
+
+#[test]
+fn a_refused_entry_leaves_the_map_and_is_put_again(rt: HostRuntime) -> Result<(), Fail> {
+    let a = Some((ModuleId(4), None));
+    let b = Some((ModuleId(2), Some(ExternCrateId(3))));
+    assert_eq!(rt; filled(rt.alloc())?, ((2, [a, b]), true));
+    Ok(())
+}

@@ -1,0 +1,29 @@
+//! A helper that breaks its promise on purpose: with a request refused, its test has to fail.
+//!
+//! It passes with ample memory. `tools/refusals` fails where no refusal brings it to light, since then it would not bring
+//! to light a call that breaks the same promise.
+use super::{Filled, structure, typed};
+use std::alloc::{AllocError, Global};
+use std::test::Fail;
+
+impl Filled {
+    /// Declares a struct, and then pushes it: where the push is refused, the declaration stays.
+    fn write_before_growing(&mut self, alloc: Global) -> Result<(), AllocError> {
+        self.scope.declare(structure(0))?;
+        self.push(alloc, "A", typed(0, None), None)?;
+        Ok(())
+    }
+}
+
+/// How many declarations there are, once the helper was called, and called again where it was refused.
+fn declarations(alloc: Global) -> Result<usize, AllocError> {
+    let mut filled = Filled::new(alloc);
+    again!(filled.write_before_growing(alloc))?;
+    Ok(filled.scope.declarations().count())
+}
+
+#[test]
+fn a_helper_that_writes_before_it_grows(rt: HostRuntime) -> Result<(), Fail> {
+    assert_eq!(rt; declarations(rt.alloc())?, 1);
+    Ok(())
+}
