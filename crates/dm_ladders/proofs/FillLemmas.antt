@@ -1,9 +1,9 @@
 -- The ladder of a module, as it is filled.
-use Rattle.std.proofs.Common.{◌≡◌, ◌≢◌, ◌≤◌, ◌<◌, ◌+◌, ◌-◌, ℕ, zero, suc, List, set, length, replicate, slice_index, ◌⊎◌, inl, inr, refl, sym, ap, ◌∙◌, subst, arith}
+use Rattle.std.proofs.Common.{◌≡◌, ◌≢◌, ◌≤◌, ◌<◌, ◌+◌, ◌-◌, ℕ, suc, List, set, length, replicate, slice_index, inl, inr, refl, sym, ap, ◌∙◌, subst, arith}
 use Rattle.std.proofs.Math.ListN.{length-set}
 use Rattle.std.proofs.lemmas.Bool.Decides.{eqb_tells}
 use Rattle.std.proofs.lemmas.List.{get_or-set_same, get_or-set_other, get_or-replicate}
-use Rattle.dm_ladders.specs.Ladders.{depth_at, entry_at, IsBelow, IsLadder, AreLadders}
+use Rattle.dm_ladders.specs.Ladders.{depth_at, entry_at, IsLadder}
 use Rattle.dm_ladders.specs.declared.ladders.Ladder.{Ladder}
 
 -- the entries below k of a module in module c are filled

@@ -1,5 +1,5 @@
 -- The moves of a climb by the binary digits of its length.
-use Rattle.std.proofs.Common.{◌≡◌, ◌≢◌, ◌<◌, ◌≤◌, ◌+◌, ◌-◌, ◌*◌, ◌^◌, ◌/◌, ◌%◌, length, count_ones, nat_eq, false, ℕ, zero, suc, List, sym, ap, ◌∙◌, refl, arith, add-one, subst}
+use Rattle.std.proofs.Common.{◌≡◌, ◌≢◌, ◌<◌, ◌≤◌, ◌+◌, ◌-◌, ◌*◌, ◌^◌, ◌/◌, ◌%◌, length, count_ones, nat_eq, false, ℕ, List, sym, ap, ◌∙◌, arith, add-one}
 use Rattle.std.proofs.Math.Nat.{pow-succ'}
 use Rattle.std.specs.Int.Count.{ones_step}
 use Rattle.dm_ids.specs.declared.ModuleId.{ModuleId}

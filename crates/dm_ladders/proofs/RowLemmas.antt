@@ -1,14 +1,14 @@
 -- What ladders say of the tree of their modules.
-use Rattle.std.proofs.Common.{◌≡◌, ◌≢◌, ◌≤◌, ◌<◌, ◌+◌, ◌*◌, ◌^◌, ℕ, zero, suc, true, false, List, [], ◌∷◌, Option, None, Some, refl, sym, ap, ◌∙◌, subst, arith, length, map, slice_get, slice_index, unwrap_or, nat_eq, if◌then◌else◌, ◌⊎◌, inl, inr}
+use Rattle.std.proofs.Common.{◌≡◌, ◌≢◌, ◌≤◌, ◌<◌, ◌+◌, ◌^◌, ℕ, zero, suc, List, [], ◌∷◌, Option, None, Some, refl, sym, ap, ◌∙◌, subst, arith, length, map, slice_get, slice_index, unwrap_or, nat_eq, if◌then◌else◌, ◌⊎◌, inl, inr}
 use Rattle.std.specs.Option.{option_map, option_map_or, option_and_then, option_or}
 use Rattle.std.proofs.lemmas.Bool.{ne_eqb, lt-ltb, ltb-true}
 use Rattle.std.proofs.lemmas.List.{length-map}
 use Rattle.std.proofs.lemmas.Option.{slice_get-map}
 use Rattle.std.proofs.Math.Nat.{pow-suc}
 use Rattle.dm_ids.specs.declared.ModuleId.{ModuleId}
-use Rattle.dm_base.specs.Tree.{Tree, IsTree, IsKnown, containing}
+use Rattle.dm_base.specs.Tree.{IsTree, IsKnown, containing}
 use Rattle.dm_ladders.specs.Ancestry.{depth}
-use Rattle.dm_ladders.specs.Ladders.{up, climb, tree_above, tree_of, above, depth_at, entry_at, IsBelow, IsLadder, AreLadders}
+use Rattle.dm_ladders.specs.Ladders.{climb, tree_of, above, depth_at, entry_at, IsLadder, AreLadders}
 use Rattle.dm_ladders.specs.declared.ladders.Ladder.{Ladder}
 use Rattle.dm_ladders.proofs.ChainLemmas.{climb-add, climb-alone, depth-alone, depth-containing}
 

@@ -1,9 +1,8 @@
 -- Tables of ladders, with one more and one less.
-use Rattle.std.proofs.Common.{◌≡◌, ◌≤◌, ◌<◌, ◌-◌, ℕ, zero, suc, List, [], ◌∷◌, ◌++◌, Some, length, take, slice_get, slice_index, ◌⊎◌, inl, inr, sym, ap, ◌∙◌, refl, subst, arith, length-append}
+use Rattle.std.proofs.Common.{◌≡◌, ◌<◌, ℕ, zero, suc, List, [], ◌∷◌, ◌++◌, Some, length, slice_get, slice_index, ◌⊎◌, inl, inr, sym, ap, ◌∙◌, refl, subst, arith}
 use Rattle.std.specs.Option.{option_map_or}
-use Rattle.std.proofs.Math.Seq.{take-append_seam}
 use Rattle.std.proofs.lemmas.Option.{slice_get_within}
-use Rattle.dm_ladders.specs.Ladders.{depth_at, entry_at, IsBelow, IsLadder, AreLadders}
+use Rattle.dm_ladders.specs.Ladders.{IsLadder, AreLadders}
 use Rattle.dm_ladders.specs.declared.ladders.Ladder.{Ladder}
 
 -- an element of a list with one more at its end is one of the list, or the new one
@@ -46,6 +45,6 @@ AreLadders-push ls l are is = record {
 pub AreLadders-front : (ls ms : List Ladder) → AreLadders (ls ++ ms) → AreLadders ls
 AreLadders-front ls ms are = record {
   each = λ m x e. (
-    let less = slice_get_within ls m x e in
-    ladder-among (ls ++ ms) ls m x (λ c h. sym (get-append ls ms c (omega arith))) (are.each m x (get-append ls ms m less ∙ e)));
+      let less = slice_get_within ls m x e in
+      ladder-among (ls ++ ms) ls m x (λ c h. sym (get-append ls ms c (omega arith))) (are.each m x (get-append ls ms m less ∙ e)));
 }

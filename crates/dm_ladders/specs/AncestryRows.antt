@@ -1,5 +1,5 @@
 -- Worked rows of ancestry, which hold by computation.
-use Rattle.std.specs.Prelude.{◌≡◌, ℕ, List, [], ◌∷◌, Option, None, Some, true, false, refl}
+use Rattle.std.specs.Prelude.{◌≡◌, ℕ, [], ◌∷◌, Option, None, Some, true, false, refl}
 use Rattle.std.specs.Int.Count.{ones, ones_in}
 use Rattle.dm_ids.specs.declared.ModuleId.{ModuleId}
 use Rattle.dm_base.specs.Tree.{Tree, chain, is_among}

@@ -98,27 +98,33 @@ fn rows(alloc: Global) -> Result<Option<[Option<(bool, u32)>; 6]>, BuildFault> {
     }
 }
 
-/// Whether ladders and the climb say the same of two modules, which the world has.
-fn agree(world: &World, a: u32, m: u32) -> bool {
+/// Whether one module of a world contains another, by the climb.
+fn climbs_to(world: &World, a: u32, m: u32) -> bool {
     let climbing = Climbing { world };
-    match counted(world, a, m) {
-        None => false,
-        Some((contains, _moves)) => {
-            contains == climbing.contains(ModuleId(a), ModuleId(m))
-                && contains == world.contains(ModuleId(a), ModuleId(m))
-        }
+    climbing.has(ModuleId(m)) && climbing.contains(ModuleId(a), ModuleId(m))
+}
+
+/// The same, by the tree of the world.
+fn leads_to(world: &World, a: u32, m: u32) -> bool {
+    world.has(ModuleId(m)) && world.contains(ModuleId(a), ModuleId(m))
+}
+
+/// Whether one module of a world contains another; none where ladders and the climb differ.
+fn agreed(world: &World, a: u32, m: u32) -> Option<bool> {
+    let (contains, _moves) = counted(world, a, m)?;
+    if contains == climbs_to(world, a, m) && contains == leads_to(world, a, m) {
+        Some(contains)
+    } else {
+        None
     }
 }
 
-/// How many modules contain module `m`, or are it, by ladders; none where the climb says another thing of one of them.
+/// How many modules contain module `m`, or are it; none where ladders and the climb differ.
 fn chain_length(world: &World, m: u32) -> Option<u32> {
     let mut members = 0u32;
     for a in 0..MODULES {
-        if !agree(world, a, m) {
-            return None;
-        }
-        if world.contains(ModuleId(a), ModuleId(m)) {
-            members += 1;
+        if agreed(world, a, m)? {
+            members = members.saturating_add(1);
         }
     }
     Some(members)

@@ -1,4 +1,4 @@
-use Rattle.std.proofs.Common.{◌≡◌, ◌≤◌, ◌+◌, suc, length, sym, subst, ap, ◌∙◌, arith}
+use Rattle.std.proofs.Common.{◌≡◌, ◌+◌, suc, subst, arith}
 use Rattle.dm_ladders.specs.Ladders.{depth_at}
 use Rattle.dm_ladders.proofs.FillLemmas.{IsFilled, IsFilled-first, filled-ladder}
 use Rattle.dm_ladders.proofs.RowLemmas.{shallow}

@@ -1,4 +1,4 @@
-use Rattle.std.proofs.Common.{◌≡◌, ◌+◌, ◌/◌, sym, subst, subst₂, ℕ}
+use Rattle.std.proofs.Common.{◌+◌, ◌/◌, sym, subst₂, ℕ}
 use Rattle.dm_ladders.proofs.MoveLemmas.{IsOnTheWay, moves-odd, moves-even}
 use Rattle.dm_ladders.proofs.ladders.moved.Goals as goal
 use Rattle.dm_ladders.proofs.ladders.moved.Goals.{then-rest-eq1, else-rest-eq1}

@@ -1,5 +1,4 @@
-use Rattle.std.proofs.Common.{◌≡◌, ◌<◌, ◌-◌, List, Option, false, length, nat_eq, rules, sym, subst, ap, ◌∙◌}
-use Rattle.dm_ids.specs.declared.ModuleId.{ModuleId}
+use Rattle.std.proofs.Common.{◌-◌, ap, ◌∙◌}
 use Rattle.dm_base.specs.Tree.{chain, is_among}
 use Rattle.dm_ladders.specs.Ancestry.{moves}
 use Rattle.dm_ladders.specs.Ladders.{tree_above, depth_at, climb, tree_of}
