@@ -27,7 +27,7 @@ class Transcripts:
         for name in sorted(os.listdir(FOLDER)):
             with open(f"{FOLDER}/{name}", encoding="utf-8") as it:
                 text = it.read()
-            file = name.removesuffix(".rt")
+            file = os.path.splitext(name)[0]
             for found in CONSTANT.finditer(text):
                 self.constants[file, found[1]] = found[2]
             for found in FUNCTION.finditer(text):

@@ -18,12 +18,18 @@ const ENTRIES: [(&str, Entry); 3] = [
     ("a", (ModuleId(4), None)),
 ];
 
-/// How many entries a map has, and those under two names.
-type Seen = (usize, [Option<Entry>; 2]);
+/// The first three modules of a map, and its entries under two names.
+type Seen = ([Option<ModuleId>; 3], [Option<Entry>; 2]);
 
 fn seen(map: &LocalDefMap, names: &[Name; 2]) -> Seen {
-    let entries = [map.get(&names[0]), map.get(&names[1])];
-    (map.extern_prelude().count(), entries)
+    let mut modules = [None; 3];
+    let mut entries = map.extern_prelude();
+    for module in &mut modules {
+        if let Some((_, (m, _))) = entries.next() {
+            *module = Some(m);
+        }
+    }
+    (modules, [map.get(&names[0]), map.get(&names[1])])
 }
 
 fn put(
@@ -71,6 +77,9 @@ fn filled(alloc: Global) -> Result<(Seen, bool), AllocError> {
 fn a_refused_entry_leaves_the_map_and_is_put_again(rt: HostRuntime) -> Result<(), Fail> {
     let a = Some((ModuleId(4), None));
     let b = Some((ModuleId(2), Some(ExternCrateId(3))));
-    assert_eq!(rt; filled(rt.alloc())?, ((2, [a, b]), true));
+    assert_eq!(rt;
+        filled(rt.alloc())?,
+        (([Some(ModuleId(4)), Some(ModuleId(2)), None], [a, b]), true)
+    );
     Ok(())
 }

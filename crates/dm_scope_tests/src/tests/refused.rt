@@ -2,6 +2,8 @@
 //!
 //! With ample memory none is. `tools/refusals` runs these tests with each request for memory refused in turn: whichever
 //! it is, a refused call leaves all as it was, and the same call then answers as it would have.
+ghost use Rattle.std.specs.Iterator.{IsFinite};
+
 use super::{Filled, GLOB, HERE, ast, function, import, import_id, structure, typed, valued};
 use crate::modules::Modules;
 use dm_base::ids::{
@@ -38,7 +40,7 @@ enum Growth {
 }
 
 /// What grows the scope of a test, in order, and what each push answers.
-fn growths() -> [(Growth, bool); 20] {
+fn growths() -> [(Growth, bool); 22] {
     [
         (Growth::Push("A", Some(0), Some(GLOB)), true),
         (Growth::Push("A", Some(1), Some(GLOB)), false),
@@ -57,8 +59,10 @@ fn growths() -> [(Growth, bool); 20] {
         (Growth::UnnamedConst, true),
         (Growth::UnnamedTrait, true),
         (Growth::LegacyMacro, true),
+        (Growth::LegacyMacro, true),
         (Growth::AttributeMacro, true),
         (Growth::MacroCall, true),
+        (Growth::DeriveAttribute, true),
         (Growth::DeriveAttribute, true),
     ]
 }
@@ -102,6 +106,20 @@ struct Seen {
     of_type: Option<Visibility>,
 }
 
+/// How many things are listed.
+fn length_of<I: Iterator + Drop>(listed: I) -> usize
+where
+    I::Item: Drop,
+    requires can { I.can_next listed }
+    requires finite { IsFinite (I.remaining listed) }
+{
+    let mut length = 0usize;
+    for _thing in listed {
+        length = length.saturating_add(1);
+    }
+    length
+}
+
 /// How many entries there are, where memory is refused once at most.
 fn entry_count(scope: &ItemScope) -> usize {
     match again!(scope.entries()) {
@@ -114,38 +132,38 @@ fn entry_count(scope: &ItemScope) -> usize {
 fn named(scope: &ItemScope) -> [usize; 8] {
     [
         entry_count(scope),
-        scope.types().count(),
-        scope.values().count(),
-        scope.macros().count(),
-        scope.modules_in_scope().count(),
-        scope.traits().count(),
-        scope.unnamed_traits().count(),
-        scope.legacy_macros().count(),
+        length_of(scope.types()),
+        length_of(scope.values()),
+        length_of(scope.macros()),
+        length_of(scope.modules_in_scope()),
+        length_of(scope.traits()),
+        length_of(scope.unnamed_traits()),
+        length_of(scope.legacy_macros()),
     ]
 }
 
 /// How long the lists of definitions are.
 fn defined(scope: &ItemScope) -> [usize; 9] {
     [
-        scope.declarations().count(),
-        scope.impls().count(),
-        scope.trait_impls().count(),
-        scope.inherent_impls().count(),
-        scope.builtin_derive_impls().count(),
-        scope.extern_blocks().count(),
-        scope.extern_crate_decls().count(),
-        scope.unnamed_consts().count(),
-        scope.use_decls().count(),
+        length_of(scope.declarations()),
+        length_of(scope.impls()),
+        length_of(scope.trait_impls()),
+        length_of(scope.inherent_impls()),
+        length_of(scope.builtin_derive_impls()),
+        length_of(scope.extern_blocks()),
+        length_of(scope.extern_crate_decls()),
+        length_of(scope.unnamed_consts()),
+        length_of(scope.use_decls()),
     ]
 }
 
 /// How long the lists of macro calls are.
 fn calls(scope: &ItemScope) -> [usize; 4] {
     [
-        scope.iter_macro_invoc().count(),
-        scope.attr_macro_invocs().count(),
-        scope.derive_macro_invocs().count(),
-        scope.all_macro_calls().count(),
+        length_of(scope.iter_macro_invoc()),
+        length_of(scope.attr_macro_invocs()),
+        length_of(scope.derive_macro_invocs()),
+        length_of(scope.all_macro_calls()),
     ]
 }
 
@@ -270,17 +288,20 @@ fn grown(alloc: Global) -> Result<(Filled, bool), AllocError> {
     Ok((filled, as_told))
 }
 
-/// What is seen in the end, and whether all went as it should.
-fn seen_in_the_end(alloc: Global) -> Result<(Seen, bool), AllocError> {
+/// What is seen in the end, before and after room is given back, and whether all went as it should.
+fn seen_in_the_end(alloc: Global) -> Result<(Seen, Seen, bool), AllocError> {
     let names = names(alloc)?;
-    let (filled, as_told) = grown(alloc)?;
-    Ok((filled.seen(&names), as_told))
+    let (mut filled, as_told) = grown(alloc)?;
+    let before = filled.seen(&names);
+    filled.scope.shrink_to_fit();
+    Ok((before, filled.seen(&names), as_told))
 }
 
 #[test]
 fn a_refused_call_leaves_the_scope_and_is_made_again(rt: HostRuntime) -> Result<(), Fail> {
-    let (seen, as_told) = seen_in_the_end(rt.alloc())?;
+    let (seen, shrunk, as_told) = seen_in_the_end(rt.alloc())?;
     assert!(rt; as_told);
+    assert_eq!(rt; shrunk, seen);
     assert_eq!(rt; seen.named, [3, 2, 2, 2, 0, 1, 1, 1]);
     assert_eq!(rt; seen.defined, [1, 2, 1, 1, 1, 1, 1, 1, 0]);
     assert_eq!(rt; seen.calls, [1, 1, 1, 2]);
@@ -332,7 +353,7 @@ fn a_refused_dump_leaves_the_text(rt: HostRuntime) -> Result<(), Fail> {
 - A : type (import) value (import) macro! (import)
 - B : type (import) value (import) macro! (import)
 - x : _
-- (legacy) A : macro!
+- (legacy) A : macro! macro!
 "
     );
     Ok(())
