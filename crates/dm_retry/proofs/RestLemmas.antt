@@ -7,7 +7,6 @@ use Rattle.std.proofs.lemmas.Bool.{cond-false, and_right, or_parts}
 use Rattle.std.proofs.lemmas.Slice.Eq.{bytes_eq-Decides}
 use Rattle.indexmap.specs.IndexMap.{insert_entry}
 use Rattle.dm_ids.specs.declared.ModuleId.{ModuleId}
-use Rattle.dm_base.specs.IdLaws.{same_module-refl}
 use Rattle.dm_base.specs.Names.{Name, same_name, find_name}
 use Rattle.dm_base.specs.Tree.{same_module}
 use Rattle.dm_base.specs.declared.imports.ImportOrExternCrate.{ImportOrExternCrate}

@@ -1,5 +1,5 @@
 -- How many imports wait does not change.
-use Rattle.std.proofs.Common.{◌≡◌, ◌∙◌, ℕ, zero, suc, Bool, true, false, List, Option, None, Some, ap, refl, slice_get, length, map, set}
+use Rattle.std.proofs.Common.{◌≡◌, ◌∙◌, ℕ, zero, suc, Bool, true, false, List, Option, None, Some, refl, slice_get, length, set}
 use Rattle.std.proofs.lemmas.List.{length-map, length-set}
 use Rattle.std.specs.Option.{option_map_or}
 use Rattle.dm_retry.specs.Rounds.{Pending, State, after, awoken, marked, marked_after, marked_at, name_at, tried, try_at, brings}

@@ -1,6 +1,6 @@
 -- Pushes of named imports into a scope: one that answers false changes nothing, and goes on answering false whatever other
 -- named imports push.
-use Rattle.std.proofs.Common.{◌≡◌, ◌∙◌, Bool, true, false, cond, not, ◌&&◌, ◌||◌, List, Option, None, Some, ap, sym, refl, rules}
+use Rattle.std.proofs.Common.{◌≡◌, true, false, Option, Some, refl, rules}
 use Rattle.std.proofs.lemmas.Bool.{cond-false, and_left, or_parts, or_from}
 use Rattle.dm_ids.specs.declared.ModuleId.{ModuleId}
 use Rattle.indexmap.specs.IndexSet.{insert_key}
@@ -17,7 +17,7 @@ use Rattle.dm_base.specs.declared.item_ids.MacroId.{MacroId}
 use Rattle.dm_base.specs.declared.per_ns.PerNs.{PerNs}
 use Rattle.dm_scope.specs.Bindings.{is_effective_at}
 use Rattle.dm_scope.specs.Flags.{Globs}
-use Rattle.dm_scope.specs.Push.{types_reading, values_reading, macros_reading, unresolved_after, is_new_unresolved, scope_after, globs_after, push_answer}
+use Rattle.dm_scope.specs.Push.{types_reading, values_reading, macros_reading, scope_after, globs_after, push_answer}
 use Rattle.dm_scope.specs.Scope.{Scope}
 use Rattle.dm_base.specs.contracts.imports.ImportIdPartialEq.TheImpl as import_id_eq
 use Rattle.dm_retry.proofs.RestLemmas.{idle-bound, idle-flags, pushed-again, rests-here, rests-elsewhere}

@@ -1,16 +1,15 @@
 -- What a try leaves of imports that wait: each that is not due would still write nothing.
-use Rattle.std.proofs.Common.{◌≡◌, ◌∙◌, ◌||◌, ◌⊎◌, inl, inr, rules, ℕ, zero, suc, Bool, true, false, cond, List, [], Option, None, Some, ap, sym, refl, subst, slice_get, slice_set, map}
+use Rattle.std.proofs.Common.{◌≡◌, ◌∙◌, ◌⊎◌, inl, inr, rules, ℕ, Bool, true, false, List, [], Option, None, Some, ap, sym, refl, subst, slice_get, slice_set, map}
 use Rattle.std.specs.Option.{option_map, option_map_or}
 use Rattle.std.proofs.lemmas.Bool.{false≢true, true≢false, or_parts}
 use Rattle.std.proofs.lemmas.Option.{slice_get-map}
 use Rattle.dm_base.specs.declared.imports.ImportId.{ImportId}
-use Rattle.dm_base.specs.Names.{Name}
 use Rattle.dm_scope.specs.Flags.{Globs}
 use Rattle.dm_maps.specs.Cut.{among}
 use Rattle.dm_maps.specs.Known.{KnowsAll}
 use Rattle.dm_maps.specs.World.{World}
 use Rattle.dm_retry.specs.Known.{parts, same_import}
-use Rattle.dm_retry.specs.Rounds.{Pending, State, answered, awoken, brings, brings_at, found, is_due, marked, marked_after, marked_at, name_at, refused_at, tried, try_at}
+use Rattle.dm_retry.specs.Rounds.{Pending, State, awoken, brings, brings_at, is_due, marked, marked_after, marked_at, name_at, refused_at, tried, try_at}
 use Rattle.dm_retry.specs.Settled.{IsSettled}
 use Rattle.dm_retry.proofs.ListLemmas.{get-put}
 use Rattle.dm_retry.proofs.TryLemmas.{brings-marked, idle-table, idle-world}

@@ -1,6 +1,6 @@
 -- Imports that are taken: none stands twice, and what they hold is the world's.
-use Rattle.std.proofs.Common.{◌≡◌, ◌∙◌, ◌↔◌, ◌&&◌, ◌||◌, ℕ, zero, suc, Bool, true, false, cond, List, [], ◌∷◌, ◌++◌, Option, None, Some, IsTrue, ap, sym, refl, subst, slice_get, map, rules, true≢false}
-use Rattle.std.specs.List.{list_any, list_all, AllByRecursion}
+use Rattle.std.proofs.Common.{◌≡◌, ◌∙◌, ◌↔◌, ◌&&◌, ℕ, zero, suc, Bool, true, false, cond, List, [], ◌∷◌, ◌++◌, Option, None, Some, IsTrue, ap, sym, refl, subst, slice_get, map, rules, true≢false}
+use Rattle.std.specs.List.{list_any, list_all}
 use Rattle.std.specs.Option.{option_map}
 use Rattle.std.proofs.lemmas.Bool.{false≢true, and_from, and_parts, or_parts}
 use Rattle.std.proofs.lemmas.List.Folds.{list_all-append}
@@ -10,10 +10,9 @@ use Rattle.dm_held.specs.declared.held.HeldId.{HeldId}
 use Rattle.dm_scope.specs.Flags.{Globs}
 use Rattle.dm_maps.specs.Known.{knows, KnowsAll}
 use Rattle.dm_maps.specs.World.{World}
-use Rattle.dm_retry.specs.declared.retry_fault.RetryFault.{RetryFault}
 use Rattle.dm_retry.specs.declared.retry_fault.RetryFault.TheVariants.{DoubleImport, UnknownPart}
 use Rattle.dm_retry.specs.Known.{fault_of, has_double, is_known, parts, same_import}
-use Rattle.dm_retry.specs.Rounds.{Pending, brings, marked}
+use Rattle.dm_retry.specs.Rounds.{Pending, marked}
 use Rattle.dm_retry.specs.Settled.{IsSettled}
 
 -- ---- Tests of all of a list

@@ -17,7 +17,6 @@ use Rattle.dm_modules.specs.declared.modes.BuiltinShadowMode.TheVariants as shad
 use Rattle.dm_modules.specs.Maps.{LocalMap}
 use Rattle.dm_scope.specs.Flags.{Globs}
 use Rattle.dm_scope.specs.Push.{scope_after, globs_after, push_answer}
-use Rattle.dm_scope.specs.Scope.{Scope}
 use Rattle.dm_maps.specs.Cut.{among, cut, cut_local}
 use Rattle.dm_maps.specs.ItemHomes.{homes_of}
 use Rattle.dm_maps.specs.PushRes.{with_push}

@@ -1,5 +1,5 @@
 -- Which imports a world can be asked about, and why imports are not taken.
-use Rattle.std.specs.Prelude.{◌&&◌, ◌||◌, Bool, true, false, not, List, [], ◌∷◌, ◌++◌, Option, Some, None, if◌then◌else◌}
+use Rattle.std.specs.Prelude.{◌||◌, Bool, false, List, [], ◌∷◌, ◌++◌, Option, Some, None, if◌then◌else◌}
 use Rattle.std.specs.List.{list_any, list_all}
 use Rattle.dm_base.specs.declared.imports.ImportId.{ImportId}
 use Rattle.dm_base.specs.contracts.imports.ImportIdPartialEq.TheImpl as import_eq

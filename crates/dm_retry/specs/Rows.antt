@@ -1,6 +1,5 @@
 -- Worked rows: which imports are due after a push.
-use Rattle.std.specs.Prelude.{◌≡◌, Bool, true, false, List, [], ◌∷◌, map, refl}
-use Rattle.dm_base.specs.declared.imports.ImportId.{ImportId}
+use Rattle.std.specs.Prelude.{◌≡◌, Bool, true, false, [], ◌∷◌, refl}
 use Rattle.dm_base.specs.declared.mod_path.PathKind.TheVariants.{Plain, Crate}
 use Rattle.dm_base.specs.declared.visibility.Visibility.TheVariants.{Public}
 use Rattle.dm_base.specs.Names.{Name}

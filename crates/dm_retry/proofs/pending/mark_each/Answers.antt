@@ -1,4 +1,4 @@
-use Rattle.std.proofs.Common.{◌≡◌, ◌∙◌, List, ap, get_or, slice_set, true}
+use Rattle.std.proofs.Common.{◌∙◌, List, ap, get_or, slice_set, true}
 use Rattle.dm_retry.specs.Rounds.{Pending, marked}
 use Rattle.dm_retry.proofs.ListLemmas.{mark-all, mark-step}
 use Rattle.dm_retry.proofs.pending.mark_each.Goals as goal

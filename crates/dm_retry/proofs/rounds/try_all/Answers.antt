@@ -1,4 +1,4 @@
-use Rattle.std.proofs.Common.{◌≡◌, ◌∙◌, ◌<◌, ap, length, arith}
+use Rattle.std.proofs.Common.{◌≡◌, ◌∙◌, ap, length, arith}
 use Rattle.dm_retry.specs.Rounds.{State}
 use Rattle.dm_retry.proofs.RoundLemmas.{length-tries}
 use Rattle.dm_retry.proofs.rounds.try_all.Goals as goal

@@ -1,9 +1,8 @@
-use Rattle.std.proofs.Common.{◌≡◌, ◌∙◌, ◌<◌, ◌||◌, Bool, List, [], Some, ap, refl, get_or, length, slice_get, slice_set, arith}
-use Rattle.std.specs.Option.{option_map_or}
+use Rattle.std.proofs.Common.{◌≡◌, ◌∙◌, ◌<◌, ◌||◌, Bool, List, [], ap, refl, get_or, length, slice_set, arith}
 use Rattle.std.proofs.lemmas.Option.{slice_get-get_or}
 use Rattle.dm_maps.specs.Cut.{among}
 use Rattle.dm_retry.specs.Rounds.{Pending, awoken, marked, name_at}
-use Rattle.dm_retry.proofs.ListLemmas.{mark, mark-all, mark-keeps, mark-step}
+use Rattle.dm_retry.proofs.ListLemmas.{mark-all, mark-keeps, mark-step}
 use Rattle.dm_retry.proofs.wake.wake.Goals as goal
 
 pub loop-k-preserved : goal.loop-k-preserved
