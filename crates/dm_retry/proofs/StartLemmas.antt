@@ -1,0 +1,90 @@
+-- Imports that are taken: none stands twice, and what they hold is the world's.
+use Rattle.std.proofs.Common.{◌≡◌, ◌∙◌, ◌↔◌, ◌&&◌, ℕ, zero, suc, Bool, true, false, cond, List, [], ◌∷◌, ◌++◌, Option, None, Some, IsTrue, ap, sym, refl, subst, slice_get, map, rules, true≢false}
+use Rattle.std.specs.List.{list_any, list_all}
+use Rattle.std.specs.Option.{option_map}
+use Rattle.std.proofs.lemmas.Bool.{false≢true, and_from, and_parts, or_parts}
+use Rattle.std.proofs.lemmas.List.Folds.{list_all-append}
+use Rattle.std.proofs.lemmas.Option.{slice_get-map}
+use Rattle.dm_base.specs.declared.imports.ImportId.{ImportId}
+use Rattle.dm_held.specs.declared.held.HeldId.{HeldId}
+use Rattle.dm_scope.specs.Flags.{Globs}
+use Rattle.dm_maps.specs.Known.{knows, KnowsAll}
+use Rattle.dm_maps.specs.World.{World}
+use Rattle.dm_retry.specs.declared.retry_fault.RetryFault.TheVariants.{DoubleImport, UnknownPart}
+use Rattle.dm_retry.specs.Known.{fault_of, has_double, is_known, parts, same_import}
+use Rattle.dm_retry.specs.Rounds.{Pending, marked}
+use Rattle.dm_retry.specs.Settled.{IsSettled}
+
+-- ---- Tests of all of a list
+
+any-at : {A : Type 0} (t : A → Bool) (xs : List A) (i : ℕ) (x : A) → list_any t xs ≡ false → slice_get xs i ≡ Some x → t x ≡ false
+any-at t [] i x none at = cc
+any-at t (y ∷ ys) zero x none at = let same : y ≡ x = cc in ap t (sym same) ∙ (or_parts (t y) (list_any t ys) none).0
+any-at t (y ∷ ys) (suc i) x none at = any-at t ys i x ((or_parts (t y) (list_any t ys) none).1) at
+
+all-at : {A : Type 0} (t : A → Bool) (xs : List A) (i : ℕ) (x : A) → list_all t xs ≡ true → slice_get xs i ≡ Some x → t x ≡ true
+all-at t [] i x all at = cc
+all-at t (y ∷ ys) zero x all at = let same : y ≡ x = cc in ap t (sym same) ∙ (and_parts (t y) (list_all t ys) all).0
+all-at t (y ∷ ys) (suc i) x all at = all-at t ys i x ((and_parts (t y) (list_all t ys) all).1) at
+
+knows-from : (w : World) (hs : List HeldId) → list_all (knows w) hs ≡ true → KnowsAll w hs
+knows-from w [] all = tt
+knows-from w (h ∷ hs) all = ((and_parts (knows w h) (list_all (knows w) hs) all).0, knows-from w hs ((and_parts (knows w h) (list_all (knows w) hs) all).1))
+
+knows-to : (w : World) (hs : List HeldId) → KnowsAll w hs → list_all (knows w) hs ≡ true
+knows-to w [] k = refl
+knows-to w (h ∷ hs) k = and_from (knows w h) (list_all (knows w) hs) k.0 (knows-to w hs k.1)
+
+-- a test that holds exactly where all is known is that of each
+pub tested : (w : World) (hs : List HeldId) (b : Bool) → (IsTrue b ↔ KnowsAll w hs) → b ≡ list_all (knows w) hs
+tested w hs true iff = sym (knows-to w hs (iff.0 refl))
+tested w hs false iff = by (list_all (knows w) hs) refl
+  where
+    by : (b : Bool) → list_all (knows w) hs ≡ b → false ≡ b
+    by true all = absurd (false≢true (iff.1 (knows-from w hs all)))
+    by false some = refl
+
+-- the parts of an import are known where each of three tests holds
+pub all-parts : (w : World) (hs ks ls : List HeldId) (a b c : Bool) → a ≡ list_all (knows w) hs → b ≡ list_all (knows w) ks → c ≡ list_all (knows w) ls → (a && b && c) ≡ list_all (knows w) (hs ++ ks ++ ls)
+all-parts w hs ks ls a b c first second third =
+    (λ i. first i && second i && third i) ∙ sym (list_all-append (knows w) (hs ++ ks) ls ∙ ap (λ d. d && list_all (knows w) ls) (list_all-append (knows w) hs ks))
+
+-- ---- Imports that are taken
+
+import-refl : (i : ImportId) → same_import i i ≡ true
+import-refl = Prim.search rules
+
+singles : (ps : List Pending) → has_double ps ≡ false → (i j : ℕ) (p q : Pending) → slice_get ps i ≡ Some p → slice_get ps j ≡ Some q → p.import ≡ q.import → i ≡ j
+singles [] none i j p q a b same = cc
+singles (x ∷ xs) none zero zero p q a b same = refl
+singles (x ∷ xs) none zero (suc j) p q a b same =
+    let is : x ≡ p = cc in
+    let differ : same_import x.import q.import ≡ false = any-at (λ (r : Pending). same_import x.import r.import) xs j q ((or_parts _ _ none).0) b in
+    absurd (true≢false (sym (import-refl q.import) ∙ ap (λ k. same_import k q.import) (sym (ap (λ (z : Pending). z.import) is ∙ same)) ∙ differ))
+singles (x ∷ xs) none (suc i) zero p q a b same =
+    let is : x ≡ q = cc in
+    let differ : same_import x.import p.import ≡ false = any-at (λ (r : Pending). same_import x.import r.import) xs i p ((or_parts _ _ none).0) a in
+    absurd (true≢false (sym (import-refl p.import) ∙ ap (λ k. same_import k p.import) (same ∙ sym (ap (λ (z : Pending). z.import) is)) ∙ differ))
+singles (x ∷ xs) none (suc i) (suc j) p q a b same = ap suc (singles xs ((or_parts _ _ none).1) i j p q a b same)
+
+-- an import of the list of due ones is one of the list but for its mark
+due-at : (ps : List Pending) (i : ℕ) (r : Pending) → slice_get (map (marked true) ps) i ≡ Some r → (q : Pending) × (slice_get ps i ≡ Some q) × (r ≡ marked true q)
+due-at ps i r is = by (slice_get ps i) refl (sym (slice_get-map (marked true) ps i) ∙ is)
+  where
+    by : (o : Option Pending) → slice_get ps i ≡ o → option_map (marked true) o ≡ Some r → (q : Pending) × (slice_get ps i ≡ Some q) × (r ≡ marked true q)
+    by None at e = cc
+    by (Some q) at e = let same : marked true q ≡ r = cc in (q, at, sym same)
+
+pub starts : (w : World) (g : Globs) (ps : List Pending) → fault_of w ps ≡ None → IsSettled (record { world = w; globs = g; pending = map (marked true) ps })
+starts w g ps fine = by (has_double ps) refl (list_all (is_known w) ps) refl fine
+  where
+    by : (b : Bool) → has_double ps ≡ b → (c : Bool) → list_all (is_known w) ps ≡ c → cond b (Some DoubleImport) (cond c None (Some UnknownPart)) ≡ None
+        → IsSettled (record { world = w; globs = g; pending = map (marked true) ps })
+    by true two c k e = cc
+    by false one false k e = cc
+    by false one true k e = record {
+      known = λ i r at. let was = due-at ps i r at in subst (λ (q : Pending). KnowsAll w (parts q)) (sym was.2) (knows-from w (parts was.0) (all-at (is_known w) ps i was.0 k was.1));
+      single = λ i j p q a b same. let first = due-at ps i p a in let second = due-at ps j q b in
+          singles ps one i j first.0 second.0 first.1 second.1 (ap (λ (z : Pending). z.import) (sym first.2) ∙ same ∙ ap (λ (z : Pending). z.import) second.2);
+      settled = λ i r at none. let was = due-at ps i r at in absurd (true≢false (ap (λ (z : Pending). z.due) (sym was.2) ∙ none));
+    }

@@ -1,0 +1,147 @@
+-- Tries of imports: one that brings nothing changes nothing, and what a push of one import leaves of the others.
+use Rattle.std.proofs.Common.{◌≡◌, ◌∙◌, ◌&&◌, Bool, true, false, cond, not, List, [], Option, None, Some, ap, sym, refl, subst, slice_get, is_none}
+use Rattle.std.specs.Option.{option_map, option_map_or, option_and_then}
+use Rattle.std.proofs.lemmas.Bool.{and_parts, not-true}
+use Rattle.dm_ids.specs.declared.ModuleId.{ModuleId}
+use Rattle.dm_base.specs.IdLaws.{same_module-true}
+use Rattle.dm_base.specs.declared.imports.ImportId.{ImportId}
+use Rattle.dm_base.specs.declared.imports.ImportOrExternCrate.TheVariants as wide
+use Rattle.dm_base.specs.declared.mod_path.PathKind.{PathKind}
+use Rattle.dm_base.specs.declared.per_ns.Item.{Item}
+use Rattle.dm_base.specs.declared.per_ns.PerNs.{PerNs}
+use Rattle.dm_base.specs.declared.visibility.Visibility.{Visibility}
+use Rattle.dm_base.specs.Names.{Name}
+use Rattle.dm_base.specs.PerNs.{is_empty, seen_as, seen_as_item}
+use Rattle.dm_base.specs.Tree.{same_module}
+use Rattle.dm_modules.specs.declared.modes.BuiltinShadowMode.TheVariants as shadow
+use Rattle.dm_modules.specs.Maps.{LocalMap}
+use Rattle.dm_scope.specs.Flags.{Globs}
+use Rattle.dm_scope.specs.Push.{scope_after, globs_after, push_answer}
+use Rattle.dm_maps.specs.Cut.{among, cut, cut_local}
+use Rattle.dm_maps.specs.ItemHomes.{homes_of}
+use Rattle.dm_maps.specs.PushRes.{with_push}
+use Rattle.dm_maps.specs.World.{World, scope_of, with_scope}
+use Rattle.hir_def_map.specs.declared.result.ResolveMode.TheVariants as mode
+use Rattle.hir_def_map.specs.declared.result.ResolvePathResult.{ResolvePathResult}
+use Rattle.hir_def_map.specs.Paths.{answer, asked}
+use Rattle.dm_retry.specs.Known.{same_import}
+use Rattle.dm_retry.specs.Rounds.{Pending, answered, brings, brought, by_import, found, globs_with, local_of, marked, meaning, world_after}
+use Rattle.dm_retry.proofs.ScopeLemmas.{idle-scope, idle-globs, scope-again, scope-rests, scope-rests-elsewhere}
+use Rattle.dm_retry.proofs.WorldLemmas.{scope-own, places-stay, locals-stay}
+
+-- ---- What is found is something
+
+item-seen : {D I : Type 0} (v : Visibility) (o : Option (Item D I)) → is_none (seen_as_item v o) ≡ is_none o
+item-seen v None = refl
+item-seen v (Some x) = refl
+
+found-some : (w : World) (p : Pending) (x : PerNs) → found w p ≡ Some x → is_empty x ≡ false
+unfolding found
+found-some w p x is = by (is_none a.segment_index && not (is_empty a.resolved_def)) refl is
+  where
+    a : ResolvePathResult
+    a = meaning w p
+
+    by : (b : Bool) → (is_none a.segment_index && not (is_empty a.resolved_def)) ≡ b → option_map (seen_as p.visibility) (cond b (Some a.resolved_def) None) ≡ Some x → is_empty x ≡ false
+    by true some is =
+        let same : seen_as p.visibility a.resolved_def ≡ x = cc in
+        let y = a.resolved_def in
+        ap is_empty (sym same) ∙ (λ i. item-seen p.visibility y.types i && item-seen p.visibility y.values i && item-seen p.visibility y.macros i) ∙ not-true (is_empty y) ((and_parts _ _ some).1)
+    by false none is = cc
+
+-- ---- A try that brings nothing
+
+pub idle-world : (w : World) (g : Globs) (p : Pending) → brings w g p ≡ false → world_after w g p (found w p) ≡ w
+idle-world w g p none = by (found w p) refl none
+  where
+    by : (o : Option PerNs) → found w p ≡ o → answered w g p o ≡ false → world_after w g p o ≡ w
+    by None is none = refl
+    by (Some x) is none = ap (with_scope w p.origin) (idle-scope (scope_of w p.origin) g p.origin p.name x (by_import p) (found-some w p x is) none) ∙ scope-own w p.origin
+
+pub idle-table : (w : World) (g : Globs) (p : Pending) → brings w g p ≡ false → globs_with w g p (found w p) ≡ g
+idle-table w g p none = by (found w p) none
+  where
+    by : (o : Option PerNs) → answered w g p o ≡ false → globs_with w g p o ≡ g
+    by None none = refl
+    by (Some x) none = idle-globs (scope_of w p.origin) g p.origin p.name x (by_import p) none
+
+-- marks are not read
+pub brings-marked : (w : World) (g : Globs) (d : Bool) (p : Pending) → brings w g (marked d p) ≡ brings w g p
+unfolding found
+brings-marked w g d p = refl
+
+-- ---- A push
+
+-- worlds and local maps that have the same under the segments of an import's path answer it alike
+abbrev pub Alike : Type 0
+Alike = (w v : World) (L K : LocalMap) (m : ModuleId) (kind : PathKind) (S : List Name) → cut v S ≡ cut w S → cut_local K S ≡ cut_local L S
+    → answer v K (asked m mode.Import shadow.Module None kind) S ≡ answer w L (asked m mode.Import shadow.Module None kind) S
+
+-- What a push of x by the import p leaves: the world v and the glob table h.
+pub record IsPushed (w v : World) (g h : Globs) (p : Pending) (x : PerNs) : Type 0 where
+  pub alike : Alike
+  pub found : found w p ≡ Some x
+  pub world : v ≡ with_push w g p.origin p.name x (by_import p)
+  pub globs : h ≡ globs_after (scope_of w p.origin) g p.origin p.name x (by_import p)
+  pub scope : scope_of v p.origin ≡ scope_after (scope_of w p.origin) g p.origin p.name x (by_import p)
+  pub others : (k : ModuleId) → same_module p.origin k ≡ false → scope_of v k ≡ scope_of w k
+  pub cuts : (N : List Name) → among N p.name ≡ false → cut v N ≡ cut w N
+
+-- the same of a push whose module, name and import are those of p
+pub pushed-by : (w v : World) (g h : Globs) (p : Pending) (x : PerNs) → Alike → found w p ≡ Some x
+    → (m : ModuleId) (n : Name) (i : ImportId) → m ≡ p.origin → n ≡ p.name → i ≡ p.import
+    → v ≡ with_push w g m n x (Some (wide.Import i)) → h ≡ globs_after (scope_of w m) g m n x (Some (wide.Import i)) → scope_of v m ≡ scope_after (scope_of w m) g m n x (Some (wide.Import i))
+    → ((k : ModuleId) → same_module m k ≡ false → scope_of v k ≡ scope_of w k) → ((N : List Name) → among N n ≡ false → cut v N ≡ cut w N) → IsPushed w v g h p x
+pushed-by w v g h p x alike is m n i origin name import world globs scope others cuts = record {
+  alike = alike;
+  found = is;
+  world = world ∙ (λ k. with_push w g (origin k) (name k) x (Some (wide.Import (import k))));
+  globs = globs ∙ (λ k. globs_after (scope_of w (origin k)) g (origin k) (name k) x (Some (wide.Import (import k))));
+  scope = ap (scope_of v) (sym origin) ∙ scope ∙ (λ k. scope_after (scope_of w (origin k)) g (origin k) (name k) x (Some (wide.Import (import k))));
+  others = λ k e. others k (ap (λ o. same_module o k) origin ∙ e);
+  cuts = λ N e. cuts N (ap (among N) name ∙ e);
+}
+
+module _ (w v : World) (g h : Globs) (p : Pending) (x : PerNs) (push : IsPushed w v g h p x) where
+  local-stays : (m : ModuleId) → local_of v m ≡ local_of w m
+  unfolding homes_of
+  local-stays m =
+      let s = scope_after (scope_of w p.origin) g p.origin p.name x (by_import p) in
+      let places = ap (λ (u : World). u.places) push.world ∙ places-stay w p.origin s in
+      let locals = ap (λ (u : World). u.local_maps) push.world ∙ locals-stay w p.origin s in
+      λ i. option_map_or (λ l. l) (option_and_then (λ k. slice_get (locals i) k.0) (option_map (λ p. p.map.krate) (slice_get (places i) m.0))) []
+
+  -- what an import finds that has no segment of the pushed name
+  found-stays : (q : Pending) → among q.path.segments p.name ≡ false → found v q ≡ found w q
+  unfolding found
+  found-stays q other =
+      let S = q.path.segments in
+      ap (λ a. option_map (seen_as q.visibility) (brought a))
+      (push.alike w v (local_of w q.origin) (local_of v q.origin) q.origin q.path.kind S (push.cuts S other) (ap (λ L. cut_local L S) (local-stays q.origin)))
+
+  -- another import that would write nothing, and has no segment of the pushed name, writes nothing
+  pub others-rest : (q : Pending) → same_import q.import p.import ≡ false → among q.path.segments p.name ≡ false → brings w g q ≡ false → brings v h q ≡ false
+  others-rest q differ other none = ap (answered v h q) (found-stays q other) ∙ by (found w q) refl none
+    where
+      there : (y : PerNs) → is_empty y ≡ false → p.origin ≡ q.origin → push_answer (scope_of w q.origin) g q.origin q.name y (by_import q) ≡ false → push_answer (scope_of v q.origin) h q.origin q.name y (by_import q) ≡ false
+      there y some same none =
+          subst (λ (k : ModuleId). push_answer (scope_of v k) h k q.name y (by_import q) ≡ false) same
+          ((λ i. push_answer (push.scope i) (push.globs i) p.origin q.name y (by_import q))
+          ∙ scope-rests (scope_of w p.origin) g p.origin q.name p.name y x q.import p.import some differ (subst (λ (k : ModuleId). push_answer (scope_of w k) g k q.name y (by_import q) ≡ false) (sym same) none))
+
+      at : (y : PerNs) → is_empty y ≡ false → (b : Bool) → same_module p.origin q.origin ≡ b → push_answer (scope_of w q.origin) g q.origin q.name y (by_import q) ≡ false → push_answer (scope_of v q.origin) h q.origin q.name y (by_import q) ≡ false
+      at y some true here none = there y some (same_module-true p.origin q.origin here) none
+      at y some false elsewhere none =
+          (λ i. push_answer (push.others q.origin elsewhere i) (push.globs i) q.origin q.name y (by_import q))
+          ∙ scope-rests-elsewhere (scope_of w q.origin) (scope_of w p.origin) g q.origin p.origin q.name p.name y x q.import p.import some none
+
+      by : (o : Option PerNs) → found w q ≡ o → answered w g q o ≡ false → answered v h q o ≡ false
+      by None is none = refl
+      by (Some y) is none = at y (found-some w q y is) (same_module p.origin q.origin) refl none
+
+  -- and the import itself, if the name is none of its own segments
+  pub own-rests : among p.path.segments p.name ≡ false → brings v h p ≡ false
+  own-rests other =
+      ap (answered v h p) (found-stays p other ∙ push.found)
+      ∙ (λ i. push_answer (push.scope i) (push.globs i) p.origin p.name x (by_import p))
+      ∙ scope-again (scope_of w p.origin) g p.origin p.name x p.import (found-some w p x push.found)

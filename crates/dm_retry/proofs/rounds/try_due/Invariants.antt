@@ -1,0 +1,12 @@
+use Rattle.std.proofs.Common.{◌≡◌, ◌≤◌, length}
+use Rattle.dm_retry.specs.Rounds.{after, any_brings, due_turns}
+use Rattle.dm_retry.proofs.rounds.try_due.Given as goal
+
+abbrev pub invariant-loop-i : goal.invariant-loop-i
+invariant-loop-i l = record {
+  state : l.imports ≡ after l.fn.imports l.i;
+  answer : l.written ≡ any_brings l.fn.imports l.i;
+  tries : l.tries ≡ due_turns l.fn.imports l.i;
+  few : l.tries ≤ l.i;
+  end : l.i-end ≡ length l.fn.imports.pending;
+}

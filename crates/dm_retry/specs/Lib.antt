@@ -1,0 +1,5 @@
+pub mod Rounds
+pub mod Known
+pub mod Settled
+pub mod Retries
+pub mod Rows

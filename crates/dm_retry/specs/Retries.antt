@@ -1,0 +1,40 @@
+-- Rounds of tries, as contracts see them: what stands, how many tries the last round began, and where want of memory stops one.
+use Rattle.std.specs.Prelude.{◌≡◌, ◌<◌, ℕ, suc, true, length}
+use Rattle.dm_retry.specs.Rounds.{State, after, due_turns, is_due, refused_at, rounds}
+
+-- what stands, and how many tries the last round began
+pub record Retries : Type 0 where
+  pub state : State
+  pub last_tries : ℕ
+
+-- Want of memory stops a round of all imports at a place: the tries before it stand, and with it they are counted.
+pub record StopsAt (s : State) (r : Retries) : Type 0 where
+  pub place : ℕ
+  pub within : place < length s.pending
+  pub state : r.state ≡ refused_at (after s place) place
+  pub tries : r.last_tries ≡ suc place
+
+-- It stops a round of the due ones where one is due, and those that were due at their turn are counted.
+pub record StopsAtDue (s : State) (r : Retries) : Type 0 where
+  pub place : ℕ
+  pub within : place < length s.pending
+  pub is_due : is_due (after s place) place ≡ true
+  pub state : r.state ≡ refused_at (after s place) place
+  pub tries : r.last_tries ≡ suc (due_turns s place)
+
+-- It stops a round of either kind at a place.
+pub record Stops (s t : State) : Type 0 where
+  pub place : ℕ
+  pub within : place < length s.pending
+  pub state : t ≡ refused_at (after s place) place
+
+-- It stops one of a number of rounds: those before it stand.
+pub record StopsIn (s : State) (count : ℕ) (t : State) : Type 0 where
+  pub before : ℕ
+  pub fewer : before < count
+  pub stops : Stops (rounds before s) t
+
+-- What a number of rounds leaves, however many they are.
+pub record AreRounds (s t : State) : Type 0 where
+  pub count : ℕ
+  pub state : t ≡ rounds count s

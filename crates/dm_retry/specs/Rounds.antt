@@ -1,0 +1,149 @@
+-- Imports that wait, and what a round of tries makes of a world and its glob table.
+use Rattle.std.specs.Prelude.{ℕ, zero, suc, ◌+◌, ◌&&◌, ◌||◌, Bool, true, false, not, List, [], Option, Some, None, if◌then◌else◌, is_none, length, map, slice_get, slice_set}
+use Rattle.std.specs.Option.{option_map, option_map_or, option_and_then}
+use Rattle.dm_ids.specs.declared.ModuleId.{ModuleId}
+use Rattle.dm_base.specs.declared.imports.ImportId.{ImportId}
+use Rattle.dm_base.specs.declared.imports.ImportOrExternCrate.{ImportOrExternCrate}
+use Rattle.dm_base.specs.declared.imports.ImportOrExternCrate.TheVariants as wide
+use Rattle.dm_base.specs.declared.per_ns.PerNs.{PerNs}
+use Rattle.dm_base.specs.declared.visibility.Visibility.{Visibility}
+use Rattle.dm_base.specs.Names.{Name}
+use Rattle.dm_base.specs.Path.{Path}
+use Rattle.dm_base.specs.PerNs.{is_empty, seen_as}
+use Rattle.dm_modules.specs.declared.modes.BuiltinShadowMode.TheVariants as shadow
+use Rattle.dm_modules.specs.Maps.{LocalMap}
+use Rattle.dm_scope.specs.Flags.{Globs}
+use Rattle.dm_scope.specs.Push.{globs_after, push_answer}
+use Rattle.dm_maps.specs.Cut.{among}
+use Rattle.dm_maps.specs.ItemHomes.{homes_of}
+use Rattle.dm_maps.specs.PushRes.{with_push}
+use Rattle.dm_maps.specs.World.{World, scope_of}
+use Rattle.hir_def_map.specs.declared.result.ResolveMode.TheVariants as mode
+use Rattle.hir_def_map.specs.declared.result.ResolvePathResult.{ResolvePathResult}
+use Rattle.hir_def_map.specs.Paths.{answer, asked}
+
+-- An import that waits: the module that it stands in, the name that it binds there, its path, who sees what it binds,
+-- and whether it is due.
+pub record Pending : Type 0 where
+  pub origin : ModuleId
+  pub name : Name
+  pub path : Path
+  pub visibility : Visibility
+  pub import : ImportId
+  pub due : Bool
+
+-- A world, a glob table, and the imports that wait, in order, of which some are due.
+pub record State : Type 0 where
+  pub world : World
+  pub globs : Globs
+  pub pending : List Pending
+
+-- ---- What an import brings
+
+-- the extern prelude of a module's crate
+abbrev pub local_of : World → ModuleId → LocalMap
+local_of w m = option_map_or (λ l. l) (option_and_then (λ k. slice_get w.local_maps k.0) ((homes_of w).krate m)) []
+
+-- what its path means for an import of its module
+abbrev pub meaning : World → Pending → ResolvePathResult
+meaning w p = answer w (local_of w p.origin) (asked p.origin mode.Import shadow.Module None p.path.kind) p.path.segments
+
+-- what an answer has for an import: its items, where no segment is left and something is bound
+abbrev pub brought : ResolvePathResult → Option PerNs
+brought a = if is_none a.segment_index && not (is_empty a.resolved_def) then Some a.resolved_def else None
+
+-- what a try pushes, if it pushes: what the path means, seen by those whom the import lets see it
+unfoldable pub found : World → Pending → Option PerNs
+found w p = option_map (seen_as p.visibility) (brought (meaning w p))
+
+-- the import of its push
+abbrev pub by_import : Pending → Option ImportOrExternCrate
+by_import p = Some (wide.Import p.import)
+
+-- the world and the glob table after that push, and what it answers
+abbrev pub world_after : World → Globs → Pending → Option PerNs → World
+world_after w g p None = w
+world_after w g p (Some x) = with_push w g p.origin p.name x (by_import p)
+
+abbrev pub globs_with : World → Globs → Pending → Option PerNs → Globs
+globs_with w g p None = g
+globs_with w g p (Some x) = globs_after (scope_of w p.origin) g p.origin p.name x (by_import p)
+
+abbrev pub answered : World → Globs → Pending → Option PerNs → Bool
+answered w g p None = false
+answered w g p (Some x) = push_answer (scope_of w p.origin) g p.origin p.name x (by_import p)
+
+-- whether a try of the import pushes, and its push answers true
+abbrev pub brings : World → Globs → Pending → Bool
+brings w g p = answered w g p (found w p)
+
+-- ---- Tries and rounds
+
+abbrev pub marked : Bool → Pending → Pending
+marked due p = record p { due = due }
+
+-- the imports with a mark for the one at place i
+abbrev pub marked_at : List Pending → ℕ → Bool → List Pending
+marked_at ps i due = option_map_or (λ p. slice_set ps i (marked due p)) (slice_get ps i) ps
+
+-- an import becomes due by a push under a name that is a segment of its path, and else stays as it is
+abbrev pub awoken : Name → Pending → Pending
+awoken n p = marked (p.due || among p.path.segments n) p
+
+-- the name that the import at place i binds
+abbrev pub name_at : List Pending → ℕ → Name
+name_at ps i = option_map_or (λ p. p.name) (slice_get ps i) []
+
+-- The imports after a try of the one at place i: it is due no more; and where its push answered true, each import whose
+-- path has the pushed name as a segment is due.
+abbrev pub marked_after : List Pending → ℕ → Bool → List Pending
+marked_after ps i written = let rest = marked_at ps i false in if written then map (awoken (name_at ps i)) rest else rest
+
+-- a try of the import p, which stands at place i
+abbrev pub tried : State → ℕ → Pending → State
+tried s i p = record {
+  world = world_after s.world s.globs p (found s.world p);
+  globs = globs_with s.world s.globs p (found s.world p);
+  pending = marked_after s.pending i (brings s.world s.globs p);
+}
+
+abbrev pub try_at : State → ℕ → State
+try_at s i = option_map_or (tried s i) (slice_get s.pending i) s
+
+-- whether the push of that try answers true, and whether its import is due
+abbrev pub brings_at : State → ℕ → Bool
+brings_at s i = option_map_or (brings s.world s.globs) (slice_get s.pending i) false
+
+abbrev pub is_due : State → ℕ → Bool
+is_due s i = option_map_or (λ p. p.due) (slice_get s.pending i) false
+
+-- after tries of the first n imports, each once, in order
+abbrev pub after : State → ℕ → State
+after s zero = s
+after s (suc n) = try_at (after s n) n
+
+-- whether a push of those tries answers true
+abbrev pub any_brings : State → ℕ → Bool
+any_brings s zero = false
+any_brings s (suc n) = any_brings s n || brings_at (after s n) n
+
+-- how many of those imports are due at their turn
+abbrev pub due_turns : State → ℕ → ℕ
+due_turns s zero = 0
+due_turns s (suc n) = due_turns s n + (if is_due (after s n) n then 1 else 0)
+
+-- A round: a try of each import in order, due or not; and whether a push of it answers true.
+abbrev pub round : State → State
+round s = after s (length s.pending)
+
+abbrev pub round_answer : State → Bool
+round_answer s = any_brings s (length s.pending)
+
+-- any number of rounds, one after another
+abbrev pub rounds : ℕ → State → State
+rounds zero s = s
+rounds (suc n) s = round (rounds n s)
+
+-- What want of memory at the try of the import at place i leaves: the tries before it stand, and the import is due.
+abbrev pub refused_at : State → ℕ → State
+refused_at s i = record s { pending = marked_at s.pending i true }

@@ -1,0 +1,57 @@
+-- Worked rows: which imports are due after a push.
+use Rattle.std.specs.Prelude.{◌≡◌, Bool, true, false, [], ◌∷◌, refl}
+use Rattle.dm_base.specs.declared.mod_path.PathKind.TheVariants.{Plain, Crate}
+use Rattle.dm_base.specs.declared.visibility.Visibility.TheVariants.{Public}
+use Rattle.dm_base.specs.Names.{Name}
+use Rattle.dm_retry.specs.Known.{has_double}
+use Rattle.dm_retry.specs.Rounds.{Pending, marked_after}
+
+abbrev x : Name
+x = 120 ∷ []
+
+abbrev y : Name
+y = 121 ∷ []
+
+abbrev a : Name
+a = 97 ∷ []
+
+-- `use Y as X;`, of place 0
+abbrev needs : Bool → Pending
+needs due = record {
+  origin = record { 0 = 0 };
+  name = x;
+  path = record { kind = Plain; segments = y ∷ [] };
+  visibility = Public;
+  import = record { use_ = record { 0 = 0 }; idx = record { 0 = 0 } };
+  due = due;
+}
+
+-- `use crate::a::X as Y;`, of place 1
+abbrev brings : Bool → Pending
+brings due = record {
+  origin = record { 0 = 0 };
+  name = y;
+  path = record { kind = Crate; segments = a ∷ x ∷ [] };
+  visibility = Public;
+  import = record { use_ = record { 0 = 0 }; idx = record { 0 = 1 } };
+  due = due;
+}
+
+-- a push of the second that answers true makes the first due, and the second is due no more
+second_wakes_first : marked_after (needs false ∷ brings true ∷ []) 1 true ≡ needs true ∷ brings false ∷ []
+second_wakes_first = refl
+
+-- one that answers false makes none due
+idle_wakes_none : marked_after (needs false ∷ brings true ∷ []) 1 false ≡ needs false ∷ brings false ∷ []
+idle_wakes_none = refl
+
+-- the name that the first pushes is a segment of the second's path
+first_wakes_second : marked_after (needs true ∷ brings false ∷ []) 0 true ≡ needs false ∷ brings true ∷ []
+first_wakes_second = refl
+
+-- the same import twice, and two imports of one use
+twice : has_double (needs true ∷ brings true ∷ needs false ∷ []) ≡ true
+twice = refl
+
+once : has_double (needs true ∷ brings true ∷ []) ≡ false
+once = refl

@@ -1,0 +1,107 @@
+//! One try of an import: what it brings, and its push.
+ghost use Rattle.std.specs.Prelude.{◌≡◌, false, IfOk, IfSome, IsTrue, OnErr, OnOk};
+ghost use Rattle.dm_held.specs.declared.held.HeldId.TheVariants as held;
+ghost use Rattle.dm_held.specs.Holding.{local_holds, res_holds};
+ghost use Rattle.dm_held.specs.Pushes.{push_holds};
+ghost use Rattle.dm_maps.specs.Cut.{among};
+ghost use Rattle.dm_maps.specs.Known.{knows, KnowsAll};
+ghost use Rattle.dm_retry.specs.Known.{parts, same_import};
+ghost use Rattle.dm_retry.specs.Rounds as rounds;
+ghost use Rattle.dm_retry.specs.Rounds.{brings, brought, by_import, found, globs_with, local_of, meaning, world_after};
+
+use crate::pending::Pending;
+use dm_base::ids::ModuleId;
+use dm_base::imports::ImportOrExternCrate;
+use dm_base::item_in_ns::ItemModules;
+use dm_base::per_ns::PerNs;
+use dm_maps::local_def_map::LocalDefMap;
+use dm_maps::modes::BuiltinShadowMode;
+use dm_maps::world::World;
+use dm_maps::world::maps_of::local_def_map;
+use dm_scope::glob_imports::PerNsGlobImports;
+use hir_def_map::laws::answers_alike;
+use hir_def_map::path_resolution::ResolvePath;
+use hir_def_map::result::{ResolveMode, ResolvePathResult};
+use std::alloc::{AllocError, Global};
+
+/// The extern prelude of a module's crate.
+fn local_of(world: &World, m: ModuleId) -> &LocalDefMap
+    requires { IsTrue (knows world.now (held.Module m)) }
+    ensures value { result.now ≡ local_of world.now m }
+    ensures known { KnowsAll world.now (local_holds result.now) }
+{
+    let krate = world.module_krate(m).unwrap();
+    local_def_map(world, krate)
+}
+
+/// What the path of an import means, as the world stands.
+fn meaning(world: &World, pending: &Pending) -> ResolvePathResult
+    requires known { KnowsAll world.now (parts pending.now) }
+    ensures value { result ≡ meaning world.now pending.now }
+    ensures known { KnowsAll world.now (res_holds result.resolved_def) }
+{
+    let m = pending.origin();
+    let map = world.map_of(m).unwrap();
+    let local = local_of(world, m);
+    let mode = ResolveMode::Import;
+    let shadow = BuiltinShadowMode::Module;
+    map.resolve_path_fp_with_macro(local, world, mode, m, pending.path(), shadow, None)
+}
+
+/// What an answer has for an import.
+fn brought(answer: &ResolvePathResult) -> Option<PerNs>
+    ensures { result ≡ brought answer.now }
+{
+    if answer.segment_index.is_none() && !answer.resolved_def.is_none() {
+        Some(answer.resolved_def)
+    } else {
+        None
+    }
+}
+
+/// What an import brings, as the world stands.
+fn found(world: &World, pending: &Pending) -> Option<PerNs>
+    requires known { KnowsAll world.now (parts pending.now) }
+    ensures value { result ≡ found world.now pending.now }
+    ensures known { IfSome result (λ x. KnowsAll world.now (push_holds pending.now.origin x (by_import pending.now))) }
+{
+    let answer = meaning(world, pending);
+    match brought(&answer) {
+        None => None,
+        Some(items) => Some(items.with_visibility(pending.visibility())),
+    }
+}
+
+/// Tries an import: pushes what it brings, if it brings anything. Answers whether the push answered true. Where memory is
+/// short, nothing changes.
+pub(crate) fn attempt(
+    world: &mut World,
+    globs: &mut PerNsGlobImports,
+    pending: &Pending,
+    alloc: Global,
+) -> Result<bool, AllocError>
+    requires known { KnowsAll world.old (parts pending.now) }
+    ensures answer { IfOk result (λ answer. answer ≡ brings world.old globs.old pending.now) }
+    ensures world { OnOk result (world.new ≡ world_after world.old globs.old pending.now (found world.old pending.now)) }
+    ensures globs { OnOk result (globs.new ≡ globs_with world.old globs.old pending.now (found world.old pending.now)) }
+    ensures err { OnErr result (world.new ≡ world.old) }
+    ensures err_globs { OnErr result (globs.new ≡ globs.old) }
+
+    // What was known is known.
+    ensures known { (q : rounds.Pending) → KnowsAll world.old (parts q) → KnowsAll world.new (parts q) }
+
+    // An import that would write nothing, and has no segment of the pushed name, would still write nothing.
+    ensures others { OnOk result ((q : rounds.Pending) → same_import q.import pending.now.import ≡ false → among q.path.segments pending.now.name ≡ false → brings world.old globs.old q ≡ false → brings world.new globs.new q ≡ false) }
+
+    // Nor would this one again, if the name is none of its own segments.
+    ensures own { OnOk result (among pending.now.path.segments pending.now.name ≡ false → brings world.new globs.new pending.now ≡ false) }
+{
+    answers_alike();
+    let Some(items) = found(world, pending) else {
+        return Ok(false);
+    };
+    let name = pending.name().copy(alloc)?;
+    let import = ImportOrExternCrate::Import(pending.import());
+    let answer = world.push_res(globs, (pending.origin(), name), items, Some(import))?;
+    Ok(answer)
+}

@@ -1,0 +1,166 @@
+//! Imports that wait.
+ghost use Rattle.std.specs.Prelude.{◌≡◌, ◌↔◌, false, true, map, IsTrue};
+ghost use Rattle.std.specs.List.{list_all, list_any};
+ghost use Rattle.dm_held.specs.Holding.{vis_holds};
+ghost use Rattle.dm_maps.specs.Known.{KnowsAll};
+ghost use Rattle.dm_retry.specs.Known.{has_double, is_known, parts, same_import};
+ghost use Rattle.dm_retry.specs.Rounds.{marked};
+
+use dm_base::ids::ModuleId;
+use dm_base::imports::{ImportId, ImportOrExternCrate};
+use dm_base::item_ids::ModuleDefId;
+use dm_base::mod_path::ModPath;
+use dm_base::name::Name;
+use dm_base::per_ns::PerNs;
+use dm_base::visibility::Visibility;
+use dm_maps::world::World;
+use std::marker::Model;
+
+/// An import that waits, and whether it is due.
+#[derive(Drop)]
+pub struct Pending {
+    origin: ModuleId,
+    name: Name,
+    path: ModPath,
+    visibility: Visibility,
+    import: ImportId,
+    due: bool,
+}
+
+impl Model for Pending {
+    ghost use Rattle.dm_retry.specs.Rounds.{Pending};
+
+    ghost Value = { Pending };
+
+    ghost view = { λ p. record { origin = p.origin; name = p.name; path = p.path; visibility = p.visibility; import = p.import; due = p.due } };
+}
+
+impl Pending {
+    /// The import of a name into a module, by a path, seen by `visibility`. It is due once it waits in a `Retry`.
+    pub fn new(
+        origin: ModuleId,
+        name: Name,
+        path: ModPath,
+        visibility: Visibility,
+        import: ImportId,
+    ) -> Pending
+        ensures { result ≡ record { origin = origin; name = name; path = path; visibility = visibility; import = import; due = false } }
+    {
+        Pending {
+            origin,
+            name,
+            path,
+            visibility,
+            import,
+            due: false,
+        }
+    }
+
+    /// The module that the import stands in.
+    pub(crate) fn origin(&self) -> ModuleId
+        ensures { result ≡ self.now.origin }
+    {
+        self.origin
+    }
+
+    /// The name that it binds.
+    pub(crate) fn name(&self) -> &Name
+        ensures { result.now ≡ self.now.name }
+    {
+        &self.name
+    }
+
+    /// Its path.
+    pub(crate) fn path(&self) -> &ModPath
+        ensures { result.now ≡ self.now.path }
+    {
+        &self.path
+    }
+
+    /// Who sees what it binds.
+    pub(crate) fn visibility(&self) -> Visibility
+        ensures { result ≡ self.now.visibility }
+    {
+        self.visibility
+    }
+
+    /// The import itself.
+    pub(crate) fn import(&self) -> ImportId
+        ensures { result ≡ self.now.import }
+    {
+        self.import
+    }
+
+    /// Whether it is due.
+    pub(crate) fn is_due(&self) -> bool
+        ensures { result ≡ self.now.due }
+    {
+        self.due
+    }
+
+    /// Says whether it is due.
+    pub(crate) fn mark(&mut self, due: bool)
+        ensures { self.new ≡ marked due self.old }
+    {
+        self.due = due;
+    }
+
+    /// Whether its module, its use, the `$crate` of its path and what its visibility names are the world's.
+    pub(crate) fn is_known(&self, world: &World) -> bool
+        ensures { result ≡ is_known world.now self.now }
+    {
+        let import = ImportOrExternCrate::Import(self.import);
+        let placed = world.knows_res(self.origin, &PerNs::none(), Some(import));
+        let begun = world.knows_path(&self.path);
+        let seen = knows_visibility(world, self.visibility);
+        placed && begun && seen
+    }
+}
+
+/// Whether what a visibility names is the world's.
+fn knows_visibility(world: &World, visibility: Visibility) -> bool
+    ensures { IsTrue result ↔ KnowsAll world.now (vis_holds visibility) }
+{
+    match visibility {
+        Visibility::Module(m, _) => world.knows_def(ModuleDefId::ModuleId(m)),
+        Visibility::PubCrate(krate) => world.has_crate(krate),
+        Visibility::Public => true,
+    }
+}
+
+/// Whether an import stands twice. Takes no memory.
+pub(crate) fn has_double(pendings: &[Pending]) -> bool
+    ensures { result ≡ has_double pendings.now }
+{
+    let mut rest = pendings;
+    'imports: while let Some((first, after)) = rest.split_first() {
+        if has_import(after, first.import()) {
+            return true;
+        }
+        rest = after;
+    }
+    false
+}
+
+/// Whether one of these is that import.
+fn has_import(pendings: &[Pending], import: ImportId) -> bool
+    ensures { result ≡ list_any (λ q. same_import import q.import) pendings.now }
+{
+    pendings.iter().any(|q| import == q.import())
+}
+
+/// Whether all that these imports hold is the world's.
+pub(crate) fn are_known(world: &World, pendings: &[Pending]) -> bool
+    ensures { result ≡ list_all (is_known world.now) pendings.now }
+{
+    pendings.iter().all(|p| p.is_known(world))
+}
+
+/// All of these are due.
+pub(crate) fn mark_each(pendings: &mut [Pending])
+    ensures { pendings.new ≡ map (marked true) pendings.old }
+{
+    for pending in pendings.iter_mut() {
+        pending.mark(true);
+    }
+}

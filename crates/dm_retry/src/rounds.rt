@@ -1,0 +1,45 @@
+//! The rounds.
+ghost use Rattle.std.specs.Prelude.{◌≡◌, IfOk, OnErr, OnOk, length};
+ghost use Rattle.dm_retry.specs.Retries.{StopsAt, StopsAtDue};
+ghost use Rattle.dm_retry.specs.Rounds.{due_turns, round, round_answer};
+
+use crate::imports::Imports;
+use std::alloc::AllocError;
+
+/// Tries each import, and counts the tries.
+pub(crate) fn try_all(imports: &mut Imports, tries: &mut usize) -> Result<bool, AllocError>
+    ensures state { OnOk result (imports.new ≡ round imports.old) }
+    ensures answer { IfOk result (λ answer. answer ≡ round_answer imports.old) }
+    ensures tries { OnOk result (tries.new ≡ length imports.old.pending) }
+    ensures err { OnErr result (StopsAt imports.old (record { state = imports.new; last_tries = tries.new })) }
+{
+    *tries = 0;
+    let mut written = false;
+    for i in 0..imports.len() {
+        *tries += 1;
+        let answer = imports.try_at(i)?;
+        written = written || answer;
+    }
+    Ok(written)
+}
+
+/// Tries each import that is due at its turn, and counts the tries.
+pub(crate) fn try_due(imports: &mut Imports, tries: &mut usize) -> Result<bool, AllocError>
+    ensures state { OnOk result (imports.new ≡ round imports.old) }
+    ensures answer { IfOk result (λ answer. answer ≡ round_answer imports.old) }
+    ensures tries { OnOk result (tries.new ≡ due_turns imports.old (length imports.old.pending)) }
+    ensures err { OnErr result (StopsAtDue imports.old (record { state = imports.new; last_tries = tries.new })) }
+{
+    *tries = 0;
+    let mut written = false;
+    for i in 0..imports.len() {
+        if imports.is_due(i) {
+            *tries += 1;
+            let answer = imports.try_at(i)?;
+            written = written || answer;
+        } else {
+            imports.rests(i);
+        }
+    }
+    Ok(written)
+}
