@@ -1,5 +1,5 @@
 //! Imports that wait in a world.
-ghost use Rattle.std.specs.Prelude.{◌≡◌, IfErr, IfOk, None, OnErr, OnOk, Some, length, map, slice_get, true};
+ghost use Rattle.std.specs.Prelude.{◌≡◌, false, IfErr, IfOk, None, OnErr, OnOk, Some, length, map, slice_get, true};
 ghost use Rattle.std.specs.Option.{option_map};
 ghost use Rattle.dm_retry.specs.Known.{fault_of};
 ghost use Rattle.dm_retry.specs.Retries.{StopsAt, StopsAtDue};
@@ -85,6 +85,7 @@ impl Retry {
         ensures state { OnOk result (self.new.state ≡ round self.old.state) }
         ensures answer { IfOk result (λ answer. answer ≡ round_answer self.old.state) }
         ensures tries { OnOk result (self.new.last_tries ≡ due_turns self.old.state (length self.old.state.pending)) }
+        ensures idle { IfOk result (λ answer. self.new.last_tries ≡ 0 → answer ≡ false) }
         ensures err { OnErr result (StopsAtDue self.old.state self.new) }
     {
         let answer = try_due(&mut self.imports, &mut self.last_tries)?;

@@ -1,5 +1,5 @@
 //! The rounds.
-ghost use Rattle.std.specs.Prelude.{◌≡◌, IfOk, OnErr, OnOk, length};
+ghost use Rattle.std.specs.Prelude.{◌≡◌, false, IfOk, OnErr, OnOk, length};
 ghost use Rattle.dm_retry.specs.Retries.{StopsAt, StopsAtDue};
 ghost use Rattle.dm_retry.specs.Rounds.{due_turns, round, round_answer};
 
@@ -28,6 +28,7 @@ pub(crate) fn try_due(imports: &mut Imports, tries: &mut usize) -> Result<bool, 
     ensures state { OnOk result (imports.new ≡ round imports.old) }
     ensures answer { IfOk result (λ answer. answer ≡ round_answer imports.old) }
     ensures tries { OnOk result (tries.new ≡ due_turns imports.old (length imports.old.pending)) }
+    ensures idle { IfOk result (λ answer. tries.new ≡ 0 → answer ≡ false) }
     ensures err { OnErr result (StopsAtDue imports.old (record { state = imports.new; last_tries = tries.new })) }
 {
     *tries = 0;
