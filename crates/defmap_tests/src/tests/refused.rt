@@ -69,25 +69,22 @@ fn answered(alloc: Global, world: &World, line: &str) -> Result<Option<String>, 
     Ok(Some(answer_text(alloc, &answer)?))
 }
 
-/// The first question that is answered otherwise than in the transcript.
+/// The first answer of the transcript that is not given.
 fn first_unlike(alloc: Global, world: &World) -> Result<Option<&'static str>, AllocError> {
-    let mut question = "";
+    let mut given = None;
     for line in ANSWERS.lines() {
         match line.strip_prefix("=> ") {
-            None => question = line,
-            Some(wanted) => {
-                let text = again!(answered(alloc, world, question))?;
-                match text {
-                    Some(text) if text.as_str() == wanted => {}
-                    _ => return Ok(Some(question)),
-                }
-            }
+            None => given = again!(answered(alloc, world, line))?,
+            Some(wanted) => match &given {
+                Some(text) if text.as_str() == wanted => {}
+                _ => return Ok(Some(wanted)),
+            },
         }
     }
     Ok(None)
 }
 
-/// The first question that a world built by calls answers otherwise.
+/// The first answer that a world built by calls does not give.
 fn first_fault(alloc: Global) -> Result<Option<&'static str>, BuildFault> {
     match Building::full(alloc)?.world() {
         None => Ok(Some("check")),
