@@ -1,4 +1,5 @@
-//! What changes the bindings of a namespace beside pushes. Nothing here takes memory.
+//! What changes the bindings of a namespace beside pushes. Nothing here needs memory: `shrink_to_fit` may ask for some, and goes on
+//! without it.
 ghost use Rattle.std.specs.Prelude.{◌≡◌};
 ghost use Rattle.dm_base.specs.Names.{find_name};
 ghost use Rattle.dm_scope.specs.Changes.{is_of, without_binding, with_vis, with_def, change_all, censored, censored_macro, is_own_proc_macro};

@@ -1,4 +1,4 @@
-//! What changes a scope in place. Nothing here takes memory.
+//! What changes a scope in place. Nothing here needs memory: `shrink_to_fit` may ask for some, and goes on without it.
 ghost use Rattle.std.specs.Prelude.{◌≡◌, IsSome, map};
 ghost use Rattle.dm_base.specs.Names.{find_name};
 ghost use Rattle.dm_scope.specs.Changes.{without_binding, with_vis, with_def, change_all, censored, censored_macro, censored_trait};
@@ -82,7 +82,7 @@ impl ItemScope {
         self.macros.update_def(name, def, vis);
     }
 
-    /// Gives back memory that is not needed. The contents stay.
+    /// Gives back memory that is not needed, where a smaller place can be had. The contents stay.
     pub fn shrink_to_fit(&mut self)
         ensures { self.new ≡ self.old }
     {
