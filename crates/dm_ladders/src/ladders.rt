@@ -1,5 +1,5 @@
 //! A table of ladders: for each module its depth, and the members of its chain that lie a power of two behind it.
-ghost use Rattle.std.specs.Prelude.{◌≡◌, ◌<◌, ◌-◌, ◌++◌, ◌∷◌, [], Some, IfSome, OnOk, OnErr, length, take, count_ones};
+ghost use Rattle.std.specs.Prelude.{◌≡◌, ◌<◌, ◌≤◌, ◌-◌, ◌++◌, ◌∷◌, [], Some, IfSome, OnOk, OnErr, length, take, count_ones};
 ghost use Rattle.dm_base.specs.Tree.{chain, is_among};
 ghost use Rattle.dm_ladders.specs.Ancestry.{moves};
 ghost use Rattle.dm_ladders.specs.Ladders.{AreLadders, IsLadder, above, climb, depth_at, entry_at, tree_above, tree_of};
@@ -69,6 +69,7 @@ impl Ladders {
         requires module { m.0 < length self.now }
         ensures answer { result.0 ≡ is_among a (chain (tree_above self.now) m) }
         ensures moves { result.1 ≡ moves (tree_above self.now) a m }
+        ensures few { result.1 ≤ 32 }
     {
         let outer = depth_at(&self.ladders, a.0);
         let inner = depth_at(&self.ladders, m.0);
@@ -86,6 +87,7 @@ fn moved(ladders: &[Ladder], m: u32, deeper: u32) -> (u32, u32)
     requires known { m < length ladders.now }
     ensures at { result.0 ≡ (climb (tree_of ladders.now) deeper (record { 0 = m })).0 }
     ensures moves { result.1 ≡ count_ones deeper }
+    ensures few { result.1 ≤ 32 }
 {
     let mut at = m;
     let mut rest = deeper;

@@ -1,5 +1,5 @@
 //! Which modules contain which, by their ladders.
-ghost use Rattle.std.specs.Prelude.{◌≡◌, ◌<◌, length};
+ghost use Rattle.std.specs.Prelude.{◌≡◌, ◌<◌, ◌≤◌, length};
 ghost use Rattle.dm_base.specs.Tree.{chain, is_among};
 ghost use Rattle.dm_ladders.specs.Ancestry.{moves};
 ghost use Rattle.dm_maps.specs.Trees.{tree_of};
@@ -14,6 +14,7 @@ impl WorldBuilder {
         requires known { m.0 < length self.now.places }
         ensures answer { result.0 ≡ is_among a (chain (tree_of self.now) m) }
         ensures moves { result.1 ≡ moves (tree_of self.now) a m }
+        ensures few { result.1 ≤ 32 }
     {
         self.ladders.contains_counted(a, m)
     }

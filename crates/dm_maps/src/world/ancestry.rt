@@ -1,5 +1,5 @@
 //! How few moves tell whether one module of a world contains another.
-ghost use Rattle.std.specs.Prelude.{◌≡◌};
+ghost use Rattle.std.specs.Prelude.{◌≡◌, ◌≤◌};
 ghost use Rattle.dm_base.specs.Tree.{IsKnown, chain, is_among};
 ghost use Rattle.dm_ladders.specs.Ancestry.{moves};
 ghost use Rattle.dm_maps.specs.Trees.{tree_of};
@@ -19,6 +19,7 @@ impl World {
         requires known { IsKnown (tree_of self.now) m }
         ensures answer { result.0 ≡ is_among a (chain (tree_of self.now) m) }
         ensures moves { result.1 ≡ moves (tree_of self.now) a m }
+        ensures few { result.1 ≤ 32 }
     {
         self.tables.contains_counted(a, m)
     }
