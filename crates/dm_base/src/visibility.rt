@@ -58,6 +58,9 @@ impl Visibility {
         requires known { IsKnown (T.tree tree.now) from }
         ensures { result ≡ sees (T.tree tree.now) self from }
     {
+        if self.is_public() {
+            return true;
+        }
         let map = MapId {
             krate: tree.krate(from),
             block: tree.block(from),
