@@ -9,7 +9,7 @@ use Rattle.dm_ids.specs.declared.ModuleId.{ModuleId}
 use Rattle.dm_base.specs.Names.{Name, same_name}
 use Rattle.dm_base.specs.Tree.{same_module}
 use Rattle.dm_scope.proofs.EntryLemmas.{take-last}
-use Rattle.dm_scope.specs.Flags.{Flags, flags_of, has_flag, change_names, add_flag, all_but_last, without_flag, added}
+use Rattle.dm_scope.specs.Flags.{Flags, flags_of, has_flag, change_names, without_name, clear_flag, add_flag, all_but_last, without_flag, added}
 
 -- without the first key that passes, where no other passes
 pub remove_key-all : {K : Type 0} (t : K → Bool) (ks : List K) → list_any t (remove_key t ks) ≡ false → remove_key t ks ≡ filter (λ k. not (t k)) ks
@@ -29,6 +29,26 @@ remove_key-all {K} t (k ∷ ks) h = by (t k) refl h (remove_key-all t ks)
         → cond b ks (k ∷ remove_key t ks) ≡ cond (not b) (k ∷ filter (λ k. not (t k)) ks) (filter (λ k. not (t k)) ks)
     by true e h rest = none ks h
     by false e h rest = ap (λ l. k ∷ l) (rest (sym (ap (λ b. b || list_any t (remove_key t ks)) e) ∙ h))
+
+-- without a name that is not there
+without_name-absent : (name : Name) (ns : List Name) → list_any (same_name name) ns ≡ false → without_name name ns ≡ ns
+without_name-absent name [] h = refl
+without_name-absent name (n ∷ ns) h = by (same_name name n) h (without_name-absent name ns)
+  where
+    by : (b : Bool) → (b || list_any (same_name name) ns) ≡ false → (list_any (same_name name) ns ≡ false → without_name name ns ≡ ns)
+        → cond (not b) (n ∷ without_name name ns) (without_name name ns) ≡ n ∷ ns
+    by true h rest = absurd (true≢false h)
+    by false h rest = ap (λ l. n ∷ l) (rest h)
+
+-- clearing a flag that does not stand
+pub clear_flag-unset : (fs : Flags) (m : ModuleId) (name : Name) → has_flag fs m name ≡ false → clear_flag fs m name ≡ fs
+clear_flag-unset [] m name h = refl
+clear_flag-unset (e ∷ es) m name h = by (same_module m e.0) h (clear_flag-unset es m name)
+  where
+    by : (b : Bool) → cond b (list_any (same_name name) e.1) (has_flag es m name) ≡ false → (has_flag es m name ≡ false → clear_flag es m name ≡ es)
+        → cond b ((e.0, without_name name e.1) ∷ es) (e ∷ clear_flag es m name) ≡ e ∷ es
+    by true h rest = ap (λ ns. (e.0, ns) ∷ es) (without_name-absent name e.1 h)
+    by false h rest = ap (λ l. e ∷ l) (rest h)
 
 -- two changes of a module's names
 change_names-twice : (m : ModuleId) (g f : List Name → List Name) (fs : Flags) → change_names g (change_names f fs m) m ≡ change_names (λ ns. g (f ns)) fs m

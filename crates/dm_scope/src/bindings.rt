@@ -1,5 +1,5 @@
 //! The bindings of one namespace.
-ghost use Rattle.std.specs.Prelude.{◌≡◌, map, List, [], ◌∷◌, ◌++◌, length, true, false, Some, OnErr, OnOk, IfOk, IfSome};
+ghost use Rattle.std.specs.Prelude.{◌≡◌, IsTrue, map, List, [], ◌∷◌, ◌++◌, length, true, false, None, Some, OnErr, OnOk, IfOk, IfSome};
 ghost use Rattle.std.specs.Option.{option_copied, option_and_then};
 ghost use Rattle.std.specs.Iterator.{at_most, UpTo};
 ghost use Rattle.std.specs.Iterator.SizeHint.{IsWithinCount};
@@ -13,7 +13,7 @@ ghost use Rattle.dm_base.specs.Tree.{same_module};
 ghost use Rattle.dm_scope.specs.Pushes.{PushAnswersIn, PushShowsIn, one_push, Push, ShowsIn, IsByName, is_effective};
 ghost use Rattle.dm_scope.specs.Entries.{is_new};
 ghost use Rattle.dm_scope.specs.Flags.{has_flag, without_flag};
-ghost use Rattle.dm_scope.specs.Bindings.{import_of, is_glob_by, writes, stored, recorded, bound_after, flags_after, is_effective_at};
+ghost use Rattle.dm_scope.specs.Bindings.{import_of, is_glob_by, writes, stored, recorded, with_record, bound, bound_after, flags_after, is_effective_at};
 ghost use Rattle.dm_scope.specs.PushSteps.{with_keys, without_keys, is_new_record, written, is_new_import, add_import, set_import, finished, flags_done};
 
 mod changes;
@@ -21,7 +21,7 @@ mod names;
 
 use crate::glob_imports::GlobFlags;
 use crate::import_records::Records;
-use crate::keys::{add_key, add_name, take_off, write_at};
+use crate::keys::{add_key, add_name, add_vacant, take_off, write_at};
 use crate::reads::Reads;
 use crate::steps::{NewFlag, NewKeys};
 use dm_base::definition::Definition;
@@ -107,6 +107,10 @@ impl<D: Definition, I: ImportSource> Bindings<D, I> {
     pub fn get(&self, name: &Name) -> Option<&Item<D, I>>
         ensures { option_copied result ≡ find_name name.now self.now.items }
     {
+        // Many namespaces are empty, and there the name need not be hashed.
+        if self.items.is_empty() {
+            return None;
+        }
         self.items.get(name)
     }
 
@@ -152,9 +156,63 @@ impl<D: Definition, I: ImportSource> Bindings<D, I> {
         ensures elsewhere { (k : ModuleId) (n : Name) → same_module lookup.0 k ≡ false → has_flag flags.new k n ≡ has_flag flags.old k n }
     {
         let (m, name) = lookup;
+        let effective = self.push_named(flags, m, name, item, import)?;
+        Ok(effective)
+    }
+
+    /// The push. A vacant name goes into the table itself, where the import is no glob and no flag stands.
+    fn push_named(
+        &mut self,
+        flags: &mut GlobFlags,
+        m: ModuleId,
+        name: Name,
+        item: Item<D, I>,
+        import: Option<ImportOrExternCrate>,
+    ) -> Result<bool, AllocError>
+        ensures answer { IfOk result (λ effective. effective ≡ is_effective_at ⟦<D as Reads<I>>⟧.reading self.old flags.old m name (Some item) import) }
+        ensures bindings { OnOk result (self.new ≡ bound_after ⟦<D as Reads<I>>⟧.reading self.old flags.old m name (Some item) import) }
+        ensures flags { OnOk result (flags.new ≡ flags_after ⟦<D as Reads<I>>⟧.reading self.old flags.old m name (Some item) import) }
+        ensures err { OnErr result (self.new ≡ self.old) }
+        ensures err_flags { OnErr result (flags.new ≡ flags.old) }
+    {
+        let narrow = narrowed(import);
+        if self.is_first(flags, m, &name, narrow) {
+            self.bind_first(name, &item, narrow)?;
+            return Ok(true);
+        }
         let new = self.grow(flags, m, &name, Some(item), import)?;
         self.finish(flags, new, m, &name, Some(item), import);
         Ok(new.writes)
+    }
+
+    /// Whether a push binds a vacant name and leaves the flags as they are.
+    fn is_first(&self, flags: &GlobFlags, m: ModuleId, name: &Name, import: Option<I>) -> bool
+        ensures vacant { IsTrue result → find_name name.now self.now.items ≡ None }
+        ensures no_glob { IsTrue result → is_glob_by I.globs import ≡ false }
+        ensures unset { IsTrue result → has_flag flags.now m name.now ≡ false }
+    {
+        self.get(name).is_none() && !is_glob(import) && !flags.contains(m, name)
+    }
+
+    /// Binds a vacant name, which the table takes.
+    fn bind_first(
+        &mut self,
+        name: Name,
+        item: &Item<D, I>,
+        import: Option<I>,
+    ) -> Result<(), AllocError>
+        requires { find_name name self.old.items ≡ None }
+        ensures ok { OnOk result (self.new ≡ bound ⟦<D as Reads<I>>⟧.reading self.old name item.now import) }
+        ensures err { OnErr result (self.new ≡ self.old) }
+    {
+        add_vacant(&mut self.items, name, stored(item, import))?;
+        match put_record(&mut self.records, item, import) {
+            Ok(()) => Ok(()),
+            Err(refused) => {
+                take_off(&mut self.items, true);
+                Err(refused)
+            }
+        }
     }
 
     /// The items, in order of first binding.
@@ -366,6 +424,21 @@ fn add_record<I: ImportSource>(
         None => Ok(false),
         Some(i) => add_key(records, i, value),
     }
+}
+
+/// Records the import of a push, if there is one: a new one goes last.
+fn put_record<D: Definition, I: ImportSource>(
+    records: &mut IndexMap<I, ImportOrDef>,
+    item: &Item<D, I>,
+    import: Option<I>,
+) -> Result<(), AllocError>
+    ensures ok { OnOk result (records.new.entries ≡ with_record ⟦<D as Reads<I>>⟧.reading records.old.entries import (recorded ⟦<D as Reads<I>>⟧.reading item.now)) }
+    ensures err { OnErr result (records.new.entries ≡ records.old.entries) }
+{
+    if let Some(i) = import {
+        records.insert(i, recorded(item))?;
+    }
+    Ok(())
 }
 
 fn write_record<I: ImportSource>(

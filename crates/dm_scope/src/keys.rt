@@ -1,6 +1,7 @@
 //! New keys of a table, put last and taken off again.
-ghost use Rattle.std.specs.Prelude.{◌≡◌, OnErr, IfOk, OnOk};
-ghost use Rattle.std.specs.Map.{set_value};
+ghost use Rattle.std.specs.Prelude.{◌≡◌, None, true, OnErr, IfOk, OnOk};
+ghost use Rattle.std.specs.Map.{lookup, set_value};
+ghost use Rattle.indexmap.specs.IndexMap.{insert_entry};
 ghost use Rattle.dm_base.specs.Names.{same_name};
 ghost use Rattle.dm_scope.specs.Entries.{add_entry, is_new, without_new};
 
@@ -24,6 +25,21 @@ pub(crate) fn add_key<K: Eq + Hash + Drop, V: Drop>(
     }
     map.insert(key, value)?;
     Ok(true)
+}
+
+/// Puts a key last that is not there yet.
+pub(crate) fn add_vacant<K: Eq + Hash + Drop, V: Drop>(
+    map: &mut IndexMap<K, V>,
+    key: K,
+    value: V,
+) -> Result<(), AllocError>
+    requires { lookup (K.eq key) map.old.entries ≡ None }
+    ensures entries { OnOk result (map.new.entries ≡ insert_entry K.eq map.old.entries key value) }
+    ensures undo { OnOk result (without_new true map.new.entries ≡ map.old.entries) }
+    ensures err { OnErr result (map.new.entries ≡ map.old.entries) }
+{
+    map.insert(key, value)?;
+    Ok(())
 }
 
 /// Puts a copy of a name last, unless the name is there already, which takes no memory. Answers whether it is new.

@@ -10,6 +10,7 @@ use dm_base::ids::{MacroCallId, TraitId};
 use dm_base::item_ids::{MacroId, ModuleDefId};
 use dm_base::item_in_ns::ItemInNs;
 use dm_base::name::Name;
+use dm_base::per_ns::TypesItem;
 use dm_base::source::AstId;
 use dm_base::visibility::Visibility;
 
@@ -20,6 +21,13 @@ impl ItemScope {
     {
         let item = self.types.get(name)?;
         Some((item.def, item.vis))
+    }
+
+    /// What a name is bound to as a type, with the import that brought it. Takes no memory: one look-up.
+    pub fn type_item(&self, name: &Name) -> Option<&TypesItem>
+        ensures { option_copied result ≡ find_name name.now self.now.types.items }
+    {
+        self.types.get(name)
     }
 
     /// What a name is bound to as a macro. Takes no memory: one look-up.

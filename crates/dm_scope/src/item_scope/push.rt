@@ -49,8 +49,37 @@ impl ItemScope {
         ensures elsewhere { ShowsElsewhere glob_imports.old glob_imports.new lookup.0 }
     {
         let (m, name) = lookup;
-        let answer = self.push_from_types(glob_imports, m, &name, &def, import)?;
+        let answer = self.push_named(glob_imports, m, name, &def, import)?;
         Ok(answer)
+    }
+
+    /// The push. Where it has one item, the table of that namespace takes the name, and no step has to be taken back.
+    fn push_named(
+        &mut self,
+        globs: &mut PerNsGlobImports,
+        m: ModuleId,
+        name: Name,
+        def: &PerNs,
+        import: Option<ImportOrExternCrate>,
+    ) -> Result<bool, AllocError>
+        ensures answer { IfOk result (λ answer. answer ≡ push_answer self.old globs.old m name def.now import) }
+        ensures scope { OnOk result (self.new ≡ scope_after self.old globs.old m name def.now import) }
+        ensures globs { OnOk result (globs.new ≡ globs_after self.old globs.old m name def.now import) }
+        ensures err { OnErr result (self.new ≡ self.old) }
+        ensures err_globs { OnErr result (globs.new ≡ globs.old) }
+    {
+        match (def.types, def.values, def.macros) {
+            (Some(item), None, None) => {
+                self.types.push(&mut globs.types, (m, name), item, import)
+            }
+            (None, Some(item), None) => {
+                self.values.push(&mut globs.values, (m, name), item, import)
+            }
+            (None, None, Some(item)) => {
+                self.macros.push(&mut globs.macros, (m, name), item, import)
+            }
+            _ => self.push_from_types(globs, m, &name, def, import),
+        }
     }
 
     /// The push, in all namespaces: the first step, then all that is below, then the second step, or all taken back.
