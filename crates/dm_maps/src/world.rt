@@ -31,7 +31,7 @@ use crate::rules::Rules;
 use crate::world::record_counts::RecordCounts;
 use dm_base::ids::ModuleId;
 use dm_base::name::Name;
-use dm_base::per_ns::PerNs;
+use dm_base::per_ns::{PerNs, TypesItem};
 use dm_def_map::def_map::DefMap;
 use std::marker::Model;
 
@@ -128,5 +128,15 @@ impl World {
         ensures known { KnowsAll self.now (res_holds result) }
     {
         self.tables.bound_in(m, name)
+    }
+
+    /// What a module's scope binds under a name as a type; nothing where there is no such module. One look-up.
+    pub fn type_in(&self, m: ModuleId, name: &Name) -> Option<TypesItem>
+        ensures value { result ≡ (bound_in (scope_of self.now m) name.now).types }
+
+        // All that the scope binds under the name is the world's.
+        ensures known { KnowsAll self.now (res_holds (bound_in (scope_of self.now m) name.now)) }
+    {
+        self.tables.type_in(m, name).copied()
     }
 }

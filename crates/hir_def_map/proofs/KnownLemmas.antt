@@ -24,7 +24,7 @@ use Rattle.dm_modules.specs.Maps.{LocalMap}
 use Rattle.dm_maps.specs.Trees.{tree_of}
 use Rattle.dm_maps.specs.World.{World}
 use Rattle.hir_def_map.specs.declared.result.ResolvePathResult.{ResolvePathResult}
-use Rattle.hir_def_map.specs.Walk.{marked}
+use Rattle.hir_def_map.specs.Walk.{marked, looked_at}
 use Rattle.hir_def_map.specs.Paths.{by_crate}
 
 pub knows-left : (w : World) (hs ks : List HeldId) → KnowsAll w (hs ++ ks) → KnowsAll w hs
@@ -99,6 +99,11 @@ seen_by-known w p x k =
     knows-append w _ _
     (knows-append w _ _ (kept-known w type_holds (λ i. p i.vis) x.types (types-known w x k)) (kept-known w value_holds (λ i. p i.vis) x.values (values-known w x k)))
     (kept-known w macro_holds (λ i. p i.vis) x.macros (macros-known w x k))
+
+-- what a path looks at of known items is known
+pub looked_at-known : (w : World) (b : Bool) (x : PerNs) → KnowsAll w (res_holds x) → KnowsAll w (res_holds (looked_at b x))
+looked_at-known w true x k = k
+looked_at-known w false x k = knows-append w _ [] (knows-append w _ [] (types-known w x k) tt) tt
 
 -- items but for a macro that does not pass are known
 pub macros_kept-known : (w : World) (p : Item MacroId ImportOrExternCrate → Bool) (x : PerNs) → KnowsAll w (res_holds x) → KnowsAll w (res_holds (record x { macros = keep p x.macros }))

@@ -24,7 +24,7 @@ use Rattle.hir_def_map.specs.declared.result.ResolvePathResult.{ResolvePathResul
 use Rattle.hir_def_map.specs.declared.segments.Stand.{Stand}
 use Rattle.hir_def_map.specs.Answers.{from_other_crate}
 use Rattle.hir_def_map.specs.Paths.{Entering, is_empty, at_variant, stop, seen_in, root_item, enter, enter_within}
-use Rattle.hir_def_map.specs.Walk.{marked, move, move_at, walk}
+use Rattle.hir_def_map.specs.Walk.{marked, move, move_at, walk, looking, moves_looking}
 use Rattle.hir_def_map.proofs.StopLemmas.{stop-through, stop-here, own_crate, stop-enters}
 
 add_twice : (k p : ℕ) (o : Option ℕ) → option_map (λ i. i + p) (option_map (λ i. i + k) o) ≡ option_map (λ i. i + (k + p)) o
@@ -143,11 +143,24 @@ pub empty-map : {A B : Type 0} (f : A → B) (xs : List A) → is_empty (map f x
 empty-map f [] = refl
 empty-map f (x ∷ xs) = elim (eqb_tells (suc (length xs)) 0) [ inl h ↦ (let e : suc (length xs) ≡ 0 = h.1 in absurd (omega arith)) | inr h ↦ sym h.0 ]
 
+-- a walk that goes on looks at types alone
+walk-looking : (t : Tree) (a : Stand) (pos : ℕ) (S : List Reading) → walk t (looking (is_empty S) a) pos S ≡ walk t a pos S
+walk-looking t a pos [] = refl
+walk-looking t a pos (s ∷ S) = refl
+
+by_move-looking : (t : Tree) (a : Stand) (pos : ℕ) (S : List Reading) (mv : Move) → by_move t a pos S (moves_looking (is_empty S) mv) ≡ by_move t a pos S mv
+by_move-looking t a pos S (Go b) = walk-looking t b (pos + 1) S
+by_move-looking t a pos S (End r) = refl
+
 -- one step of a walk along names
 pub walk-names : (w : World) (L : LocalMap) (a : Stand) (pos : ℕ) (n : Name) (after rest : List Name) (b : Bool) (mv : Move)
-    → rest ≡ n ∷ after → b ≡ nat_eq (length after) 0 → mv ≡ move (tree_of w) a pos (read w L n) b
+    → rest ≡ n ∷ after → b ≡ nat_eq (length after) 0 → mv ≡ moves_looking b (move (tree_of w) a pos (read w L n) b)
     → walk (tree_of w) a pos (map (read w L) rest) ≡ by_move (tree_of w) a pos (map (read w L) after) mv
 walk-names w L a pos n after rest b mv e is m =
-    ap (λ ns. walk (tree_of w) a pos (map (read w L) ns)) e
-    ∙ ap (λ c. by_move (tree_of w) a pos (map (read w L) after) (move (tree_of w) a pos (read w L n) c)) (empty-map (read w L) after ∙ sym is)
-    ∙ ap (by_move (tree_of w) a pos (map (read w L) after)) (sym m)
+    let t = tree_of w in
+    let s = read w L n in
+    let S = map (read w L) after in
+    ap (λ ns. walk t a pos (map (read w L) ns)) e
+    ∙ sym (by_move-looking t a pos S (move t a pos s (is_empty S)))
+    ∙ ap (λ c. by_move t a pos S (moves_looking c (move t a pos s c))) (empty-map (read w L) after ∙ sym is)
+    ∙ ap (by_move t a pos S) (sym m)

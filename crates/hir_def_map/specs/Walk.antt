@@ -5,6 +5,7 @@ use Rattle.dm_base.specs.declared.imports.ImportOrExternCrate.{ImportOrExternCra
 use Rattle.dm_base.specs.declared.item_ids.ModuleDefId.{ModuleDefId}
 use Rattle.dm_base.specs.declared.item_ids.ModuleDefId.TheVariants as def
 use Rattle.dm_base.specs.declared.per_ns.Item.{Item}
+use Rattle.dm_base.specs.declared.per_ns.PerNs.{PerNs}
 use Rattle.dm_base.specs.Tree.{Tree, IsKnown, same_crate, crate_of, home}
 use Rattle.dm_maps.specs.Known.{KnowsAll}
 use Rattle.dm_held.specs.Holding.{res_holds}
@@ -39,6 +40,18 @@ move_at t a i pos s is_last _ = End (stopped i pos)
 
 abbrev pub move : Tree → Stand → ℕ → Reading → Bool → Move
 move t a pos s is_last = elim a.here.types [ None ↦ End nothing_no | Some i ↦ move_at t a i pos s is_last i.def ]
+
+-- what a path looks at of what it has reached: at its end all, before that the type alone
+abbrev pub looked_at : Bool → PerNs → PerNs
+looked_at true x = x
+looked_at false x = record { types = x.types; values = None; macros = None }
+
+abbrev pub looking : Bool → Stand → Stand
+looking is_last a = record { differing = a.differing; origin = a.origin; here = looked_at is_last a.here }
+
+abbrev pub moves_looking : Bool → Move → Move
+moves_looking is_last (Go a) = Go (looking is_last a)
+moves_looking is_last (End r) = End r
 
 -- one segment after another
 abbrev pub walk : Tree → Stand → ℕ → List Reading → ResolvePathResult

@@ -12,7 +12,7 @@ ghost use Rattle.dm_modules.specs.Maps.{LocalMap};
 ghost use Rattle.dm_maps.specs.Readings.{read};
 ghost use Rattle.dm_maps.specs.Trees.{tree_of};
 ghost use Rattle.hir_def_map.specs.Paths.{at_adt};
-ghost use Rattle.hir_def_map.specs.Walk.{through, move, walk, GoesKnown};
+ghost use Rattle.hir_def_map.specs.Walk.{through, move, walk, looked_at, looking, moves_looking, GoesKnown};
 
 use crate::answers::{marked, nothing_no, reached, stopped, variant_answer};
 use crate::result::ResolvePathResult;
@@ -72,18 +72,44 @@ pub(crate) fn seen_in(world: &World, from: ModuleId, m: ModuleId, segment: &Name
     }
 }
 
+/// What a module's scope binds as a type under a segment, kept if `from` sees it: one look-up.
+fn seen_type_in(world: &World, from: ModuleId, m: ModuleId, segment: &Name) -> PerNs
+    requires { IsKnown (tree_of world.now) from }
+    ensures value { result ≡ looked_at false (seen_by (λ v. sees (tree_of world.now) v from) (bound_in (scope_of world.now m) segment.now)) }
+    ensures known { KnowsAll world.now (res_holds result) }
+{
+    PerNs {
+        types: seen_item(world, from, world.type_in(m, segment)),
+        values: None,
+        macros: None,
+    }
+}
+
+/// As much of it as a path looks at.
+fn looked_at(world: &World, from: ModuleId, m: ModuleId, segment: &Name, is_last: bool) -> PerNs
+    requires { IsKnown (tree_of world.now) from }
+    ensures value { result ≡ looked_at is_last (seen_by (λ v. sees (tree_of world.now) v from) (bound_in (scope_of world.now m) segment.now)) }
+    ensures known { KnowsAll world.now (res_holds result) }
+{
+    if is_last {
+        seen_in(world, from, m, segment)
+    } else {
+        seen_type_in(world, from, m, segment)
+    }
+}
+
 /// Through a module and a segment. A module of another crate is entered at the nearest module that is no block's root.
 #[tactic(auto, unfolding(dm_maps::specs::Readings::read))]
-fn through(world: &World, at: Stand, m: ModuleId, segment: &Name) -> Stand
+fn through(world: &World, at: Stand, m: ModuleId, segment: &Name, is_last: bool) -> Stand
     requires origin { IsKnown (tree_of world.now) at.origin }
     requires module_known { IsKnown (tree_of world.now) m }
-    ensures value { (L : LocalMap) → result ≡ through (tree_of world.now) at m (read world.now L segment.now) }
+    ensures value { (L : LocalMap) → result ≡ looking is_last (through (tree_of world.now) at m (read world.now L segment.now)) }
     ensures origin { IsKnown (tree_of world.now) result.origin }
     ensures known { KnowsAll world.now (res_holds result.here) }
 {
     if world.krate(m) == world.krate(at.origin) {
         return Stand {
-            here: seen_in(world, at.origin, m, segment),
+            here: looked_at(world, at.origin, m, segment, is_last),
             ..at
         };
     }
@@ -91,7 +117,7 @@ fn through(world: &World, at: Stand, m: ModuleId, segment: &Name) -> Stand
     Stand {
         differing: true,
         origin: inside,
-        here: seen_in(world, inside, inside, segment),
+        here: looked_at(world, inside, inside, segment, is_last),
     }
 }
 
@@ -127,14 +153,14 @@ fn at_adt(
 fn move_on(world: &World, at: Stand, position: usize, segment: &Name, is_last: bool) -> Move
     requires origin { IsKnown (tree_of world.now) at.origin }
     requires known { KnowsAll world.now (res_holds at.here) }
-    ensures value { (L : LocalMap) → result ≡ move (tree_of world.now) at position (read world.now L segment.now) is_last }
+    ensures value { (L : LocalMap) → result ≡ moves_looking is_last (move (tree_of world.now) at position (read world.now L segment.now) is_last) }
     ensures goes { GoesKnown world.now result }
 {
     let Some(item) = at.here.types else {
         return Move::End(nothing_no());
     };
     match item.def {
-        ModuleDefId::ModuleId(m) => Move::Go(through(world, at, m, segment)),
+        ModuleDefId::ModuleId(m) => Move::Go(through(world, at, m, segment, is_last)),
         ModuleDefId::AdtId(adt) => Move::End(at_adt(world, item, position, segment, is_last, adt)),
         _ => Move::End(stopped(item, position)),
     }

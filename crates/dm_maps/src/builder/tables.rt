@@ -13,7 +13,7 @@ use crate::place::Place;
 use dm_base::fields_shape::FieldsShape;
 use dm_base::ids::{BlockId, Crate, EnumId, EnumVariantId, MapId, ModuleId};
 use dm_base::name::Name;
-use dm_base::per_ns::PerNs;
+use dm_base::per_ns::{PerNs, TypesItem};
 use dm_def_map::def_map::DefMap;
 use dm_modules::module_data::ModuleData;
 
@@ -118,6 +118,16 @@ impl WorldBuilder {
         match self.module_of(m) {
             None => PerNs::none(),
             Some(data) => data.scope().get(name),
+        }
+    }
+
+    /// What a module's scope binds under a name as a type; nothing where there is no such module.
+    pub(crate) fn type_in(&self, m: ModuleId, name: &Name) -> Option<&TypesItem>
+        ensures { option_copied result ≡ (bound_in (scope_of self.now m) name.now).types }
+    {
+        match self.module_of(m) {
+            None => None,
+            Some(data) => data.scope().type_item(name),
         }
     }
 
