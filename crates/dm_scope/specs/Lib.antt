@@ -15,6 +15,7 @@ pub mod MacroCalls
 pub mod Push
 pub mod PushSteps
 pub mod Pushes
+pub mod Rare
 pub mod Records
 pub mod Rows
 pub mod Scope

@@ -16,21 +16,14 @@ mod push;
 mod sorted;
 
 use crate::bindings::Bindings;
-use crate::derives::DeriveMacroInvocation;
 use crate::glob_imports::PerNsGlobImports;
-use dm_base::ids::{
-    BuiltinDeriveImplId, ConstId, ExternBlockId, ExternCrateId, ImplId, MacroCallId, ModuleId,
-    TraitId,
-};
-use dm_base::imports::{ImportId, ImportOrExternCrate, ImportOrGlob};
+use crate::rare::Rare;
+use dm_base::ids::ModuleId;
+use dm_base::imports::{ImportOrExternCrate, ImportOrGlob};
 use dm_base::item_ids::{MacroId, ModuleDefId};
 use dm_base::name::Name;
 use dm_base::per_ns::PerNs;
-use dm_base::source::AstId;
-use dm_base::visibility::Visibility;
-use indexmap::{IndexMap, IndexSet};
-use smallvec::SmallVec;
-use std::alloc::{AllocError, Global};
+use std::alloc::Global;
 use std::marker::Model;
 
 /// A scope, which contracts see as the record of its tables and lists.
@@ -38,18 +31,8 @@ pub struct ItemScope {
     types: Bindings<ModuleDefId, ImportOrExternCrate>,
     values: Bindings<ModuleDefId, ImportOrGlob>,
     macros: Bindings<MacroId, ImportOrExternCrate>,
-    unresolved: IndexSet<Name>,
     declarations: Vec<ModuleDefId>,
-    impls: Vec<(ImplId, bool)>,
-    builtin_derive_impls: Vec<BuiltinDeriveImplId>,
-    extern_blocks: Vec<ExternBlockId>,
-    extern_crate_decls: Vec<ExternCrateId>,
-    unnamed_consts: Vec<ConstId>,
-    unnamed_traits: Vec<(TraitId, Visibility, Option<ImportId>)>,
-    legacy_macros: IndexMap<Name, SmallVec<MacroId, 1>>,
-    attr_macros: IndexMap<AstId, MacroCallId>,
-    macro_invocations: IndexMap<AstId, MacroCallId>,
-    derive_macros: IndexMap<AstId, SmallVec<DeriveMacroInvocation, 1>>,
+    rare: Rare,
     alloc: Global,
 }
 
@@ -60,27 +43,15 @@ impl Drop for ItemScope {
             types: _types,
             values: _values,
             macros: _macros,
-            unresolved: _unresolved,
             declarations: _declarations,
-            impls: _impls,
-            builtin_derive_impls: _builtin_derive_impls,
-            extern_blocks: _extern_blocks,
-            extern_crate_decls: _extern_crate_decls,
-            unnamed_consts: _unnamed_consts,
-            unnamed_traits: _unnamed_traits,
-            legacy_macros: _legacy_macros,
-            attr_macros: _attr_macros,
-            macro_invocations: _macro_invocations,
-            derive_macros: _derive_macros,
+            rare: _rare,
             alloc: _alloc,
         } = self;
     }
 }
 
 impl Model for ItemScope {
-    ghost use Rattle.dm_scope.specs.Derives.{derives_of};
     ghost use Rattle.dm_scope.specs.Scope.{Scope};
-    ghost use Rattle.dm_scope.specs.TableLists.{lists_of};
 
     ghost Value = { Scope };
 
@@ -88,18 +59,18 @@ impl Model for ItemScope {
       types = s.types;
       values = s.values;
       macros = s.macros;
-      unresolved = s.unresolved.keys;
-      legacy_macros = lists_of s.legacy_macros.entries;
+      unresolved = s.rare.unresolved;
+      legacy_macros = s.rare.legacy_macros;
       declarations = s.declarations.items;
-      impls = s.impls.items;
-      builtin_derive_impls = s.builtin_derive_impls.items;
-      extern_blocks = s.extern_blocks.items;
-      extern_crate_decls = s.extern_crate_decls.items;
-      unnamed_consts = s.unnamed_consts.items;
-      unnamed_traits = s.unnamed_traits.items;
-      attr_macros = s.attr_macros.entries;
-      macro_invocations = s.macro_invocations.entries;
-      derive_macros = derives_of s.derive_macros.entries;
+      impls = s.rare.impls;
+      builtin_derive_impls = s.rare.builtin_derive_impls;
+      extern_blocks = s.rare.extern_blocks;
+      extern_crate_decls = s.rare.extern_crate_decls;
+      unnamed_consts = s.rare.unnamed_consts;
+      unnamed_traits = s.rare.unnamed_traits;
+      attr_macros = s.rare.attr_macros;
+      macro_invocations = s.rare.macro_invocations;
+      derive_macros = s.rare.derive_macros;
     } };
 }
 
@@ -115,18 +86,8 @@ impl ItemScope {
             types: Bindings::new(alloc),
             values: Bindings::new(alloc),
             macros: Bindings::new(alloc),
-            unresolved: IndexSet::new(alloc),
             declarations: Vec::new(alloc),
-            impls: Vec::new(alloc),
-            builtin_derive_impls: Vec::new(alloc),
-            extern_blocks: Vec::new(alloc),
-            extern_crate_decls: Vec::new(alloc),
-            unnamed_consts: Vec::new(alloc),
-            unnamed_traits: Vec::new(alloc),
-            legacy_macros: IndexMap::new(alloc),
-            attr_macros: IndexMap::new(alloc),
-            macro_invocations: IndexMap::new(alloc),
-            derive_macros: IndexMap::new(alloc),
+            rare: Rare::new(alloc),
             alloc,
         }
     }

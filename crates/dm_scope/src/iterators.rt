@@ -21,7 +21,7 @@ use dm_base::name::Name;
 use dm_base::per_ns::TypesItem;
 use dm_base::source::AstId;
 use dm_base::visibility::Visibility;
-use indexmap::{IndexMap, map};
+use indexmap::map::{self, Slice};
 use smallvec::SmallVec;
 use std::marker::Model;
 use std::slice;
@@ -150,8 +150,8 @@ impl<'a> Model for LegacyMacros<'a> {
 }
 
 impl<'a> LegacyMacros<'a> {
-    pub(crate) fn new(table: &'a IndexMap<Name, SmallVec<MacroId, 1>>) -> Self
-        ensures rest { result ≡ lists_of table.now.entries }
+    pub(crate) fn new(table: Slice<'a, Name, SmallVec<MacroId, 1>>) -> Self
+        ensures rest { result ≡ lists_of table.entry }
         ensures runs { ShowsInOrder deref_legacy }
     {
         LegacyMacros { rest: table.iter() }
@@ -188,8 +188,8 @@ impl<'a> Model for MacroInvocations<'a> {
 }
 
 impl<'a> MacroInvocations<'a> {
-    pub(crate) fn new(table: &'a IndexMap<AstId, MacroCallId>) -> Self
-        ensures rest { result ≡ table.now.entries }
+    pub(crate) fn new(table: Slice<'a, AstId, MacroCallId>) -> Self
+        ensures rest { result ≡ table.entry }
         ensures runs { ShowsInOrder (deref_pair {K = AstId} {X = MacroCallId}) }
     {
         MacroInvocations { rest: table.iter() }
@@ -226,8 +226,8 @@ impl<'a> Model for AttrMacroInvocations<'a> {
 }
 
 impl<'a> AttrMacroInvocations<'a> {
-    pub(crate) fn new(table: &'a IndexMap<AstId, MacroCallId>) -> Self
-        ensures rest { result ≡ table.now.entries }
+    pub(crate) fn new(table: Slice<'a, AstId, MacroCallId>) -> Self
+        ensures rest { result ≡ table.entry }
         ensures runs { ShowsInOrder (λ (x : AstId × MacroCallId). x) }
     {
         AttrMacroInvocations { rest: table.iter() }
@@ -264,8 +264,8 @@ impl<'a> Model for DeriveMacroInvocations<'a> {
 }
 
 impl<'a> DeriveMacroInvocations<'a> {
-    pub(crate) fn new(table: &'a IndexMap<AstId, SmallVec<DeriveMacroInvocation, 1>>) -> Self
-        ensures rest { result ≡ derives_of table.now.entries }
+    pub(crate) fn new(table: Slice<'a, AstId, SmallVec<DeriveMacroInvocation, 1>>) -> Self
+        ensures rest { result ≡ derives_of table.entry }
         ensures runs { ShowsInOrder deref_derives }
     {
         DeriveMacroInvocations { rest: table.iter() }

@@ -14,6 +14,7 @@ pub mod macro_calls;
 pub mod name_order;
 mod picked;
 mod picks;
+mod rare;
 pub mod reads;
 pub mod scope_tables;
 mod steps;

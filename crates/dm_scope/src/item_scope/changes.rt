@@ -5,8 +5,7 @@ ghost use Rattle.dm_scope.specs.Changes.{without_binding, with_vis, with_def, ch
 ghost use Rattle.dm_base.specs.Sameness.{same_def};
 
 use super::ItemScope;
-use dm_base::ids::{Crate, TraitId};
-use dm_base::imports::ImportId;
+use dm_base::ids::Crate;
 use dm_base::item_ids::{MacroId, ModuleDefId};
 use dm_base::name::Name;
 use dm_base::visibility::Visibility;
@@ -31,7 +30,7 @@ impl ItemScope {
         self.types.censor(krate);
         self.values.censor(krate);
         self.macros.censor_non_proc(krate);
-        censor_traits(&mut self.unnamed_traits, krate);
+        self.rare.censor_traits(krate);
     }
 
     /// Changes who sees a type. `type_` tells whether the name is bound.
@@ -89,26 +88,7 @@ impl ItemScope {
         self.types.shrink_to_fit();
         self.values.shrink_to_fit();
         self.macros.shrink_to_fit();
-        self.unresolved.shrink_to_fit();
         self.declarations.shrink_to_fit();
-        self.impls.shrink_to_fit();
-        self.builtin_derive_impls.shrink_to_fit();
-        self.extern_blocks.shrink_to_fit();
-        self.extern_crate_decls.shrink_to_fit();
-        self.unnamed_consts.shrink_to_fit();
-        self.unnamed_traits.shrink_to_fit();
-        self.legacy_macros.shrink_to_fit();
-        self.attr_macros.shrink_to_fit();
-        self.macro_invocations.shrink_to_fit();
-        self.derive_macros.shrink_to_fit();
-    }
-}
-
-/// Lets the crate alone see each unnamed trait.
-fn censor_traits(traits: &mut [(TraitId, Visibility, Option<ImportId>)], krate: Crate)
-    ensures { traits.new ≡ map (censored_trait krate) traits.old }
-{
-    for unnamed in traits.iter_mut() {
-        unnamed.1 = Visibility::PubCrate(krate);
+        self.rare.shrink_to_fit();
     }
 }

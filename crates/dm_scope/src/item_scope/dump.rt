@@ -32,7 +32,7 @@ impl ItemScope {
         let names = self.sorted_names()?;
         let legacy = self.sorted_legacy_names()?;
         let mut text = String::new(self.alloc);
-        write_unnamed(&mut text, tables, self.unnamed_traits.as_slice())?;
+        write_unnamed(&mut text, tables, self.rare.unnamed_traits())?;
         self.write_names(&mut text, tables, names.as_slice())?;
         self.write_legacy(&mut text, tables, legacy.as_slice())?;
         buf.push_str(text.as_str())?;
@@ -44,7 +44,7 @@ impl ItemScope {
         ensures { IfOk result (λ v. AreInOrder (seen v.items) (map (λ e. e.0) self.now.legacy_macros)) }
     {
         let mut names = Vec::new(self.alloc);
-        add_names(&mut names, self.legacy_macros.keys().as_slice())?;
+        add_names(&mut names, self.rare.legacy_macros().keys().as_slice())?;
         sort_names(&mut names);
         Ok(names)
     }

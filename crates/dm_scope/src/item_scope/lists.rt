@@ -54,7 +54,7 @@ impl ItemScope {
         ensures rest { result ≡ self.now.builtin_derive_impls }
         ensures runs { ShowsInOrder (λ (x : BuiltinDeriveImplId). x) }
     {
-        Listed::new(&self.builtin_derive_impls)
+        Listed::new(self.rare.builtin_derive_impls())
     }
 
     /// The `extern` blocks, in order of definition. Takes no memory.
@@ -62,7 +62,7 @@ impl ItemScope {
         ensures rest { result ≡ self.now.extern_blocks }
         ensures runs { ShowsInOrder (λ (x : ExternBlockId). x) }
     {
-        Listed::new(&self.extern_blocks)
+        Listed::new(self.rare.extern_blocks())
     }
 
     /// The `extern crate` items, in order of definition. Takes no memory.
@@ -70,7 +70,7 @@ impl ItemScope {
         ensures rest { result ≡ self.now.extern_crate_decls }
         ensures runs { ShowsInOrder (λ (x : ExternCrateId). x) }
     {
-        Listed::new(&self.extern_crate_decls)
+        Listed::new(self.rare.extern_crate_decls())
     }
 
     /// The constants without a name, in order of definition. Takes no memory.
@@ -78,7 +78,7 @@ impl ItemScope {
         ensures rest { result ≡ self.now.unnamed_consts }
         ensures runs { ShowsInOrder (λ (x : ConstId). x) }
     {
-        Listed::new(&self.unnamed_consts)
+        Listed::new(self.rare.unnamed_consts())
     }
 
     /// The traits that were imported without a name, in order of import. Takes no memory.
@@ -86,7 +86,7 @@ impl ItemScope {
         ensures rest { result ≡ self.now.unnamed_traits }
         ensures runs { ShowsInOrder (λ (x : TraitId × (Visibility × Option ImportId)). x) }
     {
-        Listed::new(&self.unnamed_traits)
+        Listed::new(self.rare.unnamed_traits())
     }
 
     /// The `use` items, of which a scope keeps none. Takes no memory.
@@ -102,7 +102,7 @@ impl ItemScope {
         ensures rest { result ≡ filter_map any_impl self.now.impls }
         ensures runs { ShowsInOrder (λ (x : ImplId). x) }
     {
-        Picked::new(&self.impls, AnyImpl)
+        Picked::new(self.rare.impls(), AnyImpl)
     }
 
     /// The `impl` blocks of traits, in order of definition. Takes no memory.
@@ -110,7 +110,7 @@ impl ItemScope {
         ensures rest { result ≡ filter_map trait_impl self.now.impls }
         ensures runs { ShowsInOrder (λ (x : ImplId). x) }
     {
-        Picked::new(&self.impls, TraitImpl)
+        Picked::new(self.rare.impls(), TraitImpl)
     }
 
     /// The `impl` blocks without a trait, in order of definition. Takes no memory.
@@ -118,7 +118,7 @@ impl ItemScope {
         ensures rest { result ≡ filter_map inherent_impl self.now.impls }
         ensures runs { ShowsInOrder (λ (x : ImplId). x) }
     {
-        Picked::new(&self.impls, InherentImpl)
+        Picked::new(self.rare.impls(), InherentImpl)
     }
 
     /// What is bound as a type, in order of first binding. Takes no memory.
@@ -158,7 +158,7 @@ impl ItemScope {
         ensures rest { result ≡ filter_map trait_of (map (λ e. e.1) self.now.types.items) ++ map (λ e. e.0) self.now.unnamed_traits }
         ensures runs { ShowsInOrder (λ (x : TraitId). x) }
     {
-        Traits::new(self.types.items(), &self.unnamed_traits)
+        Traits::new(self.types.items(), self.rare.unnamed_traits())
     }
 
     /// The legacy macros of each name. Takes no memory.
@@ -166,7 +166,7 @@ impl ItemScope {
         ensures rest { result ≡ self.now.legacy_macros }
         ensures runs { ShowsInOrder deref_legacy }
     {
-        LegacyMacros::new(&self.legacy_macros)
+        LegacyMacros::new(self.rare.legacy_macros())
     }
 
     /// The calls of function-like macros, each with where it stands. Takes no memory.
@@ -174,7 +174,7 @@ impl ItemScope {
         ensures rest { result ≡ self.now.macro_invocations }
         ensures runs { ShowsInOrder (deref_pair {K = AstId} {X = MacroCallId}) }
     {
-        MacroInvocations::new(&self.macro_invocations)
+        MacroInvocations::new(self.rare.macro_invocations())
     }
 
     /// The calls of attribute macros, each with the item that it stands on. Takes no memory.
@@ -182,7 +182,7 @@ impl ItemScope {
         ensures rest { result ≡ self.now.attr_macros }
         ensures runs { ShowsInOrder (λ (x : AstId × MacroCallId). x) }
     {
-        AttrMacroInvocations::new(&self.attr_macros)
+        AttrMacroInvocations::new(self.rare.attr_macros())
     }
 
     /// All macro calls: of function-like macros, of attribute macros, and in the slots of derive attributes. Neither the
@@ -192,9 +192,9 @@ impl ItemScope {
         ensures runs { ShowsInOrder (λ (x : MacroCallId). x) }
     {
         AllMacroCalls::new(
-            self.macro_invocations.values().as_slice(),
-            self.attr_macros.values().as_slice(),
-            self.derive_macros.values().as_slice(),
+            self.rare.macro_invocations().values().as_slice(),
+            self.rare.attr_macros().values().as_slice(),
+            self.rare.derive_macros().values().as_slice(),
         )
     }
 

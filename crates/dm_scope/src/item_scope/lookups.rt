@@ -43,7 +43,8 @@ impl ItemScope {
     pub fn get_legacy_macro(&self, name: &Name) -> Option<&[MacroId]>
         ensures { option_copied result ≡ find_name name.now self.now.legacy_macros }
     {
-        let macros = self.legacy_macros.get(name)?;
+        let tables = self.rare.tables()?;
+        let macros = tables.legacy_macros.get(name)?;
         Some(macros.as_slice())
     }
 
@@ -51,14 +52,15 @@ impl ItemScope {
     pub fn macro_invoc(&self, call: AstId) -> Option<MacroCallId>
         ensures { result ≡ lookup (same_ast call) self.now.macro_invocations }
     {
-        self.macro_invocations.get(&call).copied()
+        let tables = self.rare.tables()?;
+        tables.macro_invocations.get(&call).copied()
     }
 
     /// Who sees a trait that was imported without a name, by its first such import. Takes no memory.
     pub fn unnamed_trait_vis(&self, tr: TraitId) -> Option<Visibility>
         ensures { result ≡ trait_vis tr self.now.unnamed_traits }
     {
-        for unnamed in &self.unnamed_traits {
+        for unnamed in self.rare.unnamed_traits() {
             if unnamed.0 == tr {
                 return Some(unnamed.1);
             }

@@ -32,7 +32,10 @@ impl ItemScope {
         ensures ok { OnOk result (self.new ≡ record self.old { impls = self.old.impls ++ (imp, is_trait_impl) ∷ [] }) }
         ensures err { OnErr result (self.new ≡ self.old) }
     {
-        self.impls.push((imp, is_trait_impl))?;
+        let mut tables = self.rare.taken()?;
+        let pushed = tables.impls.push((imp, is_trait_impl));
+        self.rare.put(tables);
+        pushed?;
         Ok(())
     }
 
@@ -41,7 +44,10 @@ impl ItemScope {
         ensures ok { OnOk result (self.new ≡ record self.old { builtin_derive_impls = self.old.builtin_derive_impls ++ imp ∷ [] }) }
         ensures err { OnErr result (self.new ≡ self.old) }
     {
-        self.builtin_derive_impls.push(imp)?;
+        let mut tables = self.rare.taken()?;
+        let pushed = tables.builtin_derive_impls.push(imp);
+        self.rare.put(tables);
+        pushed?;
         Ok(())
     }
 
@@ -50,7 +56,10 @@ impl ItemScope {
         ensures ok { OnOk result (self.new ≡ record self.old { extern_blocks = self.old.extern_blocks ++ extern_block ∷ [] }) }
         ensures err { OnErr result (self.new ≡ self.old) }
     {
-        self.extern_blocks.push(extern_block)?;
+        let mut tables = self.rare.taken()?;
+        let pushed = tables.extern_blocks.push(extern_block);
+        self.rare.put(tables);
+        pushed?;
         Ok(())
     }
 
@@ -62,7 +71,10 @@ impl ItemScope {
         ensures ok { OnOk result (self.new ≡ record self.old { extern_crate_decls = self.old.extern_crate_decls ++ extern_crate ∷ [] }) }
         ensures err { OnErr result (self.new ≡ self.old) }
     {
-        self.extern_crate_decls.push(extern_crate)?;
+        let mut tables = self.rare.taken()?;
+        let pushed = tables.extern_crate_decls.push(extern_crate);
+        self.rare.put(tables);
+        pushed?;
         Ok(())
     }
 
@@ -71,7 +83,10 @@ impl ItemScope {
         ensures ok { OnOk result (self.new ≡ record self.old { unnamed_consts = self.old.unnamed_consts ++ konst ∷ [] }) }
         ensures err { OnErr result (self.new ≡ self.old) }
     {
-        self.unnamed_consts.push(konst)?;
+        let mut tables = self.rare.taken()?;
+        let pushed = tables.unnamed_consts.push(konst);
+        self.rare.put(tables);
+        pushed?;
         Ok(())
     }
 
@@ -85,7 +100,10 @@ impl ItemScope {
         ensures ok { OnOk result (self.new ≡ record self.old { unnamed_traits = self.old.unnamed_traits ++ (tr, vis, import) ∷ [] }) }
         ensures err { OnErr result (self.new ≡ self.old) }
     {
-        self.unnamed_traits.push((tr, vis, import))?;
+        let mut tables = self.rare.taken()?;
+        let pushed = tables.unnamed_traits.push((tr, vis, import));
+        self.rare.put(tables);
+        pushed?;
         Ok(())
     }
 
@@ -95,7 +113,10 @@ impl ItemScope {
         ensures ok { OnOk result (self.new ≡ record self.old { attr_macros = insert_entry same_ast self.old.attr_macros item call }) }
         ensures err { OnErr result (self.new ≡ self.old) }
     {
-        self.attr_macros.insert(item, call)?;
+        let mut tables = self.rare.taken()?;
+        let set = tables.attr_macros.insert(item, call);
+        self.rare.put(tables);
+        set?;
         Ok(())
     }
 
@@ -104,7 +125,10 @@ impl ItemScope {
         ensures ok { OnOk result (self.new ≡ record self.old { macro_invocations = insert_entry same_ast self.old.macro_invocations call call_id }) }
         ensures err { OnErr result (self.new ≡ self.old) }
     {
-        self.macro_invocations.insert(call, call_id)?;
+        let mut tables = self.rare.taken()?;
+        let set = tables.macro_invocations.insert(call, call_id);
+        self.rare.put(tables);
+        set?;
         Ok(())
     }
 
@@ -113,7 +137,9 @@ impl ItemScope {
         ensures ok { OnOk result (self.new ≡ record self.old { legacy_macros = add_to_list same_name self.old.legacy_macros name mac }) }
         ensures err { OnErr result (self.new ≡ self.old) }
     {
-        add_to_list(&mut self.legacy_macros, name, mac, self.alloc)?;
-        Ok(())
+        let mut tables = self.rare.taken()?;
+        let added = add_to_list(&mut tables.legacy_macros, name, mac, self.alloc);
+        self.rare.put(tables);
+        added
     }
 }

@@ -181,11 +181,11 @@ impl ItemScope {
         ensures scope { OnOk result (self.new ≡ record self.old { unresolved = unresolved_after self.old.unresolved name.now def.now }) }
         ensures err { OnErr result (self.new ≡ self.old) }
     {
-        if !def.is_none() || self.unresolved.contains(name) {
+        if !def.is_none() || self.rare.is_unresolved(name) {
             return Ok(false);
         }
         let key = name.copy(self.alloc)?;
-        self.unresolved.insert(key)?;
+        self.rare.add_unresolved(key)?;
         Ok(true)
     }
 }

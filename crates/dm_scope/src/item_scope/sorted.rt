@@ -45,7 +45,7 @@ impl ItemScope {
         add_names(&mut names, self.types.names())?;
         add_names(&mut names, self.values.names())?;
         add_names(&mut names, self.macros.names())?;
-        add_names(&mut names, self.unresolved.as_slice())?;
+        add_names(&mut names, self.rare.unresolved())?;
         Ok(names)
     }
 
@@ -87,7 +87,7 @@ impl ItemScope {
         let entries = self.entries()?;
         let mut resolutions = Vec::new(self.alloc);
         add_entries(&mut resolutions, entries.as_slice())?;
-        add_unnamed(&mut resolutions, self.unnamed_traits.as_slice())?;
+        add_unnamed(&mut resolutions, self.rare.unnamed_traits())?;
         Ok(resolutions)
     }
 }

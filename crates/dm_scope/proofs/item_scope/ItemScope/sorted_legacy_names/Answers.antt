@@ -5,5 +5,5 @@ use Rattle.dm_scope.proofs.item_scope.ItemScope.sorted_legacy_names.Goals as goa
 
 pub returns : goal.returns
 returns c =
-    let own : seen c.add_names.new.names.items ≡ map (λ e. e.0) c.self.inside.legacy_macros.entries = c.in_ok-add_names.ensures ∙ ap (λ ns. seen ns ++ c.as_slice.result.now) c.new-names.ensures.items ∙ c.as_slice.ensures ∙ c.keys.ensures.rest in
-    subst (AreInOrder (seen c.sort_names.new.names.items)) (own ∙ sym (keys_of_lists c.self.inside.legacy_macros.entries) ∙ ap (λ s. map (λ e. e.0) s.legacy_macros) c.self.view_is) c.sort_names.ensures
+    let own : seen c.add_names.new.names.items ≡ map (λ e. e.0) c.legacy_macros.result = c.in_ok-add_names.ensures ∙ ap (λ ns. seen ns ++ c.as_slice.result.now) c.new-names.ensures.items ∙ c.as_slice.ensures ∙ c.keys.ensures.rest in
+    subst (AreInOrder (seen c.sort_names.new.names.items)) (own ∙ sym (keys_of_lists c.legacy_macros.result) ∙ ap (map (λ e. e.0)) c.legacy_macros.ensures ∙ ap (λ s. map (λ e. e.0) s.legacy_macros) c.self.view_is) c.sort_names.ensures

@@ -4,7 +4,7 @@ use Rattle.smallvec.specs.SmallVec.{SmallVec}
 use Rattle.dm_scope.specs.declared.derives.DeriveMacroInvocation.{DeriveMacroInvocation}
 use Rattle.dm_scope.specs.Derives.{derive_of, derives_of, find_derive}
 use Rattle.dm_scope.proofs.DeriveLemmas.{lookup-derives_of, fill_slot-present, fill_slot-absent}
-use Rattle.dm_scope.proofs.item_scope.derive_attributes.fill_slot.Goals as goal
+use Rattle.dm_scope.proofs.rare.derives.fill_slot.Goals as goal
 
 pub fill_list-requires : goal.fill_list-requires
 fill_list-requires c x h =

@@ -1,7 +1,7 @@
 use Rattle.std.proofs.Common.{◌<◌, ◌∙◌, sym, ap, map, length, subst, slice_set, slice_index_or}
 use Rattle.dm_scope.specs.Derives.{derive_of, with_slot, has_id}
 use Rattle.dm_scope.proofs.DeriveLemmas.{position-some, position-none, find_derive-first, fill_first-first, fill_first-none}
-use Rattle.dm_scope.proofs.item_scope.derive_attributes.fill_first.Goals as goal
+use Rattle.dm_scope.proofs.rare.derives.fill_first.Goals as goal
 
 pub fill-requires : goal.fill-requires
 fill-requires c =

@@ -1,6 +1,6 @@
 use Rattle.std.proofs.Common.{◌≡◌, ◌++◌, map, take, drop}
 use Rattle.dm_scope.specs.Changes.{censored_trait}
-use Rattle.dm_scope.proofs.item_scope.changes.censor_traits.Given as goal
+use Rattle.dm_scope.proofs.rare.changes.censor_traits.Given as goal
 
 -- those before the index are censored, and the others are as they were
 abbrev pub invariant-loop-unnamed : goal.invariant-loop-unnamed

@@ -1,7 +1,7 @@
 use Rattle.std.proofs.Common.{◌<◌, length, arith}
 use Rattle.dm_scope.specs.Changes.{censored_trait}
 use Rattle.dm_scope.proofs.ChangeLemmas.{changed_before}
-use Rattle.dm_scope.proofs.item_scope.changes.censor_traits.Goals as goal
+use Rattle.dm_scope.proofs.rare.changes.censor_traits.Goals as goal
 
 pub loop-unnamed-preserved : goal.loop-unnamed-preserved
 loop-unnamed-preserved c =
