@@ -52,7 +52,7 @@ impl PartialEq for Text {
 
     ghost laws = { partial_equiv_from_equiv nat_list_eq_equiv };
 
-    /// By bytes: of texts as short as names are, that takes a third of what comparing them as texts takes.
+    /// By bytes, which for texts as short as names are takes fewer steps than comparing them as texts.
     fn eq(&self, other: &Text) -> bool {
         self.text.as_bytes() == other.text.as_bytes()
     }
