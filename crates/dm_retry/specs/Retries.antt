@@ -33,8 +33,3 @@ pub record StopsIn (s : State) (count : ℕ) (t : State) : Type 0 where
   pub before : ℕ
   pub fewer : before < count
   pub stops : Stops (rounds before s) t
-
--- What a number of rounds leaves, however many they are.
-pub record AreRounds (s t : State) : Type 0 where
-  pub count : ℕ
-  pub state : t ≡ rounds count s

@@ -2,6 +2,18 @@
 //!
 //! What a test compares is plain data, and only functions without clauses hold a builder, a world or a retry: each comparison
 //! made while one is held would take the prover seconds.
+/// What a call answers, which is made once more where it is refused.
+macro_rules! again {
+    ($call:expr) => {
+        match $call {
+            Err(_refused) => $call,
+            done => done,
+        }
+    };
+}
+
+mod refused;
+
 use crate::using::resolve;
 use dm_base::ids::{FileAstId, FileId, ModuleId, StructId, UseId, UseTreeIdx};
 use dm_base::imports::ImportId;
@@ -175,7 +187,7 @@ fn taken(
     alloc: Global,
     pendings: Vec<Pending>,
 ) -> Result<Result<Waiting, (Option<RetryFault>, usize)>, BuildFault> {
-    let Some(world) = a_world(alloc)? else {
+    let Some(world) = again!(a_world(alloc))? else {
         return Ok(Err((None, 0)));
     };
     match Retry::new(world, PerNsGlobImports::new(alloc), pendings) {

@@ -1,5 +1,10 @@
-use Rattle.dm_retry.specs.Retries.{AreRounds}
+use Rattle.std.proofs.Common.{◌≡◌}
+use Rattle.dm_retry.specs.Rounds.{rounds}
+use Rattle.dm_retry_tests.specs.Resolving.{AllBring}
 use Rattle.dm_retry_tests.proofs.using.resolve.Given as goal
 
-abbrev pub invariant-loop : goal.invariant-loop
-invariant-loop l = AreRounds l.fn.retry.state l.retry.state
+abbrev pub invariant-loop-round : goal.invariant-loop-round
+invariant-loop-round l = record {
+  state : l.retry.state ≡ rounds l._round l.fn.retry.state;
+  bring : AllBring l.fn.retry.state l._round;
+}
