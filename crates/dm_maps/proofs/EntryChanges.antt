@@ -16,5 +16,9 @@ module _ {X : Type 0} (xs : List X) (k : ℕ) (f : X → X) where
   unchanged none = sym (ap entry_with (slice_get_past xs k (ltb-false k (length xs) (sym none))))
 
   -- the entry x became y
+  pub entry-set : (x y : X) → slice_get xs k ≡ Some x → y ≡ f x → set xs k y ≡ entry_with (slice_get xs k)
+  entry-set x y there same = ap (set xs k) same ∙ sym (ap entry_with there)
+
+  -- the same, of a call that may be refused
   pub entry-changed : {T E : Type 0} (r : Result T E) (x y : X) → slice_get xs k ≡ Some x → OnOk r (y ≡ f x) → OnOk r (set xs k y ≡ entry_with (slice_get xs k))
-  entry-changed r x y there h = on_ok_weaker r (λ same. ap (set xs k) same ∙ sym (ap entry_with there)) h
+  entry-changed r x y there h = on_ok_weaker r (entry-set x y there) h

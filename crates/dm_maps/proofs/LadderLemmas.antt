@@ -1,5 +1,5 @@
 -- The table of ladders of a world: it grows with the modules, and says what their tree says.
-use Rattle.std.proofs.Common.{◌≡◌, ◌<◌, ◌≤◌, ℕ, zero, suc, Bool, true, false, List, [], ◌∷◌, ◌++◌, Option, Some, None, IsTrue, length, map, slice_get, nat_lt, count_ones, refl, sym, ap, ◌∙◌, subst, arith}
+use Rattle.std.proofs.Common.{◌≡◌, ◌<◌, ℕ, suc, Bool, true, false, List, [], ◌∷◌, ◌++◌, Option, Some, None, length, map, slice_get, nat_lt, refl, sym, ap, ◌∙◌, subst}
 use Rattle.std.specs.Option.{option_map, option_map_or, option_and_then, option_or}
 use Rattle.std.proofs.lemmas.Bool.{ltb-true, lt-ltb}
 use Rattle.std.proofs.lemmas.List.{map_push, length-map}
@@ -7,7 +7,7 @@ use Rattle.std.proofs.lemmas.Option.{slice_get-map}
 use Rattle.dm_ids.specs.declared.ModuleId.{ModuleId}
 use Rattle.dm_ids.specs.declared.BlockId.{BlockId}
 use Rattle.dm_ids.specs.declared.MapId.{MapId}
-use Rattle.dm_base.specs.Tree.{Tree, IsTree, IsKnown, containing, chain, is_among}
+use Rattle.dm_base.specs.Tree.{IsTree, IsKnown, containing, chain, is_among}
 use Rattle.dm_ladders.specs.Ancestry.{moves}
 use Rattle.dm_ladders.specs.Ladders.{tree_above}
 use Rattle.dm_ladders.proofs.ChainLemmas.{chains-agree, moves-agree, among-known}
@@ -23,7 +23,7 @@ use Rattle.dm_maps.specs.BuildBlocks.{next_block, fresh_block}
 use Rattle.dm_maps.specs.BuildCrateData.{sharing}
 use Rattle.dm_maps.specs.Ladders.{above_place, AreLaddered}
 use Rattle.dm_maps.specs.Maps.{Maps, maps_and, maps_with, maps_with_child}
-use Rattle.dm_maps.specs.Trees.{container_in, containers_of, map_id_in, tree_of, IsPlaced, IsWorld}
+use Rattle.dm_maps.specs.Trees.{container_in, containers_of, tree_of, IsPlaced, IsWorld}
 use Rattle.dm_maps.specs.World.{World, maps_of}
 use Rattle.dm_maps.specs.declared.place.Place.{Place}
 use Rattle.dm_maps.proofs.EntryLemmas.{get-last}

@@ -34,3 +34,6 @@ pub mod BuiltGrowth
 pub mod RecordLemmas
 pub mod RecordGrowth
 pub mod LadderLemmas
+pub mod BlockListLemmas
+pub mod SharedMaps
+pub mod IndexLemmas

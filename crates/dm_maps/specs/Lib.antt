@@ -34,3 +34,5 @@ pub mod Built
 pub mod ScopeTables
 pub mod RecordCounts
 pub mod Ladders
+pub mod BlockLists
+pub mod Indexes

@@ -10,6 +10,8 @@ mod add_modules;
 mod add_uses;
 mod add_variants;
 mod ancestry;
+mod block_growth;
+mod block_list;
 mod change_maps;
 mod growth;
 mod ladder_growth;
@@ -18,6 +20,7 @@ mod set_crate_data;
 mod set_tables;
 mod tables;
 
+use crate::builder::block_list::BlockList;
 use crate::maps::Maps;
 use crate::place::Place;
 use crate::rules::Rules;
@@ -46,6 +49,8 @@ pub struct WorldBuilder {
     pub(crate) rules: Rules,
     /// The ladder of each module.
     pub(crate) ladders: Ladders,
+    /// The blocks of each crate.
+    pub(crate) block_lists: Vec<BlockList>,
     pub(crate) alloc: Global,
 }
 
@@ -64,6 +69,7 @@ impl Drop for WorldBuilder {
             item_tables: _item_tables,
             rules: _rules,
             ladders: _ladders,
+            block_lists: _block_lists,
             alloc: _alloc,
         } = self;
     }
@@ -72,7 +78,7 @@ impl Drop for WorldBuilder {
 impl Model for WorldBuilder {
     ghost use Rattle.dm_maps.specs.World.{World};
     ghost use Rattle.dm_maps.specs.Built.{IsBuilt};
-    ghost use Rattle.dm_maps.specs.Ladders.{AreLaddered};
+    ghost use Rattle.dm_maps.specs.Indexes.{AreIndexed};
 
     ghost Value = { World };
 
@@ -80,7 +86,7 @@ impl Model for WorldBuilder {
 
     ghost view = { tables_of };
 
-    ghost invariant = { λ w. IsBuilt (tables_of w) × AreLaddered w.places.items w.maps.blocks w.ladders };
+    ghost invariant = { λ w. IsBuilt (tables_of w) × AreIndexed w.places.items w.maps.crates w.maps.blocks w.ladders w.block_lists.items };
 }
 
 impl WorldBuilder {
@@ -101,6 +107,7 @@ impl WorldBuilder {
             item_tables: ItemTables::new(alloc),
             rules: Rules::V1,
             ladders: Ladders::new(alloc),
+            block_lists: Vec::new(alloc),
             alloc,
         }
     }

@@ -6,6 +6,7 @@ ghost use Rattle.dm_maps.specs.Faults.{Answers};
 
 use crate::build_fault::BuildFault;
 use crate::builder::WorldBuilder;
+use crate::builder::block_growth::NewBlock;
 use crate::builder::ladder_growth::add_map_in;
 use crate::maps::share::shared_of;
 use crate::place::Place;
@@ -80,10 +81,15 @@ impl WorldBuilder {
                 add_map_in(
                     &mut self.ladders,
                     containing,
+                    &mut self.block_lists,
                     &mut self.places,
-                    place,
                     &mut self.maps,
-                    map,
+                    NewBlock {
+                        krate,
+                        b,
+                        place,
+                        map,
+                    },
                 )?;
                 Ok(())
             }

@@ -69,6 +69,7 @@ impl WorldBuilder {
         };
         add_outmost_map(
             &mut self.ladders,
+            &mut self.block_lists,
             &mut self.places,
             place,
             &mut self.local_maps,

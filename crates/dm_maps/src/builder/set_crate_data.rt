@@ -7,6 +7,7 @@ ghost use Rattle.dm_maps.specs.Faults.{Answers};
 
 use crate::build_fault::BuildFault;
 use crate::builder::WorldBuilder;
+use crate::builder::block_list::blocks_of;
 use dm_base::ids::{Crate, FunctionId, MapId, ProcMacroId};
 use dm_base::symbol::Symbol;
 use dm_def_map::building;
@@ -125,7 +126,8 @@ impl WorldBuilder {
         ensures ok { OnOk result (self.new ≡ sharing self.old krate new) }
         ensures err { OnErr result (self.new ≡ self.old) }
     {
-        self.maps.share(krate, new, self.alloc)?;
+        let own = blocks_of(&self.block_lists, krate.0 as usize);
+        self.maps.share(krate, new, own, self.alloc)?;
         Ok(())
     }
 }

@@ -1,9 +1,10 @@
 //! New data of a crate, for all its maps.
 ghost use Rattle.std.specs.Prelude.{◌≡◌, ◌≤◌, ◌<◌, ◌+◌, length, All, IfOk, OnOk, OnErr};
+ghost use Rattle.dm_maps.specs.BlockLists.{entry_with, AreNumbered, HoldsAll};
 ghost use Rattle.dm_maps.specs.BuildCrateData.{with_shared, map_with_shared, maps_sharing};
 
 use crate::maps::Maps;
-use dm_base::ids::Crate;
+use dm_base::ids::{BlockId, Crate};
 use dm_def_map::building;
 use dm_def_map::def_map::DefMap;
 use dm_tables::crate_data::CrateData;
@@ -58,41 +59,73 @@ fn hand_over(map: &mut DefMap, krate: Crate, handles: &mut Vec<Rc<CrateData>>, n
     }
 }
 
-/// Each map of the crate takes a handle.
-fn hand_out(maps: &mut Vec<DefMap>, krate: Crate, handles: Vec<Rc<CrateData>>, new: &CrateData)
-    requires enough { length maps.old.items ≤ length handles.items }
+/// The same, of the map of number `i`, if there is one.
+fn hand_over_at(
+    maps: &mut Vec<DefMap>,
+    i: usize,
+    krate: Crate,
+    handles: &mut Vec<Rc<CrateData>>,
+    new: &CrateData,
+)
+    requires enough { 0 < length handles.old.items }
+    requires same { All (λ r. r.value ≡ new.now) handles.old.items }
+    ensures maps { maps.new.items ≡ entry_with maps.old.items i (map_with_shared krate new.now) }
+    ensures left { length handles.old.items ≤ length handles.new.items + 1 }
+    ensures same { All (λ r. r.value ≡ new.now) handles.new.items }
+{
+    if let Some(map) = maps.get_mut(i) {
+        hand_over(map, krate, handles, new);
+    }
+}
+
+/// The maps of those blocks, which are all of the crate's, take a handle each.
+fn hand_out(
+    maps: &mut Vec<DefMap>,
+    own: &[BlockId],
+    krate: Crate,
+    mut handles: Vec<Rc<CrateData>>,
+    new: &CrateData,
+)
+    requires own { HoldsAll krate maps.old.items own.now }
+    requires enough { length own.now ≤ length handles.items }
     requires same { All (λ r. r.value ≡ new.now) handles.items }
     ensures { maps.new.items ≡ with_shared krate new.now maps.old.items }
 {
-    hand_out_in(maps.as_mut_slice(), krate, handles, new);
+    for b in own {
+        hand_over_at(maps, b.0 as usize, krate, &mut handles, new);
+    }
 }
 
-fn hand_out_in(maps: &mut [DefMap], krate: Crate, mut handles: Vec<Rc<CrateData>>, new: &CrateData)
-    requires enough { length maps.old ≤ length handles.items }
-    requires same { All (λ r. r.value ≡ new.now) handles.items }
-    ensures { maps.new ≡ with_shared krate new.now maps.old }
+/// The map of the crate takes the data.
+fn give(maps: &mut Vec<DefMap>, krate: Crate, shared: Rc<CrateData>)
+    requires { AreNumbered maps.old.items }
+    ensures { maps.new.items ≡ with_shared krate shared.value maps.old.items }
 {
-    for map in maps.iter_mut() {
-        hand_over(map, krate, &mut handles, new);
+    if let Some(map) = maps.get_mut(krate.0 as usize) {
+        building::set_shared(map, shared);
     }
 }
 
 impl Maps {
-    /// All maps of a crate share that data from now on.
+    /// All maps of a crate, whose blocks are those, share that data from now on.
+    ///
+    /// No other crate's map is looked at.
     pub(crate) fn share(
         &mut self,
         krate: Crate,
         new: CrateData,
+        own: &[BlockId],
         alloc: Global,
     ) -> Result<(), AllocError>
+        requires own { HoldsAll krate self.old.blocks own.now }
+        requires numbered { AreNumbered self.old.crates }
         ensures ok { OnOk result (self.new ≡ maps_sharing self.old krate new) }
         ensures err { OnErr result (self.new ≡ self.old) }
     {
         let shared = share(new, alloc)?;
-        let for_crates = handles(&shared, self.crates.len(), alloc)?;
-        let for_blocks = handles(&shared, self.blocks.len(), alloc)?;
-        hand_out(&mut self.crates, krate, for_crates, &shared);
-        hand_out(&mut self.blocks, krate, for_blocks, &shared);
+        let for_blocks = handles(&shared, own.len(), alloc)?;
+        hand_out(&mut self.blocks, own, krate, for_blocks, &shared);
+        give(&mut self.crates, krate, shared);
         Ok(())
     }
 }

@@ -3,7 +3,7 @@ use Rattle.dm_maps.specs.World.{World}
 use Rattle.dm_maps.specs.Build.{next_crate, next_module}
 use Rattle.dm_maps.specs.Built.{IsBuilt}
 use Rattle.dm_maps.specs.Tables.{tables_of}
-use Rattle.dm_maps.proofs.LadderLemmas.{AreLaddered-crate_made}
+use Rattle.dm_maps.proofs.IndexLemmas.{AreIndexed-crate_made}
 use Rattle.dm_maps.proofs.BuiltGrowth.{IsBuilt-crate}
 use Rattle.dm_maps.proofs.WorldGrowth.{crate-made}
 use Rattle.dm_maps.proofs.builder.WorldBuilder.push_crate.Goals as goal
@@ -16,5 +16,5 @@ invariant_of-self-2 c =
     let grown =
     crate-made w c.args.edition c.args.file c.args.krate c.next_module-root.result c.in_ok-map.map c.add_outmost_map.new.maps c.add_outmost_map.new.places.items c.add_outmost_map.new.local_maps.items (c.requires.number ∙ ap next_crate now) (c.next_module-root.ensures ∙ ap next_module now) c.in_ok-map.ensures h.places h.locals h.maps in
     let room : length w.places < 4294967295 = subst (λ (x : World). length x.places < 4294967295) now c.requires.room in
-    let laddered = AreLaddered-crate_made w c.self.inside.ladders c.add_outmost_map.new.ladders c.args.edition c.args.file c.args.krate c.next_module-root.result c.in_ok-map.map c.add_outmost_map.new.maps c.add_outmost_map.new.places.items c.in_ok-map.ensures h.ladders h.places h.maps c.self.invariant.1 in
-    (subst IsBuilt (sym grown) (IsBuilt-crate w c.self.invariant.0 room c.args.edition c.args.file), laddered)
+    let indexed = AreIndexed-crate_made w c.self.inside.ladders c.self.inside.block_lists.items c.self.invariant.1 c.add_outmost_map.new.ladders c.add_outmost_map.new.lists.items c.args.edition c.args.file c.args.krate c.next_module-root.result c.in_ok-map.map c.add_outmost_map.new.maps c.add_outmost_map.new.places.items c.in_ok-map.ensures h.ladders h.lists h.places h.maps in
+    (subst IsBuilt (sym grown) (IsBuilt-crate w c.self.invariant.0 room c.args.edition c.args.file), indexed)

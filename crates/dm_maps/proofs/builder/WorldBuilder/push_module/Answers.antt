@@ -7,7 +7,7 @@ use Rattle.dm_maps.specs.Built.{IsBuilt}
 use Rattle.dm_maps.proofs.BuiltGrowth.{IsBuilt-child}
 use Rattle.dm_maps.proofs.WorldGrowth.{IsFree-next, child-made}
 use Rattle.dm_maps.specs.Tables.{tables_of}
-use Rattle.dm_maps.proofs.LadderLemmas.{AreLaddered-child_made}
+use Rattle.dm_maps.proofs.IndexLemmas.{AreIndexed-child_made}
 use Rattle.dm_maps.proofs.builder.WorldBuilder.push_module.Goals as goal
 
 pub add_child_in-requires-clause-free : goal.add_child_in-requires-clause-free
@@ -41,5 +41,5 @@ invariant_of-self-2 c =
     let at = c.index-at.result.now in
     let h = c.in_ok-add_child_in.ensures in
     let place = c.next_place-place.result in
-    let laddered = AreLaddered-child_made (tables_of c.self.inside) c.self.inside.ladders c.add_child_in.new.ladders c.args.parent at.map place.index at.index c.args.name c.next_module-m.result c.args.added c.add_child_in.new.maps c.add_child_in.new.places.items h.ladders (h.places ∙ ap (λ p. c.self.inside.places.items ++ p ∷ []) (placed c)) h.maps c.self.invariant.1 in
-    (subst IsBuilt (sym (grown c)) (IsBuilt-child c.args.self.now (subst IsBuilt c.self.view_is c.self.invariant.0) r.room c.args.parent c.args.name c.args.added r.known r.parent r.childless), laddered)
+    let indexed = AreIndexed-child_made (tables_of c.self.inside) c.self.inside.ladders c.self.inside.block_lists.items c.self.invariant.1 c.add_child_in.new.ladders c.args.parent at.map place.index at.index c.args.name c.next_module-m.result c.args.added c.add_child_in.new.maps c.add_child_in.new.places.items h.ladders (h.places ∙ ap (λ p. c.self.inside.places.items ++ p ∷ []) (placed c)) h.maps in
+    (subst IsBuilt (sym (grown c)) (IsBuilt-child c.args.self.now (subst IsBuilt c.self.view_is c.self.invariant.0) r.room c.args.parent c.args.name c.args.added r.known r.parent r.childless), indexed)

@@ -1,15 +1,25 @@
-use Rattle.std.proofs.Common.{sym, subst}
+use Rattle.std.proofs.Common.{◌∙◌, sym, ap, subst}
+use Rattle.dm_maps.specs.BlockLists.{list_at, HasBlock}
 use Rattle.dm_maps.specs.Built.{IsBuilt}
 use Rattle.dm_maps.specs.World.{with_maps}
 use Rattle.dm_maps.proofs.BuiltGrowth.{IsBuilt-sharing}
 use Rattle.dm_maps.specs.Tables.{tables_of}
-use Rattle.dm_maps.specs.Ladders.{AreLaddered}
+use Rattle.dm_maps.specs.Indexes.{AreIndexed}
 use Rattle.dm_maps.specs.Maps.{Maps}
-use Rattle.dm_maps.proofs.LadderLemmas.{AreLaddered-sharing}
+use Rattle.dm_maps.proofs.BlockListLemmas.{world-numbered}
+use Rattle.dm_maps.proofs.IndexLemmas.{AreIndexed-sharing}
 use Rattle.dm_maps.proofs.builder.WorldBuilder.share_data.Goals as goal
 
 pub invariant_of-self-2 : goal.invariant_of-self-2
 invariant_of-self-2 c =
     let w = tables_of c.self.inside in
-    let P : Maps → Type 0 = λ ms. IsBuilt (with_maps w ms) × AreLaddered w.places ms.blocks c.self.inside.ladders in
-    subst P (sym c.in_ok-share.ensures.ok) (IsBuilt-sharing w c.args.krate c.args.new c.self.invariant.0, AreLaddered-sharing w c.self.inside.ladders c.args.krate c.args.new c.self.invariant.1)
+    let P : Maps → Type 0 = λ ms. IsBuilt (with_maps w ms) × AreIndexed w.places ms.crates ms.blocks c.self.inside.ladders c.self.inside.block_lists.items in
+    subst P (sym c.in_ok-share.ensures.ok) (IsBuilt-sharing w c.args.krate c.args.new c.self.invariant.0, AreIndexed-sharing w c.self.inside.ladders c.self.inside.block_lists.items c.self.invariant.1 c.args.krate c.args.new)
+
+pub share-requires-clause-own : goal.share-requires-clause-own
+share-requires-clause-own c = λ b e.
+    let listed = c.blocks_of-own.ensures ∙ ap (λ ls. list_at ls c.args.krate.0) c.deref.ensures.value in
+    subst (λ l. HasBlock l b) (sym listed) (c.self.invariant.1.lists.each b c.args.krate e)
+
+pub share-requires-clause-numbered : goal.share-requires-clause-numbered
+share-requires-clause-numbered c = world-numbered (tables_of c.self.inside) c.self.invariant.0.0
