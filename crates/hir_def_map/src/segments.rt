@@ -1,5 +1,5 @@
 //! The segments of a path after the first, one after another.
-ghost use Rattle.std.specs.Prelude.{◌≡◌, ◌+◌, ◌≤◌, Bool, Some, IfSome, map, length};
+ghost use Rattle.std.specs.Prelude.{◌≡◌, ◌+◌, ◌≤◌, Bool, false, Some, IfSome, map, length};
 ghost use Rattle.std.specs.Option.{ForSome};
 ghost use Rattle.dm_base.specs.PerNs.{keep, seen_by};
 ghost use Rattle.dm_base.specs.Tree.{IsKnown, sees};

@@ -1,5 +1,6 @@
-use Rattle.std.proofs.Common.{◌≡◌, ◌∙◌, ap, sym, subst, None}
+use Rattle.std.proofs.Common.{◌∙◌, ap, sym, subst, Bool, false, None}
 use Rattle.dm_base.specs.declared.per_ns.PerNs.{PerNs}
+use Rattle.dm_base.specs.declared.visibility.Visibility.{Visibility}
 use Rattle.dm_base.specs.PerNs.{keep, seen_by}
 use Rattle.dm_base.specs.Tree.{sees}
 use Rattle.dm_scope.specs.Scope.{bound_in}
@@ -7,7 +8,6 @@ use Rattle.dm_maps.specs.Known.{KnowsAll}
 use Rattle.dm_held.specs.Holding.{res_holds}
 use Rattle.dm_maps.specs.Trees.{tree_of}
 use Rattle.dm_maps.specs.World.{scope_of}
-use Rattle.hir_def_map.specs.Walk.{looked_at}
 use Rattle.hir_def_map.proofs.KnownLemmas.{type_vis-known, seen_by-known, looked_at-known}
 use Rattle.hir_def_map.proofs.segments.seen_type_in.Goals as goal
 
@@ -17,8 +17,8 @@ seen_item-requires-clause-named c = λ i e. type_vis-known c.args.world.now (bou
 pub returns-clause-known : goal.returns-clause-known
 returns-clause-known c =
     let w = c.args.world.now in
-    let bound = bound_in (scope_of w c.args.m) c.args.segment.now in
-    let p = λ v. sees (tree_of w) v c.args.from in
+    let bound : PerNs = bound_in (scope_of w c.args.m) c.args.segment.now in
+    let p : Visibility → Bool = λ v. sees (tree_of w) v c.args.from in
     let P : PerNs → Type 0 = λ x. KnowsAll w (res_holds x) in
     let is = c.seen_item.ensures ∙ ap (keep (λ i. p i.vis)) c.type_in.ensures.value in
     subst P (λ j. record { types = sym is j; values = None; macros = None })
