@@ -25,13 +25,12 @@ use Rattle.hir_def_map.specs.declared.question.Ask.{Ask}
 use Rattle.hir_def_map.specs.declared.result.ReachedFixedPoint.{ReachedFixedPoint}
 use Rattle.hir_def_map.specs.declared.result.ReachedFixedPoint.TheVariants.{Yes, No}
 use Rattle.hir_def_map.specs.declared.result.ResolvePathResult.{ResolvePathResult}
-use Rattle.hir_def_map.specs.declared.segments.Stand.{Stand}
 use Rattle.hir_def_map.specs.Answers.{nothing_no, nothing_yes, reached, stopped, variant_answer, settled, either_yes, over_answer, merged}
 use Rattle.hir_def_map.specs.Laws.{IsAnswer}
 use Rattle.hir_def_map.specs.declared.place.Place.{Place}
 use Rattle.hir_def_map.specs.declared.place.Place.TheVariants.{In, Preludes}
 use Rattle.hir_def_map.specs.Paths.{is_empty, at_variant, stop, enter, root_item, from_root, from_super, by_first_segment, missed, by_2015_rule, layers, seen_from, single}
-use Rattle.hir_def_map.specs.Walk.{marked, through, walk}
+use Rattle.hir_def_map.specs.Walk.{Stand, starting, marked, through, walk}
 use Rattle.hir_def_map.proofs.WalkLemmas.{walk-stop}
 use Rattle.hir_def_map.proofs.StopLemmas.{enter-stop}
 use Rattle.hir_def_map.proofs.LayerLemmas.{single_by, single-kind}
@@ -94,14 +93,14 @@ walk-law t n a pos (s ∷ S) one count = by a.here.types (λ b. walk-law t n b (
 -- what stops behind a first segment
 pub stop-law : (t : Tree) (f : ModuleId) (x : PerNs) (S : List Reading) → IsAnswer (suc (length S)) (stop (enter t) t f x 1 S)
 stop-law t f x S =
-    let a : Stand = record { differing = false; origin = f; here = x } in
+    let a = starting f x in
     subst (IsAnswer (suc (length S))) (walk-stop t a 1 S) (walk-law t (suc (length S)) a 1 S (omega arith) (omega arith))
 
 -- what stops behind no segment, from a module
 pub root-law : (t : Tree) (f m : ModuleId) (S : List Reading) → IsAnswer (length S) (stop (enter t) t f (root_item m) 0 S)
 root-law t f m [] = settled-whole 0 (reached (root_item m)) refl refl
 root-law t f m (s ∷ S) =
-    let a : Stand = record { differing = false; origin = f; here = root_item m } in
+    let a = starting f (root_item m) in
     subst (IsAnswer (suc (length S))) (walk-stop t a 0 (s ∷ S)) (walk-law t (suc (length S)) (through t a m s) 1 S (omega arith) (omega arith))
 
 settled-law : (n : ℕ) (b : Bool) (a : ResolvePathResult) → IsAnswer n a → IsAnswer n (settled b a)

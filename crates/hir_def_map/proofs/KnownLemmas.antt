@@ -1,5 +1,5 @@
 -- What is known of the parts of known items.
-use Rattle.std.proofs.Common.{◌≡◌, Bool, true, false, cond, List, [], ◌∷◌, ◌++◌, Option, Some, None, subst}
+use Rattle.std.proofs.Common.{◌≡◌, Bool, true, false, cond, List, [], ◌∷◌, ◌++◌, Option, Some, None, ap, subst}
 use Rattle.std.specs.Option.{option_map_or, option_or}
 use Rattle.dm_base.specs.declared.imports.ImportOrExternCrate.{ImportOrExternCrate}
 use Rattle.dm_base.specs.declared.imports.ImportOrGlob.{ImportOrGlob}
@@ -24,7 +24,7 @@ use Rattle.dm_modules.specs.Maps.{LocalMap}
 use Rattle.dm_maps.specs.Trees.{tree_of}
 use Rattle.dm_maps.specs.World.{World}
 use Rattle.hir_def_map.specs.declared.result.ResolvePathResult.{ResolvePathResult}
-use Rattle.hir_def_map.specs.Walk.{marked, looked_at}
+use Rattle.hir_def_map.specs.Walk.{marked, in_types, module_in}
 use Rattle.hir_def_map.specs.Paths.{by_crate}
 
 pub knows-left : (w : World) (hs ks : List HeldId) → KnowsAll w (hs ++ ks) → KnowsAll w hs
@@ -85,6 +85,14 @@ module _ (w : World) (x : PerNs) (k : KnowsAll w (res_holds x)) where
       let P : Option (Item MacroId ImportOrExternCrate) → Type 0 = λ o. KnowsAll w (option_map_or macro_holds o []) in
       vis_known w i.vis (knows-middle w (held.Macro i.def ∷ []) (vis_holds i.vis) (option_map_or import_holds i.import []) (subst P e macros-known))
 
+-- a definition that is taken for a module is one
+module_in-is : (d : ModuleDefId) (m : ModuleId) → module_in d ≡ Some m → d ≡ def.ModuleId m
+module_in-is (def.ModuleId k) m e = let same : k ≡ m = cc in ap def.ModuleId same
+module_in-is _ m e = cc
+
+pub module_in-known : (w : World) (x : PerNs) → KnowsAll w (res_holds x) → (i : Item ModuleDefId ImportOrExternCrate) (m : ModuleId) → x.types ≡ Some i → module_in i.def ≡ Some m → IsKnown (tree_of w) m
+module_in-known w x k i m e is = type_module-known w x k i m e (module_in-is i.def m is)
+
 kept-known : (w : World) {A : Type 0} (holds : A → List HeldId) (p : A → Bool) (o : Option A) → KnowsAll w (option_map_or holds o []) → KnowsAll w (option_map_or holds (keep p o) [])
 kept-known w holds p None k = tt
 kept-known w {A} holds p (Some x) k = by (p x)
@@ -100,10 +108,9 @@ seen_by-known w p x k =
     (knows-append w _ _ (kept-known w type_holds (λ i. p i.vis) x.types (types-known w x k)) (kept-known w value_holds (λ i. p i.vis) x.values (values-known w x k)))
     (kept-known w macro_holds (λ i. p i.vis) x.macros (macros-known w x k))
 
--- what a path looks at of known items is known
-pub looked_at-known : (w : World) (b : Bool) (x : PerNs) → KnowsAll w (res_holds x) → KnowsAll w (res_holds (looked_at b x))
-looked_at-known w true x k = k
-looked_at-known w false x k = knows-append w _ [] (knows-append w _ [] (types-known w x k) tt) tt
+-- the type of known items is known
+pub in_types-known : (w : World) (x : PerNs) → KnowsAll w (res_holds x) → KnowsAll w (res_holds (in_types x.types))
+in_types-known w x k = knows-append w _ [] (knows-append w _ [] (types-known w x k) tt) tt
 
 -- items but for a macro that does not pass are known
 pub macros_kept-known : (w : World) (p : Item MacroId ImportOrExternCrate → Bool) (x : PerNs) → KnowsAll w (res_holds x) → KnowsAll w (res_holds (record x { macros = keep p x.macros }))

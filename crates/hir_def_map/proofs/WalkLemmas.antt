@@ -18,13 +18,12 @@ use Rattle.dm_modules.specs.Maps.{LocalMap}
 use Rattle.dm_maps.specs.Readings.{Reading, read}
 use Rattle.dm_maps.specs.Trees.{tree_of}
 use Rattle.dm_maps.specs.World.{World}
-use Rattle.hir_def_map.specs.declared.segments.Move.{Move}
-use Rattle.hir_def_map.specs.declared.segments.Move.TheVariants.{Go, End}
 use Rattle.hir_def_map.specs.declared.result.ResolvePathResult.{ResolvePathResult}
-use Rattle.hir_def_map.specs.declared.segments.Stand.{Stand}
-use Rattle.hir_def_map.specs.Answers.{from_other_crate}
+use Rattle.hir_def_map.specs.declared.segments.Entered.{Entered}
+use Rattle.hir_def_map.specs.declared.segments.Walker.{Walker}
+use Rattle.hir_def_map.specs.Answers.{from_other_crate, nothing_no}
 use Rattle.hir_def_map.specs.Paths.{Entering, is_empty, at_variant, stop, seen_in, root_item, enter, enter_within}
-use Rattle.hir_def_map.specs.Walk.{marked, move, move_at, walk, looking, moves_looking}
+use Rattle.hir_def_map.specs.Walk.{Stand, marked, standing, walker, module_in, left_at, through, walk}
 use Rattle.hir_def_map.proofs.StopLemmas.{stop-through, stop-here, own_crate, stop-enters}
 
 add_twice : (k p : ℕ) (o : Option ℕ) → option_map (λ i. i + p) (option_map (λ i. i + k) o) ≡ option_map (λ i. i + (k + p)) o
@@ -100,7 +99,9 @@ walk-stop t a pos (s ∷ S) = by a.here.types (λ b. walk-stop t b (pos + 1) S)
     with_def i c = record a.here { types = Some (record i { def = c }) }
 
     chosen : ModuleId → Bool → Stand
-    chosen m b = cond b (record { differing = a.differing; origin = a.origin; here = seen_in t a.origin s m }) (record { differing = true; origin = home t m; here = seen_in t (home t m) s (home t m) })
+    chosen m b =
+        let e : Entered = cond b (record { differing = a.differing; origin = a.origin; asked = m }) (record { differing = true; origin = home t m; asked = home t m }) in
+        record { differing = e.differing; origin = e.origin; here = seen_in t e.origin s e.asked }
 
     by_module : (i : Item ModuleDefId ImportOrExternCrate) (m : ModuleId) (b : Bool) → same_crate (crate_of t m) (crate_of t a.origin) ≡ b
         → ((z : Stand) → walk t z (pos + 1) S ≡ marked z.differing (stop (enter t) t z.origin z.here (pos + 1) S))
@@ -130,37 +131,40 @@ walk-stop t a pos (s ∷ S) = by a.here.types (λ b. walk-stop t b (pos + 1) S)
     by None rest = refl
     by (Some i) rest = by_def i i.def rest
 
--- a move, by the definition that stands in types
-pub move-def : (t : Tree) (a : Stand) (pos : ℕ) (s : Reading) (b : Bool) (i : Item ModuleDefId ImportOrExternCrate) (d : ModuleDefId) → a.here.types ≡ Some i → i.def ≡ d → move t a pos s b ≡ move_at t a i pos s b d
-move-def t a pos s b i d e is =
-    ap (λ o. move t (record a { here = record a.here { types = o } }) pos s b) e ∙ ap (move_at t a i pos s b) is
-
--- the rest of a walk, by a move
-abbrev pub by_move : Tree → Stand → ℕ → List Reading → Move → ResolvePathResult
-by_move t a pos S mv = elim mv [ Go b ↦ walk t b (pos + 1) S | End r ↦ marked a.differing r ]
-
 pub empty-map : {A B : Type 0} (f : A → B) (xs : List A) → is_empty (map f xs) ≡ nat_eq (length xs) 0
 empty-map f [] = refl
 empty-map f (x ∷ xs) = elim (eqb_tells (suc (length xs)) 0) [ inl h ↦ (let e : suc (length xs) ≡ 0 = h.1 in absurd (omega arith)) | inr h ↦ sym h.0 ]
 
--- a walk that goes on looks at types alone
-walk-looking : (t : Tree) (a : Stand) (pos : ℕ) (S : List Reading) → walk t (looking (is_empty S) a) pos S ≡ walk t a pos S
-walk-looking t a pos [] = refl
-walk-looking t a pos (s ∷ S) = refl
+-- A walk along names, by the type that stands where it is.
+module _ (w : World) (L : LocalMap) (a : Walker) (pos : ℕ) (s : Name) (rest : List Name) where
+  -- the walk, where this type stands
+  abbrev at_type : Option (Item ModuleDefId ImportOrExternCrate) → ResolvePathResult
+  at_type o = walk (tree_of w) (standing (record a { types = o })) pos (map (read w L) (s ∷ rest))
 
-by_move-looking : (t : Tree) (a : Stand) (pos : ℕ) (S : List Reading) (mv : Move) → by_move t a pos S (moves_looking (is_empty S) mv) ≡ by_move t a pos S mv
-by_move-looking t a pos S (Go b) = walk-looking t b (pos + 1) S
-by_move-looking t a pos S (End r) = refl
+  -- the walk, where the type is this module, or none
+  abbrev at_module : Item ModuleDefId ImportOrExternCrate → Option ModuleId → ResolvePathResult
+  at_module i o = elim o [
+    | Some m ↦ walk (tree_of w) (through (tree_of w) (standing a) m (read w L s)) (pos + 1) (map (read w L) rest)
+    | None ↦ marked a.differing (left_at i pos (read w L s) (is_empty (map (read w L) rest)) i.def)
+  ]
 
--- one step of a walk along names
-pub walk-names : (w : World) (L : LocalMap) (a : Stand) (pos : ℕ) (n : Name) (after rest : List Name) (b : Bool) (mv : Move)
-    → rest ≡ n ∷ after → b ≡ nat_eq (length after) 0 → mv ≡ moves_looking b (move (tree_of w) a pos (read w L n) b)
-    → walk (tree_of w) a pos (map (read w L) rest) ≡ by_move (tree_of w) a pos (map (read w L) after) mv
-walk-names w L a pos n after rest b mv e is m =
+  pub walk-nowhere : a.types ≡ None → walk (tree_of w) (standing a) pos (map (read w L) (s ∷ rest)) ≡ marked a.differing nothing_no
+  walk-nowhere is = ap at_type is
+
+  pub walk-leaves : (i : Item ModuleDefId ImportOrExternCrate) → a.types ≡ Some i → module_in i.def ≡ None
+      → walk (tree_of w) (standing a) pos (map (read w L) (s ∷ rest)) ≡ marked a.differing (left_at i pos (read w L s) (is_empty (map (read w L) rest)) i.def)
+  walk-leaves i is d = ap at_type is ∙ ap (at_module i) d
+
+  pub walk-goes : (i : Item ModuleDefId ImportOrExternCrate) (m : ModuleId) → a.types ≡ Some i → module_in i.def ≡ Some m
+      → walk (tree_of w) (standing a) pos (map (read w L) (s ∷ rest)) ≡ walk (tree_of w) (through (tree_of w) (standing a) m (read w L s)) (pos + 1) (map (read w L) rest)
+  walk-goes i m is d = ap at_type is ∙ ap (at_module i) d
+
+-- where segments are left, a walk goes on by the type alone
+pub walk-on : (w : World) (L : LocalMap) (a : Walker) (pos : ℕ) (s n : Name) (after rest : List Name) (i : Item ModuleDefId ImportOrExternCrate) (m : ModuleId) (b : Walker)
+    → rest ≡ n ∷ after → a.types ≡ Some i → module_in i.def ≡ Some m → b ≡ walker (through (tree_of w) (standing a) m (read w L s))
+    → walk (tree_of w) (standing b) (pos + 1) (map (read w L) (n ∷ after)) ≡ walk (tree_of w) (standing a) pos (map (read w L) (s ∷ rest))
+walk-on w L a pos s n after rest i m b e is d v =
     let t = tree_of w in
-    let s = read w L n in
-    let S = map (read w L) after in
-    ap (λ ns. walk t a pos (map (read w L) ns)) e
-    ∙ sym (by_move-looking t a pos S (move t a pos s (is_empty S)))
-    ∙ ap (λ c. by_move t a pos S (moves_looking c (move t a pos s c))) (empty-map (read w L) after ∙ sym is)
-    ∙ ap (by_move t a pos S) (sym m)
+    ap (λ z. walk t (standing z) (pos + 1) (map (read w L) (n ∷ after))) v
+    ∙ ap (λ ns. walk t (through t (standing a) m (read w L s)) (pos + 1) (map (read w L) ns)) (sym e)
+    ∙ sym (walk-goes w L a pos s rest i m is d)

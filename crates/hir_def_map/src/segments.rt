@@ -1,5 +1,5 @@
 //! The segments of a path after the first, one after another.
-ghost use Rattle.std.specs.Prelude.{◌≡◌, ◌+◌, ◌≤◌, Bool, false, Some, IfSome, map, length};
+ghost use Rattle.std.specs.Prelude.{◌≡◌, ◌≤◌, [], ◌∷◌, map};
 ghost use Rattle.std.specs.Option.{ForSome};
 ghost use Rattle.dm_base.specs.PerNs.{keep, seen_by};
 ghost use Rattle.dm_base.specs.Tree.{IsKnown, sees};
@@ -12,7 +12,7 @@ ghost use Rattle.dm_modules.specs.Maps.{LocalMap};
 ghost use Rattle.dm_maps.specs.Readings.{read};
 ghost use Rattle.dm_maps.specs.Trees.{tree_of};
 ghost use Rattle.hir_def_map.specs.Paths.{at_adt};
-ghost use Rattle.hir_def_map.specs.Walk.{through, move, walk, looked_at, looking, moves_looking, GoesKnown};
+ghost use Rattle.hir_def_map.specs.Walk.{in_types, standing, starting, walker, entry, through, module_in, left_at, walk};
 
 use crate::answers::{marked, nothing_no, reached, stopped, variant_answer};
 use crate::result::ResolvePathResult;
@@ -23,19 +23,21 @@ use dm_base::name::Name;
 use dm_base::per_ns::{Item, PerNs, TypesItem};
 use dm_maps::world::World;
 
-/// Where a walk along the segments stands: whether it has come into another crate, from where it sees, what it has reached.
+/// Where a walk along the segments stands while some are left: whether it has come into another crate, from where it sees, and what
+/// it has reached as a type, which is all that a path goes on by.
 #[derive(Clone, Copy)]
-pub(crate) struct Stand {
-    pub(crate) differing: bool,
-    pub(crate) origin: ModuleId,
-    pub(crate) here: PerNs,
+pub(crate) struct Walker {
+    differing: bool,
+    origin: ModuleId,
+    types: Option<TypesItem>,
 }
 
-/// What a walk does at a segment.
+/// A module that a walk goes into: whether it lies in another crate than the walk began in, from where it is seen, and which it is.
 #[derive(Clone, Copy)]
-pub(crate) enum Move {
-    Go(Stand),
-    End(ResolvePathResult),
+pub(crate) struct Entered {
+    differing: bool,
+    origin: ModuleId,
+    asked: ModuleId,
 }
 
 /// The item, if `from` sees it.
@@ -73,51 +75,52 @@ pub(crate) fn seen_in(world: &World, from: ModuleId, m: ModuleId, segment: &Name
 }
 
 /// What a module's scope binds as a type under a segment, kept if `from` sees it: one look-up.
-fn seen_type_in(world: &World, from: ModuleId, m: ModuleId, segment: &Name) -> PerNs
-    requires { IsKnown (tree_of world.now) from }
-    ensures value { result ≡ looked_at false (seen_by (λ v. sees (tree_of world.now) v from) (bound_in (scope_of world.now m) segment.now)) }
-    ensures known { KnowsAll world.now (res_holds result) }
+fn seen_type_in(world: &World, from: ModuleId, m: ModuleId, segment: &Name) -> Option<TypesItem>
+    requires from { IsKnown (tree_of world.now) from }
+    ensures value { result ≡ (seen_by (λ v. sees (tree_of world.now) v from) (bound_in (scope_of world.now m) segment.now)).types }
+    ensures known { KnowsAll world.now (res_holds (in_types result)) }
 {
-    PerNs {
-        types: seen_item(world, from, world.type_in(m, segment)),
-        values: None,
-        macros: None,
-    }
+    seen_item(world, from, world.type_in(m, segment))
 }
 
-/// As much of it as a path looks at.
-fn looked_at(world: &World, from: ModuleId, m: ModuleId, segment: &Name, is_last: bool) -> PerNs
-    requires { IsKnown (tree_of world.now) from }
-    ensures value { result ≡ looked_at is_last (seen_by (λ v. sees (tree_of world.now) v from) (bound_in (scope_of world.now m) segment.now)) }
-    ensures known { KnowsAll world.now (res_holds result) }
-{
-    if is_last {
-        seen_in(world, from, m, segment)
-    } else {
-        seen_type_in(world, from, m, segment)
-    }
-}
-
-/// Through a module and a segment. A module of another crate is entered at the nearest module that is no block's root.
-#[tactic(auto, unfolding(dm_maps::specs::Readings::read))]
-fn through(world: &World, at: Stand, m: ModuleId, segment: &Name, is_last: bool) -> Stand
+/// Into a module: one of another crate is entered at the nearest module that is no block's root.
+#[inline(always)]
+fn entry(world: &World, at: Walker, m: ModuleId) -> Entered
     requires origin { IsKnown (tree_of world.now) at.origin }
     requires module_known { IsKnown (tree_of world.now) m }
-    ensures value { (L : LocalMap) → result ≡ looking is_last (through (tree_of world.now) at m (read world.now L segment.now)) }
+    ensures value { result ≡ entry (tree_of world.now) (standing at) m }
     ensures origin { IsKnown (tree_of world.now) result.origin }
-    ensures known { KnowsAll world.now (res_holds result.here) }
 {
     if world.krate(m) == world.krate(at.origin) {
-        return Stand {
-            here: looked_at(world, at.origin, m, segment, is_last),
-            ..at
+        return Entered {
+            differing: at.differing,
+            origin: at.origin,
+            asked: m,
         };
     }
     let inside = world.home(m);
-    Stand {
+    Entered {
         differing: true,
         origin: inside,
-        here: looked_at(world, inside, inside, segment, is_last),
+        asked: inside,
+    }
+}
+
+/// Through a module and a segment that is not the last.
+#[tactic(auto, unfolding(dm_maps::specs::Readings::read))]
+#[inline(always)]
+fn through(world: &World, at: Walker, m: ModuleId, segment: &Name) -> Walker
+    requires origin { IsKnown (tree_of world.now) at.origin }
+    requires module_known { IsKnown (tree_of world.now) m }
+    ensures value { (L : LocalMap) → result ≡ walker (through (tree_of world.now) (standing at) m (read world.now L segment.now)) }
+    ensures origin { IsKnown (tree_of world.now) result.origin }
+    ensures known { KnowsAll world.now (res_holds (in_types result.types)) }
+{
+    let into = entry(world, at, m);
+    Walker {
+        differing: into.differing,
+        origin: into.origin,
+        types: seen_type_in(world, into.origin, into.asked, segment),
     }
 }
 
@@ -148,48 +151,90 @@ fn at_adt(
     }
 }
 
-/// What a walk does at a segment.
-#[tactic(auto, unfolding(dm_maps::specs::Readings::read))]
-fn move_on(world: &World, at: Stand, position: usize, segment: &Name, is_last: bool) -> Move
-    requires origin { IsKnown (tree_of world.now) at.origin }
-    requires known { KnowsAll world.now (res_holds at.here) }
-    ensures value { (L : LocalMap) → result ≡ moves_looking is_last (move (tree_of world.now) at position (read world.now L segment.now) is_last) }
-    ensures goes { GoesKnown world.now result }
+/// The module that a type is, if it is one.
+#[inline(always)]
+fn module_in(item: TypesItem) -> Option<ModuleId>
+    ensures { result ≡ module_in item.def }
 {
-    let Some(item) = at.here.types else {
-        return Move::End(nothing_no());
-    };
     match item.def {
-        ModuleDefId::ModuleId(m) => Move::Go(through(world, at, m, segment, is_last)),
-        ModuleDefId::AdtId(adt) => Move::End(at_adt(world, item, position, segment, is_last, adt)),
-        _ => Move::End(stopped(item, position)),
+        ModuleDefId::ModuleId(m) => Some(m),
+        _ => None,
     }
 }
 
-/// The answer of a walk along the segments, where `position` segments are behind it.
+/// The answer where a type stands that is no module, and segments are left.
+#[tactic(auto, unfolding(dm_maps::specs::Readings::read))]
+fn left_at(
+    world: &World,
+    item: TypesItem,
+    position: usize,
+    segment: &Name,
+    is_last: bool,
+) -> ResolvePathResult
+    requires { KnowsAll world.now (type_holds item) }
+    ensures value { (L : LocalMap) → result ≡ left_at item position (read world.now L segment.now) is_last item.def }
+    ensures known { KnowsAll world.now (res_holds result.resolved_def) }
+{
+    match item.def {
+        ModuleDefId::AdtId(adt) => at_adt(world, item, position, segment, is_last, adt),
+        _ => stopped(item, position),
+    }
+}
+
+/// The answer of a walk at its last segment.
+#[tactic(auto, unfolding(dm_maps::specs::Readings::read))]
+fn last_answer(world: &World, at: Walker, position: usize, segment: &Name) -> ResolvePathResult
+    requires origin { IsKnown (tree_of world.now) at.origin }
+    requires known { KnowsAll world.now (res_holds (in_types at.types)) }
+    ensures value { (L : LocalMap) → result ≡ walk (tree_of world.now) (standing at) position (read world.now L segment.now ∷ []) }
+    ensures known { KnowsAll world.now (res_holds result.resolved_def) }
+{
+    let Some(item) = at.types else {
+        return marked(at.differing, nothing_no());
+    };
+    let Some(m) = module_in(item) else {
+        return marked(at.differing, left_at(world, item, position, segment, true));
+    };
+    let into = entry(world, at, m);
+    let found = seen_in(world, into.origin, into.asked, segment);
+    marked(into.differing, reached(found))
+}
+
+/// The answer of a walk along the segments, where `position` segments are behind it and `here` is reached, seen from a module.
 #[tactic(auto, unfolding(dm_maps::specs::Readings::read))]
 pub(crate) fn walk(
     world: &World,
-    from: Stand,
+    from: ModuleId,
+    here: &PerNs,
     position: usize,
     segments: &[Name],
 ) -> ResolvePathResult
-    requires origin { IsKnown (tree_of world.now) from.origin }
-    requires known { KnowsAll world.now (res_holds from.here) }
+    requires origin { IsKnown (tree_of world.now) from }
+    requires known { KnowsAll world.now (res_holds here.now) }
     requires position { position ≤ 1 }
-    ensures value { (L : LocalMap) → result ≡ walk (tree_of world.now) from position (map (read world.now L) segments.now) }
+    ensures value { (L : LocalMap) → result ≡ walk (tree_of world.now) (starting from here.now) position (map (read world.now L) segments.now) }
     ensures known { KnowsAll world.now (res_holds result.resolved_def) }
 {
-    let mut at = from;
-    let mut passed = position;
-    let mut rest = segments;
-    'segments: while let Some((segment, after)) = rest.split_first() {
-        match move_on(world, at, passed, segment, after.is_empty()) {
-            Move::Go(next) => at = next,
-            Move::End(result) => return marked(at.differing, result),
-        }
+    let Some((first, others)) = segments.split_first() else {
+        return reached(*here);
+    };
+    let mut at = Walker {
+        differing: false,
+        origin: from,
+        types: here.types,
+    };
+    let (mut segment, mut rest, mut passed) = (first, others, position);
+    'segments: while let Some((next, after)) = rest.split_first() {
+        let Some(item) = at.types else {
+            return marked(at.differing, nothing_no());
+        };
+        let Some(m) = module_in(item) else {
+            return marked(at.differing, left_at(world, item, passed, segment, false));
+        };
+        at = through(world, at, m, segment);
         passed += 1;
+        segment = next;
         rest = after;
     }
-    marked(at.differing, reached(at.here))
+    last_answer(world, at, passed, segment)
 }

@@ -14,7 +14,7 @@ use crate::first_segment::{is_missed, layers};
 use crate::place::Place;
 use crate::question::Ask;
 use crate::result::ResolvePathResult;
-use crate::segments::{Stand, walk};
+use crate::segments::walk;
 use dm_base::ids::{Crate, ModuleId};
 use dm_base::item_ids::ModuleDefId;
 use dm_base::mod_path::PathKind;
@@ -39,12 +39,7 @@ fn answer_from(
     ensures value { (L : LocalMap) → result ≡ stop (enter (tree_of world.now)) (tree_of world.now) from here position (map (read world.now L) segments.now) }
     ensures known { KnowsAll world.now (res_holds result.resolved_def) }
 {
-    let stand = Stand {
-        differing: false,
-        origin: from,
-        here,
-    };
-    walk(world, stand, position, segments)
+    walk(world, from, &here, position, segments)
 }
 
 /// A module, as what a path has reached.

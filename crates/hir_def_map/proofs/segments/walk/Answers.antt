@@ -1,51 +1,56 @@
-use Rattle.std.proofs.Common.{ap, sym, subst, ◌∙◌, map, arith}
+use Rattle.std.proofs.Common.{ap, sym, subst, ◌∙◌, ◌∷◌, map, arith}
+use Rattle.std.proofs.lemmas.List.{nil_from_length}
 use Rattle.dm_held.specs.Holding.{res_holds}
 use Rattle.dm_maps.specs.Known.{KnowsAll}
 use Rattle.dm_maps.specs.Readings.{read}
 use Rattle.dm_maps.specs.Trees.{tree_of}
 use Rattle.hir_def_map.specs.declared.result.ResolvePathResult.{ResolvePathResult}
-use Rattle.hir_def_map.specs.declared.segments.Move.{Move}
-use Rattle.hir_def_map.specs.Walk.{GoesKnown}
-use Rattle.hir_def_map.proofs.KnownLemmas.{marked-known}
-use Rattle.hir_def_map.proofs.WalkLemmas.{walk-names, by_move}
+use Rattle.hir_def_map.specs.Paths.{is_empty}
+use Rattle.hir_def_map.specs.Walk.{in_types, marked, left_at, standing, walk}
+use Rattle.hir_def_map.proofs.KnownLemmas.{marked-known, module_in-known}
+use Rattle.hir_def_map.proofs.WalkLemmas.{walk-leaves, walk-on}
 use Rattle.hir_def_map.proofs.segments.walk.Goals as goal
 
-pub returns-in-End-clause-value : goal.returns-in-End-clause-value
-returns-in-End-clause-value c = λ L.
+pub through-at-requires-clause-module_known : goal.through-at-requires-clause-module_known
+through-at-requires-clause-module_known c = module_in-known c.args.world.now (in_types c.segments.at.types) c.segments.invariant.known c.in-Some-types.item c.in-Some-module_in.m c.in-Some-types.is (sym c.module_in.ensures ∙ c.in-Some-module_in.is)
+
+pub returns-in_default-module_in-clause-value : goal.returns-in_default-module_in-clause-value
+returns-in_default-module_in-clause-value c = λ L.
     let w = c.args.world.now in
-    c.marked.ensures
-    ∙ ap (by_move (tree_of w) c.segments.at c.segments.passed (map (read w L) c.in-Some.after.now)) (sym c.in-End.is)
-    ∙ sym (walk-names w L c.segments.at c.segments.passed c.in-Some.segment.now c.in-Some.after.now c.segments.rest.now c.is_empty.result c.move_on.result c.in-Some.ensures.cases.0 c.is_empty.ensures (c.move_on.ensures.value L))
+    let i = c.in-Some-types.item in
+    let s = c.segments.segment.now in
+    c.marked-in_default-module_in.ensures
+    ∙ ap (marked c.segments.at.differing)
+    (c.left_at.ensures.value L ∙ ap (λ ns. left_at i c.segments.passed (read w L s) (is_empty (map (read w L) ns)) i.def) (sym c.in-Some-split_first.ensures.cases.0))
+    ∙ sym (walk-leaves w L c.segments.at c.segments.passed s c.segments.rest.now i c.in-Some-types.is (sym c.module_in.ensures ∙ c.in_default-module_in.is))
     ∙ c.segments.invariant.same L
+
+pub returns-in_default-module_in-clause-known : goal.returns-in_default-module_in-clause-known
+returns-in_default-module_in-clause-known c =
+    let P : ResolvePathResult → Type 0 = λ r. KnowsAll c.args.world.now (res_holds r.resolved_def) in
+    subst P (sym c.marked-in_default-module_in.ensures) (marked-known c.args.world.now c.segments.at.differing c.left_at.result c.left_at.ensures.known)
 
 pub segments-preserved : goal.segments-preserved
 segments-preserved c =
     let w = c.args.world.now in
-    let goes : GoesKnown w c.move_on.result = c.move_on.ensures.goes in
-    let P : Move → Type 0 = λ mv. GoesKnown w mv in
-    let known = subst P c.in-Go.is goes in
-    let shorter = c.in-Some.ensures.cases.1 in
+    let next = c.in-Some-split_first.next.now in
+    let after = c.in-Some-split_first.after.now in
+    let cases = c.in-Some-split_first.ensures.cases in
+    let shorter = cases.1 in
     let before = c.segments.invariant.counted in
     record {
-      origin = known.0;
-      known = known.1;
+      origin = c.through-at.ensures.origin;
+      known = c.through-at.ensures.known;
       counted = omega arith;
       same = λ L.
-          ap (by_move (tree_of w) c.segments.at c.segments.passed (map (read w L) c.in-Some.after.now)) (sym c.in-Go.is)
-          ∙ sym (walk-names w L c.segments.at c.segments.passed c.in-Some.segment.now c.in-Some.after.now c.segments.rest.now c.is_empty.result c.move_on.result c.in-Some.ensures.cases.0 c.is_empty.ensures (c.move_on.ensures.value L))
+          walk-on w L c.segments.at c.segments.passed c.segments.segment.now next after c.segments.rest.now c.in-Some-types.item c.in-Some-module_in.m c.through-at.result cases.0 c.in-Some-types.is (sym c.module_in.ensures ∙ c.in-Some-module_in.is) (c.through-at.ensures.value L)
           ∙ c.segments.invariant.same L;
     }
 
-pub returns-in-End-clause-known : goal.returns-in-End-clause-known
-returns-in-End-clause-known c =
+pub returns-clause-value : goal.returns-clause-value
+returns-clause-value c = λ L.
     let w = c.args.world.now in
-    let P : ResolvePathResult → Type 0 = λ r. KnowsAll w (res_holds r.resolved_def) in
-    let ends : Move → Type 0 = λ mv. GoesKnown w mv in
-    let goes : GoesKnown w c.move_on.result = c.move_on.ensures.goes in
-    subst P (sym c.marked.ensures) (marked-known w c.segments.at.differing c.in-End.result (subst ends c.in-End.is goes))
-
-pub returns-clause-known : goal.returns-clause-known
-returns-clause-known c =
-    let w = c.args.world.now in
-    let P : ResolvePathResult → Type 0 = λ r. KnowsAll w (res_holds r.resolved_def) in
-    subst P (sym c.marked-2.ensures) (marked-known w c.segments.at.differing c.reached.result (subst P (sym c.reached.ensures) c.segments.invariant.known))
+    let ended = nil_from_length c.segments.rest.now c.in_default-split_first.ensures.cases in
+    c.last_answer.ensures.value L
+    ∙ ap (λ ns. walk (tree_of w) (standing c.segments.at) c.segments.passed (map (read w L) (c.segments.segment.now ∷ ns))) (sym ended)
+    ∙ c.segments.invariant.same L

@@ -1,19 +1,19 @@
-use Rattle.std.proofs.Common.{◌≡◌, ◌+◌, map, length}
+use Rattle.std.proofs.Common.{◌≡◌, ◌+◌, ◌∷◌, suc, map, length}
 use Rattle.dm_base.specs.Tree.{IsKnown}
 use Rattle.dm_maps.specs.Known.{KnowsAll}
 use Rattle.dm_held.specs.Holding.{res_holds}
 use Rattle.dm_modules.specs.Maps.{LocalMap}
 use Rattle.dm_maps.specs.Readings.{read}
 use Rattle.dm_maps.specs.Trees.{tree_of}
-use Rattle.hir_def_map.specs.Walk.{walk}
+use Rattle.hir_def_map.specs.Walk.{in_types, standing, starting, walk}
 use Rattle.hir_def_map.proofs.segments.walk.Given as goal
 
 abbrev pub invariant-segments : goal.invariant-segments
 invariant-segments l = record {
   origin : IsKnown (tree_of l.world) l.at.origin;
-  known : KnowsAll l.world (res_holds l.at.here);
-  counted : l.passed + length l.rest ≡ l.fn.position + length l.fn.segments;
-  same : (L : LocalMap) → walk (tree_of l.world) l.at l.passed (map (read l.world L) l.rest) ≡ walk (tree_of l.world) l.fn.from l.fn.position (map (read l.world L) l.fn.segments);
+  known : KnowsAll l.world (res_holds (in_types l.at.types));
+  counted : l.passed + suc (length l.rest) ≡ l.fn.position + length l.fn.segments;
+  same : (L : LocalMap) → walk (tree_of l.world) (standing l.at) l.passed (map (read l.world L) (l.segment ∷ l.rest)) ≡ walk (tree_of l.world) (starting l.fn.from l.fn.here) l.fn.position (map (read l.world L) l.fn.segments);
 }
 
 abbrev pub decreases-segments : goal.decreases-segments
