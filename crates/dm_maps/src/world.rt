@@ -131,12 +131,12 @@ impl World {
     }
 
     /// What a module's scope binds under a name as a type; nothing where there is no such module. One look-up.
-    pub fn type_in(&self, m: ModuleId, name: &Name) -> Option<TypesItem>
-        ensures value { result ≡ (bound_in (scope_of self.now m) name.now).types }
+    pub fn type_in(&self, m: ModuleId, name: &Name) -> Option<&TypesItem>
+        ensures value { option_copied result ≡ (bound_in (scope_of self.now m) name.now).types }
 
         // All that the scope binds under the name is the world's.
         ensures known { KnowsAll self.now (res_holds (bound_in (scope_of self.now m) name.now)) }
     {
-        self.tables.type_in(m, name).copied()
+        self.tables.type_in(m, name)
     }
 }

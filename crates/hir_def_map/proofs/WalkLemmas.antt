@@ -20,10 +20,9 @@ use Rattle.dm_maps.specs.Trees.{tree_of}
 use Rattle.dm_maps.specs.World.{World}
 use Rattle.hir_def_map.specs.declared.result.ResolvePathResult.{ResolvePathResult}
 use Rattle.hir_def_map.specs.declared.segments.Entered.{Entered}
-use Rattle.hir_def_map.specs.declared.segments.Walker.{Walker}
 use Rattle.hir_def_map.specs.Answers.{from_other_crate, nothing_no}
 use Rattle.hir_def_map.specs.Paths.{Entering, is_empty, at_variant, stop, seen_in, root_item, enter, enter_within}
-use Rattle.hir_def_map.specs.Walk.{Stand, marked, standing, walker, module_in, left_at, through, walk}
+use Rattle.hir_def_map.specs.Walk.{Stand, marked, standing, entry, module_in, left_at, through, walk}
 use Rattle.hir_def_map.proofs.StopLemmas.{stop-through, stop-here, own_crate, stop-enters}
 
 add_twice : (k p : ℕ) (o : Option ℕ) → option_map (λ i. i + p) (option_map (λ i. i + k) o) ≡ option_map (λ i. i + (k + p)) o
@@ -136,35 +135,36 @@ empty-map f [] = refl
 empty-map f (x ∷ xs) = elim (eqb_tells (suc (length xs)) 0) [ inl h ↦ (let e : suc (length xs) ≡ 0 = h.1 in absurd (omega arith)) | inr h ↦ sym h.0 ]
 
 -- A walk along names, by the type that stands where it is.
-module _ (w : World) (L : LocalMap) (a : Walker) (pos : ℕ) (s : Name) (rest : List Name) where
+module _ (w : World) (L : LocalMap) (d : Bool) (f : ModuleId) (o : Option (Item ModuleDefId ImportOrExternCrate)) (pos : ℕ) (s : Name) (rest : List Name) where
   -- the walk, where this type stands
   abbrev at_type : Option (Item ModuleDefId ImportOrExternCrate) → ResolvePathResult
-  at_type o = walk (tree_of w) (standing (record a { types = o })) pos (map (read w L) (s ∷ rest))
+  at_type x = walk (tree_of w) (standing d f x) pos (map (read w L) (s ∷ rest))
 
   -- the walk, where the type is this module, or none
   abbrev at_module : Item ModuleDefId ImportOrExternCrate → Option ModuleId → ResolvePathResult
-  at_module i o = elim o [
-    | Some m ↦ walk (tree_of w) (through (tree_of w) (standing a) m (read w L s)) (pos + 1) (map (read w L) rest)
-    | None ↦ marked a.differing (left_at i pos (read w L s) (is_empty (map (read w L) rest)) i.def)
+  at_module i x = elim x [
+    | Some m ↦ walk (tree_of w) (through (tree_of w) (standing d f o) m (read w L s)) (pos + 1) (map (read w L) rest)
+    | None ↦ marked d (left_at i pos (read w L s) (is_empty (map (read w L) rest)) i.def)
   ]
 
-  pub walk-nowhere : a.types ≡ None → walk (tree_of w) (standing a) pos (map (read w L) (s ∷ rest)) ≡ marked a.differing nothing_no
+  pub walk-nowhere : o ≡ None → walk (tree_of w) (standing d f o) pos (map (read w L) (s ∷ rest)) ≡ marked d nothing_no
   walk-nowhere is = ap at_type is
 
-  pub walk-leaves : (i : Item ModuleDefId ImportOrExternCrate) → a.types ≡ Some i → module_in i.def ≡ None
-      → walk (tree_of w) (standing a) pos (map (read w L) (s ∷ rest)) ≡ marked a.differing (left_at i pos (read w L s) (is_empty (map (read w L) rest)) i.def)
-  walk-leaves i is d = ap at_type is ∙ ap (at_module i) d
+  pub walk-leaves : (i : Item ModuleDefId ImportOrExternCrate) → o ≡ Some i → module_in i.def ≡ None
+      → walk (tree_of w) (standing d f o) pos (map (read w L) (s ∷ rest)) ≡ marked d (left_at i pos (read w L s) (is_empty (map (read w L) rest)) i.def)
+  walk-leaves i is none = ap at_type is ∙ ap (at_module i) none
 
-  pub walk-goes : (i : Item ModuleDefId ImportOrExternCrate) (m : ModuleId) → a.types ≡ Some i → module_in i.def ≡ Some m
-      → walk (tree_of w) (standing a) pos (map (read w L) (s ∷ rest)) ≡ walk (tree_of w) (through (tree_of w) (standing a) m (read w L s)) (pos + 1) (map (read w L) rest)
-  walk-goes i m is d = ap at_type is ∙ ap (at_module i) d
+  pub walk-goes : (i : Item ModuleDefId ImportOrExternCrate) (m : ModuleId) → o ≡ Some i → module_in i.def ≡ Some m
+      → walk (tree_of w) (standing d f o) pos (map (read w L) (s ∷ rest)) ≡ walk (tree_of w) (through (tree_of w) (standing d f o) m (read w L s)) (pos + 1) (map (read w L) rest)
+  walk-goes i m is some = ap at_type is ∙ ap (at_module i) some
 
 -- where segments are left, a walk goes on by the type alone
-pub walk-on : (w : World) (L : LocalMap) (a : Walker) (pos : ℕ) (s n : Name) (after rest : List Name) (i : Item ModuleDefId ImportOrExternCrate) (m : ModuleId) (b : Walker)
-    → rest ≡ n ∷ after → a.types ≡ Some i → module_in i.def ≡ Some m → b ≡ walker (through (tree_of w) (standing a) m (read w L s))
-    → walk (tree_of w) (standing b) (pos + 1) (map (read w L) (n ∷ after)) ≡ walk (tree_of w) (standing a) pos (map (read w L) (s ∷ rest))
-walk-on w L a pos s n after rest i m b e is d v =
+pub walk-on : (w : World) (L : LocalMap) (d : Bool) (f : ModuleId) (o : Option (Item ModuleDefId ImportOrExternCrate)) (pos : ℕ) (s n : Name) (after rest : List Name) (i : Item ModuleDefId ImportOrExternCrate) (m : ModuleId) (e : Entered) (x : Option (Item ModuleDefId ImportOrExternCrate))
+    → rest ≡ n ∷ after → o ≡ Some i → module_in i.def ≡ Some m → e ≡ entry (tree_of w) d f m → x ≡ (seen_in (tree_of w) e.origin (read w L s) e.asked).types
+    → walk (tree_of w) (standing e.differing e.origin x) (pos + 1) (map (read w L) (n ∷ after)) ≡ walk (tree_of w) (standing d f o) pos (map (read w L) (s ∷ rest))
+walk-on w L d f o pos s n after rest i m e x more is some into seen =
     let t = tree_of w in
-    ap (λ z. walk t (standing z) (pos + 1) (map (read w L) (n ∷ after))) v
-    ∙ ap (λ ns. walk t (through t (standing a) m (read w L s)) (pos + 1) (map (read w L) ns)) (sym e)
-    ∙ sym (walk-goes w L a pos s rest i m is d)
+    ap (λ z. walk t (standing e.differing e.origin z) (pos + 1) (map (read w L) (n ∷ after))) seen
+    ∙ ap (λ g. walk t (standing g.differing g.origin (seen_in t g.origin (read w L s) g.asked).types) (pos + 1) (map (read w L) (n ∷ after))) into
+    ∙ ap (λ ns. walk t (through t (standing d f o) m (read w L s)) (pos + 1) (map (read w L) ns)) (sym more)
+    ∙ sym (walk-goes w L d f o pos s rest i m is some)

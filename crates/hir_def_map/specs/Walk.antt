@@ -11,7 +11,6 @@ use Rattle.dm_maps.specs.Readings.{Reading}
 use Rattle.hir_def_map.specs.declared.result.ReachedFixedPoint.TheVariants.{Yes}
 use Rattle.hir_def_map.specs.declared.result.ResolvePathResult.{ResolvePathResult}
 use Rattle.hir_def_map.specs.declared.segments.Entered.{Entered}
-use Rattle.hir_def_map.specs.declared.segments.Walker.{Walker}
 use Rattle.hir_def_map.specs.Answers.{reached, nothing_no, stopped}
 use Rattle.hir_def_map.specs.Paths.{seen_in, at_adt, is_empty}
 
@@ -34,22 +33,19 @@ abbrev pub in_types : Option (Item ModuleDefId ImportOrExternCrate) → PerNs
 in_types x = record { types = x; values = None; macros = None }
 
 -- A path goes on by what it has reached as a type alone: where a walk stands while segments are left.
-abbrev pub walker : Stand → Walker
-walker a = record { differing = a.differing; origin = a.origin; types = a.here.types }
+abbrev pub standing : Bool → ModuleId → Option (Item ModuleDefId ImportOrExternCrate) → Stand
+standing d f x = record { differing = d; origin = f; here = in_types x }
 
-abbrev pub standing : Walker → Stand
-standing a = record { differing = a.differing; origin = a.origin; here = in_types a.types }
-
--- Into a module: one of another crate is entered at the nearest module that is no block's root, which sees from then on.
-abbrev pub entry : Tree → Stand → ModuleId → Entered
-entry t a m =
-    if same_crate (crate_of t m) (crate_of t a.origin)
-    then record { differing = a.differing; origin = a.origin; asked = m }
+-- Into a module from a module: one of another crate is entered at the nearest module that is no block's root, which sees from then on.
+abbrev pub entry : Tree → Bool → ModuleId → ModuleId → Entered
+entry t d f m =
+    if same_crate (crate_of t m) (crate_of t f)
+    then record { differing = d; origin = f; asked = m }
     else record { differing = true; origin = home t m; asked = home t m }
 
 -- through a module and a segment
 abbrev pub through : Tree → Stand → ModuleId → Reading → Stand
-through t a m s = let e = entry t a m in record { differing = e.differing; origin = e.origin; here = seen_in t e.origin s e.asked }
+through t a m s = let e = entry t a.differing a.origin m in record { differing = e.differing; origin = e.origin; here = seen_in t e.origin s e.asked }
 
 abbrev pub module_in : ModuleDefId → Option ModuleId
 module_in (def.ModuleId m) = Some m

@@ -1,6 +1,6 @@
 //! The segments of a path after the first, one after another.
 ghost use Rattle.std.specs.Prelude.{◌≡◌, ◌≤◌, [], ◌∷◌, map};
-ghost use Rattle.std.specs.Option.{ForSome};
+ghost use Rattle.std.specs.Option.{ForSome, option_copied};
 ghost use Rattle.dm_base.specs.PerNs.{keep, seen_by};
 ghost use Rattle.dm_base.specs.Tree.{IsKnown, sees};
 ghost use Rattle.dm_base.specs.Visibility.{NamesKnown};
@@ -12,7 +12,7 @@ ghost use Rattle.dm_modules.specs.Maps.{LocalMap};
 ghost use Rattle.dm_maps.specs.Readings.{read};
 ghost use Rattle.dm_maps.specs.Trees.{tree_of};
 ghost use Rattle.hir_def_map.specs.Paths.{at_adt};
-ghost use Rattle.hir_def_map.specs.Walk.{in_types, standing, starting, walker, entry, through, module_in, left_at, walk};
+ghost use Rattle.hir_def_map.specs.Walk.{in_types, standing, starting, entry, module_in, left_at, walk};
 
 use crate::answers::{marked, nothing_no, reached, stopped, variant_answer};
 use crate::result::ResolvePathResult;
@@ -22,15 +22,6 @@ use dm_base::module_tree::ModuleTree;
 use dm_base::name::Name;
 use dm_base::per_ns::{Item, PerNs, TypesItem};
 use dm_maps::world::World;
-
-/// Where a walk along the segments stands while some are left: whether it has come into another crate, from where it sees, and what
-/// it has reached as a type, which is all that a path goes on by.
-#[derive(Clone, Copy)]
-pub(crate) struct Walker {
-    differing: bool,
-    origin: ModuleId,
-    types: Option<TypesItem>,
-}
 
 /// A module that a walk goes into: whether it lies in another crate than the walk began in, from where it is seen, and which it is.
 #[derive(Clone, Copy)]
@@ -74,27 +65,52 @@ pub(crate) fn seen_in(world: &World, from: ModuleId, m: ModuleId, segment: &Name
     }
 }
 
-/// What a module's scope binds as a type under a segment, kept if `from` sees it: one look-up.
-fn seen_type_in(world: &World, from: ModuleId, m: ModuleId, segment: &Name) -> Option<TypesItem>
+/// The type, if `from` sees it.
+fn seen_type<'a>(
+    world: &World,
+    from: ModuleId,
+    item: Option<&'a TypesItem>,
+) -> Option<&'a TypesItem>
     requires from { IsKnown (tree_of world.now) from }
-    ensures value { result ≡ (seen_by (λ v. sees (tree_of world.now) v from) (bound_in (scope_of world.now m) segment.now)).types }
-    ensures known { KnowsAll world.now (res_holds (in_types result)) }
+    requires named { ForSome (option_copied item) (λ i. NamesKnown (tree_of world.now) i.vis) }
+    ensures { option_copied result ≡ keep (λ i. sees (tree_of world.now) i.vis from) (option_copied item.entry) }
 {
-    seen_item(world, from, world.type_in(m, segment))
+    match item {
+        None => None,
+        Some(i) => if i.vis.is_visible_from(world, from) {
+            Some(i)
+        } else {
+            None
+        },
+    }
+}
+
+/// What a module's scope binds as a type under a segment, kept if `from` sees it: one look-up, and no copy.
+fn seen_type_in<'a>(
+    world: &'a World,
+    from: ModuleId,
+    m: ModuleId,
+    segment: &Name,
+) -> Option<&'a TypesItem>
+    requires from { IsKnown (tree_of world.now) from }
+    ensures value { option_copied result ≡ (seen_by (λ v. sees (tree_of world.now) v from) (bound_in (scope_of world.now m) segment.now)).types }
+    ensures known { KnowsAll world.now (res_holds (in_types (option_copied result))) }
+{
+    seen_type(world, from, world.type_in(m, segment))
 }
 
 /// Into a module: one of another crate is entered at the nearest module that is no block's root.
 #[inline(always)]
-fn entry(world: &World, at: Walker, m: ModuleId) -> Entered
-    requires origin { IsKnown (tree_of world.now) at.origin }
+fn entry(world: &World, differing: bool, origin: ModuleId, m: ModuleId) -> Entered
+    requires origin { IsKnown (tree_of world.now) origin }
     requires module_known { IsKnown (tree_of world.now) m }
-    ensures value { result ≡ entry (tree_of world.now) (standing at) m }
+    ensures value { result ≡ entry (tree_of world.now) differing origin m }
     ensures origin { IsKnown (tree_of world.now) result.origin }
 {
-    if world.krate(m) == world.krate(at.origin) {
+    if world.krate(m) == world.krate(origin) {
         return Entered {
-            differing: at.differing,
-            origin: at.origin,
+            differing,
+            origin,
             asked: m,
         };
     }
@@ -103,24 +119,6 @@ fn entry(world: &World, at: Walker, m: ModuleId) -> Entered
         differing: true,
         origin: inside,
         asked: inside,
-    }
-}
-
-/// Through a module and a segment that is not the last.
-#[tactic(auto, unfolding(dm_maps::specs::Readings::read))]
-#[inline(always)]
-fn through(world: &World, at: Walker, m: ModuleId, segment: &Name) -> Walker
-    requires origin { IsKnown (tree_of world.now) at.origin }
-    requires module_known { IsKnown (tree_of world.now) m }
-    ensures value { (L : LocalMap) → result ≡ walker (through (tree_of world.now) (standing at) m (read world.now L segment.now)) }
-    ensures origin { IsKnown (tree_of world.now) result.origin }
-    ensures known { KnowsAll world.now (res_holds (in_types result.types)) }
-{
-    let into = entry(world, at, m);
-    Walker {
-        differing: into.differing,
-        origin: into.origin,
-        types: seen_type_in(world, into.origin, into.asked, segment),
     }
 }
 
@@ -153,8 +151,8 @@ fn at_adt(
 
 /// The module that a type is, if it is one.
 #[inline(always)]
-fn module_in(item: TypesItem) -> Option<ModuleId>
-    ensures { result ≡ module_in item.def }
+fn module_in(item: &TypesItem) -> Option<ModuleId>
+    ensures { result ≡ module_in item.now.def }
 {
     match item.def {
         ModuleDefId::ModuleId(m) => Some(m),
@@ -183,24 +181,33 @@ fn left_at(
 
 /// The answer of a walk at its last segment.
 #[tactic(auto, unfolding(dm_maps::specs::Readings::read))]
-fn last_answer(world: &World, at: Walker, position: usize, segment: &Name) -> ResolvePathResult
-    requires origin { IsKnown (tree_of world.now) at.origin }
-    requires known { KnowsAll world.now (res_holds (in_types at.types)) }
-    ensures value { (L : LocalMap) → result ≡ walk (tree_of world.now) (standing at) position (read world.now L segment.now ∷ []) }
+fn last_answer(
+    world: &World,
+    differing: bool,
+    origin: ModuleId,
+    types: Option<&TypesItem>,
+    position: usize,
+    segment: &Name,
+) -> ResolvePathResult
+    requires origin { IsKnown (tree_of world.now) origin }
+    requires known { KnowsAll world.now (res_holds (in_types (option_copied types))) }
+    ensures value { (L : LocalMap) → result ≡ walk (tree_of world.now) (standing differing origin (option_copied types.entry)) position (read world.now L segment.now ∷ []) }
     ensures known { KnowsAll world.now (res_holds result.resolved_def) }
 {
-    let Some(item) = at.types else {
-        return marked(at.differing, nothing_no());
+    let Some(item) = types else {
+        return marked(differing, nothing_no());
     };
     let Some(m) = module_in(item) else {
-        return marked(at.differing, left_at(world, item, position, segment, true));
+        return marked(differing, left_at(world, *item, position, segment, true));
     };
-    let into = entry(world, at, m);
+    let into = entry(world, differing, origin, m);
     let found = seen_in(world, into.origin, into.asked, segment);
     marked(into.differing, reached(found))
 }
 
 /// The answer of a walk along the segments, where `position` segments are behind it and `here` is reached, seen from a module.
+///
+/// While segments are left, a path goes on by what it has reached as a type alone.
 #[tactic(auto, unfolding(dm_maps::specs::Readings::read))]
 pub(crate) fn walk(
     world: &World,
@@ -218,23 +225,22 @@ pub(crate) fn walk(
     let Some((first, others)) = segments.split_first() else {
         return reached(*here);
     };
-    let mut at = Walker {
-        differing: false,
-        origin: from,
-        types: here.types,
-    };
+    let (mut differing, mut origin, mut types) = (false, from, here.types.as_ref());
     let (mut segment, mut rest, mut passed) = (first, others, position);
     'segments: while let Some((next, after)) = rest.split_first() {
-        let Some(item) = at.types else {
-            return marked(at.differing, nothing_no());
+        let Some(item) = types else {
+            return marked(differing, nothing_no());
         };
         let Some(m) = module_in(item) else {
-            return marked(at.differing, left_at(world, item, passed, segment, false));
+            return marked(differing, left_at(world, *item, passed, segment, false));
         };
-        at = through(world, at, m, segment);
+        let into = entry(world, differing, origin, m);
+        types = seen_type_in(world, into.origin, into.asked, segment);
+        differing = into.differing;
+        origin = into.origin;
         passed += 1;
         segment = next;
         rest = after;
     }
-    last_answer(world, at, passed, segment)
+    last_answer(world, differing, origin, types, passed, segment)
 }

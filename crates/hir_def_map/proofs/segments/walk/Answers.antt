@@ -1,5 +1,6 @@
 use Rattle.std.proofs.Common.{ap, sym, subst, ◌∙◌, ◌∷◌, map, arith}
 use Rattle.std.proofs.lemmas.List.{nil_from_length}
+use Rattle.std.specs.Option.{option_copied}
 use Rattle.dm_held.specs.Holding.{res_holds}
 use Rattle.dm_maps.specs.Known.{KnowsAll}
 use Rattle.dm_maps.specs.Readings.{read}
@@ -11,26 +12,27 @@ use Rattle.hir_def_map.proofs.KnownLemmas.{marked-known, module_in-known}
 use Rattle.hir_def_map.proofs.WalkLemmas.{walk-leaves, walk-on}
 use Rattle.hir_def_map.proofs.segments.walk.Goals as goal
 
-pub through-at-requires-clause-module_known : goal.through-at-requires-clause-module_known
-through-at-requires-clause-module_known c = module_in-known c.args.world.now (in_types c.segments.at.types) c.segments.invariant.known c.in-Some-types.item c.in-Some-module_in.m c.in-Some-types.is (sym c.module_in.ensures ∙ c.in-Some-module_in.is)
+pub entry-into-requires-clause-module_known : goal.entry-into-requires-clause-module_known
+entry-into-requires-clause-module_known c = module_in-known c.args.world.now (in_types (option_copied c.segments.types)) c.segments.invariant.known c.in-Some-types.item.now c.in-Some-module_in.m (ap option_copied c.in-Some-types.is) (sym c.module_in.ensures ∙ c.in-Some-module_in.is)
 
 pub returns-in_default-module_in-clause-value : goal.returns-in_default-module_in-clause-value
 returns-in_default-module_in-clause-value c = λ L.
     let w = c.args.world.now in
-    let i = c.in-Some-types.item in
+    let i = c.in-Some-types.item.now in
     let s = c.segments.segment.now in
     c.marked-in_default-module_in.ensures
-    ∙ ap (marked c.segments.at.differing)
+    ∙ ap (marked c.segments.differing)
     (c.left_at.ensures.value L ∙ ap (λ ns. left_at i c.segments.passed (read w L s) (is_empty (map (read w L) ns)) i.def) (sym c.in-Some-split_first.ensures.cases.0))
-    ∙ sym (walk-leaves w L c.segments.at c.segments.passed s c.segments.rest.now i c.in-Some-types.is (sym c.module_in.ensures ∙ c.in_default-module_in.is))
+    ∙ sym (walk-leaves w L c.segments.differing c.segments.origin (option_copied c.segments.types) c.segments.passed s c.segments.rest.now i (ap option_copied c.in-Some-types.is) (sym c.module_in.ensures ∙ c.in_default-module_in.is))
     ∙ c.segments.invariant.same L
 
 pub returns-in_default-module_in-clause-known : goal.returns-in_default-module_in-clause-known
 returns-in_default-module_in-clause-known c =
     let P : ResolvePathResult → Type 0 = λ r. KnowsAll c.args.world.now (res_holds r.resolved_def) in
-    subst P (sym c.marked-in_default-module_in.ensures) (marked-known c.args.world.now c.segments.at.differing c.left_at.result c.left_at.ensures.known)
+    subst P (sym c.marked-in_default-module_in.ensures) (marked-known c.args.world.now c.segments.differing c.left_at.result c.left_at.ensures.known)
 
 pub segments-preserved : goal.segments-preserved
+unfolding read
 segments-preserved c =
     let w = c.args.world.now in
     let next = c.in-Some-split_first.next.now in
@@ -39,11 +41,11 @@ segments-preserved c =
     let shorter = cases.1 in
     let before = c.segments.invariant.counted in
     record {
-      origin = c.through-at.ensures.origin;
-      known = c.through-at.ensures.known;
+      origin = c.entry-into.ensures.origin;
+      known = c.seen_type_in-types.ensures.known;
       counted = omega arith;
       same = λ L.
-          walk-on w L c.segments.at c.segments.passed c.segments.segment.now next after c.segments.rest.now c.in-Some-types.item c.in-Some-module_in.m c.through-at.result cases.0 c.in-Some-types.is (sym c.module_in.ensures ∙ c.in-Some-module_in.is) (c.through-at.ensures.value L)
+          walk-on w L c.segments.differing c.segments.origin (option_copied c.segments.types) c.segments.passed c.segments.segment.now next after c.segments.rest.now c.in-Some-types.item.now c.in-Some-module_in.m c.entry-into.result (option_copied c.seen_type_in-types.result) cases.0 (ap option_copied c.in-Some-types.is) (sym c.module_in.ensures ∙ c.in-Some-module_in.is) c.entry-into.ensures.value c.seen_type_in-types.ensures.value
           ∙ c.segments.invariant.same L;
     }
 
@@ -52,5 +54,5 @@ returns-clause-value c = λ L.
     let w = c.args.world.now in
     let ended = nil_from_length c.segments.rest.now c.in_default-split_first.ensures.cases in
     c.last_answer.ensures.value L
-    ∙ ap (λ ns. walk (tree_of w) (standing c.segments.at) c.segments.passed (map (read w L) (c.segments.segment.now ∷ ns))) (sym ended)
+    ∙ ap (λ ns. walk (tree_of w) (standing c.segments.differing c.segments.origin (option_copied c.segments.types)) c.segments.passed (map (read w L) (c.segments.segment.now ∷ ns))) (sym ended)
     ∙ c.segments.invariant.same L

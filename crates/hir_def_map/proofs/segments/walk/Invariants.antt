@@ -1,4 +1,5 @@
 use Rattle.std.proofs.Common.{◌≡◌, ◌+◌, ◌∷◌, suc, map, length}
+use Rattle.std.specs.Option.{option_copied}
 use Rattle.dm_base.specs.Tree.{IsKnown}
 use Rattle.dm_maps.specs.Known.{KnowsAll}
 use Rattle.dm_held.specs.Holding.{res_holds}
@@ -10,10 +11,10 @@ use Rattle.hir_def_map.proofs.segments.walk.Given as goal
 
 abbrev pub invariant-segments : goal.invariant-segments
 invariant-segments l = record {
-  origin : IsKnown (tree_of l.world) l.at.origin;
-  known : KnowsAll l.world (res_holds (in_types l.at.types));
+  origin : IsKnown (tree_of l.world) l.origin;
+  known : KnowsAll l.world (res_holds (in_types (option_copied l.types)));
   counted : l.passed + suc (length l.rest) ≡ l.fn.position + length l.fn.segments;
-  same : (L : LocalMap) → walk (tree_of l.world) (standing l.at) l.passed (map (read l.world L) (l.segment ∷ l.rest)) ≡ walk (tree_of l.world) (starting l.fn.from l.fn.here) l.fn.position (map (read l.world L) l.fn.segments);
+  same : (L : LocalMap) → walk (tree_of l.world) (standing l.differing l.origin (option_copied l.types)) l.passed (map (read l.world L) (l.segment ∷ l.rest)) ≡ walk (tree_of l.world) (starting l.fn.from l.fn.here) l.fn.position (map (read l.world L) l.fn.segments);
 }
 
 abbrev pub decreases-segments : goal.decreases-segments
