@@ -10,6 +10,7 @@ pub mod Dumps
 pub mod Entries
 pub mod Flags
 pub mod Iterators
+pub mod LazyMaps
 pub mod Lookups
 pub mod MacroCalls
 pub mod Push

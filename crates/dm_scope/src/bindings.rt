@@ -21,7 +21,8 @@ mod names;
 
 use crate::glob_imports::GlobFlags;
 use crate::import_records::Records;
-use crate::keys::{add_key, add_name, add_vacant, take_off, write_at};
+use crate::keys::{add_key, add_name, add_vacant};
+use crate::lazy_map::LazyMap;
 use crate::reads::Reads;
 use crate::steps::{NewFlag, NewKeys};
 use dm_base::definition::Definition;
@@ -30,15 +31,15 @@ use dm_base::import_source::ImportSource;
 use dm_base::imports::{ImportOrDef, ImportOrExternCrate};
 use dm_base::name::Name;
 use dm_base::per_ns::Item;
-use indexmap::{IndexMap, map};
+use indexmap::map;
 use std::alloc::{AllocError, Global};
 use std::marker::Model;
 
 /// The bindings of one namespace, with the records of its imports.
 #[derive(Drop)]
 pub struct Bindings<D: Definition, I: ImportSource> {
-    items: IndexMap<Name, Item<D, I>>,
-    records: IndexMap<I, ImportOrDef>,
+    items: LazyMap<Name, Item<D, I>>,
+    records: LazyMap<I, ImportOrDef>,
     alloc: Global,
 }
 
@@ -47,7 +48,7 @@ impl<D: Definition, I: ImportSource> Model for Bindings<D, I> {
 
     ghost Value = { Bound D I };
 
-    ghost view = { λ b. record { items = b.items.entries; records = b.records.entries } };
+    ghost view = { λ b. record { items = b.items; records = b.records } };
 }
 
 /// The bindings of a namespace, each as a name and its item, in order of first binding.
@@ -97,8 +98,8 @@ impl<D: Definition, I: ImportSource> Bindings<D, I> {
         ensures shown { (m : ModuleId) → ShowsIn ⟦<D as Reads<I>>⟧.reading result (has_flag [] m) [] }
     {
         Bindings {
-            items: IndexMap::new(alloc),
-            records: IndexMap::new(alloc),
+            items: LazyMap::new(alloc),
+            records: LazyMap::new(alloc),
             alloc,
         }
     }
@@ -107,10 +108,6 @@ impl<D: Definition, I: ImportSource> Bindings<D, I> {
     pub fn get(&self, name: &Name) -> Option<&Item<D, I>>
         ensures { option_copied result ≡ find_name name.now self.now.items }
     {
-        // Many namespaces are empty, and there the name need not be hashed.
-        if self.items.is_empty() {
-            return None;
-        }
         self.items.get(name)
     }
 
@@ -120,7 +117,7 @@ impl<D: Definition, I: ImportSource> Bindings<D, I> {
         ensures runs { ShowsInOrder (deref_name {X = Item D I}) }
     {
         Iter {
-            entries: self.items.iter(),
+            entries: self.items.as_slice().iter(),
         }
     }
 
@@ -209,7 +206,7 @@ impl<D: Definition, I: ImportSource> Bindings<D, I> {
         match put_record(&mut self.records, item, import) {
             Ok(()) => Ok(()),
             Err(refused) => {
-                take_off(&mut self.items, true);
+                self.items.take_off(true);
                 Err(refused)
             }
         }
@@ -219,28 +216,28 @@ impl<D: Definition, I: ImportSource> Bindings<D, I> {
     pub(crate) fn items(&self) -> &[Item<D, I>]
         ensures { result.now ≡ map (λ e. e.1) self.now.items }
     {
-        self.items.values().as_slice()
+        self.items.as_slice().values().as_slice()
     }
 
     /// The names that are bound, in order of first binding.
     pub(crate) fn names(&self) -> &[Name]
         ensures { result.now ≡ map (λ e. e.0) self.now.items }
     {
-        self.items.keys().as_slice()
+        self.items.as_slice().keys().as_slice()
     }
 
     /// The imports that have a record.
     pub(crate) fn imports(&self) -> &[I]
         ensures { result.now ≡ map (λ e. e.0) self.now.records }
     {
-        self.records.keys().as_slice()
+        self.records.as_slice().keys().as_slice()
     }
 
     /// What each import that brought a binding stands for, each import seen as any import.
     pub(crate) fn records(&self) -> Records<'_, I>
         ensures { result ≡ map (λ e. (I.widened e.0, e.1)) self.now.records }
     {
-        Records::new(&self.records)
+        Records::new(self.records.as_slice())
     }
 
     /// How many imports have a record.
@@ -348,7 +345,7 @@ impl<D: Definition, I: ImportSource> Bindings<D, I> {
                 flag: NewFlag::Stood,
             }),
             Err(refused) => {
-                take_off(&mut self.items, item_is_new);
+                self.items.take_off(item_is_new);
                 Err(refused)
             }
         }
@@ -358,15 +355,15 @@ impl<D: Definition, I: ImportSource> Bindings<D, I> {
     fn remove_keys(&mut self, new: NewKeys)
         ensures { self.new ≡ without_keys self.old new.item new.record_key }
     {
-        take_off(&mut self.items, new.item);
-        take_off(&mut self.records, new.record_key);
+        self.items.take_off(new.item);
+        self.records.take_off(new.record_key);
     }
 
     /// Writes at keys that stand. Takes no memory.
     fn write(&mut self, name: &Name, item: &Item<D, I>, import: Option<I>)
         ensures { self.new ≡ written ⟦<D as Reads<I>>⟧.reading self.old name.now item.now import }
     {
-        write_at(&mut self.items, name, stored(item, import));
+        self.items.set(name, stored(item, import));
         write_record(&mut self.records, import, recorded(item));
     }
 }
@@ -412,13 +409,13 @@ fn recorded<D: Definition, I: ImportSource>(item: &Item<D, I>) -> ImportOrDef
 }
 
 fn add_record<I: ImportSource>(
-    records: &mut IndexMap<I, ImportOrDef>,
+    records: &mut LazyMap<I, ImportOrDef>,
     import: Option<I>,
     value: ImportOrDef,
 ) -> Result<bool, AllocError>
-    ensures new { IfOk result (λ new. new ≡ is_new_import I.eq records.old.entries import) }
-    ensures ok { OnOk result (records.new.entries ≡ add_import I.eq records.old.entries import value) }
-    ensures err { OnErr result (records.new.entries ≡ records.old.entries) }
+    ensures new { IfOk result (λ new. new ≡ is_new_import I.eq records.old import) }
+    ensures ok { OnOk result (records.new ≡ add_import I.eq records.old import value) }
+    ensures err { OnErr result (records.new ≡ records.old) }
 {
     match import {
         None => Ok(false),
@@ -428,12 +425,12 @@ fn add_record<I: ImportSource>(
 
 /// Records the import of a push, if there is one: a new one goes last.
 fn put_record<D: Definition, I: ImportSource>(
-    records: &mut IndexMap<I, ImportOrDef>,
+    records: &mut LazyMap<I, ImportOrDef>,
     item: &Item<D, I>,
     import: Option<I>,
 ) -> Result<(), AllocError>
-    ensures ok { OnOk result (records.new.entries ≡ with_record ⟦<D as Reads<I>>⟧.reading records.old.entries import (recorded ⟦<D as Reads<I>>⟧.reading item.now)) }
-    ensures err { OnErr result (records.new.entries ≡ records.old.entries) }
+    ensures ok { OnOk result (records.new ≡ with_record ⟦<D as Reads<I>>⟧.reading records.old import (recorded ⟦<D as Reads<I>>⟧.reading item.now)) }
+    ensures err { OnErr result (records.new ≡ records.old) }
 {
     if let Some(i) = import {
         records.insert(i, recorded(item))?;
@@ -442,13 +439,13 @@ fn put_record<D: Definition, I: ImportSource>(
 }
 
 fn write_record<I: ImportSource>(
-    records: &mut IndexMap<I, ImportOrDef>,
+    records: &mut LazyMap<I, ImportOrDef>,
     import: Option<I>,
     value: ImportOrDef,
 )
-    ensures { records.new.entries ≡ set_import I.eq records.old.entries import value }
+    ensures { records.new ≡ set_import I.eq records.old import value }
 {
     if let Some(i) = import {
-        write_at(records, &i, value);
+        records.set(&i, value);
     }
 }

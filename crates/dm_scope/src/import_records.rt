@@ -7,7 +7,8 @@ ghost use Rattle.std.specs.Map.Iter.{TakesFirst, ShowsInOrder};
 
 use dm_base::import_source::ImportSource;
 use dm_base::imports::{ImportOrDef, ImportOrExternCrate, ImportOrGlob};
-use indexmap::{IndexMap, map};
+use indexmap::map;
+use indexmap::map::Slice;
 use std::marker::Model;
 
 /// The records of a namespace, each import seen as any import.
@@ -27,10 +28,12 @@ impl<'a, I: ImportSource> Model for Records<'a, I> {
 }
 
 impl<'a, I: ImportSource> Records<'a, I> {
-    pub(crate) fn new(table: &'a IndexMap<I, ImportOrDef>) -> Self
-        ensures { result ≡ map (λ e. (I.widened e.0, e.1)) table.now.entries }
+    pub(crate) fn new(records: Slice<'a, I, ImportOrDef>) -> Self
+        ensures { result ≡ map (λ e. (I.widened e.0, e.1)) records.entry }
     {
-        Records { rest: table.iter() }
+        Records {
+            rest: records.iter(),
+        }
     }
 }
 

@@ -10,6 +10,7 @@ pub mod import_records;
 pub mod item_scope;
 pub mod iterators;
 mod keys;
+mod lazy_map;
 pub mod macro_calls;
 pub mod name_order;
 mod picked;

@@ -1,8 +1,8 @@
 //! What changes the bindings of a namespace beside pushes. Nothing here needs memory: `shrink_to_fit` may ask for some, and goes on
 //! without it.
-ghost use Rattle.std.specs.Prelude.{◌≡◌};
+ghost use Rattle.std.specs.Prelude.{◌≡◌, map};
 ghost use Rattle.dm_base.specs.Names.{find_name};
-ghost use Rattle.dm_scope.specs.Changes.{is_of, without_binding, with_vis, with_def, change_all, censored, censored_macro, is_own_proc_macro};
+ghost use Rattle.dm_scope.specs.Changes.{is_of, without_binding, with_vis, with_def, change_item, change_all, censored, censored_macro, is_own_proc_macro};
 
 use super::Bindings;
 use dm_base::definition::Definition;
@@ -11,8 +11,9 @@ use dm_base::import_source::ImportSource;
 use dm_base::imports::ImportOrExternCrate;
 use dm_base::item_ids::MacroId;
 use dm_base::name::Name;
-use dm_base::per_ns::MacrosItem;
+use dm_base::per_ns::{Item, MacrosItem};
 use dm_base::visibility::Visibility;
+use indexmap::IndexMap;
 
 impl<D: Definition, I: ImportSource> Bindings<D, I> {
     /// Takes a binding out, where it is of the definition. The others close up, and the records stay.
@@ -35,8 +36,8 @@ impl<D: Definition, I: ImportSource> Bindings<D, I> {
     pub(crate) fn update_visibility(&mut self, name: &Name, vis: Visibility)
         ensures { self.new ≡ with_vis name.now vis self.old }
     {
-        if let Some(item) = self.items.get_mut(name) {
-            item.vis = vis;
+        if let Some(items) = &mut self.items.map {
+            set_visibility(items, name, vis);
         }
     }
 
@@ -44,9 +45,8 @@ impl<D: Definition, I: ImportSource> Bindings<D, I> {
     pub(crate) fn update_def(&mut self, name: &Name, def: D, vis: Visibility)
         ensures { self.new ≡ with_def name.now def vis self.old }
     {
-        if let Some(item) = self.items.get_mut(name) {
-            item.def = def;
-            item.vis = vis;
+        if let Some(items) = &mut self.items.map {
+            set_def(items, name, def, vis);
         }
     }
 
@@ -54,11 +54,9 @@ impl<D: Definition, I: ImportSource> Bindings<D, I> {
     pub(crate) fn censor(&mut self, krate: Crate)
         ensures { self.new ≡ change_all (censored krate) self.old }
     {
-        // Nothing is taken out: of the loops over a table, `retain` is the one that says what it writes.
-        self.items.retain(|_, item| {
-            item.vis = Visibility::PubCrate(krate);
-            true
-        });
+        if let Some(items) = &mut self.items.map {
+            censor(items, krate);
+        }
     }
 
     /// Gives back memory that is not needed.
@@ -75,13 +73,61 @@ impl Bindings<MacroId, ImportOrExternCrate> {
     pub(crate) fn censor_non_proc(&mut self, krate: Crate)
         ensures { self.new ≡ change_all (censored_macro krate) self.old }
     {
-        self.items.retain(|_, item| {
-            if !is_own_proc_macro(item) {
-                item.vis = Visibility::PubCrate(krate);
-            }
-            true
-        });
+        if let Some(items) = &mut self.items.map {
+            censor_macros(items, krate);
+        }
     }
+}
+
+/// Changes who sees a binding.
+fn set_visibility<D: Definition, I: ImportSource>(
+    items: &mut IndexMap<Name, Item<D, I>>,
+    name: &Name,
+    vis: Visibility,
+)
+    ensures { items.new.entries ≡ change_item (λ x. record x { vis = vis }) name.now items.old.entries }
+{
+    if let Some(item) = items.get_mut(name) {
+        item.vis = vis;
+    }
+}
+
+/// Changes what a name is bound to, and who sees it.
+fn set_def<D: Definition, I: ImportSource>(
+    items: &mut IndexMap<Name, Item<D, I>>,
+    name: &Name,
+    def: D,
+    vis: Visibility,
+)
+    ensures { items.new.entries ≡ change_item (λ x. record x { def = def; vis = vis }) name.now items.old.entries }
+{
+    if let Some(item) = items.get_mut(name) {
+        item.def = def;
+        item.vis = vis;
+    }
+}
+
+/// Lets the crate alone see each binding.
+fn censor<D: Definition, I: ImportSource>(items: &mut IndexMap<Name, Item<D, I>>, krate: Crate)
+    ensures { items.new.entries ≡ map (λ e. (e.0, censored krate e.1)) items.old.entries }
+{
+    // Nothing is taken out: of the loops over a table, `retain` is the one that says what it writes.
+    items.retain(|_, item| {
+        item.vis = Visibility::PubCrate(krate);
+        true
+    });
+}
+
+/// Lets the crate alone see each macro but the procedural ones that are no import.
+fn censor_macros(items: &mut IndexMap<Name, MacrosItem>, krate: Crate)
+    ensures { items.new.entries ≡ map (λ e. (e.0, censored_macro krate e.1)) items.old.entries }
+{
+    items.retain(|_, item| {
+        if !is_own_proc_macro(item) {
+            item.vis = Visibility::PubCrate(krate);
+        }
+        true
+    });
 }
 
 /// Whether a macro is a procedural one, and no import.

@@ -14,7 +14,7 @@ impl<D: Definition, I: ImportSource> Bindings<D, I> {
     pub(crate) fn name_of(&self, def: D) -> Option<(&Name, Visibility, bool)>
         ensures { option_map deref_named result ≡ slice_get (names_in D.eq def self.now.items) 0 }
     {
-        let mut entries = self.items.iter();
+        let mut entries = self.items.as_slice().iter();
         while let Some((name, bound)) = entries.next() {
             if bound.def == def {
                 return Some((name, bound.vis, bound.import.is_none()));
@@ -32,7 +32,7 @@ impl<D: Definition, I: ImportSource> Bindings<D, I> {
         requires { F.IsAlwaysCallable f }
         ensures { (last : F) × AsksNames F.step (names_in D.eq def self.now.items) f result last }
     {
-        let mut entries = self.items.iter();
+        let mut entries = self.items.as_slice().iter();
         while let Some((name, item)) = entries.next() {
             if item.def == def {
                 match f(name, item.vis, item.import.is_none()) {

@@ -1,7 +1,7 @@
 use Rattle.std.proofs.Common.{◌∙◌, sym, ap}
 use Rattle.std.specs.Option.{option_copied_mut}
 use Rattle.dm_scope.proofs.EntryLemmas.{set_value-absent}
-use Rattle.dm_scope.proofs.keys.write_at.Goals as goal
+use Rattle.dm_scope.proofs.lazy_map.set.Goals as goal
 
 pub returns-in_default : goal.returns-in_default
 returns-in_default g c =
