@@ -6,7 +6,7 @@ ghost use Rattle.dm_maps.specs.Known.{knows};
 use crate::builder::WorldBuilder;
 use dm_base::item_ids::{ItemKind, MacroId};
 use dm_held::held::HeldId;
-use dm_held::kinds::{is_of_kind, macro_number, same_kind};
+use dm_held::kinds::{is_of_kind, macro_number};
 use dm_held::known_ids::KnownIds;
 
 impl KnownIds for WorldBuilder {
@@ -32,7 +32,7 @@ impl WorldBuilder {
     {
         match self.items.get(n as usize) {
             None => false,
-            Some(item) => same_kind(kind, item.0),
+            Some(item) => kind == item.0,
         }
     }
 

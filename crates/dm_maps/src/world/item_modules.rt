@@ -11,7 +11,7 @@ use crate::world::World;
 use dm_base::ids::{Crate, EnumId, EnumVariantId, ModuleId};
 use dm_base::item_ids::{AdtId, ItemKind, MacroId, ModuleDefId};
 use dm_base::item_in_ns::ItemModules;
-use dm_held::kinds::{is_of_kind, macro_number, same_kind};
+use dm_held::kinds::{is_of_kind, macro_number};
 
 #[tactic(auto, unfolding(crate::specs::ItemHomes::homes_of))]
 impl ItemModules for World {
@@ -78,11 +78,7 @@ impl WorldBuilder {
     {
         match self.items.get(number as usize) {
             None => None,
-            Some(item) => if same_kind(kind, item.0) {
-                Some(item.1)
-            } else {
-                None
-            },
+            Some(item) => if kind == item.0 { Some(item.1) } else { None },
         }
     }
 
