@@ -9,7 +9,7 @@ use Rattle.dm_ids.specs.declared.MapId.{MapId}
 use Rattle.dm_tables.specs.CrateData.{CrateData}
 use Rattle.dm_modules.specs.Maps.{Map}
 use Rattle.dm_maps.specs.BlockLists.{entry_with, crates_of, HasBlock, HoldsAll, AreNumbered}
-use Rattle.dm_maps.specs.BuildCrateData.{map_with_shared, with_shared}
+use Rattle.dm_maps.specs.BuildCrateData.{map_with_shared}
 use Rattle.dm_maps.proofs.EntryChanges.{entry-set}
 use Rattle.dm_maps.proofs.EntryLemmas.{get-set, get-set_same}
 use Rattle.dm_maps.proofs.ModuleGrowth.{map-set_own}

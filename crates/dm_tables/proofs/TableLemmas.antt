@@ -1,5 +1,5 @@
 -- Tables of lists, with one more in a list.
-use Rattle.std.proofs.Common.{◌≡◌, ℕ, zero, suc, Bool, true, false, List, true≢false, is_some, refl, Option, Some, None, [], ◌∷◌, ◌++◌, map, slice_get, position, sym, ap, ◌∙◌}
+use Rattle.std.proofs.Common.{◌≡◌, ℕ, Bool, true, false, List, true≢false, is_some, refl, Option, Some, None, [], ◌∷◌, ◌++◌, map, slice_get, position, sym, ap, ◌∙◌}
 use Rattle.std.specs.Option.{option_map_or}
 use Rattle.std.specs.Map.{lookup, keys_of}
 use Rattle.indexmap.specs.IndexMap.{insert_entry, set_value_at}

@@ -1,5 +1,4 @@
-use Rattle.std.proofs.Common.{◌∙◌, length, nat_lt, sym, subst}
-use Rattle.std.proofs.lemmas.Bool.{not-true}
+use Rattle.std.proofs.Common.{◌∙◌, sym, subst}
 use Rattle.dm_maps.specs.Trees.{IsWorld}
 use Rattle.dm_maps.specs.World.{World}
 use Rattle.dm_maps.proofs.LadderLemmas.{among-unknown}

@@ -1,9 +1,5 @@
 use Rattle.std.proofs.Common.{subst}
-use Rattle.dm_scope.specs.Scope.{bound_in}
-use Rattle.dm_maps.specs.World.{World, scope_of}
 use Rattle.dm_maps.specs.Sound.{IsSound, IsCheckedWorld}
-use Rattle.dm_maps.specs.Known.{KnowsAll}
-use Rattle.dm_held.specs.Holding.{res_holds}
 use Rattle.dm_maps.proofs.world.World.type_in.Goals as goal
 
 pub returns-clause-known : goal.returns-clause-known

@@ -1,4 +1,4 @@
-use Rattle.std.proofs.Common.{◌≡◌, ◌++◌, ◌∙◌, [], Option, codes, ap, sym, string_bytes}
+use Rattle.std.proofs.Common.{◌++◌, ◌∙◌, [], Option, codes, ap}
 use Rattle.std.specs.Option.{option_map_or}
 use Rattle.dm_ids.specs.declared.ModuleId.{ModuleId}
 use Rattle.dm_maps.specs.ScopeTables.{scope_tables}

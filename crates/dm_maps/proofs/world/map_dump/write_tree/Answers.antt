@@ -1,4 +1,4 @@
-use Rattle.std.proofs.Common.{◌≡◌, ◌++◌, ◌∙◌, ◌<◌, ap, sym, subst, length, string_bytes}
+use Rattle.std.proofs.Common.{◌++◌, ◌∙◌, ◌<◌, ap, sym, subst, length, string_bytes}
 use Rattle.std.proofs.lemmas.List.{append_assoc}
 use Rattle.dm_maps.specs.Branches.{branch_text, left_text}
 use Rattle.dm_maps.proofs.TreeLemmas.{left_text-popped, shorter}
