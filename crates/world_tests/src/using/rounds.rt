@@ -1,6 +1,6 @@
 //! The caller that docs/USING.md shows.
 ghost use Rattle.std.specs.Prelude.{IfOk, OnErr};
-ghost use Rattle.dm_retry_tests.specs.Resolving.{IsResolved, IsStopped};
+ghost use Rattle.world_tests.specs.Resolving.{IsResolved, IsStopped};
 
 use dm_retry::retry::Retry;
 use std::alloc::AllocError;

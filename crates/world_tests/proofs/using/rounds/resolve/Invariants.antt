@@ -1,7 +1,7 @@
 use Rattle.std.proofs.Common.{◌≡◌}
 use Rattle.dm_retry.specs.Rounds.{rounds}
-use Rattle.dm_retry_tests.specs.Resolving.{AllBring}
-use Rattle.dm_retry_tests.proofs.using.resolve.Given as goal
+use Rattle.world_tests.specs.Resolving.{AllBring}
+use Rattle.world_tests.proofs.using.rounds.resolve.Given as goal
 
 abbrev pub invariant-loop-round : goal.invariant-loop-round
 invariant-loop-round l = record {

@@ -2,19 +2,9 @@
 //!
 //! What a test compares is plain data, and only functions without clauses hold a builder, a world or a retry: each comparison
 //! made while one is held would take the prover seconds.
-/// What a call answers, which is made once more where it is refused.
-macro_rules! again {
-    ($call:expr) => {
-        match $call {
-            Err(_refused) => $call,
-            done => done,
-        }
-    };
-}
-
 mod refused;
 
-use crate::using::resolve;
+use crate::using::rounds::resolve;
 use dm_base::ids::{FileAstId, FileId, ModuleId, StructId, UseId, UseTreeIdx};
 use dm_base::imports::ImportId;
 use dm_base::item_ids::{AdtId, ItemKind, ModuleDefId};

@@ -1,0 +1,5 @@
+//! The callers that docs/USING.md shows.
+
+pub mod maps;
+pub mod paths;
+pub mod rounds;
