@@ -2,23 +2,19 @@
 use dm_base::name::Name;
 use dm_base::symbol::Symbol;
 use std::alloc::{AllocError, Global};
+use std::fmt::{Debug, Display};
 use std::test::Fail;
 
-/// A copied name, as text and quoted.
-fn name_text(alloc: Global) -> Result<String, AllocError> {
-    let name = Name::new(alloc, "core")?.copy(alloc)?;
-    format!(in alloc; "{name} {name:?}")
-}
-
-/// A copied symbol, as text and quoted.
-fn symbol_text(alloc: Global) -> Result<String, AllocError> {
-    let symbol = Symbol::new(alloc, "miri")?.copy(alloc)?;
-    format!(in alloc; "{symbol} {symbol:?}")
+/// A value as text, and quoted.
+fn written<T: Debug + Display + Drop>(alloc: Global, value: T) -> Result<String, AllocError> {
+    format!(in alloc; "{value} {value:?}")
 }
 
 #[test]
 fn copies_have_the_same_text(rt: HostRuntime) -> Result<(), Fail> {
-    assert_eq!(rt; name_text(rt.alloc())?.as_str(), "core \"core\"");
-    assert_eq!(rt; symbol_text(rt.alloc())?.as_str(), "miri \"miri\"");
+    let name = Name::new(rt.alloc(), "core")?.copy(rt.alloc())?;
+    assert_eq!(rt; written(rt.alloc(), name)?.as_str(), "core \"core\"");
+    let symbol = Symbol::new(rt.alloc(), "miri")?.copy(rt.alloc())?;
+    assert_eq!(rt; written(rt.alloc(), symbol)?.as_str(), "miri \"miri\"");
     Ok(())
 }

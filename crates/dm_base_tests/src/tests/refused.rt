@@ -8,15 +8,18 @@ use dm_base::symbol::Symbol;
 use std::alloc::{AllocError, Global};
 use std::test::Fail;
 
-/// Whether a text is the same after one copy as a name, and as a symbol.
-fn is_copied(alloc: Global, text: &str) -> Result<[bool; 2], AllocError> {
+/// Whether a text is the same after one copy as a name.
+fn is_copied_as_name(alloc: Global, text: &str) -> Result<bool, AllocError> {
     let name = again!(Name::new(alloc, text))?;
+    let copy = again!(name.copy(alloc))?;
+    Ok(copy == name && copy.as_str() == text)
+}
+
+/// Whether it is the same after one copy as a symbol.
+fn is_copied_as_symbol(alloc: Global, text: &str) -> Result<bool, AllocError> {
     let symbol = again!(Symbol::new(alloc, text))?;
-    let copies = (again!(name.copy(alloc))?, again!(symbol.copy(alloc))?);
-    Ok([
-        copies.0 == name && copies.0.as_str() == text,
-        copies.1 == symbol && copies.1.as_str() == text,
-    ])
+    let copy = again!(symbol.copy(alloc))?;
+    Ok(copy == symbol && copy.as_str() == text)
 }
 
 /// Whether what has a name gives that one.
@@ -37,7 +40,8 @@ fn are_named(alloc: Global) -> Result<[bool; 3], AllocError> {
 
 #[test]
 fn a_refused_name_is_made_again(rt: HostRuntime) -> Result<(), Fail> {
-    assert_eq!(rt; is_copied(rt.alloc(), "core")?, [true; 2]);
+    assert!(rt; is_copied_as_name(rt.alloc(), "core")?);
+    assert!(rt; is_copied_as_symbol(rt.alloc(), "core")?);
     assert_eq!(rt; are_named(rt.alloc())?, [true; 3]);
     Ok(())
 }
