@@ -47,6 +47,35 @@ fn push_line(text: &mut String, line: &str) -> Result<(), AllocError> {
     text.push_str("\n")
 }
 
+/// Puts a number between two texts behind what stands there.
+fn push_number(
+    text: &mut String,
+    alloc: Global,
+    before: &str,
+    number: u32,
+    behind: &str,
+) -> Result<(), AllocError> {
+    let digits = number.to_string(alloc)?;
+    text.push_str(before)?;
+    text.push_str(digits.as_str())?;
+    text.push_str(behind)
+}
+
+/// Puts texts in a row behind what stands there.
+fn push_texts(whole: &mut String, texts: &[&str]) -> Result<(), AllocError> {
+    for text in texts {
+        whole.push_str(text)?;
+    }
+    Ok(())
+}
+
+/// Texts in a row.
+fn joined(alloc: Global, texts: &[&str]) -> Result<String, AllocError> {
+    let mut whole = String::new(alloc);
+    push_texts(&mut whole, texts)?;
+    Ok(whole)
+}
+
 /// Runs the lines of a transcript, and compares what they print with what stands in it behind `=> `.
 ///
 /// Where a line is refused, one more follows it, which has to go unread.
@@ -79,7 +108,7 @@ fn assert_transcripts(
     table: &str,
 ) -> Result<(), AllocError> {
     for rows in table.split("\n\n") {
-        let transcript = format!(in alloc; "{beginning}{rows}")?;
+        let transcript = joined(alloc, &[beginning, rows])?;
         assert_transcript(rt, alloc, transcript.as_str())?;
     }
     Ok(())

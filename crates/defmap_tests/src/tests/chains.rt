@@ -1,7 +1,7 @@
 //! Chains of imports, asked of whole worlds.
 use super::scoping::transcript;
 use super::worlds::{PUSHED, WORLD_A};
-use super::{assert_transcript, assert_transcripts, push_line};
+use super::{assert_transcript, assert_transcripts, joined, push_number, push_texts};
 use std::alloc::{AllocError, Global};
 use std::process::Abort;
 use std::test::Fail;
@@ -118,16 +118,14 @@ fn thousand(
     let mut script = String::new(alloc);
     script.push_str("crate 2021 0\nuse 0\nitem struct 0\nitem fn 0\nmacro rules 0 eager\n")?;
     for k in 0..999u32 {
-        let next = k + 1;
-        let push = format!(in alloc;
-            "push 0 N{k} {before}{item}/pub/import:0:{next}{behind} import:0:{k}\n=> true"
-        )?;
-        push_line(&mut script, push.as_str())?;
+        push_number(&mut script, alloc, "push 0 N", k, " ")?;
+        push_texts(&mut script, &[before, item, "/pub/import:0:"])?;
+        push_number(&mut script, alloc, "", k + 1, behind)?;
+        push_number(&mut script, alloc, " import:0:", k, "\n=> true\n")?;
     }
-    let push = format!(in alloc;
-        "push 0 N999 {before}{item}/pub/{last}{behind} import:0:999\n=> true\ncheck\nimport 0 0 0"
-    )?;
-    push_line(&mut script, push.as_str())?;
+    let pushed = ["push 0 N999 ", before, item, "/pub/", last, behind];
+    push_texts(&mut script, &pushed)?;
+    script.push_str(" import:0:999\n=> true\ncheck\nimport 0 0 0\n")?;
     Ok(script)
 }
 
@@ -139,10 +137,19 @@ fn assert_thousand(
     (before, behind): (&str, &str),
 ) -> Result<(), AllocError> {
     let ends = thousand(alloc, item, (before, behind), "none")?;
-    let found = format!(in alloc; "{ends}=> {before}{item}/pub/none{behind}\n")?;
+    let found = [
+        ends.as_str(),
+        "=> ",
+        before,
+        item,
+        "/pub/none",
+        behind,
+        "\n",
+    ];
+    let found = joined(alloc, &found)?;
     assert_transcript(rt, alloc, found.as_str())?;
     let circle = thousand(alloc, item, (before, behind), "import:0:0")?;
-    let nothing = format!(in alloc; "{circle}=> - - -\n")?;
+    let nothing = joined(alloc, &[circle.as_str(), "=> - - -\n"])?;
     assert_transcript(rt, alloc, nothing.as_str())
 }
 

@@ -1,5 +1,5 @@
 //! Lines of every form.
-use super::{assert_transcript, does};
+use super::{assert_transcript, does, push_number};
 use defmap_script::script::RunEnd;
 use std::alloc::{AllocError, Global};
 use std::test::Fail;
@@ -75,9 +75,8 @@ fn push_struct(
     printed: &mut String,
     number: u32,
 ) -> Result<(), AllocError> {
-    let push = format!(in alloc; "push 0 n{number} struct:{number}/pub/none - - none\n")?;
-    script.push_str("item struct 0\n")?;
-    script.push_str(push.as_str())?;
+    push_number(script, alloc, "item struct 0\npush 0 n", number, "")?;
+    push_number(script, alloc, " struct:", number, "/pub/none - - none\n")?;
     printed.push_str("true\n")
 }
 

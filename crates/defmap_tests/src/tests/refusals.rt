@@ -1,5 +1,5 @@
 //! Which lines are refused, and with which words.
-use super::{assert_transcript, assert_transcripts};
+use super::{assert_transcript, assert_transcripts, joined};
 use std::test::Fail;
 
 /// Lines that say nothing to any state of a script.
@@ -337,7 +337,7 @@ check
 #[test]
 fn bad_lines_are_refused(rt: HostRuntime) -> Result<(), Fail> {
     for line in BAD_LINES.lines() {
-        let transcript = format!(in rt.alloc(); "{line}\n=> refused 1 BadLine")?;
+        let transcript = joined(rt.alloc(), &[line, "\n=> refused 1 BadLine"])?;
         assert_transcript(&rt, rt.alloc(), transcript.as_str())?;
     }
     Ok(())

@@ -1,7 +1,7 @@
 //! What the two versions of the rules answer.
 use super::scoping::{ANSWERS, transcript};
 use super::worlds::{PUSHED, WORLD_A};
-use super::{assert_transcript, assert_transcripts, push_line};
+use super::{assert_transcript, assert_transcripts, joined, push_line};
 use std::alloc::{AllocError, Global};
 use std::test::Fail;
 
@@ -110,7 +110,7 @@ fn world_with(alloc: Global, lines: &str) -> Result<String, AllocError> {
         }
     }
     let built = transcript(alloc, script.as_str(), PUSHED)?;
-    format!(in alloc; "{built}{lines}\n")
+    joined(alloc, &[built.as_str(), lines, "\n"])
 }
 
 /// The answers of that world by the second version. One differs: a macro of a prelude is none where an attribute is expected.
@@ -130,7 +130,7 @@ fn answers_by_the_second(alloc: Global) -> Result<String, AllocError> {
 #[test]
 fn the_version_is_set_and_stays(rt: HostRuntime) -> Result<(), Fail> {
     let world = transcript(rt.alloc(), WORLD_A, PUSHED)?;
-    let whole = format!(in rt.alloc(); "{world}{VERSIONS}\n")?;
+    let whole = joined(rt.alloc(), &[world.as_str(), VERSIONS, "\n"])?;
     assert_transcript(&rt, rt.alloc(), whole.as_str())?;
     assert_transcripts(&rt, rt.alloc(), "", REFUSED)?;
     Ok(())
@@ -138,7 +138,7 @@ fn the_version_is_set_and_stays(rt: HostRuntime) -> Result<(), Fail> {
 
 #[test]
 fn macros_of_a_prelude_module_are_cut(rt: HostRuntime) -> Result<(), Fail> {
-    let lines = format!(in rt.alloc(); "{PRELUDE}\ncheck")?;
+    let lines = joined(rt.alloc(), &[PRELUDE, "\ncheck"])?;
     let world = world_with(rt.alloc(), lines.as_str())?;
     assert_transcripts(&rt, rt.alloc(), world.as_str(), IN_PRELUDE)?;
     Ok(())

@@ -1,6 +1,6 @@
 //! What the scoping rules answer over several crates, blocks, preludes and macros.
 use super::worlds::{PUSHED, WORLD_A};
-use super::{assert_transcript, assert_transcripts, push_line};
+use super::{assert_transcript, assert_transcripts, joined, push_line, push_number};
 use std::alloc::{AllocError, Global};
 use std::test::Fail;
 
@@ -228,8 +228,8 @@ fn world_with_another_name(alloc: Global) -> Result<String, AllocError> {
     for line in WORLD_A.lines() {
         if line == "check" {
             for m in 0..9 {
-                let push = format!(in alloc; "push {m} nz struct:1/pub/none - - none\n=> true")?;
-                push_line(&mut script, push.as_str())?;
+                let behind = " nz struct:1/pub/none - - none\n=> true\n";
+                push_number(&mut script, alloc, "push ", m, behind)?;
             }
         }
         push_line(&mut script, line)?;
@@ -247,8 +247,9 @@ fn names_that_are_no_segments_leave_the_answers(rt: HostRuntime) -> Result<(), F
 #[test]
 fn a_push_of_another_name_leaves_the_answers(rt: HostRuntime) -> Result<(), Fail> {
     let world = transcript(rt.alloc(), WORLD_A, PUSHED)?;
-    let push = "push 0 nz struct:1/pub/none - - none\n=> true";
-    let whole = format!(in rt.alloc(); "{world}{ANSWERS}\n{push}\n{ANSWERS}\n")?;
+    let push = "\npush 0 nz struct:1/pub/none - - none\n=> true\n";
+    let whole = [world.as_str(), ANSWERS, push, ANSWERS, "\n"];
+    let whole = joined(rt.alloc(), &whole)?;
     assert_transcript(&rt, rt.alloc(), whole.as_str())?;
     Ok(())
 }
@@ -258,8 +259,7 @@ fn deep_blocks(alloc: Global) -> Result<String, AllocError> {
     let mut script = String::new(alloc);
     push_line(&mut script, "crate 2021 0")?;
     for container in 0..500 {
-        let line = format!(in alloc; "block {container} 0")?;
-        push_line(&mut script, line.as_str())?;
+        push_number(&mut script, alloc, "block ", container, " 0\n")?;
     }
     script.push_str(
         "item struct 0

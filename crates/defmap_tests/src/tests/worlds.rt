@@ -1,5 +1,5 @@
 //! Whole worlds, built line by line.
-use super::{assert_transcript, assert_transcripts, does, ran};
+use super::{assert_transcript, assert_transcripts, does, joined, ran};
 use defmap_script::script::RunEnd;
 use std::alloc::{AllocError, Global};
 use std::process::Abort;
@@ -305,7 +305,8 @@ path 0 other module any crate a S
 /// Runs pushes into the builder of that world, and asks its path behind a check.
 fn assert_built_on(rt: &impl Abort, alloc: Global, rows: &str) -> Result<(), AllocError> {
     let (pushes, path) = rows.split_once("path ").unwrap_or((rows, ""));
-    let transcript = format!(in alloc; "{WORLD_B}build\n{pushes}check\npath {path}")?;
+    let transcript = [WORLD_B, "build\n", pushes, "check\npath ", path];
+    let transcript = joined(alloc, &transcript)?;
     assert_transcript(rt, alloc, transcript.as_str())
 }
 
