@@ -1,7 +1,7 @@
 //! Chains of imports, asked of whole worlds.
 use super::scoping::transcript;
 use super::worlds::{PUSHED, WORLD_A};
-use super::{assert_transcript, assert_transcripts, joined, push_number, push_texts};
+use super::{assert_transcript, assert_transcripts, push_number, push_texts};
 use std::alloc::{AllocError, Global};
 use std::process::Abort;
 use std::test::Fail;
@@ -136,21 +136,13 @@ fn assert_thousand(
     item: &str,
     (before, behind): (&str, &str),
 ) -> Result<(), AllocError> {
-    let ends = thousand(alloc, item, (before, behind), "none")?;
-    let found = [
-        ends.as_str(),
-        "=> ",
-        before,
-        item,
-        "/pub/none",
-        behind,
-        "\n",
-    ];
-    let found = joined(alloc, &found)?;
-    assert_transcript(rt, alloc, found.as_str())?;
-    let circle = thousand(alloc, item, (before, behind), "import:0:0")?;
-    let nothing = joined(alloc, &[circle.as_str(), "=> - - -\n"])?;
-    assert_transcript(rt, alloc, nothing.as_str())
+    let mut ends = thousand(alloc, item, (before, behind), "none")?;
+    let found = ["=> ", before, item, "/pub/none", behind, "\n"];
+    push_texts(&mut ends, &found)?;
+    assert_transcript(rt, alloc, ends.as_str())?;
+    let mut circle = thousand(alloc, item, (before, behind), "import:0:0")?;
+    circle.push_str("=> - - -\n")?;
+    assert_transcript(rt, alloc, circle.as_str())
 }
 
 #[test]
