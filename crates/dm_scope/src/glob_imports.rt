@@ -47,10 +47,6 @@ impl GlobFlags {
     pub fn contains(&self, m: ModuleId, name: &Name) -> bool
         ensures { result ≡ has_flag self.now m name.now }
     {
-        // Where no glob has bound anything, nothing has to be hashed.
-        if self.names.is_empty() {
-            return false;
-        }
         match self.names.get(&m) {
             Some(names) => names.contains(name),
             None => false,

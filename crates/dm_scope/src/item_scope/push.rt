@@ -68,21 +68,25 @@ impl ItemScope {
         ensures err { OnErr result (self.new ≡ self.old) }
         ensures err_globs { OnErr result (globs.new ≡ globs.old) }
     {
-        match (def.types, def.values, def.macros) {
+        match (&def.types, &def.values, &def.macros) {
             (Some(item), None, None) => {
-                self.types.push(&mut globs.types, (m, name), item, import)
+                self.types.push(&mut globs.types, (m, name), *item, import)
             }
             (None, Some(item), None) => {
-                self.values.push(&mut globs.values, (m, name), item, import)
+                self.values
+                    .push(&mut globs.values, (m, name), *item, import)
             }
             (None, None, Some(item)) => {
-                self.macros.push(&mut globs.macros, (m, name), item, import)
+                self.macros
+                    .push(&mut globs.macros, (m, name), *item, import)
             }
             _ => self.push_from_types(globs, m, &name, def, import),
         }
     }
 
     /// The push, in all namespaces: the first step, then all that is below, then the second step, or all taken back.
+    // It stays a call, so that a push of one item need not read the others.
+    #[inline(never)]
     fn push_from_types(
         &mut self,
         globs: &mut PerNsGlobImports,
