@@ -1,13 +1,11 @@
-"""The scripts that stand in the tests of crates/defmap_tests, and where programs are that `rt ci` builds."""
+"""The transcripts that stand in the tests of crates/defmap_tests, and where programs are that `rt ci` builds."""
 import os
 import re
 
 ROOT = os.path.dirname(os.path.dirname(os.path.abspath(__file__)))
-FOLDER = f"{ROOT}/crates/defmap_tests/src/tests"
+FOLDER = f"{ROOT}/crates/defmap_tests/src/tests/scripts"
 
 CONSTANT = re.compile(r'const (\w+): &str =\s*"((?:[^"\\]|\\.)*)";', re.S)
-FUNCTION = re.compile(r"^(?:pub\(crate\) )?fn (\w+)\(.*?^}$", re.S | re.M)
-LITERAL = re.compile(r'"((?:[^"\\]|\\.)*)"', re.S)
 ESCAPES = {"n": "\n", '"': '"', "\\": "\\"}
 
 
@@ -23,28 +21,35 @@ class Transcripts:
     """The texts of these tests."""
 
     def __init__(self):
-        self.constants, self.functions = {}, {}
+        self.constants = {}
         for name in sorted(os.listdir(FOLDER)):
             with open(f"{FOLDER}/{name}", encoding="utf-8") as it:
                 text = it.read()
-            file = os.path.splitext(name)[0]
             for found in CONSTANT.finditer(text):
-                self.constants[file, found[1]] = found[2]
-            for found in FUNCTION.finditer(text):
-                self.functions[file, found[1]] = LITERAL.findall(found[0])
+                self.constants[os.path.splitext(name)[0], found[1]] = unescaped(found[2])
 
     def constant(self, file, name):
         """The text of a constant of a file."""
         if (file, name) not in self.constants:
             raise Wrong(f"there is no text {name} in {file}.rt")
-        return unescaped(self.constants[file, name])
+        return self.constants[file, name]
 
-    def literal(self, file, name, index=0):
-        """A text in the body of a function of a file."""
-        literals = self.functions.get((file, name), [])
-        if index >= len(literals):
-            raise Wrong(f"there are not {index + 1} texts in {name} in {file}.rt")
-        return unescaped(literals[index])
+    def lines(self, *places):
+        """The lines of constants, each given by its file and its name, or a line that is given as it is."""
+        return [line for it in places for line in ([it] if isinstance(it, str) else self.constant(*it).splitlines())]
+
+
+def parted(transcript):
+    """The lines of a transcript that are a script's, and those that it says are printed."""
+    script, printed = [], []
+    for line in transcript:
+        if line == "=>":
+            printed.append("\n")
+        elif line.startswith("=> "):
+            printed.append(line[len("=> ") :] + "\n")
+        else:
+            script.append(line + "\n")
+    return "".join(script), "".join(printed)
 
 
 def built(folder, crate, name):

@@ -1,4 +1,4 @@
-//! Tests that run whole scripts, and so all the crates below.
+//! Tests: calls at concrete types with ample memory, and scripts with what they have to print.
 #![tactic(auto)]
 
 #[cfg(test)]

@@ -1,404 +1,430 @@
-//! Whole worlds, built line by line.
-use super::{assert_transcript, assert_transcripts, does, joined, ran};
-use defmap_script::script::RunEnd;
+//! The world of two crates and two blocks, by calls of a builder: each call that can be refused is made, and made once more
+//! where it is.
+mod ancestry;
+mod crate_data;
+mod faults;
+mod local_maps;
+mod outwards;
+mod reading;
+mod records;
+mod refused;
+mod rounds;
+mod visibilities;
+
+use dm_base::fields_shape::FieldsShape;
+use dm_base::ids::{
+    BlockId, Crate, EnumId, EnumVariantId, FileAstId, FileId, FunctionId, ImplId, MacroCallId,
+    MacroRulesId, MapId, ModuleId, ProcMacroId, StructId, TraitId, UseId, UseTreeIdx,
+};
+use dm_base::imports::{ImportId, ImportOrExternCrate};
+use dm_base::item_ids::{
+    AdtId, AssocItemId, ItemContainerId, ItemKind, MacroId, ModuleDefId, VariantId,
+};
+use dm_base::macros::{MacroCallStyles, MacroExpander, MacroLoc, ProcMacroKind};
+use dm_base::mod_path::{ModPath, PathKind};
+use dm_base::name::Name;
+use dm_base::per_ns::PerNs;
+use dm_base::source::{AstId, Edition, EditionedFileId, HirFileId, TreeId};
+use dm_base::symbol::Symbol;
+use dm_base::visibility::{RawVisibility, Visibility, VisibilityExplicitness};
+use dm_maps::build_fault::BuildFault;
+use dm_maps::builder::WorldBuilder;
+use dm_maps::def_map::DefMap;
+use dm_maps::fault::WorldFault;
+use dm_maps::module_origin::ModuleOrigin;
+use dm_maps::world::World;
+use dm_scope::diagnostics::DefDiagnostic;
+use dm_scope::glob_imports::PerNsGlobImports;
+use either::Either;
 use std::alloc::{AllocError, Global};
-use std::process::Abort;
-use std::test::Fail;
 
-/// Two crates, two blocks, an enum with a variant, a macro, uses, pushes by import and without.
-pub(crate) const WORLD_A: &str = "crate 2021 0
-module 0 a pub
-module 1 b pub
-module 0 c pub
-crate 2015 1
-block 1 0
-module 5 n pub
-module 0 u8 pub
-block 0 1
-item enum 0
-variant 0 V tuple
-item struct 1
-item fn 5
-item fn 4
-item enum 4
-item struct 7
-macro rules 0 declarative:1
-use 0
-use 1
-use 3
-extern 0 dep 4 none
-macrouse c0 mu rules:0 none
-legacy 0 mm rules:0
-push 0 E enum:0/pub/none - - none
-push 0 a mod:1/pub/none - - none
-push 0 c mod:3/pub/none - - none
-push 0 u8 mod:7/pub/none - - none
-push 1 b mod:2/pub/none - - none
-push 1 S struct:1/in:1:implicit/none - - none
-push 4 E enum:4/pub/none - - none
-push 4 hidden - fn:3/in:4:implicit/none - none
-push 5 S - fn:2/in:5:implicit/none - none
-push 5 n mod:6/in:5:implicit/none - - none
-push 7 x struct:5/pub/none - - none
-push 0 P struct:1/pub/import:1:0 fn:2/pub/none - import:0:0
-push 1 Q struct:1/pub/import:0:0 - - import:1:0
-push 0 R struct:1/pub/none - - import:0:1
-push 3 R struct:1/pub/import:0:1 - - import:2:0
-check
-";
+/// The map of crate 0.
+const CRATE_MAP: MapId = MapId {
+    krate: Crate(0),
+    block: None,
+};
 
-/// What the fifteen pushes of that world print.
-pub(crate) const PUSHED: &str = "true
-true
-true
-true
-true
-true
-true
-true
-true
-true
-true
-true
-true
-true
-true
-";
+/// The map of block 0.
+const BLOCK_MAP: MapId = MapId {
+    krate: Crate(0),
+    block: Some(BlockId(0)),
+};
 
-/// One crate with a use, three structs and a function.
-const WORLD_B: &str = "crate 2021 0
-use 0
-item struct 0
-item struct 0
-item struct 0
-item fn 0
-check
-";
+const FILE: EditionedFileId = EditionedFileId {
+    file: FileId(0),
+    edition: Edition::Edition2021,
+};
 
-/// Pushes of one name, and what it then is.
-const TURNS: &str = "push 0 A struct:0/pub/none - - glob:0:0
-=> true
-push 0 A struct:1/pub/none - - import:0:1
-=> true
-path 0 other module any plain A
-=> struct:1/pub/import:0:1 - - yes - -
+const OTHER_FILE: EditionedFileId = EditionedFileId {
+    file: FileId(1),
+    edition: Edition::Edition2015,
+};
 
-push 0 A struct:0/pub/none - - import:0:1
-=> true
-push 0 A struct:1/pub/none - - import:0:2
-=> false
-push 0 A struct:2/pub/none - - import:0:1
-=> true
-path 0 other module any plain A
-=> struct:2/pub/import:0:1 - - yes - -
+/// A macro call, which each module that is no root is written out in.
+const CALL: MacroCallId = MacroCallId(6);
 
-push 0 A struct:0/pub/none - - import:0:1
-=> true
-push 0 A struct:0/in:0:implicit/none - - import:0:1
-=> false
-push 0 A struct:1/pub/none - - glob:0:0
-=> false
-path 0 other module any plain A
-=> struct:0/pub/import:0:1 - - yes - -
+const EXPANDED: ModuleOrigin = ModuleOrigin::Inline {
+    definition_tree_id: TreeId {
+        file: HirFileId::Macro(CALL),
+        block: None,
+    },
+    definition: FileAstId(0),
+};
 
-push 0 A struct:0/pub/none fn:3/pub/none - extern:0
-=> true
-path 0 other module any plain A
-=> struct:0/pub/extern:0 fn:3/pub/none - yes - -
-
-push 0 A struct:0/pub/none - - none
-=> true
-push 0 A struct:1/pub/none - - none
-=> false
-path 0 other module any plain A
-=> struct:0/pub/none - - yes - -";
-
-/// Tables behind one crate that fail the check.
-const DANGLING: &str = "prelude c0 9
-check
-=> refused 3 UnknownModule c0 9
-
-extern 0 d 9 none
-check
-=> refused 3 UnknownModule c0 9
-
-macrouse c0 m rules:7 none
-check
-=> refused 3 UnknownMacro c0 7
-
-module 0 a in:9:implicit
-check
-=> refused 3 UnknownModule m1 9
-
-module 0 a crate:4
-check
-=> refused 3 UnknownCrate m1 4
-
-legacy 0 m rules:3
-check
-=> refused 3 UnknownMacro m0 3
-
-push 0 z mod:0/pub/none - - import:7:0
-=> true
-check
-=> refused 3 UnknownUse m0 7
-
-item fn 0
-push 0 z struct:0/pub/none - - none
-=> true
-check
-=> refused 4 UnknownItem m0 0
-
-push 0 z struct:5/pub/none - - none
-=> true
-push 0 y mod:9/pub/none - - none
-=> true
-check
-=> refused 4 UnknownModule m0 9
-
-block 0 0
-prelude b0 9
-check
-=> refused 4 UnknownModule b0 9
-
-block 0 0
-macrouse b0 m macro2:0 none
-check
-=> refused 4 UnknownMacro b0 0
-
-macro rules 0 builtin
-legacy 0 m macro2:0
-check
-=> refused 4 UnknownMacro m0 0
-
-push 0 z variant:0/pub/none - - none
-=> true
-check
-=> refused 3 UnknownItem m0 0
-
-push 0 z mod:0/pub/none - - glob:7:1
-=> true
-check
-=> refused 3 UnknownUse m0 7";
-
-/// One crate with a use, a function, an enum with a variant, and a macro.
-const WORLD_C: &str = "crate 2021 0
-use 0
-item fn 0
-item enum 0
-variant 1 V tuple
-macro rules 0 builtin
-check
-";
-
-/// Pushes that name what that world does not have.
-const UNKNOWN: &str = "push 1 z - - - none
-=> refused 8 Unknown
-
-push 1 z mod:0/pub/none - - none
-=> refused 8 Unknown
-
-push 0 z mod:1/pub/none - - none
-=> refused 8 Unknown
-
-push 0 z fn:1/pub/none - - none
-=> refused 8 Unknown
-
-push 0 z - struct:0/pub/none - none
-=> refused 8 Unknown
-
-push 0 z type:2/pub/none - - none
-=> refused 8 Unknown
-
-push 0 z variant:1/pub/none - - none
-=> refused 8 Unknown
-
-push 0 z - - rules:1/pub/none none
-=> refused 8 Unknown
-
-push 0 z - - macro2:0/pub/none none
-=> refused 8 Unknown
-
-push 0 z proc:0/pub/none - - none
-=> refused 8 Unknown
-
-push 0 z fn:0/in:1:implicit/none - - none
-=> refused 8 Unknown
-
-push 0 z fn:0/crate:1/none - - none
-=> refused 8 Unknown
-
-push 0 z fn:0/pub/import:1:0 - - none
-=> refused 8 Unknown
-
-push 0 z - fn:0/pub/glob:1:0 - none
-=> refused 8 Unknown
-
-push 0 z - - - import:1:0
-=> refused 8 Unknown
-
-push 0 z - - - glob:1:0
-=> refused 8 Unknown";
-
-/// Pushes that name what it has.
-const KNOWN: &str = "push 0 z mod:0/pub/none fn:0/in:0:explicit/none rules:0/crate:0/none none
-=> true
-
-push 0 z variant:0/pub/import:0:9 variant:0/pub/glob:0:9 - import:0:7
-=> true
-
-push 0 z enum:1/pub/extern:9 - rules:0/pub/extern:9 extern:9
-=> true
-
-push 0 z builtin:u8/pub/none - - none
-=> true
-
-push 0 z - - - glob:0:4294967295
-=> true";
-
-#[test]
-fn two_crates_with_blocks_and_macros_are_built(rt: HostRuntime) -> Result<(), Fail> {
-    let (script, printed) = (WORLD_A.as_bytes(), PUSHED.as_bytes());
-    assert!(rt; does(rt.alloc(), script, printed, RunEnd::Done)?);
-    Ok(())
+/// The map that has this root.
+fn map_at(world: &World, root: u32) -> Option<&DefMap> {
+    world.map_of(ModuleId(root))
 }
 
-/// Whether each printed line is the answer of an effective push, or refuses a bad line.
-fn is_beginning(printed: &[u8]) -> bool {
-    for line in printed.split(|byte| *byte == b'\n') {
-        let refused = line.starts_with(b"refused ") && line.ends_with(b" BadLine");
-        if !line.is_empty() && line != b"true".as_slice() && !refused {
-            return false;
+const RULES: MacroId = MacroId::MacroRulesId(MacroRulesId(0));
+
+/// The struct that module 1 binds.
+const STRUCT: StructId = StructId(1);
+
+const ITEMS: [(ItemKind, u32); 9] = [
+    (ItemKind::Enum, 0),
+    (ItemKind::Struct, 1),
+    (ItemKind::Function, 5),
+    (ItemKind::Function, 4),
+    (ItemKind::Enum, 4),
+    (ItemKind::Struct, 7),
+    (ItemKind::Trait, 3),
+    (ItemKind::Function, 6),
+    (ItemKind::Function, 6),
+];
+
+/// What three of the functions lie in.
+const FUNCTIONS: [(u32, ItemContainerId); 3] = [
+    (2, ItemContainerId::TraitId(TraitId(6))),
+    (7, ItemContainerId::ImplId(ImplId(0))),
+    (8, ItemContainerId::ModuleId(ModuleId(6))),
+];
+
+fn ast(item: u32) -> AstId {
+    AstId {
+        file_id: HirFileId::File(FILE),
+        value: FileAstId(item),
+    }
+}
+
+fn import(use_: u32, idx: u32) -> ImportId {
+    ImportId {
+        use_: UseId(use_),
+        idx: UseTreeIdx(idx),
+    }
+}
+
+fn inside(m: u32) -> Visibility {
+    Visibility::Module(ModuleId(m), VisibilityExplicitness::Implicit)
+}
+
+fn structure(id: u32, vis: Visibility, by: Option<ImportId>) -> PerNs {
+    let def = ModuleDefId::AdtId(AdtId::StructId(StructId(id)));
+    PerNs::types(def, vis, by.map(ImportOrExternCrate::Import))
+}
+
+fn enumeration(id: u32) -> PerNs {
+    let def = ModuleDefId::AdtId(AdtId::EnumId(EnumId(id)));
+    PerNs::types(def, Visibility::Public, None)
+}
+
+fn module(m: u32, vis: Visibility) -> PerNs {
+    PerNs::types(ModuleDefId::ModuleId(ModuleId(m)), vis, None)
+}
+
+fn function(id: u32, vis: Visibility) -> PerNs {
+    PerNs::values(ModuleDefId::FunctionId(FunctionId(id)), vis, None)
+}
+
+/// What each scope is pushed: its module, a name, items, and the import.
+fn pushes() -> [(u32, &'static str, PerNs, Option<ImportId>); 15] {
+    let all = Visibility::Public;
+    [
+        (0, "E", enumeration(0), None),
+        (0, "a", module(1, all), None),
+        (0, "c", module(3, all), None),
+        (0, "u8", module(7, all), None),
+        (1, "b", module(2, all), None),
+        (1, "S", structure(1, inside(1), None), None),
+        (4, "E", enumeration(4), None),
+        (4, "hidden", function(3, inside(4)), None),
+        (5, "S", function(2, inside(5)), None),
+        (5, "n", module(6, inside(5)), None),
+        (7, "x", structure(5, all, None), None),
+        (
+            0,
+            "P",
+            structure(1, all, Some(import(1, 0))).or(function(2, all)),
+            Some(import(0, 0)),
+        ),
+        (
+            1,
+            "Q",
+            structure(1, all, Some(import(0, 0))),
+            Some(import(1, 0)),
+        ),
+        (0, "R", structure(1, all, None), Some(import(0, 1))),
+        (
+            3,
+            "R",
+            structure(1, all, Some(import(0, 1))),
+            Some(import(2, 0)),
+        ),
+    ]
+}
+
+/// `pub(in crate)`, as it is written.
+fn in_crate(alloc: Global) -> RawVisibility {
+    let path = ModPath::from_segments(PathKind::Crate, Vec::new(alloc));
+    RawVisibility::Module(path, VisibilityExplicitness::Explicit)
+}
+
+/// `pub(in crate::name)`.
+fn in_module(alloc: Global, name: &str) -> Result<RawVisibility, AllocError> {
+    let mut segments = Vec::new(alloc);
+    segments.push(Name::new(alloc, name)?)?;
+    let path = ModPath::from_segments(PathKind::Crate, segments);
+    Ok(RawVisibility::Module(path, VisibilityExplicitness::Explicit))
+}
+
+/// The visibilities of the struct's fields.
+fn fields(alloc: Global) -> Result<Vec<RawVisibility>, AllocError> {
+    let mut fields = Vec::new(alloc);
+    fields.push(RawVisibility::Public)?;
+    fields.push(RawVisibility::PubSelf(VisibilityExplicitness::Implicit))?;
+    fields.push(RawVisibility::PubCrate)?;
+    fields.push(in_module(alloc, "c")?)?;
+    fields.push(in_module(alloc, "nope")?)?;
+    Ok(fields)
+}
+
+/// A builder, and the flags of globs.
+struct Building {
+    builder: WorldBuilder,
+    globs: PerNsGlobImports,
+}
+
+/// Written out, since a builder let go in each function would be proved there each time.
+impl Drop for Building {
+    fn drop(self) {
+        let Building {
+            builder: _builder,
+            globs: _globs,
+        } = self;
+    }
+}
+
+/// A checked world.
+struct Checked {
+    world: World,
+}
+
+/// Written out, as for a builder.
+impl Drop for Checked {
+    fn drop(self) {
+        let Checked { world: _world } = self;
+    }
+}
+
+impl Building {
+    /// Nothing yet.
+    fn new(alloc: Global) -> Building {
+        Building {
+            builder: WorldBuilder::new(alloc),
+            globs: PerNsGlobImports::new(alloc),
         }
     }
-    true
-}
 
-#[test]
-fn every_beginning_of_a_script_prints_a_beginning(rt: HostRuntime) -> Result<(), Fail> {
-    let script = WORLD_A.as_bytes();
-    for cut in 0..script.len() {
-        let (out, _end) = ran(rt.alloc(), &script[..cut], b"")?;
-        assert!(rt; is_beginning(out.as_slice()), "{cut}");
+    /// A module, public, under that one.
+    fn put_module(&mut self, alloc: Global, parent: u32, name: &str) -> Result<(), BuildFault> {
+        let name = Name::new(alloc, name)?;
+        self.builder
+            .add_module(ModuleId(parent), name, EXPANDED, Visibility::Public)?;
+        Ok(())
     }
-    Ok(())
-}
 
-#[test]
-fn a_world_for_retries_is_built(rt: HostRuntime) -> Result<(), Fail> {
-    let transcript = "crate 2021 0
-module 0 a pub
-use 0
-item struct 1
-push 0 a mod:1/pub/none - - none
-=> true
-push 1 S struct:0/pub/none - - none
-=> true
-check
-path 0 other module any crate a S
-=> struct:0/pub/none - - yes - -
-";
-    assert_transcript(&rt, rt.alloc(), transcript)?;
-    Ok(())
-}
-
-/// Runs pushes into the builder of that world, and asks its path behind a check.
-fn assert_built_on(rt: &impl Abort, alloc: Global, rows: &str) -> Result<(), AllocError> {
-    let (pushes, path) = rows.split_once("path ").unwrap_or((rows, ""));
-    let transcript = [WORLD_B, "build\n", pushes, "check\npath ", path];
-    let transcript = joined(alloc, &transcript)?;
-    assert_transcript(rt, alloc, transcript.as_str())
-}
-
-#[test]
-fn pushes_by_imports_take_turns(rt: HostRuntime) -> Result<(), Fail> {
-    assert_transcripts(&rt, rt.alloc(), WORLD_B, TURNS)?;
-    for rows in TURNS.split("\n\n") {
-        assert_built_on(&rt, rt.alloc(), rows)?;
+    fn put_modules(&mut self, alloc: Global) -> Result<(), BuildFault> {
+        again!(self.builder.add_crate(Edition::Edition2021, FILE))?;
+        again!(self.put_module(alloc, 0, "a"))?;
+        again!(self.put_module(alloc, 1, "b"))?;
+        again!(self.put_module(alloc, 0, "c"))?;
+        again!(self.builder.add_crate(Edition::Edition2015, OTHER_FILE))?;
+        again!(self.builder.add_block(ModuleId(1), ast(0)))?;
+        again!(self.put_module(alloc, 5, "n"))?;
+        again!(self.put_module(alloc, 0, "u8"))?;
+        again!(self.builder.add_block(ModuleId(0), ast(1)))?;
+        Ok(())
     }
-    Ok(())
-}
 
-#[test]
-fn a_world_is_built_on(rt: HostRuntime) -> Result<(), Fail> {
-    let transcript = "crate 2021 0
-item struct 0
-check
-path 0 other module any plain S
-=> - - - yes - -
-build
-push 0 S struct:0/pub/none - - none
-=> true
-module 0 a pub
-push 0 a mod:1/pub/none - - none
-=> true
-check
-path 0 other module any plain S
-=> struct:0/pub/none - - yes - -
-path 0 other module any crate a
-=> mod:1/pub/none - - yes - -
-build
-push 0 z mod:9/pub/none - - none
-=> true
-check
-=> refused 14 UnknownModule m0 9
-";
-    assert_transcript(&rt, rt.alloc(), transcript)?;
-    Ok(())
-}
+    fn put_variant(&mut self, alloc: Global) -> Result<(), BuildFault> {
+        let name = Name::new(alloc, "V")?;
+        self.builder
+            .add_variant(EnumId(0), name, FieldsShape::Tuple)?;
+        Ok(())
+    }
 
-#[test]
-fn every_word_of_a_macro_and_a_shape_is_read(rt: HostRuntime) -> Result<(), Fail> {
-    let script = "# words
-  crate  2018 07 \nitem enum 0
-variant 0 R record
-variant 0 T tuple
-variant 0 U unit
-macro macro2 0 eager
-macro macro2 0 builtin
-macro macro2 0 unimplemented
-macro rules 0 attr
-macro rules 0 derive
-macro rules 0 declarative:07
-macro proc 0 bang
-macro proc 0 attr
-macro proc 0 custom_derive
-legacy 0 l macro2:0
-legacy 0 l macro2:1
-legacy 0 l macro2:2
-legacy 0 l rules:3
-legacy 0 l rules:4
-legacy 0 l rules:5
-legacy 0 l proc:6
-legacy 0 l proc:7
-legacy 0 l proc:08
-push 0 v variant:0/pub/none variant:1/pub/none - none
-push 0 w variant:2/pub/none - proc:8/pub/none none
-block 0 4294967295
-prelude b00 0
-prelude c0 0
-macrouse b0 m macro2:1 none
-macrouse c0 m macro2:1 4294967295
-extern 0 own 0 7
-raw match
-raw match
-raw raw
-check
-";
-    let script = script.as_bytes();
-    assert!(rt; does(rt.alloc(), script, b"true\ntrue\n", RunEnd::Done)?);
-    Ok(())
-}
+    fn put_items(&mut self, alloc: Global) -> Result<(), BuildFault> {
+        for (kind, m) in ITEMS {
+            again!(self.builder.add_item(kind, ModuleId(m)))?;
+        }
+        again!(self.put_variant(alloc))?;
+        let styles = MacroCallStyles::FN_LIKE;
+        let rules = MacroLoc::MacroRules(MacroExpander::Declarative { styles });
+        again!(self.builder.add_macro(ModuleId(0), rules))?;
+        let derive = MacroLoc::Proc(ProcMacroKind::CustomDerive);
+        again!(self.builder.add_macro(ModuleId(0), derive))?;
+        for m in [0, 1, 3] {
+            again!(self.builder.add_use(ModuleId(m)))?;
+        }
+        Ok(())
+    }
 
-#[test]
-fn tables_that_name_what_is_not_there_fail_the_check(rt: HostRuntime) -> Result<(), Fail> {
-    assert_transcripts(&rt, rt.alloc(), "crate 2021 0\n", DANGLING)?;
-    Ok(())
-}
+    fn put_extern(&mut self, alloc: Global) -> Result<(), BuildFault> {
+        let name = Name::new(alloc, "dep")?;
+        self.builder.add_extern(Crate(0), name, ModuleId(4), None)
+    }
 
-#[test]
-fn pushes_into_a_world_name_what_it_has(rt: HostRuntime) -> Result<(), Fail> {
-    assert_transcripts(&rt, rt.alloc(), WORLD_C, UNKNOWN)?;
-    assert_transcripts(&rt, rt.alloc(), WORLD_C, KNOWN)?;
-    Ok(())
+    fn put_macro_use(&mut self, alloc: Global) -> Result<(), BuildFault> {
+        let name = Name::new(alloc, "mu")?;
+        self.builder.add_macro_use(CRATE_MAP, name, RULES, None)
+    }
+
+    /// A legacy macro of the root.
+    fn put_legacy(&mut self, alloc: Global) -> Result<(), AllocError> {
+        let name = Name::new(alloc, "mm")?;
+        match self.builder.scope_mut(ModuleId(0)) {
+            None => Ok(()),
+            Some(scope) => scope.define_legacy_macro(name, RULES),
+        }
+    }
+
+    fn push(
+        &mut self,
+        alloc: Global,
+        (m, name): (ModuleId, &str),
+        items: PerNs,
+        import: Option<ImportId>,
+    ) -> Result<(), AllocError> {
+        let name = Name::new(alloc, name)?;
+        let import = import.map(ImportOrExternCrate::Import);
+        if let Some(scope) = self.builder.scope_mut(m) {
+            scope.push_res_with_import(&mut self.globs, (m, name), items, import)?;
+        }
+        Ok(())
+    }
+
+    fn put_names(&mut self, alloc: Global) -> Result<(), BuildFault> {
+        again!(self.put_extern(alloc))?;
+        again!(self.put_macro_use(alloc))?;
+        again!(self.put_legacy(alloc))?;
+        for (m, name, items, import) in pushes() {
+            again!(self.push(alloc, (ModuleId(m), name), items, import))?;
+        }
+        Ok(())
+    }
+
+    fn put_fields(&mut self, alloc: Global) -> Result<(), BuildFault> {
+        let fields = fields(alloc)?;
+        self.builder.set_fields(VariantId::StructId(STRUCT), fields)
+    }
+
+    /// What a function lies in, and who sees it.
+    fn put_function(
+        &mut self,
+        f: u32,
+        container: ItemContainerId,
+        vis: RawVisibility,
+    ) -> Result<(), BuildFault> {
+        self.builder
+            .set_assoc(AssocItemId::FunctionId(FunctionId(f)), container, vis)
+    }
+
+    fn put_trait(&mut self, id: u32, vis: RawVisibility) -> Result<(), BuildFault> {
+        self.builder.set_trait_visibility(TraitId(id), vis)
+    }
+
+    fn put_raw_name(&mut self, alloc: Global) -> Result<(), BuildFault> {
+        let name = Name::new(alloc, "type")?;
+        self.builder.add_raw_name(name)
+    }
+
+    fn put_helper(&mut self, alloc: Global) -> Result<(), BuildFault> {
+        let name = Name::new(alloc, "helper")?;
+        let call = Either::Left(MacroCallId(0));
+        self.builder
+            .add_derive_helper(BLOCK_MAP, ast(2), name, RULES, call)
+    }
+
+    fn put_diagnostic(&mut self) -> Result<(), BuildFault> {
+        let diagnostic = DefDiagnostic::unresolved_extern_crate(ModuleId(0), ast(3));
+        self.builder.add_diagnostic(CRATE_MAP, diagnostic)
+    }
+
+    fn put_tables(&mut self, alloc: Global) -> Result<(), BuildFault> {
+        again!(self.put_fields(alloc))?;
+        for (f, container) in FUNCTIONS {
+            again!(self.put_function(f, container, in_crate(alloc)))?;
+        }
+        again!(self.put_trait(6, RawVisibility::PubSelf(VisibilityExplicitness::Explicit)))?;
+        again!(self.put_raw_name(alloc))?;
+        again!(
+            self.builder
+                .set_prelude(CRATE_MAP, Some((ModuleId(3), Some(UseId(0)))))
+        )?;
+        again!(self.builder.add_macro_def(CRATE_MAP, ast(4), RULES))?;
+        again!(self.put_helper(alloc))?;
+        again!(self.put_diagnostic())
+    }
+
+    fn put_tool(&mut self, alloc: Global) -> Result<(), BuildFault> {
+        let tool = Symbol::new(alloc, "tool")?;
+        self.builder.add_tool(Crate(0), tool)
+    }
+
+    fn put_feature(&mut self, alloc: Global) -> Result<(), BuildFault> {
+        let feature = Symbol::new(alloc, "register_tool")?;
+        self.builder.add_feature(Crate(0), feature)
+    }
+
+    fn put_data(&mut self, alloc: Global) -> Result<(), BuildFault> {
+        again!(self.builder.set_no_std(Crate(0)))?;
+        again!(self.builder.set_no_core(Crate(0)))?;
+        again!(self.builder.set_coherence_is_core(Crate(0)))?;
+        again!(self.builder.set_recursion_limit(Crate(0), 4))?;
+        again!(self.put_tool(alloc))?;
+        again!(self.put_feature(alloc))?;
+        let (f, m) = (FunctionId(2), ProcMacroId(1));
+        again!(self.builder.set_proc_macro(Crate(0), f, m))
+    }
+
+    /// The builder on which all calls were made.
+    fn full(alloc: Global) -> Result<Building, BuildFault> {
+        let mut building = Building::new(alloc);
+        building.put_modules(alloc)?;
+        building.put_items(alloc)?;
+        building.put_names(alloc)?;
+        building.put_tables(alloc)?;
+        building.put_data(alloc)?;
+        Ok(building)
+    }
+
+    /// The world, if there is one.
+    fn world(self) -> Option<Checked> {
+        match self.checked() {
+            Ok(checked) => Some(checked),
+            Err(_fault) => None,
+        }
+    }
+
+    /// The world, or why there is none.
+    fn checked(self) -> Result<Checked, WorldFault> {
+        let Building {
+            builder,
+            globs: _globs,
+        } = self;
+        match builder.check() {
+            Ok(world) => Ok(Checked { world }),
+            Err((_builder, fault)) => Err(fault),
+        }
+    }
 }

@@ -1,0 +1,3 @@
+pub mod SmallTree
+pub mod Modules
+pub mod Resolving

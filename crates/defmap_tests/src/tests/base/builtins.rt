@@ -1,0 +1,36 @@
+//! The builtin types.
+use dm_base::builtin_type::{BuiltinFloat, BuiltinInt, BuiltinType, BuiltinUint};
+use dm_base::name::{AsName, Name};
+use std::alloc::{AllocError, Global};
+use std::test::Fail;
+
+/// The words, in order.
+const WORDS: [&str; 19] = [
+    "char", "bool", "str", "isize", "i8", "i16", "i32", "i64", "i128", "usize", "u8", "u16", "u32",
+    "u64", "u128", "f16", "f32", "f64", "f128",
+];
+
+/// Whether something that has a name gives this one.
+fn is_named<T: AsName>(alloc: Global, named: &T, word: &str) -> Result<bool, AllocError> {
+    let name = named.as_name(alloc)?;
+    Ok(name.as_str() == word)
+}
+
+#[test]
+fn the_nineteen_pairs_stand_in_order(rt: HostRuntime) -> Result<(), Fail> {
+    let all = BuiltinType::all_builtin_types(rt.alloc())?;
+    for (pair, word) in all.iter().zip(WORDS.iter()) {
+        assert_eq!(rt; pair.0.as_str(), *word);
+        assert!(rt; is_named(rt.alloc(), &pair.1, word)?, "{word}");
+    }
+    Ok(())
+}
+
+#[test]
+fn a_builtin_type_is_written_as_its_word(rt: HostRuntime) -> Result<(), Fail> {
+    let (builtin, int) = (BuiltinType::Str, BuiltinInt::I16);
+    let (uint, float) = (BuiltinUint::U64, BuiltinFloat::F32);
+    let text = format!(in rt.alloc(); "{builtin} {int} {uint} {float}")?;
+    assert_eq!(rt; text.as_str(), "str i16 u64 f32");
+    Ok(())
+}

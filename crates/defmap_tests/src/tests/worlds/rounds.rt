@@ -1,0 +1,257 @@
+//! A crate with two imports that wait, of which the first needs what the second binds, and rounds over them.
+mod refused;
+
+use super::{Building, Checked, FILE};
+use dm_base::ids::{ModuleId, StructId, UseId, UseTreeIdx};
+use dm_base::imports::ImportId;
+use dm_base::item_ids::{AdtId, ItemKind, ModuleDefId};
+use dm_base::mod_path::{ModPath, PathKind};
+use dm_base::name::Name;
+use dm_base::per_ns::PerNs;
+use dm_base::source::Edition;
+use dm_base::visibility::Visibility;
+use dm_maps::build_fault::BuildFault;
+use dm_maps::world::World;
+use dm_retry::pending::Pending;
+use dm_retry::retry::Retry;
+use dm_retry::retry_fault::RetryFault;
+use dm_retry::round_kind::RoundKind;
+use dm_scope::glob_imports::PerNsGlobImports;
+use std::alloc::{AllocError, Global};
+use std::test::Fail;
+
+const ROOT: ModuleId = ModuleId(0);
+
+/// A module in the root, which the root binds as `a`.
+const CHILD: ModuleId = ModuleId(1);
+
+/// A struct in it.
+const STRUCT: StructId = StructId(0);
+
+/// No module of the crate.
+const MISSING: ModuleId = ModuleId(9);
+
+/// Imports that wait in a checked world.
+struct Waiting {
+    retry: Retry,
+}
+
+/// Written out, as for a builder.
+impl Drop for Waiting {
+    fn drop(self) {
+        let Waiting { retry: _retry } = self;
+    }
+}
+
+/// An import of the crate's one use.
+fn import(place: u32) -> ImportId {
+    ImportId {
+        use_: UseId(0),
+        idx: UseTreeIdx(place),
+    }
+}
+
+/// A public type, without an import.
+fn typed(def: ModuleDefId) -> PerNs {
+    PerNs::types(def, Visibility::Public, None)
+}
+
+/// The struct, public, and without an import.
+fn the_struct() -> PerNs {
+    typed(ModuleDefId::AdtId(AdtId::StructId(STRUCT)))
+}
+
+impl Building {
+    /// A crate with a module, a use and a struct; the root binds the module, and that the struct.
+    fn with_struct(alloc: Global) -> Result<Building, BuildFault> {
+        let mut building = Building::new(alloc);
+        building.builder.add_crate(Edition::Edition2021, FILE)?;
+        building.put_module(alloc, 0, "a")?;
+        building.builder.add_use(ROOT)?;
+        building.builder.add_item(ItemKind::Struct, CHILD)?;
+        let child = typed(ModuleDefId::ModuleId(CHILD));
+        building.push(alloc, (ROOT, "a"), child, None)?;
+        building.push(alloc, (CHILD, "S"), the_struct(), None)?;
+        Ok(building)
+    }
+}
+
+/// The import of a name into a module, which is public.
+fn pending(
+    alloc: Global,
+    m: ModuleId,
+    name: &str,
+    path: ModPath,
+    place: u32,
+) -> Result<Pending, AllocError> {
+    let name = Name::new(alloc, name)?;
+    Ok(Pending::new(m, name, path, Visibility::Public, import(place)))
+}
+
+/// `Y`.
+fn plain_path(alloc: Global) -> Result<ModPath, AllocError> {
+    let mut segments = Vec::new(alloc);
+    segments.push(Name::new(alloc, "Y")?)?;
+    Ok(ModPath::from_segments(PathKind::Plain, segments))
+}
+
+/// `crate::a::S`.
+fn path_in_crate(alloc: Global) -> Result<ModPath, AllocError> {
+    let mut segments = Vec::new(alloc);
+    segments.push(Name::new(alloc, "a")?)?;
+    segments.push(Name::new(alloc, "S")?)?;
+    Ok(ModPath::from_segments(PathKind::Crate, segments))
+}
+
+/// `use Y as X;` and `use crate::a::S as Y;`, in the root.
+fn two_imports(alloc: Global) -> Result<Vec<Pending>, AllocError> {
+    let mut pendings = Vec::new(alloc);
+    pendings.push(pending(alloc, ROOT, "X", plain_path(alloc)?, 0)?)?;
+    pendings.push(pending(alloc, ROOT, "Y", path_in_crate(alloc)?, 1)?)?;
+    Ok(pendings)
+}
+
+/// The crate's world, if there is one.
+fn a_world(alloc: Global) -> Result<Option<World>, BuildFault> {
+    match Building::with_struct(alloc)?.world() {
+        None => Ok(None),
+        Some(checked) => Ok(Some(checked.into_world())),
+    }
+}
+
+impl Checked {
+    fn into_world(self) -> World {
+        let Checked { world } = self;
+        world
+    }
+}
+
+/// What taking imports answered: those that wait, or why they do not, and how many were handed back.
+fn taken(
+    alloc: Global,
+    pendings: Vec<Pending>,
+) -> Result<Result<Waiting, (Option<RetryFault>, usize)>, BuildFault> {
+    let Some(world) = again!(a_world(alloc))? else {
+        return Ok(Err((None, 0)));
+    };
+    match Retry::new(world, PerNsGlobImports::new(alloc), pendings) {
+        Ok(retry) => Ok(Ok(Waiting { retry })),
+        Err((fault, _world, _globs, pendings)) => Ok(Err((Some(fault), pendings.len()))),
+    }
+}
+
+/// What a round answers, how many tries it began, and which of the two imports are due afterwards.
+type Row = (bool, usize, Option<bool>, Option<bool>);
+
+impl Waiting {
+    fn round(&mut self, all: bool) -> Result<Row, AllocError> {
+        let answer = if all {
+            self.retry.round_all()?
+        } else {
+            self.retry.round_changed()?
+        };
+        let retry = &self.retry;
+        Ok((answer, retry.last_tries(), retry.due(0), retry.due(1)))
+    }
+
+    fn three_rounds(&mut self, all: bool) -> Result<[Row; 3], AllocError> {
+        Ok([self.round(all)?, self.round(all)?, self.round(all)?])
+    }
+
+    /// What the first import stands for.
+    fn first_import(&self) -> Option<PerNs> {
+        let world = self.retry.world();
+        let module = world.map_of(ROOT)?.get(ROOT)?;
+        Some(module.scope().fully_resolve_import(world, import(0)))
+    }
+}
+
+/// The three rounds of a kind, and what the first import stands for afterwards.
+fn rounds(alloc: Global, all: bool) -> Result<Option<([Row; 3], Option<PerNs>)>, BuildFault> {
+    match taken(alloc, two_imports(alloc)?)? {
+        Err(_) => Ok(None),
+        Ok(mut waiting) => {
+            let rows = waiting.three_rounds(all)?;
+            Ok(Some((rows, waiting.first_import())))
+        }
+    }
+}
+
+#[test]
+fn rounds_of_what_changed(rt: HostRuntime) -> Result<(), Fail> {
+    let rows = [
+        (true, 2, Some(true), Some(false)),
+        (true, 1, Some(false), Some(false)),
+        (false, 0, Some(false), Some(false)),
+    ];
+    assert_eq!(rt;
+        rounds(rt.alloc(), false)?,
+        Some((rows, Some(the_struct())))
+    );
+    Ok(())
+}
+
+#[test]
+fn rounds_of_all(rt: HostRuntime) -> Result<(), Fail> {
+    let rows = [
+        (true, 2, Some(true), Some(false)),
+        (true, 2, Some(false), Some(false)),
+        (false, 2, Some(false), Some(false)),
+    ];
+    assert_eq!(rt; rounds(rt.alloc(), true)?, Some((rows, Some(the_struct()))));
+    Ok(())
+}
+
+/// Why imports are not taken, and how many are handed back.
+fn refusal(
+    alloc: Global,
+    pendings: Vec<Pending>,
+) -> Result<Option<(Option<RetryFault>, usize)>, BuildFault> {
+    match taken(alloc, pendings)? {
+        Ok(_waiting) => Ok(None),
+        Err(refusal) => Ok(Some(refusal)),
+    }
+}
+
+/// The same import twice, in a module that the crate lacks.
+fn doubled(alloc: Global) -> Result<Vec<Pending>, AllocError> {
+    let mut pendings = Vec::new(alloc);
+    pendings.push(pending(alloc, MISSING, "X", plain_path(alloc)?, 0)?)?;
+    pendings.push(pending(alloc, MISSING, "X", plain_path(alloc)?, 0)?)?;
+    Ok(pendings)
+}
+
+/// One import in a module that the crate lacks.
+fn lost(alloc: Global) -> Result<Vec<Pending>, AllocError> {
+    let mut pendings = Vec::new(alloc);
+    pendings.push(pending(alloc, MISSING, "X", plain_path(alloc)?, 0)?)?;
+    Ok(pendings)
+}
+
+#[test]
+fn imports_are_refused(rt: HostRuntime) -> Result<(), Fail> {
+    let alloc = rt.alloc();
+    let double = Some((Some(RetryFault::DoubleImport), 2));
+    assert_eq!(rt; refusal(alloc, doubled(alloc)?)?, double);
+    let unknown = Some((Some(RetryFault::UnknownPart), 1));
+    assert_eq!(rt; refusal(alloc, lost(alloc)?)?, unknown);
+    Ok(())
+}
+
+/// What the first import stands for after rounds of both kinds.
+fn mixed(alloc: Global) -> Result<Option<PerNs>, BuildFault> {
+    match taken(alloc, two_imports(alloc)?)? {
+        Err(_) => Ok(None),
+        Ok(mut waiting) => {
+            let kinds = [RoundKind::Changed, RoundKind::All, RoundKind::Changed];
+            waiting.retry.rounds(&kinds)?;
+            Ok(waiting.first_import())
+        }
+    }
+}
+
+#[test]
+fn rounds_of_both_kinds(rt: HostRuntime) -> Result<(), Fail> {
+    assert_eq!(rt; mixed(rt.alloc())?, Some(the_struct()));
+    Ok(())
+}

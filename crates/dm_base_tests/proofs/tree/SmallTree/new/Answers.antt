@@ -1,5 +1,0 @@
-use Rattle.dm_base_tests.proofs.SmallLemmas.{small-lawful}
-use Rattle.dm_base_tests.proofs.tree.SmallTree.new.Goals as goal
-
-pub invariant_of-result : goal.invariant_of-result
-invariant_of-result c = record { lawful = small-lawful }

@@ -1,6 +1,0 @@
-use Rattle.std.proofs.Common.{◌∙◌, ap}
-use Rattle.dm_base.specs.PerNs.{definition}
-use Rattle.dm_scope_tests.proofs.using.imported_type.Goals as goal
-
-pub returns : goal.returns
-returns g c = λ fits d chain. c.take_types.ensures ∙ ap definition (c.fully_resolve_import.ensures.types.whole fits d chain)
