@@ -1,6 +1,6 @@
 //! The builtin types.
-use dm_base::builtin_type::{BuiltinFloat, BuiltinInt, BuiltinType, BuiltinUint};
-use dm_base::name::{AsName, Name};
+use dm_base::builtin_type::BuiltinType;
+use dm_base::name::AsName;
 use std::alloc::{AllocError, Global};
 use std::test::Fail;
 
@@ -23,14 +23,5 @@ fn the_nineteen_pairs_stand_in_order(rt: HostRuntime) -> Result<(), Fail> {
         assert_eq!(rt; pair.0.as_str(), *word);
         assert!(rt; is_named(rt.alloc(), &pair.1, word)?, "{word}");
     }
-    Ok(())
-}
-
-#[test]
-fn a_builtin_type_is_written_as_its_word(rt: HostRuntime) -> Result<(), Fail> {
-    let (builtin, int) = (BuiltinType::Str, BuiltinInt::I16);
-    let (uint, float) = (BuiltinUint::U64, BuiltinFloat::F32);
-    let text = format!(in rt.alloc(); "{builtin} {int} {uint} {float}")?;
-    assert_eq!(rt; text.as_str(), "str i16 u64 f32");
     Ok(())
 }

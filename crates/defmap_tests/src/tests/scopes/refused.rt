@@ -366,9 +366,15 @@ fn listed(alloc: Global) -> Result<DefDiagnostics, AllocError> {
     DefDiagnostics::new(alloc, diagnostics)
 }
 
+/// Whether the clone of such a list is the same, each made once more where it is refused.
+fn is_cloned(alloc: Global) -> Result<bool, AllocError> {
+    let diagnostics = again!(listed(alloc))?;
+    let copy = again!(diagnostics.clone())?;
+    Ok(copy == diagnostics && copy.iter().len() == 1)
+}
+
 #[test]
 fn a_refused_list_of_diagnostics_is_made_again(rt: HostRuntime) -> Result<(), Fail> {
-    let listed = again!(listed(rt.alloc()))?;
-    assert_eq!(rt; listed.iter().len(), 1);
+    assert!(rt; is_cloned(rt.alloc())?);
     Ok(())
 }
