@@ -366,10 +366,14 @@ fn listed(alloc: Global) -> Result<DefDiagnostics, AllocError> {
     DefDiagnostics::new(alloc, diagnostics)
 }
 
+fn cloned(diagnostics: &DefDiagnostics) -> Result<DefDiagnostics, AllocError> {
+    Ok(diagnostics.clone()?)
+}
+
 /// Whether the clone of such a list is the same, each made once more where it is refused.
 fn is_cloned(alloc: Global) -> Result<bool, AllocError> {
     let diagnostics = again!(listed(alloc))?;
-    let copy = again!(diagnostics.clone())?;
+    let copy = again!(cloned(&diagnostics))?;
     Ok(copy == diagnostics && copy.iter().len() == 1)
 }
 
