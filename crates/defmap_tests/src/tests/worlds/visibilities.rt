@@ -1,11 +1,12 @@
 //! What visibilities mean that are written.
-use super::{Building, in_crate};
+use super::Building;
 use dm_base::ids::{BlockId, FunctionId, ModuleId};
 use dm_base::item_ids::{AssocItemId, ModuleDefId};
+use dm_base::mod_path::{ModPath, PathKind};
 use dm_maps::build_fault::BuildFault;
 use dm_maps::world::World;
 use hir_def_map::nameres::{ResolvePath, block_def_map};
-use hir_def_map::visibility::{AssocVisibility, Visibility, VisibilityExplicitness};
+use hir_def_map::visibility::{AssocVisibility, RawVisibility, Visibility, VisibilityExplicitness};
 use std::alloc::Global;
 use std::test::Fail;
 
@@ -31,7 +32,8 @@ fn in_the_block(alloc: Global, world: &World, within_impl: bool) -> Option<Visib
     if !map.has(INNER) {
         return None;
     }
-    let written = in_crate(alloc);
+    let path = ModPath::from_segments(PathKind::Crate, Vec::new(alloc));
+    let written = RawVisibility::Module(path, VisibilityExplicitness::Explicit);
     map.resolve_visibility(world.local_map_of(map), world, INNER, &written, within_impl)
 }
 
