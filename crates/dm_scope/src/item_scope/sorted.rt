@@ -1,7 +1,7 @@
 //! The sorted lists of a scope, which take memory.
 ghost use Rattle.std.specs.Prelude.{◌≡◌, ◌↔◌, ◌++◌, ◌∷◌, [], true, None, IfOk, OnOk, map, Contains};
 ghost use Rattle.std.specs.List.{filter_map};
-ghost use Rattle.std.specs.List.Sorted.{IsSorted, IsStrictlySortedBy, IsPermutation};
+ghost use Rattle.std.specs.List.Sorted.{IsStrictlySortedBy};
 ghost use Rattle.dm_scope.specs.Scope.{bound_in};
 ghost use Rattle.dm_base.specs.Imports.{named_import};
 ghost use Rattle.dm_scope.specs.Sorted.{names_of, seen, deref_entry, AreNames, AreEntries, imports_of, AreImports, deref_resolution, named_resolution, AreResolutions, unnamed_resolution, unnamed_type};
@@ -15,8 +15,7 @@ use dm_base::item_ids::ModuleDefId;
 use dm_base::name::Name;
 use dm_base::per_ns::PerNs;
 use dm_base::visibility::Visibility;
-use itertools::Itertools;
-use std::alloc::{AllocError, Global};
+use std::alloc::AllocError;
 
 impl ItemScope {
     /// The names that are bound or unresolved, in order of their bytes, each with what it is bound to.
@@ -64,9 +63,9 @@ impl ItemScope {
     pub fn imports(&self) -> Result<Vec<ImportId>, AllocError>
         ensures { IfOk result (λ v. AreImports ⟦<ImportId as Ord>⟧.cmp v.items self.now) }
     {
-        let imports = self.all_imports()?;
-        let sorted = sorted_once(self.alloc, imports)?;
-        Ok(sorted)
+        let mut imports = self.all_imports()?;
+        sort_once(&mut imports);
+        Ok(imports)
     }
 
     /// The named imports that have a record, each as often as it has one.
@@ -159,23 +158,12 @@ fn add_imports<I: ImportSource>(imports: &mut Vec<ImportId>, more: &[I]) -> Resu
     Ok(())
 }
 
-/// The elements in order, without repeats.
-fn sorted_once<T: Ord + Drop>(alloc: Global, xs: Vec<T>) -> Result<Vec<T>, AllocError>
+/// Puts elements in order, each once.
+fn sort_once<T: Ord + Drop>(xs: &mut Vec<T>)
     requires { (x y : T) → T.eq x y ≡ true → x ≡ y }
-    ensures sorted { IfOk result (λ v. IsStrictlySortedBy T.cmp v.items) }
-    ensures same { (x : T) → IfOk result (λ v. Contains v.items x ↔ Contains xs.items x) }
+    ensures sorted { IsStrictlySortedBy T.cmp xs.new.items }
+    ensures same { (x : T) → Contains xs.new.items x ↔ Contains xs.old.items x }
 {
-    let mut sorted = in_order(alloc, xs)?;
-    sorted.dedup();
-    Ok(sorted)
-}
-
-/// The elements in order.
-fn in_order<T: Ord + Drop>(alloc: Global, xs: Vec<T>) -> Result<Vec<T>, AllocError>
-    ensures sorted { IfOk result (λ v. IsSorted T.cmp v.items) }
-    ensures same { IfOk result (λ v. IsPermutation xs.items v.items) }
-{
-    let sorted = xs.into_iter().sorted(alloc)?;
-    let list = sorted.collect(alloc)?;
-    Ok(list)
+    xs.sort_unstable();
+    xs.dedup();
 }
