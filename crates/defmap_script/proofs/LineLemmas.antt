@@ -64,3 +64,7 @@ split-some c bs w r e = slice_split-cut c bs ∙ ap (pieces c bs) e
 
 pub split-none : (c : ℕ) (bs : List ℕ) → cut c bs ≡ None → slice_split (λ b. eqb b c) bs ≡ bs ∷ []
 split-none c bs e = slice_split-cut c bs ∙ ap (pieces c bs) e
+
+-- the word that is read, before the words that are left
+pub then : {A : Type 0} {xs rest more : List A} {x : A} → xs ≡ x ∷ rest → rest ≡ more → xs ≡ x ∷ more
+then {x = x} h t = h ∙ ap (λ ws. x ∷ ws) t

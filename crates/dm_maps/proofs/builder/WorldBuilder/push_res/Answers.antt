@@ -1,6 +1,9 @@
-use Rattle.std.proofs.Common.{◌∙◌, ap, sym}
-use Rattle.std.specs.Option.{option_copied_mut}
-use Rattle.dm_maps.specs.World.{with_scope}
+use Rattle.std.proofs.Common.{◌≡◌, ◌∙◌, ap, sym, Option, Some, None}
+use Rattle.std.specs.Option.{option_copied_mut, option_map, option_map_or}
+use Rattle.dm_modules.specs.Maps.{Module}
+use Rattle.dm_scope.specs.Push.{push_answer, scope_after, globs_after}
+use Rattle.dm_scope.specs.Scope.{Scope, no_scope}
+use Rattle.dm_maps.specs.World.{module_of, scope_of, with_scope}
 use Rattle.dm_scope.specs.Outcomes.{on-err}
 use Rattle.dm_maps.proofs.ScopeWrites.{with_scope-own}
 use Rattle.dm_maps.proofs.builder.WorldBuilder.push_res.Goals as goal
@@ -9,3 +12,26 @@ pub returns-in_err-answer-clause-err : goal.returns-in_err-answer-clause-err
 returns-in_err-answer-clause-err c = on-err c.from_residual.result
     (ap (with_scope c.args.self.now c.args.lookup.0) c.in_err-answer.ensures.err
     ∙ with_scope-own c.unwrap-scope.result.now c.args.self.now c.args.lookup.0 (sym c.scope_mut.ensures.value ∙ ap option_copied_mut c.unwrap-scope.ensures))
+
+-- a scope that is read is the one that is lent
+read : (s : Scope) (o : Option Module) → option_map (λ (d : Module). d.scope) o ≡ Some s → s ≡ option_map_or (λ (d : Module). d.scope) o no_scope
+read s None e = cc
+read s (Some d) e = cc
+
+lent : (c : goal.In_ok-answer) → c.unwrap-scope.result.now ≡ scope_of c.args.self.now c.args.lookup.0
+lent c = read c.unwrap-scope.result.now (module_of c.args.self.now c.args.lookup.0) (sym c.scope_mut.ensures.value ∙ ap option_copied_mut c.unwrap-scope.ensures)
+
+pub returns-clause-answer : goal.returns-clause-answer
+returns-clause-answer c =
+    let a = c.args in
+    c.in_ok-answer.ensures.answer ∙ ap (λ s. push_answer s a.glob_imports.now a.lookup.0 a.lookup.1 a.res a.import) (lent c)
+
+pub returns-clause-world : goal.returns-clause-world
+returns-clause-world c =
+    let a = c.args in
+    ap (with_scope a.self.now a.lookup.0) (c.in_ok-answer.ensures.scope ∙ ap (λ s. scope_after s a.glob_imports.now a.lookup.0 a.lookup.1 a.res a.import) (lent c))
+
+pub returns-clause-globs : goal.returns-clause-globs
+returns-clause-globs c =
+    let a = c.args in
+    c.in_ok-answer.ensures.globs ∙ ap (λ s. globs_after s a.glob_imports.now a.lookup.0 a.lookup.1 a.res a.import) (lent c)
