@@ -37,3 +37,4 @@ pub mod LadderLemmas
 pub mod BlockListLemmas
 pub mod SharedMaps
 pub mod IndexLemmas
+pub mod Pops
