@@ -422,9 +422,14 @@ impl Building {
             builder,
             globs: _globs,
         } = self;
-        match builder.check() {
-            Ok(world) => Ok(Checked { world }),
-            Err((_builder, fault)) => Err(fault),
-        }
+        outcome(builder.check())
+    }
+}
+
+/// What a check found, with the tables let go where it found a fault.
+fn outcome(checked: Result<World, (WorldBuilder, WorldFault)>) -> Result<Checked, WorldFault> {
+    match checked {
+        Ok(world) => Ok(Checked { world }),
+        Err((_builder, fault)) => Err(fault),
     }
 }

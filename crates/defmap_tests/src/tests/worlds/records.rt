@@ -60,8 +60,18 @@ impl Checked {
     ) -> Result<(), AllocError> {
         let name = Name::new(alloc, name)?;
         let mut globs = PerNsGlobImports::new(alloc);
-        if self.world.knows_res(m, &items, import) {
-            self.world.push_res(&mut globs, (m, name), items, import)?;
+        self.push_known(&mut globs, (m, name), items, import)
+    }
+
+    fn push_known(
+        &mut self,
+        globs: &mut PerNsGlobImports,
+        lookup: (ModuleId, Name),
+        items: PerNs,
+        import: Option<ImportOrExternCrate>,
+    ) -> Result<(), AllocError> {
+        if self.world.knows_res(lookup.0, &items, import) {
+            self.world.push_res(globs, lookup, items, import)?;
         }
         Ok(())
     }
