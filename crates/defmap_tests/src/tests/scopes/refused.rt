@@ -218,30 +218,34 @@ impl Filled {
 
     /// One call.
     fn grow(&mut self, alloc: Global, growth: Growth) -> Result<bool, AllocError> {
+        if let Growth::Push(name, number, import) = growth {
+            return self.push(alloc, name, in_all(number), import);
+        }
+        self.add(alloc, growth)?;
+        Ok(true)
+    }
+
+    /// One call that is no push.
+    fn add(&mut self, alloc: Global, growth: Growth) -> Result<(), AllocError> {
         let scope = &mut self.scope;
         match growth {
-            Growth::Push(name, number, import) => {
-                return self.push(alloc, name, in_all(number), import);
-            }
-            Growth::Declare => scope.declare(structure(0))?,
-            Growth::Impl(is_of_trait) => scope.define_impl(ImplId(0), is_of_trait)?,
-            Growth::BuiltinDeriveImpl => {
-                scope.define_builtin_derive_impl(BuiltinDeriveImplId(0))?
-            }
-            Growth::ExternBlock => scope.define_extern_block(ExternBlockId(0))?,
-            Growth::ExternCrate => scope.define_extern_crate_decl(ExternCrateId(0))?,
-            Growth::UnnamedConst => scope.define_unnamed_const(ConstId(0))?,
+            Growth::Push(..) => Ok(()),
+            Growth::Declare => scope.declare(structure(0)),
+            Growth::Impl(is_of_trait) => scope.define_impl(ImplId(0), is_of_trait),
+            Growth::BuiltinDeriveImpl => scope.define_builtin_derive_impl(BuiltinDeriveImplId(0)),
+            Growth::ExternBlock => scope.define_extern_block(ExternBlockId(0)),
+            Growth::ExternCrate => scope.define_extern_crate_decl(ExternCrateId(0)),
+            Growth::UnnamedConst => scope.define_unnamed_const(ConstId(0)),
             Growth::UnnamedTrait => {
-                scope.push_unnamed_trait(TraitId(0), Visibility::Public, Some(import_id(3)))?
+                scope.push_unnamed_trait(TraitId(0), Visibility::Public, Some(import_id(3)))
             }
-            Growth::LegacyMacro => scope.define_legacy_macro(Name::new(alloc, "A")?, rules(0))?,
-            Growth::AttributeMacro => scope.add_attr_macro_invoc(ast(1), MacroCallId(1))?,
-            Growth::MacroCall => scope.add_macro_invoc(ast(2), MacroCallId(2))?,
+            Growth::LegacyMacro => scope.define_legacy_macro(Name::new(alloc, "A")?, rules(0)),
+            Growth::AttributeMacro => scope.add_attr_macro_invoc(ast(1), MacroCallId(1)),
+            Growth::MacroCall => scope.add_macro_invoc(ast(2), MacroCallId(2)),
             Growth::DeriveAttribute => {
-                scope.init_derive_attribute(ast(3), AttrId(0), MacroCallId(3), 2)?
+                scope.init_derive_attribute(ast(3), AttrId(0), MacroCallId(3), 2)
             }
         }
-        Ok(true)
     }
 
     /// One call, made once more where it is refused: what it answers, and whether a refusal leaves all as it was.
