@@ -3,6 +3,7 @@ use Rattle.std.proofs.Common.{◌≡◌, ◌∙◌, ◌++◌, ◌∷◌, [], ◌
 use Rattle.std.specs.Option.{IsSome, option_to_list}
 use Rattle.std.proofs.Math.Seq.{take-append_seam}
 use Rattle.std.proofs.lemmas.List.{length-append}
+use Rattle.dm_maps.proofs.EntryLemmas.{take-push}
 
 -- an element that was added and popped
 pub popped : {A : Type 0} (r : Option A) (n m : ℕ) (xs ys zs : List A) (x : A) → ys ≡ xs ++ x ∷ [] → n ≡ m + 1 → ys ≡ zs ++ option_to_list r → (0 < n → IsSome r) → zs ≡ xs
@@ -15,7 +16,4 @@ popped (Some y) n m xs ys zs x p l q some =
 
 -- an element that was added, without the last
 pub without-last : {A : Type 0} (xs ys zs : List A) (x : A) → ys ≡ xs ++ x ∷ [] → zs ≡ take (length ys - 1) ys → zs ≡ xs
-without-last xs ys zs x p z =
-    let long : length (xs ++ x ∷ []) ≡ length xs + 1 = length-append xs (x ∷ []) in
-    let k : length (xs ++ x ∷ []) - 1 ≡ length xs = omega arith in
-    z ∙ (λ i. take (length (p i) - 1) (p i)) ∙ ap (λ k. take k (xs ++ x ∷ [])) k ∙ take-append_seam xs (x ∷ [])
+without-last xs ys zs x p z = z ∙ ap (λ l. take (length l - 1) l) p ∙ take-push xs x
