@@ -243,14 +243,24 @@ impl Building {
         Ok(())
     }
 
-    fn put_modules(&mut self, alloc: Global) -> Result<(), BuildFault> {
+    /// Modules 0 to 3.
+    fn put_first_crate(&mut self, alloc: Global) -> Result<(), BuildFault> {
         again!(self.builder.add_crate(Edition::Edition2021, FILE))?;
         again!(self.put_module(alloc, 0, "a"))?;
         again!(self.put_module(alloc, 1, "b"))?;
-        again!(self.put_module(alloc, 0, "c"))?;
+        again!(self.put_module(alloc, 0, "c"))
+    }
+
+    /// Modules 4 to 6, of which the last two lie in block 0.
+    fn put_crate_and_block(&mut self, alloc: Global) -> Result<(), BuildFault> {
         again!(self.builder.add_crate(Edition::Edition2015, OTHER_FILE))?;
         again!(self.builder.add_block(ModuleId(1), ast(0)))?;
-        again!(self.put_module(alloc, 5, "n"))?;
+        again!(self.put_module(alloc, 5, "n"))
+    }
+
+    fn put_modules(&mut self, alloc: Global) -> Result<(), BuildFault> {
+        self.put_first_crate(alloc)?;
+        self.put_crate_and_block(alloc)?;
         again!(self.put_module(alloc, 0, "u8"))?;
         again!(self.builder.add_block(ModuleId(0), ast(1)))?;
         Ok(())
@@ -263,20 +273,27 @@ impl Building {
         Ok(())
     }
 
-    fn put_items(&mut self, alloc: Global) -> Result<(), BuildFault> {
-        for (kind, m) in ITEMS {
-            again!(self.builder.add_item(kind, ModuleId(m)))?;
-        }
-        again!(self.put_variant(alloc))?;
+    fn put_macros(&mut self) -> Result<(), BuildFault> {
         let styles = MacroCallStyles::FN_LIKE;
         let rules = MacroLoc::MacroRules(MacroExpander::Declarative { styles });
         again!(self.builder.add_macro(ModuleId(0), rules))?;
         let derive = MacroLoc::Proc(ProcMacroKind::CustomDerive);
         again!(self.builder.add_macro(ModuleId(0), derive))?;
+        Ok(())
+    }
+
+    fn put_uses(&mut self) -> Result<(), BuildFault> {
         for m in [0, 1, 3] {
             again!(self.builder.add_use(ModuleId(m)))?;
         }
         Ok(())
+    }
+
+    fn put_items(&mut self, alloc: Global) -> Result<(), BuildFault> {
+        for (kind, m) in ITEMS {
+            again!(self.builder.add_item(kind, ModuleId(m)))?;
+        }
+        again!(self.put_variant(alloc))
     }
 
     fn put_extern(&mut self, alloc: Global) -> Result<(), BuildFault> {
@@ -317,6 +334,10 @@ impl Building {
         again!(self.put_extern(alloc))?;
         again!(self.put_macro_use(alloc))?;
         again!(self.put_legacy(alloc))?;
+        Ok(())
+    }
+
+    fn push_all(&mut self, alloc: Global) -> Result<(), AllocError> {
         for (m, name, items, import) in pushes() {
             again!(self.push(alloc, (ModuleId(m), name), items, import))?;
         }
@@ -360,12 +381,16 @@ impl Building {
         self.builder.add_diagnostic(CRATE_MAP, diagnostic)
     }
 
-    fn put_tables(&mut self, alloc: Global) -> Result<(), BuildFault> {
+    /// Who sees the struct's fields, the functions and the trait.
+    fn put_visibilities(&mut self, alloc: Global) -> Result<(), BuildFault> {
         again!(self.put_fields(alloc))?;
         for (f, container) in FUNCTIONS {
             again!(self.put_function(f, container, in_crate(alloc)))?;
         }
-        again!(self.put_trait(6, RawVisibility::PubSelf(VisibilityExplicitness::Explicit)))?;
+        again!(self.put_trait(6, RawVisibility::PubSelf(VisibilityExplicitness::Explicit)))
+    }
+
+    fn put_tables(&mut self, alloc: Global) -> Result<(), BuildFault> {
         again!(self.put_raw_name(alloc))?;
         again!(
             self.builder
@@ -386,10 +411,13 @@ impl Building {
         self.builder.add_feature(Crate(0), feature)
     }
 
-    fn put_data(&mut self, alloc: Global) -> Result<(), BuildFault> {
+    fn put_flags(&mut self) -> Result<(), BuildFault> {
         again!(self.builder.set_no_std(Crate(0)))?;
         again!(self.builder.set_no_core(Crate(0)))?;
-        again!(self.builder.set_coherence_is_core(Crate(0)))?;
+        again!(self.builder.set_coherence_is_core(Crate(0)))
+    }
+
+    fn put_data(&mut self, alloc: Global) -> Result<(), BuildFault> {
         again!(self.builder.set_recursion_limit(Crate(0), 4))?;
         again!(self.put_tool(alloc))?;
         again!(self.put_feature(alloc))?;
@@ -397,14 +425,30 @@ impl Building {
         again!(self.builder.set_proc_macro(Crate(0), f, m))
     }
 
+    /// What modules declare.
+    fn put_declarations(&mut self, alloc: Global) -> Result<(), BuildFault> {
+        self.put_items(alloc)?;
+        self.put_macros()?;
+        self.put_uses()?;
+        self.put_names(alloc)?;
+        self.push_all(alloc)?;
+        Ok(())
+    }
+
+    /// What is told of what was declared, and of a crate.
+    fn put_entries(&mut self, alloc: Global) -> Result<(), BuildFault> {
+        self.put_visibilities(alloc)?;
+        self.put_tables(alloc)?;
+        self.put_flags()?;
+        self.put_data(alloc)
+    }
+
     /// The builder on which all calls were made.
     fn full(alloc: Global) -> Result<Building, BuildFault> {
         let mut building = Building::new(alloc);
         building.put_modules(alloc)?;
-        building.put_items(alloc)?;
-        building.put_names(alloc)?;
-        building.put_tables(alloc)?;
-        building.put_data(alloc)?;
+        building.put_declarations(alloc)?;
+        building.put_entries(alloc)?;
         Ok(building)
     }
 

@@ -1,4 +1,5 @@
 //! Items per namespace.
+use crate::tests::same;
 use defmap_callers::base::{definitions, type_or};
 use dm_base::ids::{Crate, ExternCrateId, FunctionId, MacroRulesId, StructId};
 use dm_base::imports::ImportOrExternCrate;
@@ -32,13 +33,14 @@ fn full() -> PerNs {
 fn an_extern_crate_brings_no_value(rt: HostRuntime) {
     let import = ImportOrExternCrate::ExternCrate(ExternCrateId(7));
     let both = PerNs::both(STRUCT, FUNCTION, Visibility::Public, Some(import));
-    assert_eq!(rt;
-        both,
-        PerNs::types(STRUCT, Visibility::Public, Some(import)).or(PerNs::values(
+    same(
+        &rt,
+        &both,
+        &PerNs::types(STRUCT, Visibility::Public, Some(import)).or(PerNs::values(
             FUNCTION,
             Visibility::Public,
             None,
-        ))
+        )),
     );
 }
 
@@ -50,7 +52,7 @@ fn or_else_asks_once_where_an_item_is_missing(rt: HostRuntime) {
             asked = asked.wrapping_add(1);
             PerNs::none()
         });
-        assert_eq!(rt; asked, 1);
+        same(&rt, &asked, &1);
     }
 }
 
@@ -64,28 +66,31 @@ fn a_filter_asks_types_then_values_then_macros(rt: HostRuntime) {
         asked != 3
     });
     assert!(rt; in_order);
-    assert_eq!(rt; asked, 3);
-    assert_eq!(rt;
-        items,
-        PerNs::types(STRUCT, SEEN_BY[0], None).or(PerNs::values(FUNCTION, SEEN_BY[1], None))
+    same(&rt, &asked, &3);
+    same(
+        &rt,
+        &items,
+        &PerNs::types(STRUCT, SEEN_BY[0], None).or(PerNs::values(FUNCTION, SEEN_BY[1], None)),
     );
 }
 
 #[test]
 fn the_callers_of_the_page_give_what_it_says(rt: HostRuntime) -> Result<(), Fail> {
     let listed = definitions(rt.alloc(), full())?;
-    assert_eq!(rt;
-        listed.as_slice(),
-        [
+    same(
+        &rt,
+        &listed.as_slice(),
+        &[
             ItemInNs::Types(STRUCT),
             ItemInNs::Values(FUNCTION),
             ItemInNs::Macros(MACRO),
         ]
-        .as_slice()
+        .as_slice(),
     );
-    assert_eq!(rt;
-        type_or(PerNs::none(), STRUCT),
-        PerNs::types(STRUCT, Visibility::Public, None)
+    same(
+        &rt,
+        &type_or(PerNs::none(), STRUCT),
+        &PerNs::types(STRUCT, Visibility::Public, None),
     );
     Ok(())
 }

@@ -2,6 +2,7 @@
 //!
 //! With ample memory none is. `tools/refusals` runs this test with each request for memory refused in turn: whichever it
 //! is, the call made again answers as it would have.
+use crate::tests::gives;
 use dm_base::builtin_type::BuiltinType;
 use dm_base::name::{AsName, Name};
 use dm_base::symbol::Symbol;
@@ -40,8 +41,7 @@ fn are_named(alloc: Global) -> Result<[bool; 3], AllocError> {
 
 #[test]
 fn a_refused_name_is_made_again(rt: HostRuntime) -> Result<(), Fail> {
-    assert!(rt; is_copied_as_name(rt.alloc(), "core")?);
-    assert!(rt; is_copied_as_symbol(rt.alloc(), "core")?);
-    assert_eq!(rt; are_named(rt.alloc())?, [true; 3]);
-    Ok(())
+    gives(&rt, is_copied_as_name(rt.alloc(), "core"), true)?;
+    gives(&rt, is_copied_as_symbol(rt.alloc(), "core"), true)?;
+    gives(&rt, are_named(rt.alloc()), [true; 3])
 }

@@ -2,6 +2,7 @@
 ghost use Rattle.std.specs.Prelude.{◌≡◌, Some, None};
 ghost use Rattle.dm_base.specs.ItemHomes.{Homes};
 
+use crate::tests::same;
 use defmap_callers::base::{are_one, layered};
 use dm_base::definition::Definition;
 use dm_base::ids::{
@@ -42,23 +43,24 @@ fn widened<D: Definition>(def: D) -> ModuleDefId
 fn layers_are_laid_over_one_another(rt: HostRuntime) {
     let upper = PerNs::types(MODULE, Visibility::Public, None);
     let lower = PerNs::both(FUNCTION, FUNCTION, Visibility::Public, None);
-    assert_eq!(rt;
-        layered(PerNs::empty(), upper, lower),
-        PerNs::both(MODULE, FUNCTION, Visibility::Public, None)
+    same(
+        &rt,
+        &layered(PerNs::empty(), upper, lower),
+        &PerNs::both(MODULE, FUNCTION, Visibility::Public, None),
     );
-    assert_eq!(rt; layered(Some(1usize), None, Some(2)), Some(2));
-    assert_eq!(rt; layered(None, upper.types, lower.types), upper.types);
+    same(&rt, &layered(Some(1usize), None, Some(2)), &Some(2));
+    same(&rt, &layered(None, upper.types, lower.types), &upper.types);
 }
 
 #[test]
 fn nothing_is_lost_among_all_namespaces(rt: HostRuntime) {
     let value_glob = ImportOrGlob::Glob(GLOB);
-    assert_eq!(rt; there_and_back(value_glob), Some(value_glob));
+    same(&rt, &there_and_back(value_glob), &Some(value_glob));
     let import = ImportOrExternCrate::ExternCrate(ExternCrateId(5));
-    assert_eq!(rt; there_and_back(import), Some(import));
+    same(&rt, &there_and_back(import), &Some(import));
     let mac = MacroId::Macro2Id(Macro2Id(6));
-    assert_eq!(rt; widened(mac), ModuleDefId::MacroId(mac));
-    assert_eq!(rt; widened(FUNCTION), FUNCTION);
+    same(&rt, &widened(mac), &ModuleDefId::MacroId(mac));
+    same(&rt, &widened(FUNCTION), &FUNCTION);
 }
 
 /// A keeper that knows one module for every item, one enum for every variant, and no macro.
@@ -97,10 +99,18 @@ fn items_lie_where_they_were_declared(rt: HostRuntime) {
         variants_of: EnumId(10),
     };
     let variant = ModuleDefId::EnumVariantId(EnumVariantId(11));
-    assert_eq!(rt; ItemInNs::Types(variant).module(&place), Some(ModuleId(8)));
+    same(
+        &rt,
+        &ItemInNs::Types(variant).module(&place),
+        &Some(ModuleId(8)),
+    );
     let mac = MacroId::Macro2Id(Macro2Id(12));
-    assert_eq!(rt; ItemInNs::Macros(mac).module(&place), None);
-    assert_eq!(rt; ItemInNs::Values(FUNCTION).krate(&place), Some(Crate(9)));
+    same(&rt, &ItemInNs::Macros(mac).module(&place), &None);
+    same(
+        &rt,
+        &ItemInNs::Values(FUNCTION).krate(&place),
+        &Some(Crate(9)),
+    );
 }
 
 #[test]

@@ -3,6 +3,7 @@ ghost use Rattle.std.specs.Prelude.{◌≡◌};
 ghost use Rattle.dm_base.specs.declared.visibility.Visibility.TheVariants.{Module};
 ghost use Rattle.dm_base.specs.declared.visibility.VisibilityExplicitness.TheVariants.{Implicit};
 
+use crate::tests::same;
 use defmap_callers::base::{is_reached, is_seen_around_its_block, widened_by};
 use defmap_callers::tree::SmallTree;
 use dm_base::ids::{BlockId, Crate, MapId, ModuleId};
@@ -29,21 +30,22 @@ fn steps_go_outwards_through_blocks(rt: HostRuntime) {
     let tree = SmallTree::new();
     assert!(rt; tree.contains(ModuleId(0), INNERMOST));
     assert!(rt; tree.is_block_root(INNERMOST));
-    assert_eq!(rt;
-        [
+    same(
+        &rt,
+        &[
             tree.containing(INNERMOST),
             tree.outside_root(INNERMOST),
             Some(tree.home(INNERMOST)),
             tree.outer_member(INNERMOST, 0),
             tree.outer_member(INNERMOST, 2),
         ],
-        [
+        &[
             Some(ModuleId(6)),
             Some(ModuleId(6)),
             Some(ModuleId(6)),
             Some(ModuleId(6)),
             Some(ModuleId(0)),
-        ]
+        ],
     );
 }
 
@@ -52,8 +54,16 @@ fn modules_are_lifted_out_of_nested_blocks(rt: HostRuntime) {
     let tree = SmallTree::new();
     assert!(rt; inside(9).is_visible_from(&tree, ModuleId(2)));
     assert!(rt; inside(1).is_visible_from_def_map(&tree, BLOCK_0, ModuleId(6)));
-    assert_eq!(rt; inside(6).max(&tree, inside(5), BLOCK_0), Some(inside(5)));
-    assert_eq!(rt; inside(6).min(&tree, inside(5), BLOCK_0), Some(inside(6)));
+    same(
+        &rt,
+        &inside(6).max(&tree, inside(5), BLOCK_0),
+        &Some(inside(5)),
+    );
+    same(
+        &rt,
+        &inside(6).min(&tree, inside(5), BLOCK_0),
+        &Some(inside(6)),
+    );
 }
 
 #[test]
@@ -69,6 +79,14 @@ fn the_callers_of_the_page_see_what_it_says(rt: HostRuntime) {
         )
     );
     assert!(rt; !is_reached(&tree, inside(1), inside(2), ModuleId(1)));
-    assert_eq!(rt; widened_by(&tree, BLOCK_0, inside(6), inside(5)), inside(5));
-    assert_eq!(rt; widened_by(&tree, BLOCK_0, inside(1), inside(5)), inside(1));
+    same(
+        &rt,
+        &widened_by(&tree, BLOCK_0, inside(6), inside(5)),
+        &inside(5),
+    );
+    same(
+        &rt,
+        &widened_by(&tree, BLOCK_0, inside(1), inside(5)),
+        &inside(1),
+    );
 }

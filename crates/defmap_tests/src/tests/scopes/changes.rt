@@ -1,5 +1,6 @@
 //! What changes in place: each call once.
 use super::{Filled, function, structure, typed, valued};
+use crate::tests::gives;
 use dm_base::ids::{Crate, MacroRulesId, ProcMacroId};
 use dm_base::item_ids::MacroId;
 use dm_base::name::Name;
@@ -72,9 +73,9 @@ fn an_update_changes_what_a_name_means(rt: HostRuntime) -> Result<(), Fail> {
     let censored = PerNs::types(structure(2), INSIDE, None)
         .or(PerNs::values(function(3), INSIDE, None))
         .or(PerNs::macros(PROC, OTHER, None));
-    assert_eq!(rt;
-        changed(rt.alloc())?,
-        [all_three().with_visibility(INSIDE), redefined, censored]
-    );
-    Ok(())
+    gives(
+        &rt,
+        changed(rt.alloc()),
+        [all_three().with_visibility(INSIDE), redefined, censored],
+    )
 }

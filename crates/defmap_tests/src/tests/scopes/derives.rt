@@ -1,5 +1,6 @@
 //! The slots of derive attributes.
 use super::{Filled, ast};
+use crate::tests::gives;
 use dm_base::ids::{AttrId, BuiltinDeriveImplId, MacroCallId};
 use dm_base::source::AstId;
 use dm_scope::item_scope::ItemScope;
@@ -44,6 +45,5 @@ fn slots(alloc: Global) -> Result<[Option<usize>; 2], AllocError> {
 
 #[test]
 fn an_attribute_has_its_slots(rt: HostRuntime) -> Result<(), Fail> {
-    assert_eq!(rt; slots(rt.alloc())?, [Some(2), None]);
-    Ok(())
+    gives(&rt, slots(rt.alloc()), [Some(2), None])
 }

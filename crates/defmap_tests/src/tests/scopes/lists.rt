@@ -1,5 +1,6 @@
 //! The names of an item, asked in order.
 use super::{Filled, structure, typed};
+use crate::tests::gives;
 use dm_base::item_in_ns::ItemInNs;
 use dm_scope::item_scope::ItemScope;
 use std::alloc::{AllocError, Global};
@@ -26,6 +27,5 @@ fn asked(alloc: Global) -> Result<(u8, Option<u8>), AllocError> {
 
 #[test]
 fn names_are_asked_until_one_answers(rt: HostRuntime) -> Result<(), Fail> {
-    assert_eq!(rt; asked(rt.alloc())?, (2, Some(2)));
-    Ok(())
+    gives(&rt, asked(rt.alloc()), (2, Some(2)))
 }

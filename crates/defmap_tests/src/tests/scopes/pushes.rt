@@ -1,5 +1,6 @@
 //! Worked pushes of one name, A.
 use super::{Filled, GLOB, HERE, function, import, structure, typed, valued};
+use crate::tests::gives;
 use dm_base::ids::{ExternCrateId, UseId, UseTreeIdx};
 use dm_base::imports::{ImportId, ImportOrDef, ImportOrExternCrate, ImportOrGlob};
 use dm_base::name::Name;
@@ -101,19 +102,21 @@ fn a_named_import_replaces_what_a_glob_bound(rt: HostRuntime) -> Result<(), Fail
         (typed(0, None), Some(GLOB), true),
         (typed(1, None), Some(import(1)), true),
     ];
-    assert_eq!(rt;
-        after(rt.alloc(), &pushes[..1])?,
-        Some((typed(0, Some(GLOB)), [true, false, false]))
-    );
-    assert_eq!(rt;
-        after(rt.alloc(), &pushes)?,
-        Some((typed(1, Some(import(1))), NO_GLOB))
-    );
-    assert_eq!(rt;
-        records(rt.alloc(), &pushes, import(1))?,
-        [Some(ImportOrDef::Def(structure(1))), None, None]
-    );
-    Ok(())
+    gives(
+        &rt,
+        after(rt.alloc(), &pushes[..1]),
+        Some((typed(0, Some(GLOB)), [true, false, false])),
+    )?;
+    gives(
+        &rt,
+        after(rt.alloc(), &pushes),
+        Some((typed(1, Some(import(1))), NO_GLOB)),
+    )?;
+    gives(
+        &rt,
+        records(rt.alloc(), &pushes, import(1)),
+        [Some(ImportOrDef::Def(structure(1))), None, None],
+    )
 }
 
 #[test]
@@ -123,15 +126,16 @@ fn an_import_replaces_what_it_bound_itself(rt: HostRuntime) -> Result<(), Fail> 
         (typed(1, None), Some(import(2)), false),
         (typed(2, None), Some(import(1)), true),
     ];
-    assert_eq!(rt;
-        after(rt.alloc(), &pushes)?,
-        Some((typed(2, Some(import(1))), NO_GLOB))
-    );
-    assert_eq!(rt;
-        records(rt.alloc(), &pushes, import(1))?,
-        [Some(ImportOrDef::Def(structure(2))), None, None]
-    );
-    Ok(())
+    gives(
+        &rt,
+        after(rt.alloc(), &pushes),
+        Some((typed(2, Some(import(1))), NO_GLOB)),
+    )?;
+    gives(
+        &rt,
+        records(rt.alloc(), &pushes, import(1)),
+        [Some(ImportOrDef::Def(structure(2))), None, None],
+    )
 }
 
 #[test]
@@ -142,11 +146,11 @@ fn who_sees_an_item_is_no_other_definition(rt: HostRuntime) -> Result<(), Fail> 
         (typed(0, None).with_visibility(here), Some(import(1)), false),
         (typed(1, None), Some(GLOB), false),
     ];
-    assert_eq!(rt;
-        after(rt.alloc(), &pushes)?,
-        Some((typed(0, Some(import(1))), NO_GLOB))
-    );
-    Ok(())
+    gives(
+        &rt,
+        after(rt.alloc(), &pushes),
+        Some((typed(0, Some(import(1))), NO_GLOB)),
+    )
 }
 
 #[test]
@@ -154,38 +158,38 @@ fn an_extern_crate_is_recorded_in_types_alone(rt: HostRuntime) -> Result<(), Fai
     let both = typed(0, None).or(valued(3, None));
     let pushes = [(both, Some(EXTERN_CRATE), true)];
     let bound = typed(0, Some(EXTERN_CRATE)).or(valued(3, None));
-    assert_eq!(rt; after(rt.alloc(), &pushes)?, Some((bound, NO_GLOB)));
-    assert_eq!(rt;
-        records(rt.alloc(), &pushes, EXTERN_CRATE)?,
-        [Some(ImportOrDef::Def(structure(0))), None, None]
-    );
-    Ok(())
+    gives(&rt, after(rt.alloc(), &pushes), Some((bound, NO_GLOB)))?;
+    gives(
+        &rt,
+        records(rt.alloc(), &pushes, EXTERN_CRATE),
+        [Some(ImportOrDef::Def(structure(0))), None, None],
+    )
 }
 
 #[test]
 fn the_first_of_two_declarations_stays(rt: HostRuntime) -> Result<(), Fail> {
     let pushes = [(typed(0, None), None, true), (typed(1, None), None, false)];
-    assert_eq!(rt;
-        after(rt.alloc(), &pushes)?,
-        Some((typed(0, None), NO_GLOB))
-    );
-    Ok(())
+    gives(
+        &rt,
+        after(rt.alloc(), &pushes),
+        Some((typed(0, None), NO_GLOB)),
+    )
 }
 
 #[test]
 fn a_flag_outlives_the_value(rt: HostRuntime) -> Result<(), Fail> {
     let flagged = Some((PerNs::none(), [false, true, false]));
-    assert_eq!(rt; after_removal(rt.alloc(), &[])?, flagged);
+    gives(&rt, after_removal(rt.alloc(), &[]), flagged)?;
     let pushes = [(valued(1, None), Some(import(1)), true)];
     let by = ImportOrGlob::Import(ImportId {
         use_: UseId(0),
         idx: UseTreeIdx(1),
     });
-    assert_eq!(rt;
-        after_removal(rt.alloc(), &pushes)?,
-        Some((valued(1, Some(by)), NO_GLOB))
-    );
-    Ok(())
+    gives(
+        &rt,
+        after_removal(rt.alloc(), &pushes),
+        Some((valued(1, Some(by)), NO_GLOB)),
+    )
 }
 
 #[test]
@@ -194,11 +198,11 @@ fn a_declaration_clears_a_stale_flag(rt: HostRuntime) -> Result<(), Fail> {
         (valued(1, None), None, true),
         (valued(2, None), Some(import(1)), false),
     ];
-    assert_eq!(rt;
-        after_removal(rt.alloc(), &pushes)?,
-        Some((valued(1, None), NO_GLOB))
-    );
-    Ok(())
+    gives(
+        &rt,
+        after_removal(rt.alloc(), &pushes),
+        Some((valued(1, None), NO_GLOB)),
+    )
 }
 
 /// What pushes of A as a value answer over one table of flags: by a glob into a scope, by an import into another under the
@@ -216,6 +220,5 @@ fn under_two_scopes(alloc: Global) -> Result<[bool; 3], AllocError> {
 
 #[test]
 fn a_flag_is_one_for_two_scopes_of_a_module(rt: HostRuntime) -> Result<(), Fail> {
-    assert_eq!(rt; under_two_scopes(rt.alloc())?, [true, true, false]);
-    Ok(())
+    gives(&rt, under_two_scopes(rt.alloc()), [true, true, false])
 }

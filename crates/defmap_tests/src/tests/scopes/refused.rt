@@ -5,6 +5,7 @@
 ghost use Rattle.std.specs.Iterator.{IsFinite};
 
 use super::{Filled, GLOB, HERE, ast, function, import, import_id, structure, typed, valued};
+use crate::tests::{gives, same};
 use defmap_callers::modules::Modules;
 use dm_base::ids::{
     AttrId, BuiltinDeriveImplId, ConstId, ExternBlockId, ExternCrateId, ImplId, MacroCallId,
@@ -305,22 +306,35 @@ fn seen_in_the_end(alloc: Global) -> Result<(Seen, Seen, bool), AllocError> {
 fn a_refused_call_leaves_the_scope_and_is_made_again(rt: HostRuntime) -> Result<(), Fail> {
     let (seen, shrunk, as_told) = seen_in_the_end(rt.alloc())?;
     assert!(rt; as_told);
-    assert_eq!(rt; shrunk, seen);
-    assert_eq!(rt; seen.named, [3, 2, 2, 2, 0, 1, 1, 1]);
-    assert_eq!(rt; seen.defined, [1, 2, 1, 1, 1, 1, 1, 1, 0]);
-    assert_eq!(rt; seen.calls, [1, 1, 1, 2]);
+    same(&rt, &shrunk, &seen);
+    same(&rt, &seen.named, &[3, 2, 2, 2, 0, 1, 1, 1]);
+    same(&rt, &seen.defined, &[1, 2, 1, 1, 1, 1, 1, 1, 0]);
+    same(&rt, &seen.calls, &[1, 1, 1, 2]);
     Ok(())
 }
 
-/// What a list says, asked once more where it is refused.
+/// How many imports are listed, and whether they come in order.
+fn imports(scope: &ItemScope) -> Result<(usize, bool), AllocError> {
+    let imports = again!(scope.imports())?;
+    let are_first = imports.as_slice() == [import_id(1), import_id(2)].as_slice();
+    Ok((imports.len(), are_first))
+}
+
+fn resolution_count(scope: &ItemScope) -> Result<usize, AllocError> {
+    let resolutions = again!(scope.resolutions())?;
+    Ok(resolutions.len())
+}
+
+/// How long each list is that takes memory, asked once more where it is refused, and whether the imports come in order.
 fn lists(alloc: Global) -> Result<(usize, usize, usize, bool), AllocError> {
     let (filled, _as_told) = grown(alloc)?;
-    let scope = &filled.scope;
-    let entries = again!(scope.entries())?;
-    let imports = again!(scope.imports())?;
-    let resolutions = again!(scope.resolutions())?;
-    let are_first = imports.as_slice() == [import_id(1), import_id(2)].as_slice();
-    Ok((entries.len(), imports.len(), resolutions.len(), are_first))
+    lists_in(&filled.scope)
+}
+
+fn lists_in(scope: &ItemScope) -> Result<(usize, usize, usize, bool), AllocError> {
+    let entries = entry_count(scope);
+    let (imports, are_first) = imports(scope)?;
+    Ok((entries, imports, resolution_count(scope)?, are_first))
 }
 
 /// The dump behind a text, made once more where it is refused, and whether a refusal left the text as it was.
@@ -342,23 +356,23 @@ fn dumped(alloc: Global) -> Result<(String, bool), AllocError> {
 
 #[test]
 fn a_refused_list_is_made_again(rt: HostRuntime) -> Result<(), Fail> {
-    assert_eq!(rt; lists(rt.alloc())?, (3, 2, 4, true));
-    Ok(())
+    gives(&rt, lists(rt.alloc()), (3, 2, 4, true))
 }
 
 #[test]
 fn a_refused_dump_leaves_the_text(rt: HostRuntime) -> Result<(), Fail> {
     let (text, is_left) = dumped(rt.alloc())?;
     assert!(rt; is_left);
-    assert_eq!(rt;
-        text.as_str(),
-        "before
+    same(
+        &rt,
+        &text.as_str(),
+        &"before
 - _ : type (import)
 - A : type (import) value (import) macro! (import)
 - B : type (import) value (import) macro! (import)
 - x : _
 - (legacy) A : macro! macro!
-"
+",
     );
     Ok(())
 }
@@ -383,6 +397,5 @@ fn is_cloned(alloc: Global) -> Result<bool, AllocError> {
 
 #[test]
 fn a_refused_list_of_diagnostics_is_made_again(rt: HostRuntime) -> Result<(), Fail> {
-    assert!(rt; is_cloned(rt.alloc())?);
-    Ok(())
+    gives(&rt, is_cloned(rt.alloc()), true)
 }

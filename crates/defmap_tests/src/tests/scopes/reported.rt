@@ -3,6 +3,7 @@
 //! It passes with ample memory. `tools/refusals` fails where no refusal brings it to light, since then it would not bring
 //! to light a call that breaks the same promise.
 use super::{Filled, structure, typed};
+use crate::tests::gives;
 use std::alloc::{AllocError, Global};
 use std::test::Fail;
 
@@ -25,6 +26,5 @@ fn has_second(alloc: Global) -> Result<bool, AllocError> {
 
 #[test]
 fn a_helper_that_writes_before_it_grows(rt: HostRuntime) -> Result<(), Fail> {
-    assert!(rt; !has_second(rt.alloc())?);
-    Ok(())
+    gives(&rt, has_second(rt.alloc()), false)
 }

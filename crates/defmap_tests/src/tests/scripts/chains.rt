@@ -1,6 +1,7 @@
 //! Chains of imports, asked of whole worlds.
 use super::first_wrong;
 use super::worlds::{BLOCKS, CRATES, REST};
+use crate::tests::gives;
 use std::test::Fail;
 
 /// What imports of the world of two crates and two blocks stand for. The first goes round in types.
@@ -92,11 +93,11 @@ import 1 0 0
 
 #[test]
 fn a_script_asks_where_imports_end(rt: HostRuntime) -> Result<(), Fail> {
-    assert_eq!(rt; first_wrong(rt.alloc(), &[], SHOWN)?, None);
-    assert_eq!(rt; first_wrong(rt.alloc(), &[WORLD], CHAINS)?, None);
-    assert_eq!(rt;
-        first_wrong(rt.alloc(), &[CRATES, BLOCKS, REST, "check"], ENDS)?,
-        None
-    );
-    Ok(())
+    gives(&rt, first_wrong(rt.alloc(), &[], SHOWN), None)?;
+    gives(&rt, first_wrong(rt.alloc(), &[WORLD], CHAINS), None)?;
+    gives(
+        &rt,
+        first_wrong(rt.alloc(), &[CRATES, BLOCKS, REST, "check"], ENDS),
+        None,
+    )
 }

@@ -1,5 +1,6 @@
 //! Dumps of scopes and maps, byte for byte.
 use super::first_wrong;
+use crate::tests::gives;
 use std::test::Fail;
 
 /// What is dumped: maps from a block's outwards, children in order of names, macros and raw names with their marks, every
@@ -217,7 +218,6 @@ dumpmap c1
 
 #[test]
 fn scopes_and_maps_are_dumped(rt: HostRuntime) -> Result<(), Fail> {
-    assert_eq!(rt; first_wrong(rt.alloc(), &[], DUMPS)?, None);
-    assert_eq!(rt; first_wrong(rt.alloc(), &[], REFUSALS)?, None);
-    Ok(())
+    gives(&rt, first_wrong(rt.alloc(), &[], DUMPS), None)?;
+    gives(&rt, first_wrong(rt.alloc(), &[], REFUSALS), None)
 }

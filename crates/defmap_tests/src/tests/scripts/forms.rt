@@ -1,5 +1,6 @@
 //! Lines of every form.
 use super::{does, first_wrong};
+use crate::tests::gives;
 use defmap_script::script::RunEnd;
 use std::test::Fail;
 
@@ -55,6 +56,5 @@ fn spaces_alone_part_words(rt: HostRuntime) -> Result<(), Fail> {
     for (script, printed, end) in FORMS {
         assert!(rt; does(rt.alloc(), script, printed, end));
     }
-    assert_eq!(rt; first_wrong(rt.alloc(), &[], ZEROS)?, None);
-    Ok(())
+    gives(&rt, first_wrong(rt.alloc(), &[], ZEROS), None)
 }

@@ -1,5 +1,6 @@
 //! What questions answer.
 use super::first_wrong;
+use crate::tests::gives;
 use std::test::Fail;
 
 /// A crate with a module `a`, a module `u8`, a struct that its own module alone sees, and a function.
@@ -154,8 +155,7 @@ path 0 other module any plain bool
 
 #[test]
 fn answers_are_those_of_the_scoping_rules(rt: HostRuntime) -> Result<(), Fail> {
-    assert_eq!(rt; first_wrong(rt.alloc(), &[WORLD], ANSWERS)?, None);
-    assert_eq!(rt; first_wrong(rt.alloc(), &[WORLD], REFUSALS)?, None);
-    assert_eq!(rt; first_wrong(rt.alloc(), &[], PUSHED)?, None);
-    Ok(())
+    gives(&rt, first_wrong(rt.alloc(), &[WORLD], ANSWERS), None)?;
+    gives(&rt, first_wrong(rt.alloc(), &[WORLD], REFUSALS), None)?;
+    gives(&rt, first_wrong(rt.alloc(), &[], PUSHED), None)
 }

@@ -2,6 +2,7 @@
 use super::first_wrong;
 use super::scoping::ANSWERS;
 use super::worlds::{BLOCKS, CRATES, REST};
+use crate::tests::gives;
 use std::test::Fail;
 
 /// The version in a world of two crates and two blocks: the first, until the second is set, which stays when the world is built on.
@@ -103,20 +104,19 @@ rules 1
 #[test]
 fn the_version_is_set_and_stays(rt: HostRuntime) -> Result<(), Fail> {
     let world = [CRATES, BLOCKS, REST, "check"];
-    assert_eq!(rt; first_wrong(rt.alloc(), &world, VERSIONS)?, None);
-    assert_eq!(rt; first_wrong(rt.alloc(), &[], REFUSED)?, None);
-    Ok(())
+    gives(&rt, first_wrong(rt.alloc(), &world, VERSIONS), None)?;
+    gives(&rt, first_wrong(rt.alloc(), &[], REFUSED), None)
 }
 
 #[test]
 fn macros_of_a_prelude_module_are_cut_and_no_others(rt: HostRuntime) -> Result<(), Fail> {
     let world = [CRATES, BLOCKS, REST, PRELUDE, "check"];
-    assert_eq!(rt; first_wrong(rt.alloc(), &world, IN_PRELUDE)?, None);
-    assert_eq!(rt;
-        first_wrong(rt.alloc(), &[CRATES, BLOCKS, REST], NEVER_CUT)?,
-        None
-    );
+    gives(&rt, first_wrong(rt.alloc(), &world, IN_PRELUDE), None)?;
+    gives(
+        &rt,
+        first_wrong(rt.alloc(), &[CRATES, BLOCKS, REST], NEVER_CUT),
+        None,
+    )?;
     let second = [CRATES, BLOCKS, REST, "rules 2", "check"];
-    assert_eq!(rt; first_wrong(rt.alloc(), &second, ANSWERS)?, None);
-    Ok(())
+    gives(&rt, first_wrong(rt.alloc(), &second, ANSWERS), None)
 }

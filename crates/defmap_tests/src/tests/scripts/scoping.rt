@@ -1,6 +1,7 @@
 //! What the scoping rules answer over several crates, blocks, preludes and macros.
 use super::first_wrong;
 use super::worlds::{BLOCKS, CRATES, REST};
+use crate::tests::gives;
 use std::test::Fail;
 
 /// Questions to the world of two crates and two blocks, which both versions of the rules answer alike.
@@ -242,28 +243,26 @@ path 0 other module any crate b a b a b a b a b a b a b a b a b a b a b a b a b 
 #[test]
 fn every_kind_of_path_is_answered(rt: HostRuntime) -> Result<(), Fail> {
     let world = [CRATES, BLOCKS, REST, "check"];
-    assert_eq!(rt; first_wrong(rt.alloc(), &world, ANSWERS)?, None);
-    assert_eq!(rt; first_wrong(rt.alloc(), &world, ATTRIBUTE)?, None);
-    assert_eq!(rt; first_wrong(rt.alloc(), &world, SIGHTS)?, None);
-    assert_eq!(rt; first_wrong(rt.alloc(), &[], TWO_CRATES)?, None);
-    Ok(())
+    gives(&rt, first_wrong(rt.alloc(), &world, ANSWERS), None)?;
+    gives(&rt, first_wrong(rt.alloc(), &world, ATTRIBUTE), None)?;
+    gives(&rt, first_wrong(rt.alloc(), &world, SIGHTS), None)?;
+    gives(&rt, first_wrong(rt.alloc(), &[], TWO_CRATES), None)
 }
 
 #[test]
 fn modules_in_the_place_of_blocks_answer_for_themselves(rt: HostRuntime) -> Result<(), Fail> {
     let world = [CRATES, NO_BLOCKS, REST, "check"];
-    assert_eq!(rt;
-        first_wrong(rt.alloc(), &world, ANSWERS_WITHOUT_BLOCKS)?,
-        None
-    );
-    Ok(())
+    gives(
+        &rt,
+        first_wrong(rt.alloc(), &world, ANSWERS_WITHOUT_BLOCKS),
+        None,
+    )
 }
 
 #[test]
 fn names_that_are_no_segments_leave_the_answers(rt: HostRuntime) -> Result<(), Fail> {
     let before = [CRATES, BLOCKS, REST, ANOTHER, "check"];
-    assert_eq!(rt; first_wrong(rt.alloc(), &before, ANSWERS)?, None);
+    gives(&rt, first_wrong(rt.alloc(), &before, ANSWERS), None)?;
     let between = [CRATES, BLOCKS, REST, "check", ANSWERS, PUSH];
-    assert_eq!(rt; first_wrong(rt.alloc(), &between, ANSWERS)?, None);
-    Ok(())
+    gives(&rt, first_wrong(rt.alloc(), &between, ANSWERS), None)
 }

@@ -1,5 +1,6 @@
 //! Who sees what, and the most and the least of two visibilities.
 use super::first_wrong;
+use crate::tests::gives;
 use std::test::Fail;
 
 /// Two crates: module 1 in the root of the first, 2 in 1, 3 beside 1, and the root of the second, 4. Block 0, in module 1,
@@ -158,8 +159,7 @@ min c0 pub none
 
 #[test]
 fn questions_are_answered_by_the_tree_of_modules(rt: HostRuntime) -> Result<(), Fail> {
-    assert_eq!(rt; first_wrong(rt.alloc(), &[WORLD], ANSWERS)?, None);
-    assert_eq!(rt; first_wrong(rt.alloc(), &[WORLD], UNKNOWN)?, None);
-    assert_eq!(rt; first_wrong(rt.alloc(), &[], REFUSALS)?, None);
-    Ok(())
+    gives(&rt, first_wrong(rt.alloc(), &[WORLD], ANSWERS), None)?;
+    gives(&rt, first_wrong(rt.alloc(), &[WORLD], UNKNOWN), None)?;
+    gives(&rt, first_wrong(rt.alloc(), &[], REFUSALS), None)
 }

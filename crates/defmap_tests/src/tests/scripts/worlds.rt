@@ -1,5 +1,6 @@
 //! Whole worlds, built line by line.
 use super::first_wrong;
+use crate::tests::gives;
 use std::test::Fail;
 
 /// The modules of two crates, but for what lies in blocks.
@@ -330,15 +331,17 @@ check";
 
 #[test]
 fn pushes_into_a_world_take_turns_and_name_what_it_has(rt: HostRuntime) -> Result<(), Fail> {
-    assert_eq!(rt; first_wrong(rt.alloc(), &[WORLD_B], TURNS)?, None);
-    assert_eq!(rt; first_wrong(rt.alloc(), &[WORLD_C], UNKNOWN)?, None);
-    assert_eq!(rt; first_wrong(rt.alloc(), &[WORLD_C], KNOWN)?, None);
-    Ok(())
+    gives(&rt, first_wrong(rt.alloc(), &[WORLD_B], TURNS), None)?;
+    gives(&rt, first_wrong(rt.alloc(), &[WORLD_C], UNKNOWN), None)?;
+    gives(&rt, first_wrong(rt.alloc(), &[WORLD_C], KNOWN), None)
 }
 
 #[test]
 fn worlds_are_checked(rt: HostRuntime) -> Result<(), Fail> {
-    assert_eq!(rt; first_wrong(rt.alloc(), &["crate 2021 0"], DANGLING)?, None);
-    assert_eq!(rt; first_wrong(rt.alloc(), &[], OTHERS)?, None);
-    Ok(())
+    gives(
+        &rt,
+        first_wrong(rt.alloc(), &["crate 2021 0"], DANGLING),
+        None,
+    )?;
+    gives(&rt, first_wrong(rt.alloc(), &[], OTHERS), None)
 }

@@ -1,5 +1,6 @@
 //! Which modules contain which: by ladders, and by climbing.
 use super::{Building, FILE, ast};
+use crate::tests::gives;
 use defmap_callers::climbing::Climbing;
 use dm_base::ids::ModuleId;
 use dm_base::module_tree::ModuleTree;
@@ -131,8 +132,9 @@ fn longest_mixed(alloc: Global) -> Result<Option<u32>, BuildFault> {
 
 #[test]
 fn a_move_is_a_power_of_two(rt: HostRuntime) -> Result<(), Fail> {
-    assert_eq!(rt;
-        rows(rt.alloc())?,
+    gives(
+        &rt,
+        rows(rt.alloc()),
         Some([
             Some((true, 4)),
             Some((true, 3)),
@@ -140,13 +142,11 @@ fn a_move_is_a_power_of_two(rt: HostRuntime) -> Result<(), Fail> {
             Some((false, 1)),
             Some((false, 0)),
             Some((true, 0)),
-        ])
-    );
-    Ok(())
+        ]),
+    )
 }
 
 #[test]
 fn ladders_say_what_the_climb_says(rt: HostRuntime) -> Result<(), Fail> {
-    assert_eq!(rt; longest_mixed(rt.alloc())?, Some(20));
-    Ok(())
+    gives(&rt, longest_mixed(rt.alloc()), Some(20))
 }

@@ -1,5 +1,6 @@
 //! What the maps of a crate answer of its data.
 use super::{Building, map_at};
+use crate::tests::{gives, same};
 use dm_base::symbol::Symbol;
 use dm_maps::build_fault::BuildFault;
 use dm_maps::world::World;
@@ -67,14 +68,16 @@ fn tools(alloc: Global) -> Result<String, BuildFault> {
 
 #[test]
 fn a_fresh_crate_has_a_limit_and_five_tools(rt: HostRuntime) -> Result<(), Fail> {
-    assert_eq!(rt;
-        data(rt.alloc(), false, 0)?,
-        Some((128, [false, false, false]))
-    );
+    gives(
+        &rt,
+        data(rt.alloc(), false, 0),
+        Some((128, [false, false, false])),
+    )?;
     let tools = tools(rt.alloc())?;
-    assert_eq!(rt;
-        tools.as_str(),
-        "clippy rustfmt diagnostic miri rust_analyzer "
+    same(
+        &rt,
+        &tools.as_str(),
+        &"clippy rustfmt diagnostic miri rust_analyzer ",
     );
     Ok(())
 }
@@ -82,10 +85,11 @@ fn a_fresh_crate_has_a_limit_and_five_tools(rt: HostRuntime) -> Result<(), Fail>
 #[test]
 fn data_reaches_each_map_of_its_crate(rt: HostRuntime) -> Result<(), Fail> {
     for root in [0, 5] {
-        assert_eq!(rt;
-            data(rt.alloc(), true, root)?,
-            Some((4, [true, true, true]))
-        );
+        gives(
+            &rt,
+            data(rt.alloc(), true, root),
+            Some((4, [true, true, true])),
+        )?;
     }
     Ok(())
 }

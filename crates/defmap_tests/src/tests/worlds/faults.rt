@@ -1,5 +1,6 @@
 //! What nobody has, where no line of a script puts it. Each entry names a 9.
 use super::{Building, CALL, CRATE_MAP, FILE, ast};
+use crate::tests::gives;
 use dm_base::ids::{
     Crate, ExpandErrorKind, FunctionId, ImplId, MacroCallKind, MacroRulesId, ModuleId, ProcMacroId,
     StructId, TraitId,
@@ -170,11 +171,11 @@ fn unknown(kind: WorldFaultKind, holder: Holder) -> Option<WorldFault> {
 
 #[test]
 fn a_diagnostic_lies_in_a_module_of_the_world(rt: HostRuntime) -> Result<(), Fail> {
-    assert_eq!(rt;
-        found_in_diagnostic(rt.alloc())?,
-        unknown(WorldFaultKind::UnknownModule, Holder::Map(CRATE_MAP))
-    );
-    Ok(())
+    gives(
+        &rt,
+        found_in_diagnostic(rt.alloc()),
+        unknown(WorldFaultKind::UnknownModule, Holder::Map(CRATE_MAP)),
+    )
 }
 
 #[test]
@@ -188,10 +189,11 @@ fn maps_hold_what_the_world_has(rt: HostRuntime) -> Result<(), Fail> {
         (MapEntry::FunctionOfProcMacro, WorldFaultKind::UnknownItem),
     ];
     for (entry, kind) in rows {
-        assert_eq!(rt;
-            found_in_map(rt.alloc(), entry)?,
-            unknown(kind, Holder::Map(CRATE_MAP))
-        );
+        gives(
+            &rt,
+            found_in_map(rt.alloc(), entry),
+            unknown(kind, Holder::Map(CRATE_MAP)),
+        )?;
     }
     Ok(())
 }
@@ -209,10 +211,11 @@ fn tables_hold_what_the_world_has(rt: HostRuntime) -> Result<(), Fail> {
         (TableEntry::PathOfTrait, WorldFaultKind::UnknownCrate),
     ];
     for (entry, kind) in rows {
-        assert_eq!(rt;
-            found_in_table(rt.alloc(), entry)?,
-            unknown(kind, Holder::Tables)
-        );
+        gives(
+            &rt,
+            found_in_table(rt.alloc(), entry),
+            unknown(kind, Holder::Tables),
+        )?;
     }
     Ok(())
 }

@@ -1,5 +1,6 @@
 //! Which maps are asked, from a block's outwards.
 use super::Building;
+use crate::tests::gives;
 use dm_base::ids::{BlockId, ModuleId};
 use dm_maps::build_fault::BuildFault;
 use dm_maps::world::World;
@@ -48,9 +49,9 @@ fn read(alloc: Global) -> Result<Option<Asked>, BuildFault> {
 
 #[test]
 fn the_block_is_asked_and_then_the_crate(rt: HostRuntime) -> Result<(), Fail> {
-    assert_eq!(rt;
-        read(rt.alloc())?,
-        Some([Some((Some(BLOCK), INNER)), Some((None, OUTER)), None])
-    );
-    Ok(())
+    gives(
+        &rt,
+        read(rt.alloc()),
+        Some([Some((Some(BLOCK), INNER)), Some((None, OUTER)), None]),
+    )
 }

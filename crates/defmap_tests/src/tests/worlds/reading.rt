@@ -1,5 +1,6 @@
 //! Where items were declared, and which modules a file has.
 use super::{Building, CALL, map_at};
+use crate::tests::gives;
 use dm_base::ids::{Crate, EnumVariantId, FileId, ModuleId, ProcMacroId, StructId};
 use dm_base::item_ids::{AdtId, MacroId, ModuleDefId};
 use dm_base::item_in_ns::ItemInNs;
@@ -45,6 +46,5 @@ fn read(alloc: Global) -> Result<Option<(Homes, Option<[Option<ModuleId>; 2]>)>,
 fn items_files_and_macro_calls_have_their_modules(rt: HostRuntime) -> Result<(), Fail> {
     let (root, module) = (Some(ModuleId(0)), Some(ModuleId(1)));
     let homes = ([module, root, root], Some(Crate(1)));
-    assert_eq!(rt; read(rt.alloc())?, Some((homes, Some([root, module]))));
-    Ok(())
+    gives(&rt, read(rt.alloc()), Some((homes, Some([root, module]))))
 }

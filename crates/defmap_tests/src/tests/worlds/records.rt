@@ -1,5 +1,6 @@
 //! How many records the scopes of a world have: once it is checked, behind pushes, and once it is checked again.
 use super::{Building, Checked};
+use crate::tests::gives;
 use dm_base::ids::{
     ExternCrateId, FunctionId, MacroRulesId, ModuleId, StructId, UseId, UseTreeIdx,
 };
@@ -114,6 +115,5 @@ fn counted(alloc: Global) -> Result<Option<[Counts; 3]>, BuildFault> {
 #[test]
 fn records_are_counted_with_each_push(rt: HostRuntime) -> Result<(), Fail> {
     let counts = [[4, 1, 0], [5, 1, 2], [5, 1, 2]];
-    assert_eq!(rt; counted(rt.alloc())?, Some(counts));
-    Ok(())
+    gives(&rt, counted(rt.alloc()), Some(counts))
 }

@@ -2,6 +2,7 @@
 mod refused;
 
 use super::{Building, Checked, FILE};
+use crate::tests::gives;
 use dm_base::ids::{ModuleId, StructId, UseId, UseTreeIdx};
 use dm_base::imports::ImportId;
 use dm_base::item_ids::{AdtId, ItemKind, ModuleDefId};
@@ -126,17 +127,25 @@ impl Checked {
     }
 }
 
-/// What taking imports answered: those that wait, or why they do not, and how many were handed back.
-fn taken(
-    alloc: Global,
-    pendings: Vec<Pending>,
-) -> Result<Result<Waiting, (Option<RetryFault>, usize)>, BuildFault> {
-    let Some(world) = again!(a_world(alloc))? else {
-        return Ok(Err((None, 0)));
-    };
-    match Retry::new(world, PerNsGlobImports::new(alloc), pendings) {
-        Ok(retry) => Ok(Ok(Waiting { retry })),
-        Err((fault, _world, _globs, pendings)) => Ok(Err((Some(fault), pendings.len()))),
+/// Imports that wait, or why they do not, and how many were handed back.
+type Taken = Result<Waiting, (Option<RetryFault>, usize)>;
+
+/// What taking imports answered, with the world and all else let go where they are refused.
+fn outcome(answer: Result<Retry, (RetryFault, World, PerNsGlobImports, Vec<Pending>)>) -> Taken {
+    match answer {
+        Ok(retry) => Ok(Waiting { retry }),
+        Err((fault, _world, _globs, pendings)) => Err((Some(fault), pendings.len())),
+    }
+}
+
+/// What taking imports in the crate's world answers.
+fn taken(alloc: Global, pendings: Vec<Pending>) -> Result<Taken, BuildFault> {
+    match again!(a_world(alloc))? {
+        None => Ok(Err((None, 0))),
+        Some(world) => {
+            let globs = PerNsGlobImports::new(alloc);
+            Ok(outcome(Retry::new(world, globs, pendings)))
+        }
     }
 }
 
@@ -184,11 +193,11 @@ fn rounds_of_what_changed(rt: HostRuntime) -> Result<(), Fail> {
         (true, 1, Some(false), Some(false)),
         (false, 0, Some(false), Some(false)),
     ];
-    assert_eq!(rt;
-        rounds(rt.alloc(), false)?,
-        Some((rows, Some(the_struct())))
-    );
-    Ok(())
+    gives(
+        &rt,
+        rounds(rt.alloc(), false),
+        Some((rows, Some(the_struct()))),
+    )
 }
 
 #[test]
@@ -198,8 +207,11 @@ fn rounds_of_all(rt: HostRuntime) -> Result<(), Fail> {
         (true, 2, Some(false), Some(false)),
         (false, 2, Some(false), Some(false)),
     ];
-    assert_eq!(rt; rounds(rt.alloc(), true)?, Some((rows, Some(the_struct()))));
-    Ok(())
+    gives(
+        &rt,
+        rounds(rt.alloc(), true),
+        Some((rows, Some(the_struct()))),
+    )
 }
 
 /// Why imports are not taken, and how many are handed back.
@@ -232,10 +244,9 @@ fn lost(alloc: Global) -> Result<Vec<Pending>, AllocError> {
 fn imports_are_refused(rt: HostRuntime) -> Result<(), Fail> {
     let alloc = rt.alloc();
     let double = Some((Some(RetryFault::DoubleImport), 2));
-    assert_eq!(rt; refusal(alloc, doubled(alloc)?)?, double);
+    gives(&rt, refusal(alloc, doubled(alloc)?), double)?;
     let unknown = Some((Some(RetryFault::UnknownPart), 1));
-    assert_eq!(rt; refusal(alloc, lost(alloc)?)?, unknown);
-    Ok(())
+    gives(&rt, refusal(alloc, lost(alloc)?), unknown)
 }
 
 /// What the first import stands for after rounds of both kinds.
@@ -252,6 +263,5 @@ fn mixed(alloc: Global) -> Result<Option<PerNs>, BuildFault> {
 
 #[test]
 fn rounds_of_both_kinds(rt: HostRuntime) -> Result<(), Fail> {
-    assert_eq!(rt; mixed(rt.alloc())?, Some(the_struct()));
-    Ok(())
+    gives(&rt, mixed(rt.alloc()), Some(the_struct()))
 }

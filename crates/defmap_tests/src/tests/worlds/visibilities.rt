@@ -1,5 +1,6 @@
 //! What visibilities mean that are written.
 use super::Building;
+use crate::tests::gives;
 use dm_base::ids::{BlockId, FunctionId, ModuleId};
 use dm_base::item_ids::{AssocItemId, ModuleDefId};
 use dm_base::mod_path::{ModPath, PathKind};
@@ -69,6 +70,9 @@ fn inside(m: u32) -> Option<Visibility> {
 fn associated_items_and_a_path_in_a_block(rt: HostRuntime) -> Result<(), Fail> {
     let (in_root, in_block) = (inside(0), inside(5));
     let functions = [inside(3), in_root, in_block];
-    assert_eq!(rt; read(rt.alloc())?, Some((functions, [in_block, in_root])));
-    Ok(())
+    gives(
+        &rt,
+        read(rt.alloc()),
+        Some((functions, [in_block, in_root])),
+    )
 }

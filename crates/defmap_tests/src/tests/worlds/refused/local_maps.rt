@@ -2,6 +2,7 @@
 //!
 //! With ample memory none is. `tools/refusals` runs this test with each request for memory refused in turn: whichever it
 //! is, a refused call leaves the map as it was, and the call made again puts its entry.
+use crate::tests::gives;
 use dm_base::ids::{ExternCrateId, ModuleId};
 use dm_base::name::Name;
 use dm_maps::local_def_map::LocalDefMap;
@@ -77,9 +78,9 @@ fn filled(alloc: Global) -> Result<(Seen, bool), AllocError> {
 fn a_refused_entry_leaves_the_map_and_is_put_again(rt: HostRuntime) -> Result<(), Fail> {
     let a = Some((ModuleId(4), None));
     let b = Some((ModuleId(2), Some(ExternCrateId(3))));
-    assert_eq!(rt;
-        filled(rt.alloc())?,
-        (([Some(ModuleId(4)), Some(ModuleId(2)), None], [a, b]), true)
-    );
-    Ok(())
+    gives(
+        &rt,
+        filled(rt.alloc()),
+        (([Some(ModuleId(4)), Some(ModuleId(2)), None], [a, b]), true),
+    )
 }

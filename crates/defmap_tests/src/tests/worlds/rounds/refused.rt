@@ -3,6 +3,7 @@
 //! With ample memory none is. `tools/refusals` runs these tests with each request for memory refused in turn: whichever it
 //! is, the refused import is due, and the rounds come to the same end.
 use super::{ROOT, STRUCT, Waiting, import, taken, the_struct, two_imports};
+use crate::tests::gives;
 use dm_base::imports::ImportOrExternCrate;
 use dm_base::item_ids::{AdtId, ModuleDefId};
 use dm_base::name::Name;
@@ -101,12 +102,10 @@ fn the_end() -> End {
 
 #[test]
 fn a_refused_round_of_what_changed_is_made_again(rt: HostRuntime) -> Result<(), Fail> {
-    assert_eq!(rt; ended(rt.alloc(), false)?, Some((true, Some(the_end()))));
-    Ok(())
+    gives(&rt, ended(rt.alloc(), false), Some((true, Some(the_end()))))
 }
 
 #[test]
 fn a_refused_round_of_all_is_made_again(rt: HostRuntime) -> Result<(), Fail> {
-    assert_eq!(rt; ended(rt.alloc(), true)?, Some((true, Some(the_end()))));
-    Ok(())
+    gives(&rt, ended(rt.alloc(), true), Some((true, Some(the_end()))))
 }
