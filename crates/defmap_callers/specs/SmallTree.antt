@@ -1,8 +1,8 @@
 -- A tree of modules in two tables, and a small one.
 use Rattle.std.specs.Prelude.{ℕ, List, [], ◌∷◌, Some, None, nat_lt, length, slice_get}
 use Rattle.std.specs.Option.{option_map_or, option_and_then}
-use Rattle.dm_ids.specs.declared.ModuleId.{ModuleId}
-use Rattle.dm_ids.specs.declared.MapId.{MapId}
+use Rattle.dm_ids.specs.declared.ids.ModuleId.{ModuleId}
+use Rattle.dm_ids.specs.declared.ids.MapId.{MapId}
 use Rattle.dm_base.specs.Tree.{Tree}
 use Rattle.defmap_callers.specs.declared.tree.Place.{Place}
 

@@ -1,6 +1,6 @@
 //! The callers that docs/USING.md shows.
 ghost use Rattle.std.specs.Prelude.{◌≡◌, false, IfOk, IsTrue, None, OnErr, Some, slice_get};
-ghost use Rattle.dm_base.specs.declared.imports.ImportOrExternCrate.TheVariants.{Import};
+ghost use Rattle.dm_ids.specs.declared.imports.ImportOrExternCrate.TheVariants.{Import};
 ghost use Rattle.dm_held.specs.declared.held.HeldId.TheVariants as held;
 ghost use Rattle.dm_held.specs.Holding.{local_holds, path_holds, res_holds};
 ghost use Rattle.dm_held.specs.Pushes.{push_holds};

@@ -1,6 +1,6 @@
 //! The callers that docs/USING.md shows.
 ghost use Rattle.std.specs.Prelude.{◌≡◌, ◌<◌, ◌^◌, None, Some, List, length, option_map};
-ghost use Rattle.dm_ids.specs.declared.ModuleId.{ModuleId};
+ghost use Rattle.dm_ids.specs.declared.ids.ModuleId.{ModuleId};
 ghost use Rattle.dm_base.specs.PerNs.{type_alone};
 ghost use Rattle.dm_scope.specs.Chains.{EndsIn, leads, ends};
 ghost use Rattle.dm_scope.specs.Flags.{Globs};

@@ -1,11 +1,11 @@
 -- What is refused for want of memory would be answered with more of it: from calls to steps, and from steps to lines.
 use Rattle.std.proofs.Common.{rules, ◌≡◌, ℕ, List, Option, Result, Ok, Err, refl, sym, ap, subst, inl, inr}
 use Rattle.std.specs.Result.{IsErr, IsErrAnd}
-use Rattle.dm_base.specs.Names.{Name}
-use Rattle.dm_base.specs.declared.imports.ImportOrExternCrate.{ImportOrExternCrate}
+use Rattle.dm_ids.specs.Names.{Name}
+use Rattle.dm_ids.specs.declared.imports.ImportOrExternCrate.{ImportOrExternCrate}
 use Rattle.dm_base.specs.declared.per_ns.PerNs.{PerNs}
 use Rattle.dm_held.specs.Pushes.{push_holds}
-use Rattle.dm_ids.specs.declared.ModuleId.{ModuleId}
+use Rattle.dm_ids.specs.declared.ids.ModuleId.{ModuleId}
 use Rattle.dm_maps.specs.Known.{KnowsAll}
 use Rattle.dm_maps.specs.World.{World}
 use Rattle.dm_modules.specs.Maps.{Map, LocalMap}

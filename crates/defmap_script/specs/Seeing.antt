@@ -1,7 +1,7 @@
 -- What the questions about visibilities answer.
 use Rattle.std.specs.Prelude.{◌&&◌, if◌then◌else◌, Bool, true, Option, Some, None, Result, Ok, Err, slice_get}
 use Rattle.std.specs.Option.{option_map, option_map_or}
-use Rattle.dm_ids.specs.declared.MapId.{MapId}
+use Rattle.dm_ids.specs.declared.ids.MapId.{MapId}
 use Rattle.dm_base.specs.declared.visibility.Visibility.{Visibility}
 use Rattle.dm_base.specs.declared.visibility.Visibility.TheVariants as vis
 use Rattle.dm_base.specs.Tree.{sees}

@@ -1,16 +1,10 @@
-pub mod Names
 pub mod Path
 pub mod Tree
 pub mod Visibility
 pub mod Definitions
-pub mod Imports
-pub mod Builtins
-pub mod Kinds
 pub mod Sameness
-pub mod Styles
 pub mod PerNs
 pub mod Overlays
 pub mod ItemHomes
-pub mod Files
 pub mod VisibilityRows
 pub mod IdLaws

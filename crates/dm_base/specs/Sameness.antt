@@ -3,19 +3,19 @@ use Rattle.std.specs.Prelude.{◌≡◌, ◌&&◌, Bool, true, Option, Some, Non
 use Rattle.std.specs.Option.{option_eq}
 use Rattle.std.proofs.Common.{ap, rules}
 use Rattle.std.proofs.lemmas.Bool.{and_parts}
-use Rattle.dm_base.specs.declared.imports.ImportOrExternCrate.{ImportOrExternCrate}
-use Rattle.dm_base.specs.declared.imports.ImportOrGlob.{ImportOrGlob}
-use Rattle.dm_base.specs.declared.item_ids.MacroId.{MacroId}
-use Rattle.dm_base.specs.declared.item_ids.ModuleDefId.{ModuleDefId}
+use Rattle.dm_ids.specs.declared.imports.ImportOrExternCrate.{ImportOrExternCrate}
+use Rattle.dm_ids.specs.declared.imports.ImportOrGlob.{ImportOrGlob}
+use Rattle.dm_ids.specs.declared.item_ids.MacroId.{MacroId}
+use Rattle.dm_ids.specs.declared.item_ids.ModuleDefId.{ModuleDefId}
 use Rattle.dm_base.specs.declared.per_ns.Item.{Item}
 use Rattle.dm_base.specs.declared.per_ns.PerNs.{PerNs}
-use Rattle.dm_base.specs.declared.source.AstId.{AstId}
+use Rattle.dm_ids.specs.declared.source.AstId.{AstId}
 use Rattle.dm_base.specs.declared.visibility.Visibility.{Visibility}
-use Rattle.dm_base.specs.contracts.imports.ImportOrExternCratePartialEq.TheImpl as import_eq
-use Rattle.dm_base.specs.contracts.imports.ImportOrGlobPartialEq.TheImpl as value_import_eq
-use Rattle.dm_base.specs.contracts.item_ids.MacroIdPartialEq.TheImpl as macro_eq
-use Rattle.dm_base.specs.contracts.item_ids.ModuleDefIdPartialEq.TheImpl as def_eq
-use Rattle.dm_base.specs.contracts.source.AstIdPartialEq.TheImpl as ast_eq
+use Rattle.dm_ids.specs.contracts.imports.ImportOrExternCratePartialEq.TheImpl as import_eq
+use Rattle.dm_ids.specs.contracts.imports.ImportOrGlobPartialEq.TheImpl as value_import_eq
+use Rattle.dm_ids.specs.contracts.item_ids.MacroIdPartialEq.TheImpl as macro_eq
+use Rattle.dm_ids.specs.contracts.item_ids.ModuleDefIdPartialEq.TheImpl as def_eq
+use Rattle.dm_ids.specs.contracts.source.AstIdPartialEq.TheImpl as ast_eq
 use Rattle.dm_base.specs.contracts.visibility.VisibilityPartialEq.TheImpl as visibility_eq
 use Rattle.dm_base.specs.contracts.per_ns.PerNsPartialEq.TheImpl as per_ns_eq
 

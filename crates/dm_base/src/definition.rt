@@ -1,10 +1,10 @@
 //! What a namespace's definitions are, for code that serves every namespace.
 ghost use Rattle.std.specs.Prelude.{◌≡◌, true};
 ghost use Rattle.std.proofs.Common.{rules};
-ghost use Rattle.dm_base.specs.declared.item_ids.ModuleDefId.{ModuleDefId};
+ghost use Rattle.dm_ids.specs.declared.item_ids.ModuleDefId.{ModuleDefId};
 ghost use Rattle.dm_base.specs.Definitions.{widened_macro, widened_macro_injective};
 
-use crate::item_ids::{MacroId, ModuleDefId};
+use dm_ids::item_ids::{MacroId, ModuleDefId};
 
 /// The definitions that a namespace can hold.
 pub trait Definition: Copy + Eq {

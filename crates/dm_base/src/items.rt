@@ -1,9 +1,9 @@
 //! The items of all namespaces in a row.
 ghost use Rattle.std.specs.Iterator.{YieldsFirst, item_count};
 
-use crate::imports::ImportOrExternCrate;
 use crate::item_in_ns::ItemInNs;
 use crate::per_ns::PerNs;
+use dm_ids::imports::ImportOrExternCrate;
 use std::marker::Model;
 
 /// The items that a name means, types before values before macros, each with the import that brought it.

@@ -4,12 +4,12 @@ ghost use Rattle.std.proofs.Common.{rules};
 ghost use Rattle.dm_base.specs.Path.{paths_same};
 ghost use Rattle.dm_base.specs.Sameness.{per_ns_same};
 
-use crate::imports::{GlobId, ImportId, ImportOrDef, ImportOrExternCrate, ImportOrGlob};
-use crate::item_ids::{MacroId, ModuleDefId};
 use crate::item_in_ns::ItemInNs;
 use crate::mod_path::ModPath;
 use crate::per_ns::{Item, PerNs};
 use crate::visibility::Visibility;
+use dm_ids::imports::{GlobId, ImportId, ImportOrDef, ImportOrExternCrate, ImportOrGlob};
+use dm_ids::item_ids::{MacroId, ModuleDefId};
 
 /// Values that are equal only where they are the same value: `==` forgets no part of them.
 pub trait ValueEq: Eq {

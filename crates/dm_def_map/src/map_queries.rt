@@ -1,7 +1,7 @@
 //! What a map says of its modules. None of these calls takes memory.
 ghost use Rattle.std.specs.Prelude.{◌≡◌, IsSome, Some};
 ghost use Rattle.std.specs.Map.Iter.{ShowsInOrder};
-ghost use Rattle.dm_ids.specs.declared.ModuleId.{ModuleId};
+ghost use Rattle.dm_ids.specs.declared.ids.ModuleId.{ModuleId};
 ghost use Rattle.dm_modules.specs.Maps.{module_at};
 ghost use Rattle.dm_modules.specs.Queries.{containing_in, fills, is_inline_in, modules_with};
 

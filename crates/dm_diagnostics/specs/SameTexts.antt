@@ -5,14 +5,14 @@ use Rattle.std.specs.String.{string_eq}
 use Rattle.std.proofs.Common.{rules, Global, String}
 use Rattle.std.proofs.lemmas.Bool.{and_parts}
 use Rattle.dm_base.specs.Path.{paths_same}
-use Rattle.dm_ids.specs.declared.MacroCallKind.{MacroCallKind}
-use Rattle.dm_ids.specs.declared.ExpandErrorKind.{ExpandErrorKind}
-use Rattle.dm_ids.specs.declared.ModuleId.{ModuleId}
-use Rattle.dm_ids.specs.contracts.ModuleIdPartialEq.TheImpl as module_eq
-use Rattle.dm_ids.specs.contracts.MacroCallKindPartialEq.TheImpl as call_eq
-use Rattle.dm_ids.specs.contracts.ExpandErrorKindPartialEq.TheImpl as error_eq
-use Rattle.dm_base.specs.declared.source.AstId.{AstId}
-use Rattle.dm_base.specs.contracts.source.AstIdPartialEq.TheImpl as ast_eq
+use Rattle.dm_ids.specs.declared.ids.MacroCallKind.{MacroCallKind}
+use Rattle.dm_ids.specs.declared.ids.ExpandErrorKind.{ExpandErrorKind}
+use Rattle.dm_ids.specs.declared.ids.ModuleId.{ModuleId}
+use Rattle.dm_ids.specs.contracts.ids.ModuleIdPartialEq.TheImpl as module_eq
+use Rattle.dm_ids.specs.contracts.ids.MacroCallKindPartialEq.TheImpl as call_eq
+use Rattle.dm_ids.specs.contracts.ids.ExpandErrorKindPartialEq.TheImpl as error_eq
+use Rattle.dm_ids.specs.declared.source.AstId.{AstId}
+use Rattle.dm_ids.specs.contracts.source.AstIdPartialEq.TheImpl as ast_eq
 use Rattle.dm_diagnostics.specs.declared.DefDiagnostic.{DefDiagnostic}
 use Rattle.dm_diagnostics.specs.declared.DefDiagnosticKind.{DefDiagnosticKind}
 use Rattle.dm_diagnostics.specs.declared.DefDiagnosticKind.TheVariants as kind

@@ -2,10 +2,10 @@
 use Rattle.std.proofs.Common.{◌≡◌, List, [], ◌∷◌, ◌++◌, map, refl}
 use Rattle.std.specs.List.{flat_map}
 use Rattle.std.proofs.lemmas.List.Sums.{fold-append}
-use Rattle.dm_base.specs.declared.imports.ImportOrDef.{ImportOrDef}
-use Rattle.dm_base.specs.declared.imports.ImportOrGlob.{ImportOrGlob}
-use Rattle.dm_base.specs.declared.imports.ImportOrGlob.TheVariants as narrow
-use Rattle.dm_base.specs.Imports.{widened}
+use Rattle.dm_ids.specs.declared.imports.ImportOrDef.{ImportOrDef}
+use Rattle.dm_ids.specs.declared.imports.ImportOrGlob.{ImportOrGlob}
+use Rattle.dm_ids.specs.declared.imports.ImportOrGlob.TheVariants as narrow
+use Rattle.dm_ids.specs.Imports.{widened}
 use Rattle.dm_held.specs.Holds.{step_holds, record_holds, value_record_holds}
 use Rattle.dm_held.specs.Holding.{import_holds, value_import_holds}
 

@@ -3,21 +3,21 @@
 use Rattle.std.specs.Prelude.{List, [], ◌∷◌, ◌++◌, Option, map}
 use Rattle.std.specs.List.{flat_map}
 use Rattle.std.specs.Option.{option_map_or}
-use Rattle.dm_ids.specs.declared.ModuleId.{ModuleId}
-use Rattle.dm_ids.specs.declared.UseId.{UseId}
-use Rattle.dm_ids.specs.declared.TraitId.{TraitId}
-use Rattle.dm_ids.specs.declared.ConstId.{ConstId}
-use Rattle.dm_base.specs.declared.item_ids.ItemKind.TheVariants as item
-use Rattle.dm_base.specs.declared.item_ids.ModuleDefId.{ModuleDefId}
-use Rattle.dm_base.specs.declared.item_ids.MacroId.{MacroId}
-use Rattle.dm_base.specs.declared.imports.ImportId.{ImportId}
-use Rattle.dm_base.specs.declared.imports.ImportOrExternCrate.{ImportOrExternCrate}
-use Rattle.dm_base.specs.declared.imports.ImportOrGlob.{ImportOrGlob}
-use Rattle.dm_base.specs.declared.imports.ImportOrDef.{ImportOrDef}
-use Rattle.dm_base.specs.declared.imports.ImportOrDef.TheVariants as step
+use Rattle.dm_ids.specs.declared.ids.ModuleId.{ModuleId}
+use Rattle.dm_ids.specs.declared.ids.UseId.{UseId}
+use Rattle.dm_ids.specs.declared.ids.TraitId.{TraitId}
+use Rattle.dm_ids.specs.declared.ids.ConstId.{ConstId}
+use Rattle.dm_ids.specs.declared.item_ids.ItemKind.TheVariants as item
+use Rattle.dm_ids.specs.declared.item_ids.ModuleDefId.{ModuleDefId}
+use Rattle.dm_ids.specs.declared.item_ids.MacroId.{MacroId}
+use Rattle.dm_ids.specs.declared.imports.ImportId.{ImportId}
+use Rattle.dm_ids.specs.declared.imports.ImportOrExternCrate.{ImportOrExternCrate}
+use Rattle.dm_ids.specs.declared.imports.ImportOrGlob.{ImportOrGlob}
+use Rattle.dm_ids.specs.declared.imports.ImportOrDef.{ImportOrDef}
+use Rattle.dm_ids.specs.declared.imports.ImportOrDef.TheVariants as step
 use Rattle.dm_base.specs.declared.per_ns.Item.{Item}
 use Rattle.dm_base.specs.declared.visibility.Visibility.{Visibility}
-use Rattle.dm_base.specs.Names.{Name}
+use Rattle.dm_ids.specs.Names.{Name}
 use Rattle.dm_scope.specs.Scope.{Scope}
 use Rattle.dm_held.specs.declared.held.HeldId.{HeldId}
 use Rattle.dm_held.specs.declared.held.HeldId.TheVariants as held

@@ -1,11 +1,11 @@
 -- Kinds of items and macros, and what an id says of them.
 use Rattle.std.specs.Prelude.{ℕ, Bool, true, false}
-use Rattle.dm_base.specs.declared.item_ids.ItemKind.{ItemKind}
-use Rattle.dm_base.specs.declared.item_ids.ItemKind.TheVariants as item
-use Rattle.dm_base.specs.declared.item_ids.MacroId.{MacroId}
-use Rattle.dm_base.specs.declared.item_ids.MacroId.TheVariants.{Macro2Id, MacroRulesId, ProcMacroId}
-use Rattle.dm_base.specs.declared.macros.MacroLoc.{MacroLoc}
-use Rattle.dm_base.specs.declared.macros.MacroLoc.TheVariants as loc
+use Rattle.dm_ids.specs.declared.item_ids.ItemKind.{ItemKind}
+use Rattle.dm_ids.specs.declared.item_ids.ItemKind.TheVariants as item
+use Rattle.dm_ids.specs.declared.item_ids.MacroId.{MacroId}
+use Rattle.dm_ids.specs.declared.item_ids.MacroId.TheVariants.{Macro2Id, MacroRulesId, ProcMacroId}
+use Rattle.dm_ids.specs.declared.macros.MacroLoc.{MacroLoc}
+use Rattle.dm_ids.specs.declared.macros.MacroLoc.TheVariants as loc
 
 abbrev pub same_kind : ItemKind → ItemKind → Bool
 same_kind item.Function item.Function = true

@@ -1,19 +1,19 @@
 -- Which ids hold the tables of a crate, of the syntax, and of items.
 use Rattle.std.specs.Prelude.{List, [], ◌∷◌, ◌++◌, map}
 use Rattle.std.specs.List.{flat_map}
-use Rattle.dm_ids.specs.declared.FunctionId.{FunctionId}
-use Rattle.dm_ids.specs.declared.ProcMacroId.{ProcMacroId}
-use Rattle.dm_ids.specs.declared.TraitId.{TraitId}
-use Rattle.dm_base.specs.declared.item_ids.AssocItemId.{AssocItemId}
-use Rattle.dm_base.specs.declared.item_ids.AssocItemId.TheVariants as assoc
-use Rattle.dm_base.specs.declared.item_ids.ItemContainerId.{ItemContainerId}
-use Rattle.dm_base.specs.declared.item_ids.ItemContainerId.TheVariants as container
-use Rattle.dm_base.specs.declared.item_ids.ItemKind.TheVariants as item
-use Rattle.dm_base.specs.declared.item_ids.MacroId.{MacroId}
-use Rattle.dm_base.specs.declared.item_ids.MacroId.TheVariants as which
-use Rattle.dm_base.specs.declared.item_ids.VariantId.{VariantId}
-use Rattle.dm_base.specs.declared.item_ids.VariantId.TheVariants as variant
-use Rattle.dm_base.specs.declared.source.AstId.{AstId}
+use Rattle.dm_ids.specs.declared.ids.FunctionId.{FunctionId}
+use Rattle.dm_ids.specs.declared.ids.ProcMacroId.{ProcMacroId}
+use Rattle.dm_ids.specs.declared.ids.TraitId.{TraitId}
+use Rattle.dm_ids.specs.declared.item_ids.AssocItemId.{AssocItemId}
+use Rattle.dm_ids.specs.declared.item_ids.AssocItemId.TheVariants as assoc
+use Rattle.dm_ids.specs.declared.item_ids.ItemContainerId.{ItemContainerId}
+use Rattle.dm_ids.specs.declared.item_ids.ItemContainerId.TheVariants as container
+use Rattle.dm_ids.specs.declared.item_ids.ItemKind.TheVariants as item
+use Rattle.dm_ids.specs.declared.item_ids.MacroId.{MacroId}
+use Rattle.dm_ids.specs.declared.item_ids.MacroId.TheVariants as which
+use Rattle.dm_ids.specs.declared.item_ids.VariantId.{VariantId}
+use Rattle.dm_ids.specs.declared.item_ids.VariantId.TheVariants as variant
+use Rattle.dm_ids.specs.declared.source.AstId.{AstId}
 use Rattle.dm_base.specs.declared.visibility.RawVisibility.{RawVisibility}
 use Rattle.dm_base.specs.declared.visibility.RawVisibility.TheVariants as raw
 use Rattle.dm_diagnostics.specs.declared.DefDiagnostic.{DefDiagnostic}

@@ -1,7 +1,7 @@
 //! The ids that a holder has, looked at one by one: which are not the world's, and which of those comes first.
 ghost use Rattle.std.specs.Prelude.{◌≡◌};
 ghost use Rattle.std.specs.List.{fold};
-ghost use Rattle.dm_base.specs.declared.item_ids.ModuleDefId.TheVariants as def;
+ghost use Rattle.dm_ids.specs.declared.item_ids.ModuleDefId.TheVariants as def;
 ghost use Rattle.dm_held.specs.declared.held.HeldId.TheVariants as held;
 ghost use Rattle.dm_held.specs.Held.{fault_at, rank, comes_before, lesser, noted, IsJoined, IsLeastFault};
 ghost use Rattle.dm_held.specs.Holding.{def_holds, vis_holds, import_holds, value_import_holds};

@@ -2,7 +2,7 @@
 use Rattle.std.proofs.Common.{◌≡◌, ◌≢◌, ◌<◌, ◌≤◌, ◌+◌, ◌-◌, ◌*◌, ◌^◌, ◌/◌, ◌%◌, length, count_ones, nat_eq, false, ℕ, List, sym, ap, ◌∙◌, arith, add-one}
 use Rattle.std.proofs.Math.Nat.{pow-succ'}
 use Rattle.std.specs.Int.Count.{ones_step}
-use Rattle.dm_ids.specs.declared.ModuleId.{ModuleId}
+use Rattle.dm_ids.specs.declared.ids.ModuleId.{ModuleId}
 use Rattle.std.proofs.lemmas.Nat.{ones_le_self}
 use Rattle.dm_base.specs.Tree.{Tree, chain, is_among}
 use Rattle.dm_ladders.specs.Ancestry.{depth, moves}

@@ -5,7 +5,7 @@ use Rattle.std.proofs.lemmas.Bool.{ne_eqb, lt-ltb, ltb-true}
 use Rattle.std.proofs.lemmas.List.{length-map}
 use Rattle.std.proofs.lemmas.Option.{slice_get-map}
 use Rattle.std.proofs.Math.Nat.{pow-suc}
-use Rattle.dm_ids.specs.declared.ModuleId.{ModuleId}
+use Rattle.dm_ids.specs.declared.ids.ModuleId.{ModuleId}
 use Rattle.dm_base.specs.Tree.{IsTree, IsKnown, containing}
 use Rattle.dm_ladders.specs.Ancestry.{depth}
 use Rattle.dm_ladders.specs.Ladders.{climb, tree_of, above, depth_at, entry_at, IsLadder, AreLadders}

@@ -1,6 +1,6 @@
 -- How deep modules lie, and how few moves lead from one to a module that contains it.
 use Rattle.std.specs.Prelude.{ℕ, ◌-◌, min, length, slice_index_or, count_ones}
-use Rattle.dm_ids.specs.declared.ModuleId.{ModuleId}
+use Rattle.dm_ids.specs.declared.ids.ModuleId.{ModuleId}
 use Rattle.dm_base.specs.Tree.{Tree, chain}
 
 -- how many modules contain m

@@ -1,7 +1,7 @@
 -- Worked rows of ancestry, which hold by computation.
 use Rattle.std.specs.Prelude.{◌≡◌, ℕ, [], ◌∷◌, Option, None, Some, true, false, refl}
 use Rattle.std.specs.Int.Count.{ones, ones_in}
-use Rattle.dm_ids.specs.declared.ModuleId.{ModuleId}
+use Rattle.dm_ids.specs.declared.ids.ModuleId.{ModuleId}
 use Rattle.dm_base.specs.Tree.{Tree, chain, is_among}
 use Rattle.dm_ladders.specs.Ancestry.{depth, member, moves}
 use Rattle.dm_ladders.specs.Ladders.{tree_above}

@@ -1,7 +1,7 @@
 -- What ladders of modules are.
 use Rattle.std.specs.Prelude.{◌≡◌, ◌≢◌, ◌<◌, ◌≤◌, ℕ, zero, suc, List, Option, None, Some, length, map, slice_get, slice_index, nat_eq, nat_lt, unwrap_or, if◌then◌else◌}
 use Rattle.std.specs.Option.{option_and_then, option_map_or}
-use Rattle.dm_ids.specs.declared.ModuleId.{ModuleId}
+use Rattle.dm_ids.specs.declared.ids.ModuleId.{ModuleId}
 use Rattle.dm_base.specs.Tree.{Tree, containing}
 use Rattle.dm_ladders.specs.declared.ladders.Ladder.{Ladder}
 

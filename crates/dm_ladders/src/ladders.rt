@@ -23,7 +23,7 @@ pub struct Ladders {
 
 impl Model for Ladders {
     ghost use Rattle.std.specs.Prelude.{List, Option, map};
-    ghost use Rattle.dm_ids.specs.declared.ModuleId.{ModuleId};
+    ghost use Rattle.dm_ids.specs.declared.ids.ModuleId.{ModuleId};
     ghost use Rattle.dm_ladders.specs.Ladders.{AreLadders, above};
 
     ghost Value = { List (Option ModuleId) };

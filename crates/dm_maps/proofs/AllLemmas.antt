@@ -2,7 +2,7 @@
 use Rattle.std.proofs.Common.{◌≡◌, ℕ, zero, suc, Bool, true, false, cond, List, [], ◌∷◌, ◌++◌, None, Some, map, slice_get, subst}
 use Rattle.std.specs.Option.{ForSome}
 use Rattle.std.specs.List.{AllByRecursion, flat_map}
-use Rattle.dm_base.specs.Names.{Name, same_name, find_name}
+use Rattle.dm_ids.specs.Names.{Name, same_name, find_name}
 
 module _ {X : Type 0} (P : X → Type 0) where
   pub all-left : (xs ys : List X) → AllByRecursion P (xs ++ ys) → AllByRecursion P xs

@@ -1,13 +1,13 @@
 -- What holds of the tables of every builder still holds as they grow, and as maps are changed.
 use Rattle.std.proofs.Common.{◌≡◌, ◌<◌, ℕ, [], Option, Some, None, length, refl}
 use Rattle.std.specs.Option.{option_map_or}
-use Rattle.dm_ids.specs.declared.MapId.{MapId}
-use Rattle.dm_ids.specs.declared.ModuleId.{ModuleId}
-use Rattle.dm_base.specs.declared.source.AstId.{AstId}
-use Rattle.dm_base.specs.declared.source.Edition.{Edition}
-use Rattle.dm_base.specs.declared.source.EditionedFileId.{EditionedFileId}
-use Rattle.dm_base.specs.Names.{Name}
-use Rattle.dm_ids.specs.declared.Crate.{Crate}
+use Rattle.dm_ids.specs.declared.ids.MapId.{MapId}
+use Rattle.dm_ids.specs.declared.ids.ModuleId.{ModuleId}
+use Rattle.dm_ids.specs.declared.source.AstId.{AstId}
+use Rattle.dm_ids.specs.declared.source.Edition.{Edition}
+use Rattle.dm_ids.specs.declared.source.EditionedFileId.{EditionedFileId}
+use Rattle.dm_ids.specs.Names.{Name}
+use Rattle.dm_ids.specs.declared.ids.Crate.{Crate}
 use Rattle.dm_scope.specs.Scope.{Scope}
 use Rattle.dm_tables.specs.CrateData.{CrateData}
 use Rattle.dm_modules.specs.Maps.{Map, Module, map_with_scope}

@@ -1,14 +1,14 @@
 -- What a builder keeps beside its tables follows them as they grow, and as maps are changed.
 use Rattle.std.proofs.Common.{◌≡◌, ◌<◌, ◌+◌, ◌∙◌, ℕ, List, [], ◌∷◌, ◌++◌, Option, None, Some, length, refl, sym, ap, subst, length-append}
 use Rattle.std.proofs.lemmas.List.{map_push, length-map}
-use Rattle.dm_ids.specs.declared.BlockId.{BlockId}
-use Rattle.dm_ids.specs.declared.Crate.{Crate}
-use Rattle.dm_ids.specs.declared.MapId.{MapId}
-use Rattle.dm_ids.specs.declared.ModuleId.{ModuleId}
-use Rattle.dm_base.specs.Names.{Name}
-use Rattle.dm_base.specs.declared.source.AstId.{AstId}
-use Rattle.dm_base.specs.declared.source.Edition.{Edition}
-use Rattle.dm_base.specs.declared.source.EditionedFileId.{EditionedFileId}
+use Rattle.dm_ids.specs.declared.ids.BlockId.{BlockId}
+use Rattle.dm_ids.specs.declared.ids.Crate.{Crate}
+use Rattle.dm_ids.specs.declared.ids.MapId.{MapId}
+use Rattle.dm_ids.specs.declared.ids.ModuleId.{ModuleId}
+use Rattle.dm_ids.specs.Names.{Name}
+use Rattle.dm_ids.specs.declared.source.AstId.{AstId}
+use Rattle.dm_ids.specs.declared.source.Edition.{Edition}
+use Rattle.dm_ids.specs.declared.source.EditionedFileId.{EditionedFileId}
 use Rattle.dm_tables.specs.CrateData.{CrateData}
 use Rattle.dm_modules.specs.Maps.{Map, Module, map_with_child}
 use Rattle.dm_maps.specs.BlockLists.{entry_with, crates_of, AreGathered}

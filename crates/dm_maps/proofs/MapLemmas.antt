@@ -5,10 +5,10 @@ use Rattle.std.specs.Option.{option_map, option_and_then, option_copied, IfSome}
 use Rattle.std.proofs.lemmas.Option.{slice_get-map}
 use Rattle.std.proofs.lemmas.List.{length-map}
 use Rattle.std.proofs.lemmas.Bool.{lt-ltb, ltb-true}
-use Rattle.dm_ids.specs.declared.BlockId.{BlockId}
-use Rattle.dm_ids.specs.declared.Crate.{Crate}
-use Rattle.dm_ids.specs.declared.MapId.{MapId}
-use Rattle.dm_ids.specs.declared.ModuleId.{ModuleId}
+use Rattle.dm_ids.specs.declared.ids.BlockId.{BlockId}
+use Rattle.dm_ids.specs.declared.ids.Crate.{Crate}
+use Rattle.dm_ids.specs.declared.ids.MapId.{MapId}
+use Rattle.dm_ids.specs.declared.ids.ModuleId.{ModuleId}
 use Rattle.dm_held.specs.declared.held.HeldId.TheVariants as held
 use Rattle.dm_maps.specs.Known.{knows}
 use Rattle.dm_maps.specs.declared.place.Place.{Place}

@@ -2,10 +2,10 @@
 use Rattle.std.proofs.Common.{◌≡◌, Bool, true, false, cond, List, [], ◌∷◌, ◌++◌, Some, map, subst, IsTrue}
 use Rattle.std.specs.List.{AllByRecursion, flat_map}
 use Rattle.std.specs.Map.{lookup}
-use Rattle.dm_ids.specs.declared.TraitId.{TraitId}
-use Rattle.dm_base.specs.declared.item_ids.AssocItemId.{AssocItemId}
-use Rattle.dm_base.specs.declared.item_ids.ItemContainerId.{ItemContainerId}
-use Rattle.dm_base.specs.declared.item_ids.VariantId.{VariantId}
+use Rattle.dm_ids.specs.declared.ids.TraitId.{TraitId}
+use Rattle.dm_ids.specs.declared.item_ids.AssocItemId.{AssocItemId}
+use Rattle.dm_ids.specs.declared.item_ids.ItemContainerId.{ItemContainerId}
+use Rattle.dm_ids.specs.declared.item_ids.VariantId.{VariantId}
 use Rattle.dm_base.specs.declared.visibility.RawVisibility.{RawVisibility}
 use Rattle.dm_held.specs.declared.held.HeldId.{HeldId}
 use Rattle.dm_held.specs.TablesHold.{raw_holds, container_holds, field_list_holds, assoc_holds, trait_holds, tables_hold}

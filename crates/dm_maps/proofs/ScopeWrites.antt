@@ -4,7 +4,7 @@ use Rattle.std.proofs.Math.ListN.{length-set}
 use Rattle.std.specs.List.{AllByRecursion}
 use Rattle.std.specs.Option.{option_map, option_map_or, option_and_then}
 use Rattle.indexmap.specs.IndexMap.{set_value_at}
-use Rattle.dm_ids.specs.declared.ModuleId.{ModuleId}
+use Rattle.dm_ids.specs.declared.ids.ModuleId.{ModuleId}
 use Rattle.dm_base.specs.Tree.{same_module}
 use Rattle.dm_scope.specs.Scope.{Scope, no_scope}
 use Rattle.dm_held.specs.declared.held.HeldId.{HeldId}

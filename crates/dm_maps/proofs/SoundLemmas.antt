@@ -5,13 +5,13 @@ use Rattle.std.specs.Option.{ForSome, option_map, option_map_or, option_and_then
 use Rattle.std.proofs.lemmas.Option.{slice_get-map, slice_get_within}
 use Rattle.std.proofs.lemmas.Bool.{lt-ltb, eqb-true}
 use Rattle.std.proofs.lemmas.List.{length-map}
-use Rattle.dm_ids.specs.declared.ModuleId.{ModuleId}
-use Rattle.dm_ids.specs.declared.BlockId.{BlockId}
-use Rattle.dm_ids.specs.declared.MapId.{MapId}
-use Rattle.dm_ids.specs.declared.ExternCrateId.{ExternCrateId}
-use Rattle.dm_ids.specs.declared.UseId.{UseId}
-use Rattle.dm_base.specs.declared.item_ids.MacroId.{MacroId}
-use Rattle.dm_base.specs.Names.{Name, find_name}
+use Rattle.dm_ids.specs.declared.ids.ModuleId.{ModuleId}
+use Rattle.dm_ids.specs.declared.ids.BlockId.{BlockId}
+use Rattle.dm_ids.specs.declared.ids.MapId.{MapId}
+use Rattle.dm_ids.specs.declared.ids.ExternCrateId.{ExternCrateId}
+use Rattle.dm_ids.specs.declared.ids.UseId.{UseId}
+use Rattle.dm_ids.specs.declared.item_ids.MacroId.{MacroId}
+use Rattle.dm_ids.specs.Names.{Name, find_name}
 use Rattle.dm_base.specs.Tree.{IsKnown}
 use Rattle.dm_scope.specs.Scope.{Scope, no_scope, bound_in, legacy_in, last_of}
 use Rattle.dm_held.specs.declared.held.HeldId.{HeldId}

@@ -1,10 +1,10 @@
 -- A push leaves what is known, and what is said of no name.
 use Rattle.std.proofs.Common.{◌≡◌, [], Option, refl, sym, ◌∙◌, ap, IsTrue}
 use Rattle.std.specs.Option.{option_map}
-use Rattle.dm_ids.specs.declared.ModuleId.{ModuleId}
-use Rattle.dm_base.specs.declared.imports.ImportOrExternCrate.{ImportOrExternCrate}
+use Rattle.dm_ids.specs.declared.ids.ModuleId.{ModuleId}
+use Rattle.dm_ids.specs.declared.imports.ImportOrExternCrate.{ImportOrExternCrate}
 use Rattle.dm_base.specs.declared.per_ns.PerNs.{PerNs}
-use Rattle.dm_base.specs.Names.{Name}
+use Rattle.dm_ids.specs.Names.{Name}
 use Rattle.dm_scope.specs.Flags.{Globs}
 use Rattle.dm_scope.specs.Push.{scope_after}
 use Rattle.dm_held.specs.declared.held.HeldId.{HeldId}

@@ -1,11 +1,11 @@
 -- Where a variant is not refused.
 use Rattle.std.proofs.Common.{◌≡◌, ◌<◌, Bool, not, true, false, true≢false, is_some, Option, Some, None, length, refl}
-use Rattle.dm_ids.specs.declared.EnumId.{EnumId}
-use Rattle.dm_base.specs.Names.{Name, find_name}
+use Rattle.dm_ids.specs.declared.ids.EnumId.{EnumId}
+use Rattle.dm_ids.specs.Names.{Name, find_name}
 use Rattle.dm_maps.specs.declared.build_fault.BuildFault.TheVariants.{NoSuchEnum, TakenVariant, OutOfNumbers}
 use Rattle.dm_maps.specs.Faults.{is_full}
 use Rattle.dm_maps.specs.ItemFaults.{variant_fault, lacks_enum, has_variant}
-use Rattle.dm_base.specs.declared.item_ids.ItemKind.TheVariants as item
+use Rattle.dm_ids.specs.declared.item_ids.ItemKind.TheVariants as item
 use Rattle.dm_held.specs.declared.held.HeldId.TheVariants as held
 use Rattle.dm_maps.specs.Known.{knows}
 use Rattle.dm_maps.specs.Lists.{IsEnum}

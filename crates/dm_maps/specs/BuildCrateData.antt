@@ -1,7 +1,7 @@
 -- What is set for all maps of a crate.
 use Rattle.std.specs.Prelude.{nat_eq, List, map, if◌then◌else◌}
 use Rattle.std.specs.Option.{option_map_or}
-use Rattle.dm_ids.specs.declared.Crate.{Crate}
+use Rattle.dm_ids.specs.declared.ids.Crate.{Crate}
 use Rattle.dm_tables.specs.CrateData.{CrateData, fresh_data}
 use Rattle.dm_modules.specs.Maps.{Map}
 use Rattle.dm_maps.specs.Maps.{Maps}

@@ -2,14 +2,14 @@
 use Rattle.std.specs.Prelude.{◌≡◌, ℕ, Bool, not, true, nat_eq, List, [], ◌∷◌, ◌++◌, Option, Some, None, Result, Err, IsOk, slice_get, slice_set}
 use Rattle.std.specs.Option.{option_map_or}
 use Rattle.indexmap.specs.IndexMap.{insert_entry}
-use Rattle.dm_ids.specs.declared.Crate.{Crate}
-use Rattle.dm_ids.specs.declared.ExternCrateId.{ExternCrateId}
-use Rattle.dm_ids.specs.declared.MapId.{MapId}
-use Rattle.dm_ids.specs.declared.ModuleId.{ModuleId}
-use Rattle.dm_ids.specs.declared.UseId.{UseId}
-use Rattle.dm_base.specs.declared.item_ids.MacroId.{MacroId}
-use Rattle.dm_base.specs.declared.source.AstId.{AstId}
-use Rattle.dm_base.specs.Names.{Name, same_name}
+use Rattle.dm_ids.specs.declared.ids.Crate.{Crate}
+use Rattle.dm_ids.specs.declared.ids.ExternCrateId.{ExternCrateId}
+use Rattle.dm_ids.specs.declared.ids.MapId.{MapId}
+use Rattle.dm_ids.specs.declared.ids.ModuleId.{ModuleId}
+use Rattle.dm_ids.specs.declared.ids.UseId.{UseId}
+use Rattle.dm_ids.specs.declared.item_ids.MacroId.{MacroId}
+use Rattle.dm_ids.specs.declared.source.AstId.{AstId}
+use Rattle.dm_ids.specs.Names.{Name, same_name}
 use Rattle.dm_diagnostics.specs.declared.DefDiagnostic.{DefDiagnostic}
 use Rattle.dm_base.specs.Sameness.{same_ast}
 use Rattle.dm_maps.specs.declared.build_fault.BuildFault.{BuildFault}

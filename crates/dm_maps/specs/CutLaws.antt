@@ -9,16 +9,16 @@ use Rattle.std.proofs.lemmas.Map.Entries.{lookup-filter-keys}
 use Rattle.std.proofs.lemmas.Map.Made.{lookup-map_values}
 use Rattle.std.proofs.lemmas.Map.Steps.{list_any_congr}
 use Rattle.std.proofs.lemmas.Cmp.{nat_list_eq_equiv}
-use Rattle.dm_ids.specs.declared.BlockId.{BlockId}
-use Rattle.dm_ids.specs.declared.EnumId.{EnumId}
-use Rattle.dm_ids.specs.declared.EnumVariantId.{EnumVariantId}
-use Rattle.dm_ids.specs.declared.MapId.{MapId}
-use Rattle.dm_ids.specs.declared.ModuleId.{ModuleId}
-use Rattle.dm_ids.specs.declared.UseId.{UseId}
-use Rattle.dm_base.specs.declared.fields_shape.FieldsShape.{FieldsShape}
-use Rattle.dm_base.specs.declared.item_ids.MacroId.{MacroId}
-use Rattle.dm_base.specs.Names.{Name, same_name, find_name}
-use Rattle.dm_base.specs.Builtins.{builtin_words}
+use Rattle.dm_ids.specs.declared.ids.BlockId.{BlockId}
+use Rattle.dm_ids.specs.declared.ids.EnumId.{EnumId}
+use Rattle.dm_ids.specs.declared.ids.EnumVariantId.{EnumVariantId}
+use Rattle.dm_ids.specs.declared.ids.MapId.{MapId}
+use Rattle.dm_ids.specs.declared.ids.ModuleId.{ModuleId}
+use Rattle.dm_ids.specs.declared.ids.UseId.{UseId}
+use Rattle.dm_ids.specs.declared.fields_shape.FieldsShape.{FieldsShape}
+use Rattle.dm_ids.specs.declared.item_ids.MacroId.{MacroId}
+use Rattle.dm_ids.specs.Names.{Name, same_name, find_name}
+use Rattle.dm_ids.specs.Builtins.{builtin_words}
 use Rattle.dm_scope.specs.Scope.{Scope, no_scope, bound_in, legacy_in, last_of}
 use Rattle.dm_tables.specs.Variants.{same_enum}
 use Rattle.dm_modules.specs.Maps.{Map, Module, Modules, LocalMap, nth_module}

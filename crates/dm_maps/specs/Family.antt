@@ -1,8 +1,8 @@
 -- What holds in the family of a crate's maps, its own and those of its blocks.
 use Rattle.std.specs.Prelude.{◌≡◌, List, None, Some, map, slice_get}
 use Rattle.std.specs.List.{AllByRecursion}
-use Rattle.dm_ids.specs.declared.ModuleId.{ModuleId}
-use Rattle.dm_base.specs.declared.source.Edition.{Edition}
+use Rattle.dm_ids.specs.declared.ids.ModuleId.{ModuleId}
+use Rattle.dm_ids.specs.declared.source.Edition.{Edition}
 use Rattle.dm_tables.specs.CrateData.{CrateData}
 use Rattle.dm_modules.specs.Maps.{Map, Module}
 use Rattle.dm_maps.specs.declared.place.Place.{Place}

@@ -1,7 +1,7 @@
 -- What a builder keeps beside its tables, to find things fast.
 use Rattle.std.specs.Prelude.{List, Option, length}
-use Rattle.dm_ids.specs.declared.BlockId.{BlockId}
-use Rattle.dm_ids.specs.declared.ModuleId.{ModuleId}
+use Rattle.dm_ids.specs.declared.ids.BlockId.{BlockId}
+use Rattle.dm_ids.specs.declared.ids.ModuleId.{ModuleId}
 use Rattle.dm_modules.specs.Maps.{Map}
 use Rattle.dm_maps.specs.BlockLists.{AreGathered, crates_of}
 use Rattle.dm_maps.specs.Ladders.{AreLaddered}

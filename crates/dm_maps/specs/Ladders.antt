@@ -1,7 +1,7 @@
 -- What contains each module of a world, as the world's table of ladders has it.
 use Rattle.std.specs.Prelude.{◌≡◌, List, Option, map}
 use Rattle.std.specs.Option.{option_or}
-use Rattle.dm_ids.specs.declared.ModuleId.{ModuleId}
+use Rattle.dm_ids.specs.declared.ids.ModuleId.{ModuleId}
 use Rattle.dm_modules.specs.Maps.{Map}
 use Rattle.dm_maps.specs.Trees.{container_in, containers_of}
 use Rattle.dm_maps.specs.declared.place.Place.{Place}

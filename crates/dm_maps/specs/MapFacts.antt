@@ -1,9 +1,9 @@
 -- What holds of each map of a world, and of the modules that it lists.
 use Rattle.std.specs.Prelude.{◌≡◌, ◌↔◌, ◌<◌, ℕ, All, IsSome, IsTrue, None, Some, slice_get}
 use Rattle.std.specs.Option.{ForSome, option_and_then, option_map}
-use Rattle.dm_ids.specs.declared.BlockId.{BlockId}
-use Rattle.dm_ids.specs.declared.ModuleId.{ModuleId}
-use Rattle.dm_base.specs.Names.{Name, find_name}
+use Rattle.dm_ids.specs.declared.ids.BlockId.{BlockId}
+use Rattle.dm_ids.specs.declared.ids.ModuleId.{ModuleId}
+use Rattle.dm_ids.specs.Names.{Name, find_name}
 use Rattle.dm_base.specs.Tree.{containing}
 use Rattle.dm_held.specs.declared.held.HeldId.TheVariants as held
 use Rattle.dm_modules.specs.Maps.{Map, Module, Modules, module_at}

@@ -1,17 +1,17 @@
 -- What a checked world's look-ups give: ids of the world.
 use Rattle.std.specs.Prelude.{◌≡◌, IsSome, IsTrue, Some, slice_get}
 use Rattle.std.specs.Option.{ForSome, option_map}
-use Rattle.dm_ids.specs.declared.ModuleId.{ModuleId}
-use Rattle.dm_ids.specs.declared.BlockId.{BlockId}
-use Rattle.dm_ids.specs.declared.Crate.{Crate}
-use Rattle.dm_ids.specs.declared.EnumId.{EnumId}
-use Rattle.dm_ids.specs.declared.EnumVariantId.{EnumVariantId}
-use Rattle.dm_ids.specs.declared.MapId.{MapId}
-use Rattle.dm_ids.specs.declared.UseId.{UseId}
-use Rattle.dm_base.specs.declared.item_ids.ItemKind.TheVariants as item
-use Rattle.dm_base.specs.declared.item_ids.MacroId.{MacroId}
-use Rattle.dm_base.specs.declared.item_ids.ModuleDefId.{ModuleDefId}
-use Rattle.dm_base.specs.Names.{Name, find_name}
+use Rattle.dm_ids.specs.declared.ids.ModuleId.{ModuleId}
+use Rattle.dm_ids.specs.declared.ids.BlockId.{BlockId}
+use Rattle.dm_ids.specs.declared.ids.Crate.{Crate}
+use Rattle.dm_ids.specs.declared.ids.EnumId.{EnumId}
+use Rattle.dm_ids.specs.declared.ids.EnumVariantId.{EnumVariantId}
+use Rattle.dm_ids.specs.declared.ids.MapId.{MapId}
+use Rattle.dm_ids.specs.declared.ids.UseId.{UseId}
+use Rattle.dm_ids.specs.declared.item_ids.ItemKind.TheVariants as item
+use Rattle.dm_ids.specs.declared.item_ids.MacroId.{MacroId}
+use Rattle.dm_ids.specs.declared.item_ids.ModuleDefId.{ModuleDefId}
+use Rattle.dm_ids.specs.Names.{Name, find_name}
 use Rattle.dm_base.specs.Tree.{IsKnown}
 use Rattle.dm_scope.specs.Scope.{bound_in, legacy_in}
 use Rattle.dm_held.specs.declared.held.HeldId.TheVariants as held

@@ -1,7 +1,7 @@
 -- What a push leaves of a world: which ids are known, and what is said of no name.
 use Rattle.std.specs.Prelude.{◌≡◌, List}
 use Rattle.std.specs.Option.{option_map}
-use Rattle.dm_ids.specs.declared.MapId.{MapId}
+use Rattle.dm_ids.specs.declared.ids.MapId.{MapId}
 use Rattle.dm_held.specs.declared.held.HeldId.{HeldId}
 use Rattle.dm_maps.specs.Known.{knows, KnowsAll}
 use Rattle.dm_maps.specs.Readings.{setting_of}

@@ -1,9 +1,9 @@
 -- Extern preludes: what a new entry makes of one.
 use Rattle.std.specs.Prelude.{Option}
 use Rattle.indexmap.specs.IndexMap.{insert_entry}
-use Rattle.dm_ids.specs.declared.ExternCrateId.{ExternCrateId}
-use Rattle.dm_ids.specs.declared.ModuleId.{ModuleId}
-use Rattle.dm_base.specs.Names.{Name, same_name}
+use Rattle.dm_ids.specs.declared.ids.ExternCrateId.{ExternCrateId}
+use Rattle.dm_ids.specs.declared.ids.ModuleId.{ModuleId}
+use Rattle.dm_ids.specs.Names.{Name, same_name}
 use Rattle.dm_modules.specs.Maps.{LocalMap}
 
 -- with an entry: a name that is there keeps its place and takes the new entry, a new name goes last

@@ -1,9 +1,9 @@
 -- Where modules come from.
 use Rattle.std.specs.Prelude.{Bool, true, false, Option, Some, None}
-use Rattle.dm_base.specs.declared.source.AstId.{AstId}
-use Rattle.dm_base.specs.declared.source.EditionedFileId.{EditionedFileId}
-use Rattle.dm_base.specs.declared.source.HirFileId.{HirFileId}
-use Rattle.dm_base.specs.declared.source.HirFileId.TheVariants as file
+use Rattle.dm_ids.specs.declared.source.AstId.{AstId}
+use Rattle.dm_ids.specs.declared.source.EditionedFileId.{EditionedFileId}
+use Rattle.dm_ids.specs.declared.source.HirFileId.{HirFileId}
+use Rattle.dm_ids.specs.declared.source.HirFileId.TheVariants as file
 use Rattle.dm_modules.specs.declared.module_origin.ModuleOrigin.{ModuleOrigin}
 use Rattle.dm_modules.specs.declared.module_origin.ModuleOrigin.TheVariants.{CrateRoot, File, Inline, BlockExpr}
 

@@ -1,7 +1,7 @@
 //! For the map of a crate or a block: the modules that it chooses by where they come from.
 ghost use Rattle.std.specs.Prelude.{◌≡◌};
 ghost use Rattle.std.specs.Map.Iter.{ShowsInOrder};
-ghost use Rattle.dm_ids.specs.declared.ModuleId.{ModuleId};
+ghost use Rattle.dm_ids.specs.declared.ids.ModuleId.{ModuleId};
 ghost use Rattle.dm_modules.specs.Queries.{fills, is_inline_in, modules_with};
 
 use crate::modules_iter::{InlineModules, ModulesForFile, ModulesWith};

@@ -1,7 +1,7 @@
 //! A module of a map.
 ghost use Rattle.std.specs.Prelude.{◌≡◌, OnOk, OnErr, is_some};
 ghost use Rattle.std.specs.Borrow.{sem};
-ghost use Rattle.dm_base.specs.Names.{find_name};
+ghost use Rattle.dm_ids.specs.Names.{find_name};
 ghost use Rattle.dm_modules.specs.Maps.{fresh_module, with_child};
 ghost use Rattle.dm_modules.specs.LendingModule.{LendsModuleScope};
 ghost use Rattle.dm_modules.specs.Origins.{source_file};

@@ -2,24 +2,24 @@
 -- named imports push.
 use Rattle.std.proofs.Common.{◌≡◌, true, false, Option, Some, refl, rules}
 use Rattle.std.proofs.lemmas.Bool.{cond-false, and_left, or_parts, or_from}
-use Rattle.dm_ids.specs.declared.ModuleId.{ModuleId}
+use Rattle.dm_ids.specs.declared.ids.ModuleId.{ModuleId}
 use Rattle.indexmap.specs.IndexSet.{insert_key}
-use Rattle.dm_base.specs.Names.{Name, same_name}
+use Rattle.dm_ids.specs.Names.{Name, same_name}
 use Rattle.dm_base.specs.PerNs.{is_empty}
 use Rattle.dm_base.specs.Sameness.{same_import, same_value_import, same_def, same_macro}
-use Rattle.dm_base.specs.declared.imports.ImportId.{ImportId}
-use Rattle.dm_base.specs.declared.imports.ImportOrExternCrate.{ImportOrExternCrate}
-use Rattle.dm_base.specs.declared.imports.ImportOrExternCrate.TheVariants as wide
-use Rattle.dm_base.specs.declared.imports.ImportOrGlob.{ImportOrGlob}
-use Rattle.dm_base.specs.declared.imports.ImportOrGlob.TheVariants as narrow
-use Rattle.dm_base.specs.declared.item_ids.ModuleDefId.{ModuleDefId}
-use Rattle.dm_base.specs.declared.item_ids.MacroId.{MacroId}
+use Rattle.dm_ids.specs.declared.imports.ImportId.{ImportId}
+use Rattle.dm_ids.specs.declared.imports.ImportOrExternCrate.{ImportOrExternCrate}
+use Rattle.dm_ids.specs.declared.imports.ImportOrExternCrate.TheVariants as wide
+use Rattle.dm_ids.specs.declared.imports.ImportOrGlob.{ImportOrGlob}
+use Rattle.dm_ids.specs.declared.imports.ImportOrGlob.TheVariants as narrow
+use Rattle.dm_ids.specs.declared.item_ids.ModuleDefId.{ModuleDefId}
+use Rattle.dm_ids.specs.declared.item_ids.MacroId.{MacroId}
 use Rattle.dm_base.specs.declared.per_ns.PerNs.{PerNs}
 use Rattle.dm_scope.specs.Bindings.{is_effective_at}
 use Rattle.dm_scope.specs.Flags.{Globs}
 use Rattle.dm_scope.specs.Push.{types_reading, values_reading, macros_reading, scope_after, globs_after, push_answer}
 use Rattle.dm_scope.specs.Scope.{Scope}
-use Rattle.dm_base.specs.contracts.imports.ImportIdPartialEq.TheImpl as import_id_eq
+use Rattle.dm_ids.specs.contracts.imports.ImportIdPartialEq.TheImpl as import_id_eq
 use Rattle.dm_retry.proofs.RestLemmas.{idle-bound, idle-flags, pushed-again, rests-here, rests-elsewhere}
 
 def_refl : (d : ModuleDefId) → same_def d d ≡ true

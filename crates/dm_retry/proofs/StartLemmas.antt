@@ -5,7 +5,7 @@ use Rattle.std.specs.Option.{option_map}
 use Rattle.std.proofs.lemmas.Bool.{false≢true, and_from, and_parts, or_parts}
 use Rattle.std.proofs.lemmas.List.Folds.{list_all-append}
 use Rattle.std.proofs.lemmas.Option.{slice_get-map}
-use Rattle.dm_base.specs.declared.imports.ImportId.{ImportId}
+use Rattle.dm_ids.specs.declared.imports.ImportId.{ImportId}
 use Rattle.dm_held.specs.declared.held.HeldId.{HeldId}
 use Rattle.dm_scope.specs.Flags.{Globs}
 use Rattle.dm_maps.specs.Known.{knows, KnowsAll}

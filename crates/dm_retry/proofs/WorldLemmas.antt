@@ -2,9 +2,9 @@
 use Rattle.std.proofs.Common.{◌≡◌, ◌∙◌, ℕ, zero, suc, List, [], ◌∷◌, Option, None, Some, ap, sym, refl, slice_get, slice_set}
 use Rattle.std.specs.Option.{option_map_or, option_and_then}
 use Rattle.indexmap.specs.IndexMap.{set_value_at}
-use Rattle.dm_ids.specs.declared.ModuleId.{ModuleId}
-use Rattle.dm_ids.specs.declared.MapId.{MapId}
-use Rattle.dm_ids.specs.declared.BlockId.{BlockId}
+use Rattle.dm_ids.specs.declared.ids.ModuleId.{ModuleId}
+use Rattle.dm_ids.specs.declared.ids.MapId.{MapId}
+use Rattle.dm_ids.specs.declared.ids.BlockId.{BlockId}
 use Rattle.dm_scope.specs.Scope.{Scope, no_scope}
 use Rattle.dm_modules.specs.Maps.{Map, Module, Modules, nth_module, put_scope, map_with_scope}
 use Rattle.dm_maps.specs.declared.place.Place.{Place}

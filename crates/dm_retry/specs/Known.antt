@@ -1,8 +1,8 @@
 -- Which imports a world can be asked about, and why imports are not taken.
 use Rattle.std.specs.Prelude.{◌||◌, Bool, false, List, [], ◌∷◌, ◌++◌, Option, Some, None, if◌then◌else◌}
 use Rattle.std.specs.List.{list_any, list_all}
-use Rattle.dm_base.specs.declared.imports.ImportId.{ImportId}
-use Rattle.dm_base.specs.contracts.imports.ImportIdPartialEq.TheImpl as import_eq
+use Rattle.dm_ids.specs.declared.imports.ImportId.{ImportId}
+use Rattle.dm_ids.specs.contracts.imports.ImportIdPartialEq.TheImpl as import_eq
 use Rattle.dm_held.specs.declared.held.HeldId.{HeldId}
 use Rattle.dm_held.specs.declared.held.HeldId.TheVariants as held
 use Rattle.dm_held.specs.Holding.{path_holds, vis_holds}

@@ -4,7 +4,7 @@ use Rattle.std.specs.Str.{bytes_eq}
 use Rattle.std.specs.Map.{lookup}
 use Rattle.std.specs.Cmp.Lexicographic.{nat_list_eq_equiv}
 use Rattle.dm_base.specs.declared.per_ns.Item.{Item}
-use Rattle.dm_base.specs.declared.imports.ImportOrDef.{ImportOrDef}
+use Rattle.dm_ids.specs.declared.imports.ImportOrDef.{ImportOrDef}
 use Rattle.dm_scope.specs.Bindings.{Bound, Reading, writes, with_record, bound, pushed, stored, recorded}
 use Rattle.dm_scope.specs.PushSteps.{written, with_keys, add_import, set_import, is_new_import, without_keys}
 use Rattle.dm_scope.specs.Entries.{is_new, without_new}

@@ -1,7 +1,7 @@
 -- One binding changed in its place.
 use Rattle.std.proofs.Common.{◌≡◌, ◌<◌, ◌+◌, ℕ, zero, suc, Bool, true, false, cond, List, [], ◌∷◌, ◌++◌, length, map, take, drop, slice_set, slice_index_or, None, Some, refl, sym, ap, ◌∙◌, arith, add-one}
 use Rattle.std.specs.Map.{lookup, set_value}
-use Rattle.dm_base.specs.Names.{Name, same_name}
+use Rattle.dm_ids.specs.Names.{Name, same_name}
 use Rattle.dm_base.specs.declared.per_ns.Item.{Item}
 use Rattle.dm_scope.specs.Changes.{change_item}
 

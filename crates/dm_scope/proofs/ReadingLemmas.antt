@@ -1,34 +1,34 @@
 -- The tests of imports and definitions hold of the same value alone.
 use Rattle.std.proofs.Common.{◌≡◌, true, refl, sym, ap, true≢false, eqb-true, eq-eqb}
-use Rattle.dm_base.specs.declared.builtin_type.BuiltinInt.{BuiltinInt}
-use Rattle.dm_base.specs.declared.builtin_type.BuiltinInt.TheVariants as int
-use Rattle.dm_base.specs.declared.builtin_type.BuiltinUint.{BuiltinUint}
-use Rattle.dm_base.specs.declared.builtin_type.BuiltinUint.TheVariants as uint
-use Rattle.dm_base.specs.declared.builtin_type.BuiltinFloat.{BuiltinFloat}
-use Rattle.dm_base.specs.declared.builtin_type.BuiltinFloat.TheVariants as float
-use Rattle.dm_base.specs.declared.builtin_type.BuiltinType.{BuiltinType}
-use Rattle.dm_base.specs.declared.builtin_type.BuiltinType.TheVariants as builtin
-use Rattle.dm_base.specs.declared.imports.ImportId.{ImportId}
-use Rattle.dm_base.specs.declared.imports.GlobId.{GlobId}
-use Rattle.dm_base.specs.declared.imports.ImportOrExternCrate.{ImportOrExternCrate}
-use Rattle.dm_base.specs.declared.imports.ImportOrExternCrate.TheVariants as wide
-use Rattle.dm_base.specs.declared.imports.ImportOrGlob.{ImportOrGlob}
-use Rattle.dm_base.specs.declared.imports.ImportOrGlob.TheVariants as narrow
-use Rattle.dm_base.specs.declared.item_ids.AdtId.{AdtId}
-use Rattle.dm_base.specs.declared.item_ids.AdtId.TheVariants as adt
-use Rattle.dm_base.specs.declared.item_ids.MacroId.{MacroId}
-use Rattle.dm_base.specs.declared.item_ids.MacroId.TheVariants as macro
-use Rattle.dm_base.specs.declared.item_ids.ModuleDefId.{ModuleDefId}
-use Rattle.dm_base.specs.declared.item_ids.ModuleDefId.TheVariants as def
+use Rattle.dm_ids.specs.declared.builtin_type.BuiltinInt.{BuiltinInt}
+use Rattle.dm_ids.specs.declared.builtin_type.BuiltinInt.TheVariants as int
+use Rattle.dm_ids.specs.declared.builtin_type.BuiltinUint.{BuiltinUint}
+use Rattle.dm_ids.specs.declared.builtin_type.BuiltinUint.TheVariants as uint
+use Rattle.dm_ids.specs.declared.builtin_type.BuiltinFloat.{BuiltinFloat}
+use Rattle.dm_ids.specs.declared.builtin_type.BuiltinFloat.TheVariants as float
+use Rattle.dm_ids.specs.declared.builtin_type.BuiltinType.{BuiltinType}
+use Rattle.dm_ids.specs.declared.builtin_type.BuiltinType.TheVariants as builtin
+use Rattle.dm_ids.specs.declared.imports.ImportId.{ImportId}
+use Rattle.dm_ids.specs.declared.imports.GlobId.{GlobId}
+use Rattle.dm_ids.specs.declared.imports.ImportOrExternCrate.{ImportOrExternCrate}
+use Rattle.dm_ids.specs.declared.imports.ImportOrExternCrate.TheVariants as wide
+use Rattle.dm_ids.specs.declared.imports.ImportOrGlob.{ImportOrGlob}
+use Rattle.dm_ids.specs.declared.imports.ImportOrGlob.TheVariants as narrow
+use Rattle.dm_ids.specs.declared.item_ids.AdtId.{AdtId}
+use Rattle.dm_ids.specs.declared.item_ids.AdtId.TheVariants as adt
+use Rattle.dm_ids.specs.declared.item_ids.MacroId.{MacroId}
+use Rattle.dm_ids.specs.declared.item_ids.MacroId.TheVariants as macro
+use Rattle.dm_ids.specs.declared.item_ids.ModuleDefId.{ModuleDefId}
+use Rattle.dm_ids.specs.declared.item_ids.ModuleDefId.TheVariants as def
 use Rattle.dm_scope.specs.Push.{types_reading, values_reading, macros_reading}
 use Rattle.dm_base.specs.Sameness.{same_import, same_value_import, same_macro, same_def}
-use Rattle.dm_base.specs.contracts.imports.ImportIdPartialEq.TheImpl as import_id_eq
-use Rattle.dm_base.specs.contracts.imports.GlobIdPartialEq.TheImpl as glob_id_eq
-use Rattle.dm_base.specs.contracts.builtin_type.BuiltinIntPartialEq.TheImpl as int_eq
-use Rattle.dm_base.specs.contracts.builtin_type.BuiltinUintPartialEq.TheImpl as uint_eq
-use Rattle.dm_base.specs.contracts.builtin_type.BuiltinFloatPartialEq.TheImpl as float_eq
-use Rattle.dm_base.specs.contracts.builtin_type.BuiltinTypePartialEq.TheImpl as builtin_eq
-use Rattle.dm_base.specs.contracts.item_ids.AdtIdPartialEq.TheImpl as adt_eq
+use Rattle.dm_ids.specs.contracts.imports.ImportIdPartialEq.TheImpl as import_id_eq
+use Rattle.dm_ids.specs.contracts.imports.GlobIdPartialEq.TheImpl as glob_id_eq
+use Rattle.dm_ids.specs.contracts.builtin_type.BuiltinIntPartialEq.TheImpl as int_eq
+use Rattle.dm_ids.specs.contracts.builtin_type.BuiltinUintPartialEq.TheImpl as uint_eq
+use Rattle.dm_ids.specs.contracts.builtin_type.BuiltinFloatPartialEq.TheImpl as float_eq
+use Rattle.dm_ids.specs.contracts.builtin_type.BuiltinTypePartialEq.TheImpl as builtin_eq
+use Rattle.dm_ids.specs.contracts.item_ids.AdtIdPartialEq.TheImpl as adt_eq
 use Rattle.dm_scope.proofs.PushLemmas.{IsReading}
 use Rattle.std.proofs.lemmas.Bool.{and_parts, and_from}
 

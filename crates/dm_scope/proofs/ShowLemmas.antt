@@ -10,7 +10,7 @@ use Rattle.std.specs.Cmp.Lexicographic.{nat_list_eq_equiv}
 use Rattle.std.proofs.lemmas.Slice.Eq.{bytes_eq-Decides}
 use Rattle.std.proofs.lemmas.List.Elements.{filter-append}
 use Rattle.indexmap.specs.IndexMap.{insert_entry}
-use Rattle.dm_base.specs.declared.imports.ImportOrDef.{ImportOrDef}
+use Rattle.dm_ids.specs.declared.imports.ImportOrDef.{ImportOrDef}
 use Rattle.dm_scope.specs.Bindings.{Bound, Reading, is_glob, is_same, writes, stored, recorded, with_record, bound, pushed}
 use Rattle.dm_scope.specs.Scope.{last_of}
 use Rattle.dm_scope.specs.Pushes.{Push, is_explicit, is_by, named_explicit, named_of, named, named_push, item_of, binding, is_glob_push, is_at, is_effective, effective, record_of, ShowsIn}

@@ -1,10 +1,10 @@
 -- What a walk along a chain finds.
 use Rattle.std.specs.Prelude.{◌≡◌, ℕ, List, zero, suc, ◌^◌, ◌-◌, length, min, Option, None, Some}
 use Rattle.std.specs.Option.{option_and_then, option_or}
-use Rattle.dm_base.specs.declared.imports.ImportId.{ImportId}
-use Rattle.dm_base.specs.declared.item_ids.MacroId.{MacroId}
-use Rattle.dm_base.specs.declared.item_ids.ModuleDefId.{ModuleDefId}
-use Rattle.dm_base.specs.declared.item_ids.ModuleDefId.TheVariants as def
+use Rattle.dm_ids.specs.declared.imports.ImportId.{ImportId}
+use Rattle.dm_ids.specs.declared.item_ids.MacroId.{MacroId}
+use Rattle.dm_ids.specs.declared.item_ids.ModuleDefId.{ModuleDefId}
+use Rattle.dm_ids.specs.declared.item_ids.ModuleDefId.TheVariants as def
 use Rattle.dm_base.specs.declared.per_ns.Namespace.{Namespace}
 use Rattle.dm_scope.specs.Chains.{Pair, IsChain, home, leads, ends, last_from}
 use Rattle.dm_scope.specs.Tables.{Tables, all_records}

@@ -3,8 +3,8 @@ use Rattle.std.specs.Prelude.{◌-◌, Bool, false, not, List, [], ◌∷◌, fi
 use Rattle.std.specs.List.{list_any}
 use Rattle.std.specs.HashSet.{HashSet}
 use Rattle.indexmap.specs.IndexSet.{insert_key}
-use Rattle.dm_ids.specs.declared.ModuleId.{ModuleId}
-use Rattle.dm_base.specs.Names.{Name, same_name}
+use Rattle.dm_ids.specs.declared.ids.ModuleId.{ModuleId}
+use Rattle.dm_ids.specs.Names.{Name, same_name}
 use Rattle.dm_base.specs.Tree.{same_module}
 use Rattle.dm_scope.specs.declared.steps.NewFlag.{NewFlag}
 use Rattle.dm_scope.specs.declared.steps.NewFlag.TheVariants.{Stood, NewName, NewModule}

@@ -1,13 +1,13 @@
 -- What a scope says of one definition.
 use Rattle.std.specs.Prelude.{◌≡◌, ◌∷◌, [], Bool, List, Option, Some, None, if◌then◌else◌, is_none, nat_eq}
 use Rattle.std.specs.Borrow.{Bor}
-use Rattle.dm_ids.specs.declared.TraitId.{TraitId}
-use Rattle.dm_base.specs.declared.imports.ImportId.{ImportId}
+use Rattle.dm_ids.specs.declared.ids.TraitId.{TraitId}
+use Rattle.dm_ids.specs.declared.imports.ImportId.{ImportId}
 use Rattle.dm_base.specs.declared.item_in_ns.ItemInNs.{ItemInNs}
 use Rattle.dm_base.specs.declared.item_in_ns.ItemInNs.TheVariants.{Types, Values, Macros}
 use Rattle.dm_base.specs.declared.per_ns.Item.{Item}
 use Rattle.dm_base.specs.declared.visibility.Visibility.{Visibility}
-use Rattle.dm_base.specs.Names.{Name}
+use Rattle.dm_ids.specs.Names.{Name}
 use Rattle.dm_base.specs.Sameness.{same_def, same_macro}
 use Rattle.dm_scope.specs.Scope.{Scope}
 

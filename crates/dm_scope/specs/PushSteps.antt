@@ -1,11 +1,11 @@
 -- The two steps of a push into a namespace: new keys go in last, or are taken off again, and then the values are written.
 use Rattle.std.specs.Prelude.{Bool, false, List, Option, None, Some, if◌then◌else◌}
 use Rattle.std.specs.Map.{set_value}
-use Rattle.dm_base.specs.Names.{Name, same_name}
-use Rattle.dm_ids.specs.declared.ModuleId.{ModuleId}
+use Rattle.dm_ids.specs.Names.{Name, same_name}
+use Rattle.dm_ids.specs.declared.ids.ModuleId.{ModuleId}
 use Rattle.dm_base.specs.declared.per_ns.Item.{Item}
-use Rattle.dm_base.specs.declared.imports.ImportOrDef.{ImportOrDef}
-use Rattle.dm_base.specs.declared.imports.ImportOrExternCrate.{ImportOrExternCrate}
+use Rattle.dm_ids.specs.declared.imports.ImportOrDef.{ImportOrDef}
+use Rattle.dm_ids.specs.declared.imports.ImportOrExternCrate.{ImportOrExternCrate}
 use Rattle.dm_scope.specs.Entries.{add_entry, is_new, without_new}
 use Rattle.dm_scope.specs.Flags.{Flags, flags_finished}
 use Rattle.dm_scope.specs.Bindings.{Bound, Reading, import_of, is_glob, stored, recorded}

@@ -1,17 +1,17 @@
 -- The tables of a scope that most modules have nothing in.
 use Rattle.std.specs.Prelude.{Bool, List, [], Option, Some, None}
-use Rattle.dm_ids.specs.declared.ImplId.{ImplId}
-use Rattle.dm_ids.specs.declared.BuiltinDeriveImplId.{BuiltinDeriveImplId}
-use Rattle.dm_ids.specs.declared.ExternBlockId.{ExternBlockId}
-use Rattle.dm_ids.specs.declared.ExternCrateId.{ExternCrateId}
-use Rattle.dm_ids.specs.declared.ConstId.{ConstId}
-use Rattle.dm_ids.specs.declared.TraitId.{TraitId}
-use Rattle.dm_ids.specs.declared.MacroCallId.{MacroCallId}
-use Rattle.dm_base.specs.declared.source.AstId.{AstId}
-use Rattle.dm_base.specs.declared.imports.ImportId.{ImportId}
-use Rattle.dm_base.specs.declared.item_ids.MacroId.{MacroId}
+use Rattle.dm_ids.specs.declared.ids.ImplId.{ImplId}
+use Rattle.dm_ids.specs.declared.ids.BuiltinDeriveImplId.{BuiltinDeriveImplId}
+use Rattle.dm_ids.specs.declared.ids.ExternBlockId.{ExternBlockId}
+use Rattle.dm_ids.specs.declared.ids.ExternCrateId.{ExternCrateId}
+use Rattle.dm_ids.specs.declared.ids.ConstId.{ConstId}
+use Rattle.dm_ids.specs.declared.ids.TraitId.{TraitId}
+use Rattle.dm_ids.specs.declared.ids.MacroCallId.{MacroCallId}
+use Rattle.dm_ids.specs.declared.source.AstId.{AstId}
+use Rattle.dm_ids.specs.declared.imports.ImportId.{ImportId}
+use Rattle.dm_ids.specs.declared.item_ids.MacroId.{MacroId}
 use Rattle.dm_base.specs.declared.visibility.Visibility.{Visibility}
-use Rattle.dm_base.specs.Names.{Name}
+use Rattle.dm_ids.specs.Names.{Name}
 use Rattle.dm_scope.specs.declared.rare.RareTables.{RareTables}
 use Rattle.dm_scope.specs.Derives.{Derive, derives_of}
 use Rattle.dm_scope.specs.TableLists.{lists_of}

@@ -1,20 +1,20 @@
 -- Lists of pushes, and what they bind, record and answer: equations that compute.
 use Rattle.std.specs.Prelude.{◌≡◌, ℕ, Bool, true, false, List, [], ◌∷◌, ◌++◌, Option, None, Some, refl}
-use Rattle.dm_base.specs.Names.{Name}
+use Rattle.dm_ids.specs.Names.{Name}
 use Rattle.dm_base.specs.declared.per_ns.Item.{Item}
 use Rattle.dm_base.specs.declared.per_ns.PerNs.{PerNs}
 use Rattle.dm_base.specs.declared.visibility.Visibility.{Visibility}
 use Rattle.dm_base.specs.declared.visibility.Visibility.TheVariants.{Module, Public}
 use Rattle.dm_base.specs.declared.visibility.VisibilityExplicitness.TheVariants.{Implicit}
-use Rattle.dm_base.specs.declared.imports.ImportOrDef.{ImportOrDef}
-use Rattle.dm_base.specs.declared.imports.ImportOrDef.TheVariants as target
-use Rattle.dm_base.specs.declared.imports.ImportOrExternCrate.{ImportOrExternCrate}
-use Rattle.dm_base.specs.declared.imports.ImportOrExternCrate.TheVariants as wide
-use Rattle.dm_base.specs.declared.imports.ImportOrGlob.{ImportOrGlob}
-use Rattle.dm_base.specs.declared.item_ids.AdtId.TheVariants as adt
-use Rattle.dm_base.specs.declared.item_ids.ModuleDefId.{ModuleDefId}
-use Rattle.dm_base.specs.declared.item_ids.ModuleDefId.TheVariants as def
-use Rattle.dm_ids.specs.declared.ModuleId.{ModuleId}
+use Rattle.dm_ids.specs.declared.imports.ImportOrDef.{ImportOrDef}
+use Rattle.dm_ids.specs.declared.imports.ImportOrDef.TheVariants as target
+use Rattle.dm_ids.specs.declared.imports.ImportOrExternCrate.{ImportOrExternCrate}
+use Rattle.dm_ids.specs.declared.imports.ImportOrExternCrate.TheVariants as wide
+use Rattle.dm_ids.specs.declared.imports.ImportOrGlob.{ImportOrGlob}
+use Rattle.dm_ids.specs.declared.item_ids.AdtId.TheVariants as adt
+use Rattle.dm_ids.specs.declared.item_ids.ModuleDefId.{ModuleDefId}
+use Rattle.dm_ids.specs.declared.item_ids.ModuleDefId.TheVariants as def
+use Rattle.dm_ids.specs.declared.ids.ModuleId.{ModuleId}
 use Rattle.dm_scope.specs.Flags.{Globs, no_globs}
 use Rattle.dm_scope.specs.Push.{types_reading, values_reading, scope_after, globs_after, push_answer}
 use Rattle.dm_scope.specs.Pushes.{binding, record_of}

@@ -1,8 +1,8 @@
 //! The records of a scope: what each import that brought a binding stands for.
 ghost use Rattle.std.specs.Prelude.{◌≡◌, length, map};
 ghost use Rattle.std.specs.Iterator.{at_most};
-ghost use Rattle.dm_base.specs.declared.imports.ImportOrDef.{ImportOrDef};
-ghost use Rattle.dm_base.specs.declared.imports.ImportOrExternCrate.{ImportOrExternCrate};
+ghost use Rattle.dm_ids.specs.declared.imports.ImportOrDef.{ImportOrDef};
+ghost use Rattle.dm_ids.specs.declared.imports.ImportOrExternCrate.{ImportOrExternCrate};
 ghost use Rattle.std.specs.Map.Iter.{TakesFirst, ShowsInOrder};
 
 use dm_base::import_source::ImportSource;
@@ -19,8 +19,8 @@ pub(crate) struct Records<'a, I: ImportSource> {
 
 impl<'a, I: ImportSource> Model for Records<'a, I> {
     ghost use Rattle.std.specs.Prelude.{List, map};
-    ghost use Rattle.dm_base.specs.declared.imports.ImportOrDef.{ImportOrDef};
-    ghost use Rattle.dm_base.specs.declared.imports.ImportOrExternCrate.{ImportOrExternCrate};
+    ghost use Rattle.dm_ids.specs.declared.imports.ImportOrDef.{ImportOrDef};
+    ghost use Rattle.dm_ids.specs.declared.imports.ImportOrExternCrate.{ImportOrExternCrate};
 
     ghost Value = { List (ImportOrExternCrate × ImportOrDef) };
 
@@ -65,8 +65,8 @@ pub struct ImportRecords<'a> {
 
 impl<'a> Model for ImportRecords<'a> {
     ghost use Rattle.std.specs.Prelude.{List};
-    ghost use Rattle.dm_base.specs.declared.imports.ImportOrDef.{ImportOrDef};
-    ghost use Rattle.dm_base.specs.declared.imports.ImportOrExternCrate.{ImportOrExternCrate};
+    ghost use Rattle.dm_ids.specs.declared.imports.ImportOrDef.{ImportOrDef};
+    ghost use Rattle.dm_ids.specs.declared.imports.ImportOrExternCrate.{ImportOrExternCrate};
     ghost use Rattle.dm_scope.specs.declared.import_records.OfNamespace.TheVariants.{Wide, Values};
 
     ghost Value = { List (ImportOrExternCrate × ImportOrDef) };

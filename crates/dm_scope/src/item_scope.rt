@@ -1,6 +1,6 @@
 //! The scope of a module.
 ghost use Rattle.std.specs.Prelude.{◌≡◌, []};
-ghost use Rattle.dm_ids.specs.declared.ModuleId.{ModuleId};
+ghost use Rattle.dm_ids.specs.declared.ids.ModuleId.{ModuleId};
 ghost use Rattle.dm_scope.specs.Flags.{no_globs};
 ghost use Rattle.dm_scope.specs.Scope.{no_scope, bound_in};
 ghost use Rattle.dm_scope.specs.Shows.{Shows};

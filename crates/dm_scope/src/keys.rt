@@ -2,7 +2,7 @@
 ghost use Rattle.std.specs.Prelude.{◌≡◌, None, true, OnErr, IfOk, OnOk};
 ghost use Rattle.std.specs.Map.{lookup};
 ghost use Rattle.indexmap.specs.IndexMap.{insert_entry};
-ghost use Rattle.dm_base.specs.Names.{same_name};
+ghost use Rattle.dm_ids.specs.Names.{same_name};
 ghost use Rattle.dm_scope.specs.Entries.{add_entry, is_new, without_new};
 
 use crate::lazy_map::LazyMap;

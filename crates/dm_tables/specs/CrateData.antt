@@ -5,9 +5,9 @@ use Rattle.std.specs.Map.{lookup}
 use Rattle.std.specs.Option.{option_map_or}
 use Rattle.indexmap.specs.IndexMap.{insert_entry}
 use Rattle.indexmap.specs.IndexSet.{insert_key}
-use Rattle.dm_ids.specs.declared.FunctionId.{FunctionId}
-use Rattle.dm_ids.specs.declared.ProcMacroId.{ProcMacroId}
-use Rattle.dm_base.specs.Names.{same_name}
+use Rattle.dm_ids.specs.declared.ids.FunctionId.{FunctionId}
+use Rattle.dm_ids.specs.declared.ids.ProcMacroId.{ProcMacroId}
+use Rattle.dm_ids.specs.Names.{same_name}
 
 -- a symbol is its bytes
 abbrev pub Symbol : Type 0

@@ -1,11 +1,11 @@
 -- The helper attributes of derives, by the items that the derives stand at.
 use Rattle.std.specs.Prelude.{List}
 use Rattle.either.specs.declared.Either.{Either}
-use Rattle.dm_ids.specs.declared.BuiltinDeriveImplId.{BuiltinDeriveImplId}
-use Rattle.dm_ids.specs.declared.MacroCallId.{MacroCallId}
-use Rattle.dm_base.specs.declared.item_ids.MacroId.{MacroId}
-use Rattle.dm_base.specs.declared.source.AstId.{AstId}
-use Rattle.dm_base.specs.Names.{Name}
+use Rattle.dm_ids.specs.declared.ids.BuiltinDeriveImplId.{BuiltinDeriveImplId}
+use Rattle.dm_ids.specs.declared.ids.MacroCallId.{MacroCallId}
+use Rattle.dm_ids.specs.declared.item_ids.MacroId.{MacroId}
+use Rattle.dm_ids.specs.declared.source.AstId.{AstId}
+use Rattle.dm_ids.specs.Names.{Name}
 
 -- a helper attribute: its name, the macro of the derive, and the call of the derive, or what a builtin derive writes
 abbrev pub Helper : Type 0

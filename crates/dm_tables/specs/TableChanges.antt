@@ -1,10 +1,10 @@
 -- What is set in the tables that belong to no map and no module: what is there keeps its place and is replaced.
 use Rattle.std.specs.Prelude.{List}
 use Rattle.indexmap.specs.IndexMap.{insert_entry}
-use Rattle.dm_ids.specs.declared.TraitId.{TraitId}
-use Rattle.dm_base.specs.declared.item_ids.AssocItemId.{AssocItemId}
-use Rattle.dm_base.specs.declared.item_ids.ItemContainerId.{ItemContainerId}
-use Rattle.dm_base.specs.declared.item_ids.VariantId.{VariantId}
+use Rattle.dm_ids.specs.declared.ids.TraitId.{TraitId}
+use Rattle.dm_ids.specs.declared.item_ids.AssocItemId.{AssocItemId}
+use Rattle.dm_ids.specs.declared.item_ids.ItemContainerId.{ItemContainerId}
+use Rattle.dm_ids.specs.declared.item_ids.VariantId.{VariantId}
 use Rattle.dm_base.specs.declared.visibility.RawVisibility.{RawVisibility}
 use Rattle.dm_tables.specs.ItemTables.{ItemTables}
 use Rattle.dm_tables.specs.Keys.{same_variant, same_assoc, same_trait}

@@ -1,7 +1,7 @@
 //! The tables that belong to no map and no module.
 ghost use Rattle.std.specs.Prelude.{◌≡◌, [], OnOk, OnErr};
 ghost use Rattle.std.specs.List.{list_any};
-ghost use Rattle.dm_base.specs.Names.{same_name};
+ghost use Rattle.dm_ids.specs.Names.{same_name};
 ghost use Rattle.dm_tables.specs.ItemTables.{no_tables, with_raw_name};
 ghost use Rattle.dm_tables.specs.TableChanges.{with_field_list, with_assoc, with_trait};
 

@@ -1,6 +1,6 @@
 -- The places of a question, one after another.
 use Rattle.std.proofs.Common.{◌≡◌, ◌++◌, List, [], ◌∷◌, map}
-use Rattle.dm_ids.specs.declared.ModuleId.{ModuleId}
+use Rattle.dm_ids.specs.declared.ids.ModuleId.{ModuleId}
 use Rattle.dm_base.specs.Tree.{Tree, home, homeward}
 use Rattle.dm_maps.specs.Readings.{Setting}
 use Rattle.hir_def_map.specs.Paths.{prelude_place}

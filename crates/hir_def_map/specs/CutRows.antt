@@ -1,6 +1,6 @@
 -- What cuts of a worked world are, as equations that compute.
 use Rattle.std.specs.Prelude.{◌≡◌, [], ◌∷◌, Some, None, codes, refl}
-use Rattle.dm_base.specs.declared.source.Edition.TheVariants.{Edition2021}
+use Rattle.dm_ids.specs.declared.source.Edition.TheVariants.{Edition2021}
 use Rattle.dm_scope.specs.Flags.{no_globs}
 use Rattle.dm_scope.specs.Scope.{no_scope}
 use Rattle.dm_maps.specs.PushRes.{with_push}

@@ -1,10 +1,10 @@
 -- Answers of what a world has under the names of a path alone: where two worlds have the same there, they answer alike.
 use Rattle.std.specs.Prelude.{List}
-use Rattle.dm_base.specs.Names.{Name}
+use Rattle.dm_ids.specs.Names.{Name}
 use Rattle.dm_maps.specs.Cut.{cut, cut_local}
 use Rattle.dm_maps.specs.World.{World}
 use Rattle.dm_modules.specs.Maps.{LocalMap}
-use Rattle.dm_ids.specs.declared.MapId.{MapId}
+use Rattle.dm_ids.specs.declared.ids.MapId.{MapId}
 use Rattle.hir_def_map.specs.declared.question.Ask.{Ask}
 use Rattle.hir_def_map.specs.declared.result.ResolvePathResult.{ResolvePathResult}
 use Rattle.hir_def_map.specs.Paths.{answer, answer_alone, prelude_answer}

@@ -1,30 +1,30 @@
 -- What a path means.
 use Rattle.std.specs.Prelude.{ℕ, zero, suc, ◌+◌, ◌&&◌, ◌||◌, not, List, [], ◌∷◌, ◌++◌, Option, Some, None, Bool, true, false, if◌then◌else◌, length, map, find, is_none, slice_get}
 use Rattle.std.specs.Option.{option_map, option_map_or, option_and_then}
-use Rattle.dm_ids.specs.declared.ModuleId.{ModuleId}
-use Rattle.dm_ids.specs.declared.Crate.{Crate}
-use Rattle.dm_ids.specs.declared.MapId.{MapId}
-use Rattle.dm_ids.specs.declared.ExternCrateId.{ExternCrateId}
-use Rattle.dm_ids.specs.declared.EnumId.{EnumId}
-use Rattle.dm_ids.specs.declared.EnumVariantId.{EnumVariantId}
-use Rattle.dm_base.specs.declared.fields_shape.FieldsShape.{FieldsShape}
-use Rattle.dm_base.specs.declared.item_ids.ModuleDefId.{ModuleDefId}
-use Rattle.dm_base.specs.declared.item_ids.ModuleDefId.TheVariants as def
-use Rattle.dm_base.specs.declared.item_ids.AdtId.{AdtId}
-use Rattle.dm_base.specs.declared.item_ids.AdtId.TheVariants as adt
-use Rattle.dm_base.specs.declared.item_ids.MacroId.{MacroId}
-use Rattle.dm_base.specs.declared.imports.ImportOrExternCrate.{ImportOrExternCrate}
-use Rattle.dm_base.specs.declared.imports.ImportOrExternCrate.TheVariants as import
+use Rattle.dm_ids.specs.declared.ids.ModuleId.{ModuleId}
+use Rattle.dm_ids.specs.declared.ids.Crate.{Crate}
+use Rattle.dm_ids.specs.declared.ids.MapId.{MapId}
+use Rattle.dm_ids.specs.declared.ids.ExternCrateId.{ExternCrateId}
+use Rattle.dm_ids.specs.declared.ids.EnumId.{EnumId}
+use Rattle.dm_ids.specs.declared.ids.EnumVariantId.{EnumVariantId}
+use Rattle.dm_ids.specs.declared.fields_shape.FieldsShape.{FieldsShape}
+use Rattle.dm_ids.specs.declared.item_ids.ModuleDefId.{ModuleDefId}
+use Rattle.dm_ids.specs.declared.item_ids.ModuleDefId.TheVariants as def
+use Rattle.dm_ids.specs.declared.item_ids.AdtId.{AdtId}
+use Rattle.dm_ids.specs.declared.item_ids.AdtId.TheVariants as adt
+use Rattle.dm_ids.specs.declared.item_ids.MacroId.{MacroId}
+use Rattle.dm_ids.specs.declared.imports.ImportOrExternCrate.{ImportOrExternCrate}
+use Rattle.dm_ids.specs.declared.imports.ImportOrExternCrate.TheVariants as import
 use Rattle.dm_base.specs.declared.mod_path.PathKind.{PathKind}
 use Rattle.dm_base.specs.declared.mod_path.PathKind.TheVariants.{Plain, Abs, DollarCrate, Super}
 use Rattle.dm_base.specs.declared.mod_path.PathKind.TheVariants as kind
 use Rattle.dm_base.specs.declared.per_ns.Item.{Item}
 use Rattle.dm_base.specs.declared.per_ns.PerNs.{PerNs}
 use Rattle.dm_base.specs.declared.visibility.Visibility.TheVariants.{Public}
-use Rattle.dm_base.specs.Names.{Name}
+use Rattle.dm_ids.specs.Names.{Name}
 use Rattle.dm_base.specs.PerNs.{nothing, overlay, keep, seen_by, type_alone, macro_alone}
 use Rattle.dm_base.specs.PerNs as per_ns
-use Rattle.dm_base.specs.Styles.{has_styles, fn_like, attr, derive}
+use Rattle.dm_ids.specs.Styles.{has_styles, fn_like, attr, derive}
 use Rattle.dm_base.specs.Tree.{Tree, IsKnown, same_crate, same_map, crate_of, in_block_map, is_block_root, chain, sees, outer, home, up_to, block_of}
 use Rattle.dm_modules.specs.declared.modes.BuiltinShadowMode.{BuiltinShadowMode}
 use Rattle.dm_modules.specs.declared.modes.BuiltinShadowMode.TheVariants as shadow

@@ -1,6 +1,6 @@
 -- Questions that a world can be asked.
 use Rattle.std.specs.Prelude.{◌≡◌, Some, IsSome}
-use Rattle.dm_ids.specs.declared.ModuleId.{ModuleId}
+use Rattle.dm_ids.specs.declared.ids.ModuleId.{ModuleId}
 use Rattle.dm_base.specs.declared.mod_path.PathKind.{PathKind}
 use Rattle.dm_base.specs.Tree.{IsKnown, crate_of}
 use Rattle.dm_held.specs.Holding.{local_holds, path_holds}

@@ -1,17 +1,17 @@
 -- What visibilities mean that are written: `pub`, `pub(crate)`, `pub(self)`, `pub(in path)`.
 use Rattle.std.specs.Prelude.{◌≡◌, ◌||◌, ℕ, Bool, true, false, IsSome, List, [], Option, Some, None, if◌then◌else◌, map}
 use Rattle.std.specs.Option.{option_map, option_map_or, option_and_then}
-use Rattle.dm_ids.specs.declared.BlockId.{BlockId}
-use Rattle.dm_ids.specs.declared.ModuleId.{ModuleId}
-use Rattle.dm_base.specs.declared.item_ids.AdtId.TheVariants as adt
-use Rattle.dm_base.specs.declared.item_ids.AssocItemId.{AssocItemId}
-use Rattle.dm_base.specs.declared.item_ids.AssocItemId.TheVariants as assoc
-use Rattle.dm_base.specs.declared.item_ids.ItemContainerId.{ItemContainerId}
-use Rattle.dm_base.specs.declared.item_ids.ItemContainerId.TheVariants as container
-use Rattle.dm_base.specs.declared.item_ids.ModuleDefId.{ModuleDefId}
-use Rattle.dm_base.specs.declared.item_ids.ModuleDefId.TheVariants as def
-use Rattle.dm_base.specs.declared.item_ids.VariantId.{VariantId}
-use Rattle.dm_base.specs.declared.item_ids.VariantId.TheVariants as variant
+use Rattle.dm_ids.specs.declared.ids.BlockId.{BlockId}
+use Rattle.dm_ids.specs.declared.ids.ModuleId.{ModuleId}
+use Rattle.dm_ids.specs.declared.item_ids.AdtId.TheVariants as adt
+use Rattle.dm_ids.specs.declared.item_ids.AssocItemId.{AssocItemId}
+use Rattle.dm_ids.specs.declared.item_ids.AssocItemId.TheVariants as assoc
+use Rattle.dm_ids.specs.declared.item_ids.ItemContainerId.{ItemContainerId}
+use Rattle.dm_ids.specs.declared.item_ids.ItemContainerId.TheVariants as container
+use Rattle.dm_ids.specs.declared.item_ids.ModuleDefId.{ModuleDefId}
+use Rattle.dm_ids.specs.declared.item_ids.ModuleDefId.TheVariants as def
+use Rattle.dm_ids.specs.declared.item_ids.VariantId.{VariantId}
+use Rattle.dm_ids.specs.declared.item_ids.VariantId.TheVariants as variant
 use Rattle.dm_base.specs.declared.per_ns.PerNs.{PerNs}
 use Rattle.dm_base.specs.declared.visibility.RawVisibility.{RawVisibility}
 use Rattle.dm_base.specs.declared.visibility.RawVisibility.TheVariants as raw

@@ -1,7 +1,7 @@
 -- Worked rows: what each path answers, as equations that compute.
 use Rattle.std.specs.Prelude.{◌≡◌, [], ◌∷◌, Some, None, true, false, codes, refl}
-use Rattle.dm_base.specs.declared.builtin_type.BuiltinType.TheVariants as builtin
-use Rattle.dm_base.specs.declared.builtin_type.BuiltinUint.TheVariants as uint
+use Rattle.dm_ids.specs.declared.builtin_type.BuiltinType.TheVariants as builtin
+use Rattle.dm_ids.specs.declared.builtin_type.BuiltinUint.TheVariants as uint
 use Rattle.dm_base.specs.declared.mod_path.PathKind.TheVariants.{DollarCrate, Super}
 use Rattle.dm_base.specs.declared.mod_path.PathKind.TheVariants as kind
 use Rattle.dm_base.specs.declared.visibility.Visibility.TheVariants.{Public}

@@ -1,11 +1,11 @@
 -- A worked world of shadowing: pushes under one name, macros under one name, and modules of blocks inside one another.
 use Rattle.std.specs.Prelude.{[], ◌∷◌, Some, None, codes}
-use Rattle.dm_base.specs.declared.macros.MacroExpander.TheVariants.{Declarative}
-use Rattle.dm_base.specs.declared.macros.MacroLoc.TheVariants.{MacroRules}
-use Rattle.dm_base.specs.declared.item_ids.ItemKind.TheVariants as kind
+use Rattle.dm_ids.specs.declared.macros.MacroExpander.TheVariants.{Declarative}
+use Rattle.dm_ids.specs.declared.macros.MacroLoc.TheVariants.{MacroRules}
+use Rattle.dm_ids.specs.declared.item_ids.ItemKind.TheVariants as kind
 use Rattle.dm_base.specs.declared.per_ns.PerNs.{PerNs}
-use Rattle.dm_base.specs.declared.item_ids.ModuleDefId.{ModuleDefId}
-use Rattle.dm_base.specs.declared.source.Edition.TheVariants.{Edition2021}
+use Rattle.dm_ids.specs.declared.item_ids.ModuleDefId.{ModuleDefId}
+use Rattle.dm_ids.specs.declared.source.Edition.TheVariants.{Edition2021}
 use Rattle.dm_base.specs.declared.visibility.Visibility.TheVariants.{Public}
 use Rattle.dm_scope.specs.Flags.{Globs, no_globs}
 use Rattle.dm_scope.specs.Push.{scope_after, globs_after}

@@ -1,28 +1,28 @@
 -- Short forms for worked worlds and rows, after the words of the script.
 use Rattle.std.specs.Prelude.{ℕ, Bool, List, [], Option, Some, None}
-use Rattle.dm_ids.specs.declared.ModuleId.{ModuleId}
-use Rattle.dm_ids.specs.declared.MapId.{MapId}
-use Rattle.dm_base.specs.declared.builtin_type.BuiltinType.{BuiltinType}
-use Rattle.dm_base.specs.declared.imports.ImportId.{ImportId}
-use Rattle.dm_base.specs.declared.imports.ImportOrDef.{ImportOrDef}
-use Rattle.dm_base.specs.declared.imports.ImportOrExternCrate.{ImportOrExternCrate}
-use Rattle.dm_base.specs.declared.imports.ImportOrExternCrate.TheVariants as wide
-use Rattle.dm_base.specs.declared.imports.ImportOrGlob.{ImportOrGlob}
-use Rattle.dm_base.specs.declared.imports.ImportOrGlob.TheVariants as narrow
-use Rattle.dm_base.specs.declared.item_ids.ModuleDefId.{ModuleDefId}
-use Rattle.dm_base.specs.declared.item_ids.ModuleDefId.TheVariants as def
-use Rattle.dm_base.specs.declared.item_ids.AdtId.TheVariants as adt
-use Rattle.dm_base.specs.declared.item_ids.MacroId.{MacroId}
-use Rattle.dm_base.specs.declared.item_ids.MacroId.TheVariants.{MacroRulesId, Macro2Id, ProcMacroId}
+use Rattle.dm_ids.specs.declared.ids.ModuleId.{ModuleId}
+use Rattle.dm_ids.specs.declared.ids.MapId.{MapId}
+use Rattle.dm_ids.specs.declared.builtin_type.BuiltinType.{BuiltinType}
+use Rattle.dm_ids.specs.declared.imports.ImportId.{ImportId}
+use Rattle.dm_ids.specs.declared.imports.ImportOrDef.{ImportOrDef}
+use Rattle.dm_ids.specs.declared.imports.ImportOrExternCrate.{ImportOrExternCrate}
+use Rattle.dm_ids.specs.declared.imports.ImportOrExternCrate.TheVariants as wide
+use Rattle.dm_ids.specs.declared.imports.ImportOrGlob.{ImportOrGlob}
+use Rattle.dm_ids.specs.declared.imports.ImportOrGlob.TheVariants as narrow
+use Rattle.dm_ids.specs.declared.item_ids.ModuleDefId.{ModuleDefId}
+use Rattle.dm_ids.specs.declared.item_ids.ModuleDefId.TheVariants as def
+use Rattle.dm_ids.specs.declared.item_ids.AdtId.TheVariants as adt
+use Rattle.dm_ids.specs.declared.item_ids.MacroId.{MacroId}
+use Rattle.dm_ids.specs.declared.item_ids.MacroId.TheVariants.{MacroRulesId, Macro2Id, ProcMacroId}
 use Rattle.dm_base.specs.declared.mod_path.PathKind.{PathKind}
 use Rattle.dm_base.specs.declared.per_ns.Item.{Item}
-use Rattle.dm_base.specs.declared.source.Edition.{Edition}
-use Rattle.dm_base.specs.declared.source.Edition.TheVariants.{Edition2021}
-use Rattle.dm_base.specs.declared.source.HirFileId.TheVariants.{File}
+use Rattle.dm_ids.specs.declared.source.Edition.{Edition}
+use Rattle.dm_ids.specs.declared.source.Edition.TheVariants.{Edition2021}
+use Rattle.dm_ids.specs.declared.source.HirFileId.TheVariants.{File}
 use Rattle.dm_base.specs.declared.visibility.Visibility.{Visibility}
 use Rattle.dm_base.specs.declared.visibility.Visibility.TheVariants.{Module, PubCrate, Public}
 use Rattle.dm_base.specs.declared.visibility.VisibilityExplicitness.{VisibilityExplicitness}
-use Rattle.dm_base.specs.Names.{Name}
+use Rattle.dm_ids.specs.Names.{Name}
 use Rattle.dm_scope.specs.Bindings.{Bound}
 use Rattle.dm_scope.specs.Scope.{Scope, no_scope}
 use Rattle.dm_modules.specs.declared.modes.BuiltinShadowMode.{BuiltinShadowMode}

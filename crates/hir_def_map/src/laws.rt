@@ -1,9 +1,9 @@
 //! Laws of questions and answers, for proofs above. A law does nothing: what has to be proved by it calls it.
 ghost use Rattle.std.specs.Prelude.{◌≡◌, List, Some};
-ghost use Rattle.dm_base.specs.Names.{Name};
+ghost use Rattle.dm_ids.specs.Names.{Name};
 ghost use Rattle.dm_base.specs.Tree.{IsKnown, home};
 ghost use Rattle.dm_base.specs.declared.mod_path.PathKind.{PathKind};
-ghost use Rattle.dm_ids.specs.declared.ModuleId.{ModuleId};
+ghost use Rattle.dm_ids.specs.declared.ids.ModuleId.{ModuleId};
 ghost use Rattle.dm_maps.specs.Cut.{cut, cut_local};
 ghost use Rattle.dm_maps.specs.Readings.{Reading};
 ghost use Rattle.dm_maps.specs.Stays.{StaysKnown};

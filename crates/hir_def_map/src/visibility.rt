@@ -1,7 +1,7 @@
 //! Who sees an item, and what visibilities mean that are written (docs/RULES.md, "Visibilities as they are written").
 ghost use Rattle.std.specs.Prelude.{◌≡◌, IfOk};
 ghost use Rattle.std.specs.List.{AllByRecursion};
-ghost use Rattle.dm_base.specs.declared.item_ids.AssocItemId.{AssocItemId};
+ghost use Rattle.dm_ids.specs.declared.item_ids.AssocItemId.{AssocItemId};
 ghost use Rattle.dm_base.specs.declared.visibility.RawVisibility.TheVariants as raws;
 ghost use Rattle.dm_base.specs.declared.visibility.VisibilityExplicitness.TheVariants.{Implicit};
 ghost use Rattle.dm_base.specs.Visibility.{NamesKnown};

@@ -1,6 +1,6 @@
 //! Variants of enums, added to a builder.
 ghost use Rattle.std.specs.Prelude.{◌≡◌, ◌<◌, None, IfOk, OnOk, OnErr, length};
-ghost use Rattle.dm_base.specs.Names.{find_name};
+ghost use Rattle.dm_ids.specs.Names.{find_name};
 ghost use Rattle.dm_maps.specs.BuildItems.{with_variant, next_variant};
 ghost use Rattle.dm_maps.specs.Faults.{Answers};
 ghost use Rattle.dm_maps.specs.ItemFaults.{variant_fault, has_variant};

@@ -1,7 +1,7 @@
 //! Where a world's items were declared: in modules and crates of its own. None of these look-ups takes memory.
 ghost use Rattle.std.specs.Prelude.{◌≡◌, IsTrue};
 ghost use Rattle.std.specs.Option.{ForSome};
-ghost use Rattle.dm_base.specs.declared.item_ids.ItemKind.TheVariants as item;
+ghost use Rattle.dm_ids.specs.declared.item_ids.ItemKind.TheVariants as item;
 ghost use Rattle.dm_held.specs.declared.held.HeldId.TheVariants as held;
 ghost use Rattle.dm_maps.specs.Known.{knows};
 ghost use Rattle.dm_maps.specs.ItemHomes.{homes_of, module_of_item, module_of_def, module_of_macro};

@@ -1,12 +1,12 @@
 //! Pushes into the scopes of a world.
 ghost use Rattle.std.specs.Prelude.{◌≡◌, false, List, IsSome, IfOk, OnOk, OnErr};
-ghost use Rattle.dm_ids.specs.declared.ModuleId.{ModuleId};
+ghost use Rattle.dm_ids.specs.declared.ids.ModuleId.{ModuleId};
 ghost use Rattle.dm_base.specs.Tree.{same_module};
 ghost use Rattle.dm_scope.specs.Push.{scope_after, globs_after, push_answer};
 ghost use Rattle.dm_scope.specs.Shows.{PushAnswers, PushShows, ShowsElsewhere, StillShows, push_of};
 ghost use Rattle.dm_held.specs.Pushes.{push_holds};
 ghost use Rattle.dm_maps.specs.PushRes.{with_push, StaysShown};
-ghost use Rattle.dm_base.specs.Names.{Name};
+ghost use Rattle.dm_ids.specs.Names.{Name};
 ghost use Rattle.dm_maps.specs.Cut.{among, cut};
 ghost use Rattle.dm_maps.specs.First.{IsChecked};
 ghost use Rattle.dm_maps.specs.Known.{KnowsAll};

@@ -1,7 +1,7 @@
 //! What changes the bindings of a namespace beside pushes. Nothing here needs memory: `shrink_to_fit` may ask for some, and goes on
 //! without it.
 ghost use Rattle.std.specs.Prelude.{◌≡◌, map};
-ghost use Rattle.dm_base.specs.Names.{find_name};
+ghost use Rattle.dm_ids.specs.Names.{find_name};
 ghost use Rattle.dm_scope.specs.Changes.{is_of, without_binding, with_vis, with_def, change_item, change_all, censored, censored_macro, is_own_proc_macro};
 
 use super::Bindings;

@@ -1,6 +1,6 @@
 //! What changes a scope in place. Nothing here needs memory: `shrink_to_fit` may ask for some, and goes on without it.
 ghost use Rattle.std.specs.Prelude.{◌≡◌, IsSome, map};
-ghost use Rattle.dm_base.specs.Names.{find_name};
+ghost use Rattle.dm_ids.specs.Names.{find_name};
 ghost use Rattle.dm_scope.specs.Changes.{without_binding, with_vis, with_def, change_all, censored, censored_macro, censored_trait};
 ghost use Rattle.dm_base.specs.Sameness.{same_def};
 

@@ -1,7 +1,7 @@
 //! What a scope says of one name, of one definition, or of one place in the syntax.
 ghost use Rattle.std.specs.Prelude.{◌≡◌, option_map, option_copied, find, slice_get};
 ghost use Rattle.std.specs.Map.{lookup};
-ghost use Rattle.dm_base.specs.Names.{find_name};
+ghost use Rattle.dm_ids.specs.Names.{find_name};
 ghost use Rattle.dm_scope.specs.Lookups.{def_and_vis, deref_named, names_for, AsksNames, trait_vis};
 ghost use Rattle.dm_base.specs.Sameness.{same_ast};
 

@@ -1,7 +1,7 @@
 //! A push into all namespaces of a scope.
 ghost use Rattle.std.specs.Prelude.{◌≡◌, false, List, [], ◌∷◌, ◌++◌, IfOk, OnOk, OnErr};
-ghost use Rattle.dm_ids.specs.declared.ModuleId.{ModuleId};
-ghost use Rattle.dm_base.specs.Names.{Name};
+ghost use Rattle.dm_ids.specs.declared.ids.ModuleId.{ModuleId};
+ghost use Rattle.dm_ids.specs.Names.{Name};
 ghost use Rattle.dm_base.specs.Tree.{same_module};
 ghost use Rattle.dm_scope.specs.Bindings.{bound_after, flags_after};
 ghost use Rattle.dm_scope.specs.Push.{types_reading, values_reading, macros_reading, unresolved_after, is_new_unresolved, scope_after, globs_after, push_answer, push_answer_from_values, push_answer_from_macros};

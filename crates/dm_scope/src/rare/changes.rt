@@ -1,7 +1,7 @@
 //! What changes the rare tables of a scope. Where nothing is put into them, tables that were not made stay so.
 ghost use Rattle.std.specs.Prelude.{◌≡◌, OnOk, OnErr, map};
 ghost use Rattle.indexmap.specs.IndexSet.{insert_key};
-ghost use Rattle.dm_base.specs.Names.{same_name};
+ghost use Rattle.dm_ids.specs.Names.{same_name};
 ghost use Rattle.dm_scope.specs.Changes.{censored_trait};
 ghost use Rattle.dm_scope.specs.Rare.{rare_in};
 

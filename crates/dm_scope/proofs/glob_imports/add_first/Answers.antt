@@ -1,7 +1,7 @@
 use Rattle.std.proofs.Common.{◌∙◌, ◌++◌, ◌∷◌, [], ap, sym}
 use Rattle.indexmap.specs.IndexSet.{insert_key}
 use Rattle.indexmap.proofs.CallerLemmas.{insert_entry-new}
-use Rattle.dm_base.specs.Names.{same_name}
+use Rattle.dm_ids.specs.Names.{same_name}
 use Rattle.dm_base.specs.Tree.{same_module}
 use Rattle.dm_scope.specs.Flags.{flags_of, all_but_last}
 use Rattle.dm_scope.proofs.FlagLemmas.{add_flag-absent, flags_of-push}

@@ -1,6 +1,6 @@
 use Rattle.std.proofs.Common.{◌∙◌, sym, ap}
 use Rattle.std.specs.List.{list_any}
-use Rattle.dm_base.specs.Names.{same_name}
+use Rattle.dm_ids.specs.Names.{same_name}
 use Rattle.dm_scope.proofs.FlagLemmas.{remove_key-all}
 use Rattle.dm_scope.proofs.glob_imports.take_name.Goals as goal
 

@@ -1,6 +1,6 @@
 use Rattle.std.proofs.Common.{◌≡◌, [], take}
 use Rattle.indexmap.specs.IndexSet.{insert_all}
-use Rattle.dm_base.specs.Names.{same_name}
+use Rattle.dm_ids.specs.Names.{same_name}
 use Rattle.dm_tables.proofs.unstable_features.copy_enabled.Given as goal
 
 -- the features so far were added in turn

@@ -1,5 +1,5 @@
 use Rattle.std.proofs.Common.{◌≡◌, ◌∙◌, ap, sym, cond, Option, None, is_some}
-use Rattle.dm_ids.specs.declared.BlockId.{BlockId}
+use Rattle.dm_ids.specs.declared.ids.BlockId.{BlockId}
 use Rattle.dm_base.specs.PerNs.{nothing}
 use Rattle.dm_base.specs.Tree.{block_of}
 use Rattle.dm_maps.specs.Readings.{read, setting_of}

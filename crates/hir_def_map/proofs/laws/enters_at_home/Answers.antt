@@ -1,6 +1,6 @@
 use Rattle.std.proofs.Common.{◌≡◌, ◌∙◌, Option, Some, None, ap, refl, slice_get, unwrap_or, length}
 use Rattle.dm_base.specs.Tree.{Tree, home, outer, in_block_map}
-use Rattle.dm_ids.specs.declared.ModuleId.{ModuleId}
+use Rattle.dm_ids.specs.declared.ids.ModuleId.{ModuleId}
 use Rattle.dm_maps.specs.Trees.{tree_of}
 use Rattle.hir_def_map.specs.Answers.{settled}
 use Rattle.hir_def_map.specs.Paths.{enter_within, stop, root_item}

@@ -1,6 +1,6 @@
 use Rattle.std.proofs.Common.{sym, subst, Option}
-use Rattle.dm_base.specs.declared.imports.ImportOrExternCrate.{ImportOrExternCrate}
-use Rattle.dm_base.specs.declared.item_ids.MacroId.{MacroId}
+use Rattle.dm_ids.specs.declared.imports.ImportOrExternCrate.{ImportOrExternCrate}
+use Rattle.dm_ids.specs.declared.item_ids.MacroId.{MacroId}
 use Rattle.dm_base.specs.declared.per_ns.Item.{Item}
 use Rattle.dm_maps.specs.Known.{KnowsAll}
 use Rattle.dm_held.specs.Holding.{res_holds}

@@ -1,5 +1,5 @@
 use Rattle.std.proofs.Common.{◌∙◌, ◌&&◌, ap, sym, map, cond}
-use Rattle.dm_ids.specs.declared.ModuleId.{ModuleId}
+use Rattle.dm_ids.specs.declared.ids.ModuleId.{ModuleId}
 use Rattle.dm_maps.specs.Readings.{setting_of, read, is_2015_in}
 use Rattle.hir_def_map.specs.Answers.{nothing_no}
 use Rattle.hir_def_map.specs.Paths.{asks_root, enter, missed, stop}

@@ -1,6 +1,6 @@
 use Rattle.std.proofs.Common.{◌≡◌, ◌∙◌, ap, sym, subst, ◌<◌, length}
 use Rattle.std.proofs.lemmas.Option.{slice_get_within}
-use Rattle.dm_ids.specs.declared.MapId.{MapId}
+use Rattle.dm_ids.specs.declared.ids.MapId.{MapId}
 use Rattle.dm_maps.specs.World.{World, crate_map, with_maps}
 use Rattle.dm_maps.specs.Build.{next_module}
 use Rattle.dm_maps.specs.BuildBlocks.{crate_in, next_block, with_block}

@@ -1,5 +1,5 @@
 use Rattle.std.proofs.Common.{◌≡◌, ◌∙◌, ◌++◌, ◌∷◌, [], ap, sym, subst, false, IsTrue}
-use Rattle.dm_ids.specs.declared.ModuleId.{ModuleId}
+use Rattle.dm_ids.specs.declared.ids.ModuleId.{ModuleId}
 use Rattle.dm_base.specs.Tree.{same_module}
 use Rattle.dm_scope.specs.Push.{scope_after}
 use Rattle.dm_scope.specs.Scope.{Scope}

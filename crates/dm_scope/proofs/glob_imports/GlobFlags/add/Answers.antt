@@ -1,6 +1,6 @@
 use Rattle.std.proofs.Common.{◌∙◌, sym, ap}
 use Rattle.indexmap.specs.IndexSet.{insert_key}
-use Rattle.dm_base.specs.Names.{same_name}
+use Rattle.dm_ids.specs.Names.{same_name}
 use Rattle.dm_scope.specs.Flags.{flags_of, add_flag, without_flag}
 use Rattle.dm_scope.proofs.FlagLemmas.{add_flag-present, change_names-present, flags_of-unchanged, without_flag-add_flag}
 use Rattle.dm_scope.specs.Outcomes.{on-err}

@@ -3,7 +3,7 @@ ghost use Rattle.std.specs.Prelude.{◌≡◌, refl};
 ghost use Rattle.std.specs.Cmp.Rules.{comparing};
 ghost use Rattle.std.specs.Ordering.{as_partial_cmp};
 ghost use Rattle.std.proofs.Common.{rules};
-ghost use Rattle.dm_base.specs.Imports.{narrowed, widened, named_import, glob_of, use_of, target_of, import_cmp, import_cmp_total, glob_cmp, glob_cmp_total};
+ghost use Rattle.dm_ids.specs.Imports.{narrowed, widened, named_import, glob_of, use_of, target_of, import_cmp, import_cmp_total, glob_cmp, glob_cmp_total};
 
 use crate::ids::{ExternCrateId, UseId, UseTreeIdx};
 use crate::item_ids::ModuleDefId;

@@ -1,11 +1,11 @@
 //! Where things stand in source text.
 ghost use Rattle.std.specs.Prelude.{◌≡◌};
-ghost use Rattle.dm_base.specs.Files.{macro_file};
+ghost use Rattle.dm_ids.specs.Files.{macro_file};
 
 use crate::ids::{BlockId, FileAstId, FileId, MacroCallId};
 
 /// An edition of the language.
-#[derive(Clone, Copy, PartialEq, Eq, Hash, Debug)]
+#[derive(Clone, Copy, PartialEq, Eq, PartialOrd, Ord, Hash, Debug)]
 pub enum Edition {
     Edition2015,
     Edition2018,
@@ -14,7 +14,7 @@ pub enum Edition {
 }
 
 /// A file, as read under an edition.
-#[derive(Clone, Copy, PartialEq, Eq, Hash, Debug)]
+#[derive(Clone, Copy, PartialEq, Eq, PartialOrd, Ord, Hash, Debug)]
 pub struct EditionedFileId {
     pub file: FileId,
     pub edition: Edition,
@@ -31,7 +31,7 @@ impl EditionedFileId {
 }
 
 /// A file, or what a macro call expands to.
-#[derive(Clone, Copy, PartialEq, Eq, Hash, Debug)]
+#[derive(Clone, Copy, PartialEq, Eq, PartialOrd, Ord, Hash, Debug)]
 pub enum HirFileId {
     File(EditionedFileId),
     Macro(MacroCallId),
@@ -50,7 +50,7 @@ impl HirFileId {
 }
 
 /// The item tree of a file, or of a block in it.
-#[derive(Clone, Copy, PartialEq, Eq, Hash, Debug)]
+#[derive(Clone, Copy, PartialEq, Eq, PartialOrd, Ord, Hash, Debug)]
 pub struct TreeId {
     pub file: HirFileId,
     pub block: Option<BlockId>,
@@ -67,7 +67,7 @@ impl TreeId {
 }
 
 /// An item in the syntax of a file.
-#[derive(Clone, Copy, PartialEq, Eq, Hash, Debug)]
+#[derive(Clone, Copy, PartialEq, Eq, PartialOrd, Ord, Hash, Debug)]
 pub struct AstId {
     pub file_id: HirFileId,
     pub value: FileAstId,

@@ -1,7 +1,7 @@
 -- Kinds of fields.
 use Rattle.std.specs.Prelude.{Bool, true, false}
-use Rattle.dm_base.specs.declared.fields_shape.FieldsShape.{FieldsShape}
-use Rattle.dm_base.specs.declared.fields_shape.FieldsShape.TheVariants.{Record, Tuple, Unit}
+use Rattle.dm_ids.specs.declared.fields_shape.FieldsShape.{FieldsShape}
+use Rattle.dm_ids.specs.declared.fields_shape.FieldsShape.TheVariants.{Record, Tuple, Unit}
 
 -- a struct or variant is also a value but where its fields have names
 abbrev pub has_constructor : FieldsShape → Bool

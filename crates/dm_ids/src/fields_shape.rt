@@ -1,6 +1,6 @@
 //! What the fields of a struct, union or variant look like.
 ghost use Rattle.std.specs.Prelude.{◌≡◌};
-ghost use Rattle.dm_base.specs.Kinds.{has_constructor};
+ghost use Rattle.dm_ids.specs.Kinds.{has_constructor};
 
 /// The shape of fields: with names, in parentheses, or none at all.
 #[derive(Clone, Copy, PartialEq, Eq, Hash, Debug)]

@@ -1,14 +1,14 @@
 -- The builtin types and their words.
 use Rattle.std.specs.Prelude.{List, [], ◌∷◌, codes}
-use Rattle.dm_base.specs.Names.{Name}
-use Rattle.dm_base.specs.declared.builtin_type.BuiltinInt.{BuiltinInt}
-use Rattle.dm_base.specs.declared.builtin_type.BuiltinInt.TheVariants as int
-use Rattle.dm_base.specs.declared.builtin_type.BuiltinUint.{BuiltinUint}
-use Rattle.dm_base.specs.declared.builtin_type.BuiltinUint.TheVariants as uint
-use Rattle.dm_base.specs.declared.builtin_type.BuiltinFloat.{BuiltinFloat}
-use Rattle.dm_base.specs.declared.builtin_type.BuiltinFloat.TheVariants as float
-use Rattle.dm_base.specs.declared.builtin_type.BuiltinType.{BuiltinType}
-use Rattle.dm_base.specs.declared.builtin_type.BuiltinType.TheVariants as builtin
+use Rattle.dm_ids.specs.Names.{Name}
+use Rattle.dm_ids.specs.declared.builtin_type.BuiltinInt.{BuiltinInt}
+use Rattle.dm_ids.specs.declared.builtin_type.BuiltinInt.TheVariants as int
+use Rattle.dm_ids.specs.declared.builtin_type.BuiltinUint.{BuiltinUint}
+use Rattle.dm_ids.specs.declared.builtin_type.BuiltinUint.TheVariants as uint
+use Rattle.dm_ids.specs.declared.builtin_type.BuiltinFloat.{BuiltinFloat}
+use Rattle.dm_ids.specs.declared.builtin_type.BuiltinFloat.TheVariants as float
+use Rattle.dm_ids.specs.declared.builtin_type.BuiltinType.{BuiltinType}
+use Rattle.dm_ids.specs.declared.builtin_type.BuiltinType.TheVariants as builtin
 
 -- the suffixes of signed integers
 abbrev pub int_words : List (Name × BuiltinInt)

@@ -1,11 +1,11 @@
 //! The kinds of definitions, by their numbers.
 ghost use Rattle.std.specs.Prelude.{◌≡◌};
-ghost use Rattle.dm_base.specs.declared.item_ids.AdtId.TheVariants as adts;
-ghost use Rattle.dm_base.specs.declared.item_ids.MacroId.TheVariants as macros;
-ghost use Rattle.dm_base.specs.declared.item_ids.ModuleDefId.TheVariants as defs;
-ghost use Rattle.dm_base.specs.declared.item_ids.VariantId.TheVariants as variants;
-ghost use Rattle.dm_base.specs.declared.item_ids.AssocItemId.TheVariants as assoc_items;
-ghost use Rattle.dm_base.specs.declared.item_ids.ItemContainerId.TheVariants as containers;
+ghost use Rattle.dm_ids.specs.declared.item_ids.AdtId.TheVariants as adts;
+ghost use Rattle.dm_ids.specs.declared.item_ids.MacroId.TheVariants as macros;
+ghost use Rattle.dm_ids.specs.declared.item_ids.ModuleDefId.TheVariants as defs;
+ghost use Rattle.dm_ids.specs.declared.item_ids.VariantId.TheVariants as variants;
+ghost use Rattle.dm_ids.specs.declared.item_ids.AssocItemId.TheVariants as assoc_items;
+ghost use Rattle.dm_ids.specs.declared.item_ids.ItemContainerId.TheVariants as containers;
 
 use crate::builtin_type::BuiltinType;
 use crate::ids::{
@@ -16,7 +16,7 @@ use std::alloc::Global;
 use std::default::MadeWith;
 
 /// A struct, a union or an enum.
-#[derive(Clone, Copy, PartialEq, Eq, Hash, Debug)]
+#[derive(Clone, Copy, PartialEq, Eq, PartialOrd, Ord, Hash, Debug)]
 pub enum AdtId {
     StructId(StructId),
     UnionId(UnionId),
@@ -48,7 +48,7 @@ impl From<EnumId> for AdtId {
 }
 
 /// A macro.
-#[derive(Clone, Copy, PartialEq, Eq, Hash, Debug)]
+#[derive(Clone, Copy, PartialEq, Eq, PartialOrd, Ord, Hash, Debug)]
 pub enum MacroId {
     Macro2Id(Macro2Id),
     MacroRulesId(MacroRulesId),
@@ -182,7 +182,7 @@ impl From<MacroId> for ModuleDefId {
 }
 
 /// What has fields: a variant, a struct or a union.
-#[derive(Clone, Copy, PartialEq, Eq, Hash, Debug)]
+#[derive(Clone, Copy, PartialEq, Eq, PartialOrd, Ord, Hash, Debug)]
 pub enum VariantId {
     EnumVariantId(EnumVariantId),
     StructId(StructId),
@@ -214,7 +214,7 @@ impl From<UnionId> for VariantId {
 }
 
 /// An item of a trait, an `impl` or an `extern` block.
-#[derive(Clone, Copy, PartialEq, Eq, Hash, Debug)]
+#[derive(Clone, Copy, PartialEq, Eq, PartialOrd, Ord, Hash, Debug)]
 pub enum AssocItemId {
     FunctionId(FunctionId),
     ConstId(ConstId),
@@ -246,7 +246,7 @@ impl From<TypeAliasId> for AssocItemId {
 }
 
 /// What such an item lies in.
-#[derive(Clone, Copy, PartialEq, Eq, Hash, Debug)]
+#[derive(Clone, Copy, PartialEq, Eq, PartialOrd, Ord, Hash, Debug)]
 pub enum ItemContainerId {
     ExternBlockId(ExternBlockId),
     ModuleId(ModuleId),

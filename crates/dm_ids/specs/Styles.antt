@@ -1,13 +1,13 @@
 -- Macro styles: the ways in which a macro may be called, as a set of bits.
 use Rattle.std.specs.Prelude.{Bool, ◌==◌}
 use Rattle.std.specs.Int.RustNames.{bit_and}
-use Rattle.dm_base.specs.declared.macros.MacroCallStyles.{MacroCallStyles}
-use Rattle.dm_base.specs.declared.macros.MacroLoc.{MacroLoc}
-use Rattle.dm_base.specs.declared.macros.MacroLoc.TheVariants.{Macro2, MacroRules, Proc}
-use Rattle.dm_base.specs.declared.macros.MacroExpander.{MacroExpander}
-use Rattle.dm_base.specs.declared.macros.MacroExpander.TheVariants as expander
-use Rattle.dm_base.specs.declared.macros.ProcMacroKind.{ProcMacroKind}
-use Rattle.dm_base.specs.declared.macros.ProcMacroKind.TheVariants as proc
+use Rattle.dm_ids.specs.declared.macros.MacroCallStyles.{MacroCallStyles}
+use Rattle.dm_ids.specs.declared.macros.MacroLoc.{MacroLoc}
+use Rattle.dm_ids.specs.declared.macros.MacroLoc.TheVariants.{Macro2, MacroRules, Proc}
+use Rattle.dm_ids.specs.declared.macros.MacroExpander.{MacroExpander}
+use Rattle.dm_ids.specs.declared.macros.MacroExpander.TheVariants as expander
+use Rattle.dm_ids.specs.declared.macros.ProcMacroKind.{ProcMacroKind}
+use Rattle.dm_ids.specs.declared.macros.ProcMacroKind.TheVariants as proc
 
 -- called as `name!(..)`
 abbrev pub fn_like : MacroCallStyles

@@ -1,7 +1,7 @@
 //! The builtin types, which each program has under fixed names.
 ghost use Rattle.std.specs.Prelude.{◌≡◌, IfOk, Some};
-ghost use Rattle.dm_base.specs.Names.{find_name};
-ghost use Rattle.dm_base.specs.Builtins.{builtin_words, int_words, uint_words, float_words, builtin_word, int_word, uint_word, float_word};
+ghost use Rattle.dm_ids.specs.Names.{find_name};
+ghost use Rattle.dm_ids.specs.Builtins.{builtin_words, int_words, uint_words, float_words, builtin_word, int_word, uint_word, float_word};
 
 use crate::name::{AsName, Name};
 use crate::symbol::Symbol;

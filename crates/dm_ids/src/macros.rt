@@ -1,6 +1,6 @@
 //! Macros: what they are, and how they may be called.
 ghost use Rattle.std.specs.Prelude.{⊤, ◌≡◌, [], ◌∷◌, codes};
-ghost use Rattle.dm_base.specs.Styles.{styles_of, expander_styles, proc_styles};
+ghost use Rattle.dm_ids.specs.Styles.{styles_of, expander_styles, proc_styles};
 
 use bitflags::{Flag, Flags};
 

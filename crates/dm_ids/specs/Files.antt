@@ -1,8 +1,8 @@
 -- Files and expansions.
 use Rattle.std.specs.Prelude.{Option, Some, None}
-use Rattle.dm_ids.specs.declared.MacroCallId.{MacroCallId}
-use Rattle.dm_base.specs.declared.source.HirFileId.{HirFileId}
-use Rattle.dm_base.specs.declared.source.HirFileId.TheVariants.{File, Macro}
+use Rattle.dm_ids.specs.declared.ids.MacroCallId.{MacroCallId}
+use Rattle.dm_ids.specs.declared.source.HirFileId.{HirFileId}
+use Rattle.dm_ids.specs.declared.source.HirFileId.TheVariants.{File, Macro}
 
 -- the macro call whose expansion it is
 abbrev pub macro_file : HirFileId → Option MacroCallId

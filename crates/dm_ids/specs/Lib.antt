@@ -1,0 +1,6 @@
+pub mod Names
+pub mod Imports
+pub mod Builtins
+pub mod Kinds
+pub mod Styles
+pub mod Files
