@@ -1,6 +1,6 @@
 -- The builtin types and their words.
-use Rattle.std.specs.Prelude.{List, [], ◌∷◌, codes}
-use Rattle.dm_ids.specs.Names.{Name}
+use Rattle.std.specs.Prelude.{◌≡◌, List, [], ◌∷◌, None, codes, refl}
+use Rattle.dm_ids.specs.Names.{Name, find_name}
 use Rattle.dm_ids.specs.declared.builtin_type.BuiltinInt.{BuiltinInt}
 use Rattle.dm_ids.specs.declared.builtin_type.BuiltinInt.TheVariants as int
 use Rattle.dm_ids.specs.declared.builtin_type.BuiltinUint.{BuiltinUint}
@@ -68,3 +68,10 @@ builtin_word builtin.Str = codes "str"
 builtin_word (builtin.Int i) = int_word i
 builtin_word (builtin.Uint u) = uint_word u
 builtin_word (builtin.Float f) = float_word f
+
+-- what is no builtin type, and no suffix of a signed integer
+pub no_builtin_string : find_name (codes "String") builtin_words ≡ None
+no_builtin_string = refl
+
+pub no_signed_u8 : find_name (codes "u8") int_words ≡ None
+no_signed_u8 = refl

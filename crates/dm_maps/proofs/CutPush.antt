@@ -1,9 +1,9 @@
 -- A push under a name outside a list leaves what is cut by it.
 use Rattle.std.proofs.Common.{◌≡◌, ℕ, zero, suc, Bool, true, false, cond, List, [], ◌∷◌, Option, None, Some, refl, sym, ◌∙◌, ap, map}
-use Rattle.std.specs.Option.{option_map_or, option_and_then}
-use Rattle.std.proofs.lemmas.Bool.{cond-false}
-use Rattle.std.proofs.lemmas.Map.Steps.{list_any_congr}
-use Rattle.std.proofs.lemmas.Cmp.{nat_list_eq_equiv}
+use Rattle.std.specs.Cmp.Lexicographic.{nat_list_eq_equiv}
+use Rattle.std.specs.List.{cons_option}
+use Rattle.std.specs.Option.{option_map, option_map_or, option_and_then}
+use Rattle.std.proofs.lemmas.Bool.{or_parts}
 use Rattle.indexmap.specs.IndexMap.{set_value_at, insert_entry}
 use Rattle.dm_ids.specs.declared.ids.ModuleId.{ModuleId}
 use Rattle.dm_ids.specs.declared.imports.ImportOrExternCrate.{ImportOrExternCrate}
@@ -23,16 +23,13 @@ use Rattle.dm_maps.specs.PushRes.{with_push}
 use Rattle.dm_maps.specs.Maps.{Maps}
 use Rattle.dm_maps.specs.World.{World, maps_of, with_maps, place_of, scope_of, with_scope, with_scope_in, placed_module}
 use Rattle.dm_maps.specs.Cut.{among, kept, cut_bound, cut_scope, cut_module, cut_map, cut}
+use Rattle.dm_maps.specs.CutLaws.{find-other}
 
 kept-insert : {A : Type 0} (N : List Name) (n : Name) (v : A) → among N n ≡ false → (es : List (Name × A)) → kept N (insert_entry same_name es n v) ≡ kept N es
-kept-insert N n v h [] = cond-false (among N n) _ _ h
-kept-insert {A} N n v h (e ∷ es) = go (same_name n e.0) refl (kept-insert N n v h es)
-  where
-    go : (b : Bool) → same_name n e.0 ≡ b → kept N (insert_entry same_name es n v) ≡ kept N es → kept N (cond b ((e.0, v) ∷ es) (e ∷ insert_entry same_name es n v)) ≡ kept N (e ∷ es)
-    go true y r =
-        let gone : among N e.0 ≡ false = sym (list_any_congr nat_list_eq_equiv n e.0 N y) ∙ h in
-        cond-false (among N e.0) _ _ gone ∙ sym (cond-false (among N e.0) _ _ gone)
-    go false y r = ap (λ l. cond (among N e.0) (e ∷ l) l) r
+kept-insert [] n v h es = refl
+kept-insert (k ∷ N) n v h es =
+    let parts = or_parts (same_name n k) (among N n) h in
+    λ i. cons_option (option_map (λ w. (k, w)) (find-other k n v (nat_list_eq_equiv.symm k n ∙ parts.0) es i)) (kept-insert N n v parts.1 es i)
 
 bound-after : {D I : Type 0} (r : b.Reading D I) (N : List Name) (n : Name) → among N n ≡ false → (s : Bound D I) (fs : Flags) (m : ModuleId) (item : Option (Item D I)) (by : Option ImportOrExternCrate)
     → cut_bound N (b.bound_after r s fs m n item by) ≡ cut_bound N s

@@ -13,6 +13,7 @@ use Rattle.dm_ids.specs.declared.imports.ImportOrExternCrate.{ImportOrExternCrat
 use Rattle.dm_base.specs.declared.per_ns.Item.{Item}
 use Rattle.dm_scope.specs.Bindings.{Bound, Reading, import_of, writes, stored, bound, flagged, is_effective_at, bound_after, flags_after}
 use Rattle.dm_scope.specs.Flags.{Flags, has_flag, clear_flag, add_flag, without_name}
+use Rattle.dm_maps.specs.CutLaws.{find-other}
 
 -- ---- A name in a list of entries, after one is put in
 
@@ -23,16 +24,6 @@ find-put {A} n v (e ∷ es) = by (same_name n e.0) refl (find-put n v es)
     by : (b : Bool) → same_name n e.0 ≡ b → find_name n (insert_entry same_name es n v) ≡ Some v → find_name n (cond b ((e.0, v) ∷ es) (e ∷ insert_entry same_name es n v)) ≡ Some v
     by true is rest = ap (λ b. cond b (Some v) (find_name n es)) is
     by false is rest = ap (λ b. cond b (Some e.1) (find_name n (insert_entry same_name es n v))) is ∙ rest
-
-find-other : {A : Type 0} (n k : Name) (v : A) → same_name n k ≡ false → (es : List (Name × A)) → find_name n (insert_entry same_name es k v) ≡ find_name n es
-find-other n k v other [] = ap (λ b. cond b (Some v) None) other
-find-other {A} n k v other (e ∷ es) = by (same_name k e.0) refl (find-other n k v other es)
-  where
-    by : (b : Bool) → same_name k e.0 ≡ b → find_name n (insert_entry same_name es k v) ≡ find_name n es → find_name n (cond b ((e.0, v) ∷ es) (e ∷ insert_entry same_name es k v)) ≡ find_name n (e ∷ es)
-    by true is rest =
-        let here : same_name n e.0 ≡ false = ap (same_name n) (sym ((bytes_eq-Decides k e.0).0 is)) ∙ other in
-        cond-false (same_name n e.0) _ _ here ∙ sym (cond-false (same_name n e.0) _ _ here)
-    by false is rest = ap (cond (same_name n e.0) (Some e.1)) rest
 
 -- ---- Flags, after one is cleared
 

@@ -1,11 +1,14 @@
 -- What cuts of a worked world are, as equations that compute.
-use Rattle.std.specs.Prelude.{◌≡◌, [], ◌∷◌, Some, None, codes, refl}
+use Rattle.std.specs.Prelude.{◌≡◌, ℕ, [], ◌∷◌, Some, None, codes, refl}
+use Rattle.dm_ids.specs.declared.fields_shape.FieldsShape.TheVariants.{Unit}
 use Rattle.dm_ids.specs.declared.source.Edition.TheVariants.{Edition2021}
+use Rattle.dm_ids.specs.Names.{Name}
+use Rattle.dm_tables.specs.Variants.{Enums, Variants}
 use Rattle.dm_scope.specs.Flags.{no_globs}
 use Rattle.dm_scope.specs.Scope.{no_scope}
 use Rattle.dm_maps.specs.PushRes.{with_push}
 use Rattle.dm_maps.specs.Build.{no_world}
-use Rattle.dm_maps.specs.Cut.{cut, cut_local, cut_module, cut_prelude}
+use Rattle.dm_maps.specs.Cut.{cut, cut_enums, cut_local, cut_module, cut_prelude}
 use Rattle.dm_maps.specs.World.{World}
 use Rattle.hir_def_map.specs.Written.{a_struct, by_rules, crate_id, block_id, number, module_with, a_map}
 use Rattle.hir_def_map.specs.WorldS.{world_s, a_type, outer_scope, inner_scope}
@@ -47,6 +50,20 @@ of_no_name = refl
 -- of a local map the entries under the names
 pub of_local_maps : cut_local ((codes "dep", (number 0, None)) ∷ (codes "core", (number 1, None)) ∷ []) (codes "core" ∷ []) ≡ (codes "core", (number 1, None)) ∷ []
 of_local_maps = refl
+
+-- in whatever order a table has them
+pub of_another_order : cut_local ((codes "dep", (number 0, None)) ∷ (codes "core", (number 1, None)) ∷ []) (codes "core" ∷ codes "dep" ∷ []) ≡ cut_local ((codes "core", (number 1, None)) ∷ (codes "dep", (number 0, None)) ∷ []) (codes "core" ∷ codes "dep" ∷ [])
+of_another_order = refl
+
+abbrev enums_with : ℕ → Variants → Enums → Enums
+enums_with e vs es = (record { 0 = e }, vs) ∷ es
+
+abbrev variants_with : Name → ℕ → Variants → Variants
+variants_with n v vs = (n, (record { 0 = v }, Unit)) ∷ vs
+
+-- of the enums those that have a variant under the names, in the order of their numbers
+pub of_enums : cut_enums (codes "V" ∷ []) (enums_with 2 (variants_with (codes "V") 0 []) (enums_with 1 (variants_with (codes "W") 1 []) (enums_with 0 (variants_with (codes "W") 2 (variants_with (codes "V") 3 [])) []))) ≡ enums_with 0 (variants_with (codes "V") 3 []) (enums_with 2 (variants_with (codes "V") 0 []) [])
+of_enums = refl
 
 -- of a module its children go, also those under the names
 pub of_children : cut_module (codes "c" ∷ []) (record (module_with 0 None no_scope).1 { children = (codes "c", number 1) ∷ [] }) ≡ (module_with 0 None no_scope).1
