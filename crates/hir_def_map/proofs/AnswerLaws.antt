@@ -14,7 +14,7 @@ use Rattle.dm_base.specs.declared.per_ns.Item.{Item}
 use Rattle.dm_base.specs.declared.per_ns.PerNs.{PerNs}
 use Rattle.dm_base.specs.declared.mod_path.PathKind.{PathKind}
 use Rattle.dm_base.specs.declared.mod_path.PathKind.TheVariants as kind
-use Rattle.dm_base.specs.PerNs.{over, overlay}
+use Rattle.dm_base.specs.PerNs.{overlay}
 use Rattle.dm_ids.specs.Names.{Name}
 use Rattle.dm_base.specs.Overlays.{greatest}
 use Rattle.dm_base.specs.Tree.{Tree, home, outer, crate_of, in_block_map, same_map}
@@ -104,7 +104,7 @@ root-law t f m (s ∷ S) =
     subst (IsAnswer (suc (length S))) (walk-stop t a 0 (s ∷ S)) (walk-law t (suc (length S)) (through t a m s) 1 S (omega arith) (omega arith))
 
 settled-law : (n : ℕ) (b : Bool) (a : ResolvePathResult) → IsAnswer n a → IsAnswer n (settled b a)
-settled-law n b a h = record { unsettled = λ e. h.unsettled (open-of a.reached_fixedpoint _ e); index = h.index }
+settled-law n b a h = record { unsettled = λ e. (λ i. record (h.unsettled (open-of a.reached_fixedpoint _ e) i) { reached_fixedpoint = e i }); index = h.index }
   where
     open-of : (x y : ReachedFixedPoint) → either_yes x y ≡ No → x ≡ No
     open-of Yes y e = e
@@ -123,7 +123,7 @@ greatest-law n (Some i) (Some j) h k =
 
 pub over-law : (n : ℕ) (a b : ResolvePathResult) → IsAnswer n a → IsAnswer n b → IsAnswer n (over_answer a b)
 over-law n a b h k = record {
-  unsettled = λ e. (λ i. over (h.unsettled (upper a.reached_fixedpoint b.reached_fixedpoint e) i) (k.unsettled (lower a.reached_fixedpoint b.reached_fixedpoint e) i));
+  unsettled = λ e. (λ i. over_answer (h.unsettled (upper a.reached_fixedpoint b.reached_fixedpoint e) i) (k.unsettled (lower a.reached_fixedpoint b.reached_fixedpoint e) i));
   index = greatest-law n a.segment_index b.segment_index h.index k.index;
 }
   where

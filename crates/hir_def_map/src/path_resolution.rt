@@ -9,7 +9,7 @@ ghost use Rattle.dm_maps.specs.Trees.{tree_of};
 ghost use Rattle.dm_maps.specs.World.{numbered_map};
 ghost use Rattle.dm_modules.specs.Maps.{Map, module_at};
 ghost use Rattle.hir_def_map.specs.declared.result.ResolveMode.TheVariants.{Other};
-ghost use Rattle.hir_def_map.specs.Laws.{IsAnswer};
+ghost use Rattle.hir_def_map.specs.Laws.{IsAnswer, IsLeft};
 ghost use Rattle.hir_def_map.specs.Local.{local_answer, local_answer_alone, local_prelude_answer};
 ghost use Rattle.hir_def_map.specs.Paths.{asked, answer, answer_alone, prelude_answer};
 ghost use Rattle.hir_def_map.specs.Questions.{IsKnownQuestion, IsKnownInCrate};
@@ -120,6 +120,7 @@ pub trait ResolvePath {
         requires { IsKnownQuestion world.now (map self.now) local.now original_module path.now.kind }
         ensures found { result.0 ≡ (answer world.now local.now (asked original_module Other shadow expected_macro_subns path.now.kind) path.now.segments).resolved_def }
         ensures left { result.1 ≡ (answer world.now local.now (asked original_module Other shadow expected_macro_subns path.now.kind) path.now.segments).segment_index }
+        ensures lawful { IsLeft (length path.now.segments) result.1 }
         ensures known { KnowsAll world.now (res_holds result.0) }
         ensures local_found { result.0 ≡ (local_answer world.now local.now (asked original_module Other shadow expected_macro_subns path.now.kind) path.now.segments).resolved_def }
         ensures local_left { result.1 ≡ (local_answer world.now local.now (asked original_module Other shadow expected_macro_subns path.now.kind) path.now.segments).segment_index };
@@ -137,6 +138,7 @@ pub trait ResolvePath {
         requires { IsKnownQuestion world.now (map self.now) local.now original_module path.now.kind }
         ensures found { result.0 ≡ (answer_alone world.now local.now (asked original_module Other shadow None path.now.kind) path.now.segments).resolved_def }
         ensures left { result.1 ≡ (answer_alone world.now local.now (asked original_module Other shadow None path.now.kind) path.now.segments).segment_index }
+        ensures lawful { IsLeft (length path.now.segments) result.1 }
         ensures through { result.2 ≡ (answer_alone world.now local.now (asked original_module Other shadow None path.now.kind) path.now.segments).prefix_info }
         ensures known { KnowsAll world.now (res_holds result.0) }
         ensures local_found { result.0 ≡ (local_answer_alone world.now local.now (asked original_module Other shadow None path.now.kind) path.now.segments).resolved_def }
