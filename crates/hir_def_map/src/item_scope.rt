@@ -8,3 +8,4 @@ pub use dm_scope::bindings::Bindings;
 pub use dm_scope::derives::DeriveMacroInvocation;
 pub use dm_scope::glob_imports::{GlobFlags, PerNsGlobImports};
 pub use dm_scope::item_scope::ItemScope;
+pub use dm_scope::scope_tables::ScopeTables;

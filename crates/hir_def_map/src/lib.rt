@@ -1,7 +1,8 @@
 //! What paths mean: name resolution over a checked world.
 //!
-//! What callers of paths name stands here under the modules of the Rust crate: `builtin_type`, `per_ns`, `visibility`,
-//! `item_scope`, `nameres` and `nameres::diagnostics`.
+//! All that callers name stands here under the modules of the Rust crate: `builtin_type`, `per_ns`, `visibility`, `item_scope`,
+//! `nameres` and `nameres::diagnostics`. What these speak of has modules of its own: numbers of things in `ids`, kinds of
+//! definitions in `item_ids`, `name`, `symbol`, `mod_path`, `source` and `fields_shape`.
 #![tactic(auto)]
 
 mod answers;
@@ -21,4 +22,4 @@ mod segments;
 mod single;
 pub mod visibility;
 
-pub use dm_base::builtin_type;
+pub use dm_base::{builtin_type, fields_shape, ids, item_ids, mod_path, name, source, symbol};
