@@ -9,7 +9,7 @@ use crate::pending::{Pending, mark_each};
 use crate::wake::wake;
 use dm_maps::world::World;
 use dm_scope::glob_imports::PerNsGlobImports;
-use std::alloc::AllocError;
+use std::alloc::{AllocError, Global};
 use std::marker::Model;
 
 /// A world, a glob table and the imports that wait: each that is not due would write nothing.
@@ -17,6 +17,7 @@ pub(crate) struct Imports {
     world: World,
     globs: PerNsGlobImports,
     pendings: Vec<Pending>,
+    alloc: Global,
 }
 
 impl Model for Imports {
@@ -37,13 +38,19 @@ impl Drop for Imports {
             world: _world,
             globs: _globs,
             pendings: _pendings,
+            alloc: _alloc,
         } = self;
     }
 }
 
 impl Imports {
     /// Of these parts, with all imports due.
-    pub(crate) fn all_due(world: World, globs: PerNsGlobImports, pendings: Vec<Pending>) -> Imports
+    pub(crate) fn all_due(
+        alloc: Global,
+        world: World,
+        globs: PerNsGlobImports,
+        pendings: Vec<Pending>,
+    ) -> Imports
         requires { fault_of world pendings.items ≡ None }
         ensures { result ≡ record { world = world; globs = globs; pending = map (marked true) pendings.items } }
     {
@@ -53,6 +60,7 @@ impl Imports {
             world,
             globs,
             pendings: due,
+            alloc,
         }
     }
 
@@ -96,9 +104,8 @@ impl Imports {
         ensures answer { IfOk result (λ answer. answer ≡ brings_at self.old i) }
         ensures err { OnErr result (self.new ≡ refused_at self.old i) }
     {
-        let alloc = *self.pendings.allocator();
         let pending = &self.pendings[i];
-        match attempt(&mut self.world, &mut self.globs, pending, alloc) {
+        match attempt(&mut self.world, &mut self.globs, pending, self.alloc) {
             Err(refused) => {
                 mark_at(&mut self.pendings, i, true);
                 Err(refused)
@@ -127,6 +134,7 @@ impl Imports {
             world,
             globs,
             pendings,
+            alloc: _alloc,
         } = self;
         (world, globs, pendings)
     }

@@ -11,7 +11,7 @@ use crate::retry_fault::RetryFault;
 use crate::rounds::{try_all, try_due};
 use dm_maps::world::World;
 use dm_scope::glob_imports::PerNsGlobImports;
-use std::alloc::AllocError;
+use std::alloc::{AllocError, Global};
 use std::marker::Model;
 
 /// A world, a glob table, and imports that wait there (docs/RULES.md, "Rounds").
@@ -39,11 +39,12 @@ impl Drop for Retry {
 }
 
 impl Retry {
-    /// Imports that wait, all of them due. Takes no memory.
+    /// Imports that wait, all of them due. Takes no memory; rounds take theirs from `alloc`.
     ///
     /// Refuses where an import stands twice, and then where the module of one, its use, the `$crate` of its path or what its
     /// visibility names is not the world's; and hands all parts back as they were.
     pub fn new(
+        alloc: Global,
         world: World,
         globs: PerNsGlobImports,
         pendings: Vec<Pending>,
@@ -60,7 +61,7 @@ impl Retry {
             return Err((RetryFault::UnknownPart, world, globs, pendings));
         }
         Ok(Retry {
-            imports: Imports::all_due(world, globs, pendings),
+            imports: Imports::all_due(alloc, world, globs, pendings),
             last_tries: 0,
         })
     }

@@ -144,7 +144,7 @@ fn taken(alloc: Global, pendings: Vec<Pending>) -> Result<Taken, BuildFault> {
         None => Ok(Err((None, 0))),
         Some(world) => {
             let globs = PerNsGlobImports::new(alloc);
-            Ok(outcome(Retry::new(world, globs, pendings)))
+            Ok(outcome(Retry::new(alloc, world, globs, pendings)))
         }
     }
 }
@@ -247,6 +247,19 @@ fn imports_are_refused(rt: HostRuntime) -> Result<(), Fail> {
     gives(&rt, refusal(alloc, doubled(alloc)?), double)?;
     let unknown = Some((Some(RetryFault::UnknownPart), 1));
     gives(&rt, refusal(alloc, lost(alloc)?), unknown)
+}
+
+/// A round of each kind where no import waits.
+fn idle(alloc: Global) -> Result<Option<[Row; 2]>, BuildFault> {
+    match taken(alloc, Vec::new(alloc))? {
+        Err(_) => Ok(None),
+        Ok(mut waiting) => Ok(Some([waiting.round(false)?, waiting.round(true)?])),
+    }
+}
+
+#[test]
+fn where_none_waits_a_round_brings_nothing(rt: HostRuntime) -> Result<(), Fail> {
+    gives(&rt, idle(rt.alloc()), Some([(false, 0, None, None); 2]))
 }
 
 /// What the first import stands for after rounds of both kinds.
