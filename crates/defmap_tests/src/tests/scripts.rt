@@ -8,7 +8,7 @@ mod forms;
 mod paths;
 mod refusals;
 mod rules;
-mod scoping;
+pub(super) mod scoping;
 mod seeing;
 mod worlds;
 

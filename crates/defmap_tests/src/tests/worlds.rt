@@ -6,7 +6,6 @@ mod faults;
 mod local_maps;
 mod outwards;
 mod reading;
-mod records;
 mod refused;
 mod rounds;
 mod visibilities;

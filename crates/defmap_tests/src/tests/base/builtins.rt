@@ -1,9 +1,7 @@
-//! The builtin types.
-use crate::tests::gives;
+//! The builtin types, asked once more where memory is refused.
 use dm_base::builtin_type::BuiltinType;
 use dm_base::name::{AsName, Name};
 use std::alloc::{AllocError, Global};
-use std::test::Fail;
 
 /// The words, in order.
 const WORDS: [&str; 19] = [
@@ -11,9 +9,9 @@ const WORDS: [&str; 19] = [
     "u64", "u128", "f16", "f32", "f64", "f128",
 ];
 
-/// Whether something that has a name gives this one.
+/// Whether what has a name gives that one.
 fn is_named<T: AsName>(alloc: Global, named: &T, word: &str) -> Result<bool, AllocError> {
-    let name = named.as_name(alloc)?;
+    let name = again!(named.as_name(alloc))?;
     Ok(name.as_str() == word)
 }
 
@@ -30,8 +28,8 @@ fn first_other(
     Ok(None)
 }
 
-#[test]
-fn the_nineteen_pairs_stand_in_order(rt: HostRuntime) -> Result<(), Fail> {
-    let all = BuiltinType::all_builtin_types(rt.alloc())?;
-    gives(&rt, first_other(rt.alloc(), all.as_slice()), None)
+/// The first word that the builtin types do not have in its place.
+pub(super) fn first_other_of_all(alloc: Global) -> Result<Option<&'static str>, AllocError> {
+    let all = again!(BuiltinType::all_builtin_types(alloc))?;
+    first_other(alloc, all.as_slice())
 }

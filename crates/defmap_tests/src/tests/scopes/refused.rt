@@ -43,12 +43,12 @@ enum Growth {
 /// What grows the scope of a test, in order, and what each push answers.
 fn growths() -> [(Growth, bool); 22] {
     [
+        (Growth::Push("B", Some(5), Some(import(2))), true),
         (Growth::Push("A", Some(0), Some(GLOB)), true),
         (Growth::Push("A", Some(1), Some(GLOB)), false),
         (Growth::Push("A", Some(2), Some(import(1))), true),
         (Growth::Push("A", Some(3), Some(import(1))), true),
         (Growth::Push("A", Some(4), Some(import(2))), false),
-        (Growth::Push("B", Some(5), Some(import(2))), true),
         (Growth::Push("x", None, None), true),
         (Growth::Push("x", None, None), false),
         (Growth::Declare, true),
@@ -313,28 +313,62 @@ fn a_refused_call_leaves_the_scope_and_is_made_again(rt: HostRuntime) -> Result<
     Ok(())
 }
 
-/// How many imports are listed, and whether they come in order.
-fn imports(scope: &ItemScope) -> Result<(usize, bool), AllocError> {
+/// The names of the scope, in order of their bytes.
+const NAMES: [&str; 3] = ["A", "B", "x"];
+
+fn are_entries(entries: &[(&Name, PerNs)]) -> bool {
+    for (entry, name) in entries.iter().zip(NAMES.iter()) {
+        if entry.0.as_str() != *name {
+            return false;
+        }
+    }
+    entries.len() == 3
+}
+
+fn is_named(name: Option<&Name>, wanted: &str) -> bool {
+    match name {
+        None => false,
+        Some(name) => name.as_str() == wanted,
+    }
+}
+
+/// Whether the resolutions are those of the names, and one of an unnamed trait.
+fn are_resolutions(resolutions: &[(Option<&Name>, PerNs)]) -> bool {
+    for (resolution, name) in resolutions.iter().zip(NAMES.iter()) {
+        if !is_named(resolution.0, *name) {
+            return false;
+        }
+    }
+    resolutions.len() == 4
+}
+
+fn imports_in_order(scope: &ItemScope) -> Result<bool, AllocError> {
     let imports = again!(scope.imports())?;
-    let are_first = imports.as_slice() == [import_id(1), import_id(2)].as_slice();
-    Ok((imports.len(), are_first))
+    Ok(imports.as_slice() == [import_id(1), import_id(2)].as_slice())
 }
 
-fn resolution_count(scope: &ItemScope) -> Result<usize, AllocError> {
+fn entries_in_order(scope: &ItemScope) -> Result<bool, AllocError> {
+    let entries = again!(scope.entries())?;
+    Ok(are_entries(entries.as_slice()))
+}
+
+fn resolutions_in_order(scope: &ItemScope) -> Result<bool, AllocError> {
     let resolutions = again!(scope.resolutions())?;
-    Ok(resolutions.len())
+    Ok(are_resolutions(resolutions.as_slice()))
 }
 
-/// How long each list is that takes memory, asked once more where it is refused, and whether the imports come in order.
-fn lists(alloc: Global) -> Result<(usize, usize, usize, bool), AllocError> {
+fn lists_in(scope: &ItemScope) -> Result<[bool; 3], AllocError> {
+    Ok([
+        entries_in_order(scope)?,
+        imports_in_order(scope)?,
+        resolutions_in_order(scope)?,
+    ])
+}
+
+/// Whether each list that takes memory comes in order, asked once more where it is refused.
+fn lists(alloc: Global) -> Result<[bool; 3], AllocError> {
     let (filled, _as_told) = grown(alloc)?;
     lists_in(&filled.scope)
-}
-
-fn lists_in(scope: &ItemScope) -> Result<(usize, usize, usize, bool), AllocError> {
-    let entries = entry_count(scope);
-    let (imports, are_first) = imports(scope)?;
-    Ok((entries, imports, resolution_count(scope)?, are_first))
 }
 
 /// The dump behind a text, made once more where it is refused, and whether a refusal left the text as it was.
@@ -356,7 +390,7 @@ fn dumped(alloc: Global) -> Result<(String, bool), AllocError> {
 
 #[test]
 fn a_refused_list_is_made_again(rt: HostRuntime) -> Result<(), Fail> {
-    gives(&rt, lists(rt.alloc()), (3, 2, 4, true))
+    gives(&rt, lists(rt.alloc()), [true; 3])
 }
 
 #[test]

@@ -5,7 +5,7 @@ use crate::tests::gives;
 use std::test::Fail;
 
 /// Questions to the world of two crates and two blocks, which both versions of the rules answer alike.
-pub(super) const ANSWERS: &str = "path 0 other module any plain
+pub(in crate::tests) const ANSWERS: &str = "path 0 other module any plain
 => - - - yes - -
 path 0 other module any plain nope
 => - - - yes - -
@@ -91,7 +91,7 @@ path 8 other module any plain dep hidden
 => - fn:3/in:4:implicit/none - yes - d";
 
 /// What the first version answers where an attribute is expected.
-const ATTRIBUTE: &str = "path 0 other module attr plain mu
+pub(in crate::tests) const ATTRIBUTE: &str = "path 0 other module attr plain mu
 => - - rules:0/pub/none yes - -";
 
 /// Modules in the place of the two blocks.
@@ -242,9 +242,8 @@ path 0 other module any crate b a b a b a b a b a b a b a b a b a b a b a b a b 
 
 #[test]
 fn every_kind_of_path_is_answered(rt: HostRuntime) -> Result<(), Fail> {
-    let world = [CRATES, BLOCKS, REST, "check"];
+    let world = [CRATES, BLOCKS, REST, "check", ATTRIBUTE];
     gives(&rt, first_wrong(rt.alloc(), &world, ANSWERS), None)?;
-    gives(&rt, first_wrong(rt.alloc(), &world, ATTRIBUTE), None)?;
     gives(&rt, first_wrong(rt.alloc(), &world, SIGHTS), None)?;
     gives(&rt, first_wrong(rt.alloc(), &[], TWO_CRATES), None)
 }
@@ -261,8 +260,10 @@ fn modules_in_the_place_of_blocks_answer_for_themselves(rt: HostRuntime) -> Resu
 
 #[test]
 fn names_that_are_no_segments_leave_the_answers(rt: HostRuntime) -> Result<(), Fail> {
-    let before = [CRATES, BLOCKS, REST, ANOTHER, "check"];
+    let before = [CRATES, BLOCKS, REST, ANOTHER, "check", ATTRIBUTE];
     gives(&rt, first_wrong(rt.alloc(), &before, ANSWERS), None)?;
-    let between = [CRATES, BLOCKS, REST, "check", ANSWERS, PUSH];
+    let between = [
+        CRATES, BLOCKS, REST, "check", ANSWERS, ATTRIBUTE, PUSH, ATTRIBUTE,
+    ];
     gives(&rt, first_wrong(rt.alloc(), &between, ANSWERS), None)
 }

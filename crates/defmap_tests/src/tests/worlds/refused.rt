@@ -5,6 +5,7 @@
 mod local_maps;
 
 use super::{Building, STRUCT};
+use crate::tests::scripts::scoping::{ANSWERS, ATTRIBUTE};
 use crate::tests::{gives, same};
 use defmap_script::print::answer_text;
 use dm_base::ids::{Crate, ModuleId};
@@ -13,7 +14,7 @@ use dm_base::mod_path::{ModPath, PathKind};
 use dm_base::name::Name;
 use dm_base::visibility::{Visibility, VisibilityExplicitness};
 use dm_maps::build_fault::BuildFault;
-use dm_maps::modes::BuiltinShadowMode;
+use dm_maps::modes::{BuiltinShadowMode, MacroSubNs};
 use dm_maps::world::World;
 use hir_def_map::nameres::AskWorld;
 use hir_def_map::path_resolution::ResolvePath;
@@ -22,101 +23,148 @@ use hir_def_map::visibility::VariantFields;
 use std::alloc::{AllocError, Global};
 use std::test::Fail;
 
-/// A path: the module where it is asked, where it begins, and its segments.
-type Path = (ModuleId, PathKind, &'static [&'static str]);
+fn module(word: &str) -> ModuleId {
+    match word {
+        "2" => ModuleId(2),
+        "3" => ModuleId(3),
+        "4" => ModuleId(4),
+        "5" => ModuleId(5),
+        "6" => ModuleId(6),
+        "8" => ModuleId(8),
+        _ => ModuleId(0),
+    }
+}
 
-/// Paths, and the texts of what they mean.
-const ANSWERS: [(Path, &str); 9] = [
-    (
-        (ModuleId(0), PathKind::Crate, &["E", "V"]),
-        "variant:0/pub/none variant:0/pub/none - yes - e",
-    ),
-    (
-        (ModuleId(0), PathKind::Plain, &["u8"]),
-        "mod:7/pub/none - - yes - -",
-    ),
-    (
-        (ModuleId(5), PathKind::Plain, &["S"]),
-        "struct:1/in:1:implicit/none fn:2/in:5:implicit/none - yes - -",
-    ),
-    (
-        (ModuleId(0), PathKind::Plain, &["dep", "E", "W"]),
-        "enum:4/pub/none - - yes 2 d",
-    ),
-    (
-        (ModuleId(4), PathKind::Abs, &["E"]),
-        "enum:4/pub/none - - yes - -",
-    ),
-    ((ModuleId(0), PathKind::Crate, &["mm"]), "- - - yes - -"),
-    (
-        (ModuleId(6), PathKind::Plain, &["mu"]),
-        "- - rules:0/pub/none yes - -",
-    ),
-    ((ModuleId(3), PathKind::Crate, &["a", "S"]), "- - - yes - -"),
-    (
-        (ModuleId(6), PathKind::Super(1), &["S"]),
-        "struct:1/in:1:implicit/none - - yes - -",
-    ),
-];
+fn mode(word: &str) -> ResolveMode {
+    match word {
+        "import" => ResolveMode::Import,
+        _ => ResolveMode::Other,
+    }
+}
 
-/// Names in a row.
-fn names(alloc: Global, words: &[&str]) -> Result<Vec<Name>, AllocError> {
+fn shadow(word: &str) -> BuiltinShadowMode {
+    match word {
+        "other" => BuiltinShadowMode::Other,
+        _ => BuiltinShadowMode::Module,
+    }
+}
+
+fn expected(word: &str) -> Option<MacroSubNs> {
+    match word {
+        "attr" => Some(MacroSubNs::Attr),
+        "bang" => Some(MacroSubNs::Bang),
+        _ => None,
+    }
+}
+
+fn kind(word: &str) -> PathKind {
+    match word {
+        "abs" => PathKind::Abs,
+        "crate" => PathKind::Crate,
+        "super:0" => PathKind::Super(0),
+        "super:1" => PathKind::Super(1),
+        _ => PathKind::Plain,
+    }
+}
+
+/// Names, parted by spaces.
+fn names(alloc: Global, words: &str) -> Result<Vec<Name>, AllocError> {
     let mut names = Vec::new(alloc);
-    for word in words {
+    for word in words.split(" ") {
         names.push(Name::new(alloc, word)?)?;
     }
     Ok(names)
 }
 
+/// A path: where it begins, and the names behind that, if there are any.
+fn path(alloc: Global, words: &str) -> Result<ModPath, AllocError> {
+    match words.split_once(" ") {
+        None => Ok(ModPath::from_segments(kind(words), Vec::new(alloc))),
+        Some((first, rest)) => Ok(ModPath::from_segments(kind(first), names(alloc, rest)?)),
+    }
+}
+
+/// What a question of a script asks: the module, the mode, what shadows what, and which macro is expected.
+type Asked = (ModuleId, ResolveMode, BuiltinShadowMode, Option<MacroSubNs>);
+
 /// The text of what a path means; none where it names what the world has not.
-fn answered(
+fn meaning(
     alloc: Global,
     world: &World,
-    (m, kind, words): Path,
+    path: &ModPath,
+    (m, mode, shadow, expected): Asked,
 ) -> Result<Option<String>, AllocError> {
-    let path = ModPath::from_segments(kind, names(alloc, words)?);
     let Some(map) = world.map_of(m) else {
         return Ok(None);
     };
-    if !world.knows_path(&path) {
+    if !world.knows_path(path) {
         return Ok(None);
     }
     let local = world.local_map_of(map);
-    let (mode, shadow) = (ResolveMode::Other, BuiltinShadowMode::Module);
-    let answer = map.resolve_path_fp_with_macro(local, world, mode, m, &path, shadow, None);
+    let answer = map.resolve_path_fp_with_macro(local, world, mode, m, path, shadow, expected);
     Ok(Some(answer_text(alloc, &answer)?))
 }
 
-/// Whether a path has this answer.
-fn is_answered(alloc: Global, world: &World, path: Path, wanted: &str) -> Result<bool, AllocError> {
-    let text = again!(answered(alloc, world, path))?;
+/// The text of what a line of a script asks: `path MODULE MODE SHADOW EXPECTED KIND SEGMENT..`.
+fn answered(alloc: Global, world: &World, line: &str) -> Result<Option<String>, AllocError> {
+    let mut words = line.splitn(6, " ");
+    let _path = words.next();
+    let m = module(words.next().unwrap_or(""));
+    let asked = (
+        m,
+        mode(words.next().unwrap_or("")),
+        shadow(words.next().unwrap_or("")),
+        expected(words.next().unwrap_or("")),
+    );
+    let path = path(alloc, words.next().unwrap_or(""))?;
+    meaning(alloc, world, &path, asked)
+}
+
+/// Whether a question has this answer, asked once more where it is refused.
+fn is_answered(alloc: Global, world: &World, line: &str, wanted: &str) -> Result<bool, AllocError> {
+    let text = again!(answered(alloc, world, line))?;
     Ok(match &text {
         None => false,
         Some(text) => text.as_str() == wanted,
     })
 }
 
-/// The first answer that is not given.
-fn first_unlike(alloc: Global, world: &World) -> Result<Option<&'static str>, AllocError> {
-    for (path, wanted) in ANSWERS {
-        if !is_answered(alloc, world, path, wanted)? {
-            return Ok(Some(wanted));
+/// The first path of a transcript that is answered otherwise.
+fn first_unlike(
+    alloc: Global,
+    world: &World,
+    transcript: &'static str,
+) -> Result<Option<&'static str>, AllocError> {
+    let mut question = "";
+    for line in transcript.lines() {
+        match line.strip_prefix("=> ") {
+            None => question = line,
+            Some(wanted) => {
+                let is_path = question.starts_with("path ");
+                if is_path && !is_answered(alloc, world, question, wanted)? {
+                    return Ok(Some(question));
+                }
+            }
         }
     }
     Ok(None)
 }
 
-/// The first answer that a world built by calls does not give.
-fn first_fault(alloc: Global) -> Result<Option<&'static str>, BuildFault> {
+/// The first path of a transcript that a world built by calls answers otherwise.
+fn first_fault(
+    alloc: Global,
+    transcript: &'static str,
+) -> Result<Option<&'static str>, BuildFault> {
     match Building::full(alloc)?.world() {
         None => Ok(Some("check")),
-        Some(checked) => Ok(first_unlike(alloc, &checked.world)?),
+        Some(checked) => Ok(first_unlike(alloc, &checked.world, transcript)?),
     }
 }
 
 #[test]
 fn a_world_whose_calls_were_refused_answers_alike(rt: HostRuntime) -> Result<(), Fail> {
-    gives(&rt, first_fault(rt.alloc()), None)
+    gives(&rt, first_fault(rt.alloc(), ANSWERS), None)?;
+    gives(&rt, first_fault(rt.alloc(), ATTRIBUTE), None)
 }
 
 /// The visibilities of the struct's fields.
