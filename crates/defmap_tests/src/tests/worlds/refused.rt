@@ -120,8 +120,11 @@ fn answered(alloc: Global, world: &World, line: &str) -> Result<Option<String>, 
     meaning(alloc, world, &path, asked)
 }
 
-/// Whether a question has this answer, asked once more where it is refused.
+/// Whether a question has this answer, asked once more where it is refused. What is no path is not asked.
 fn is_answered(alloc: Global, world: &World, line: &str, wanted: &str) -> Result<bool, AllocError> {
+    if !line.starts_with("path ") {
+        return Ok(true);
+    }
     let text = again!(answered(alloc, world, line))?;
     Ok(match &text {
         None => false,
@@ -140,8 +143,7 @@ fn first_unlike(
         match line.strip_prefix("=> ") {
             None => question = line,
             Some(wanted) => {
-                let is_path = question.starts_with("path ");
-                if is_path && !is_answered(alloc, world, question, wanted)? {
+                if !is_answered(alloc, world, question, wanted)? {
                     return Ok(Some(question));
                 }
             }
