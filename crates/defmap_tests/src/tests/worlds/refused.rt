@@ -105,10 +105,9 @@ fn meaning(
     Ok(Some(answer_text(alloc, &answer)?))
 }
 
-/// The text of what a line of a script asks: `path MODULE MODE SHADOW EXPECTED KIND SEGMENT..`.
-fn answered(alloc: Global, world: &World, line: &str) -> Result<Option<String>, AllocError> {
-    let mut words = line.splitn(6, " ");
-    let _path = words.next();
+/// The text of what a question asks: `MODULE MODE SHADOW EXPECTED KIND SEGMENT..`.
+fn answered(alloc: Global, world: &World, question: &str) -> Result<Option<String>, AllocError> {
+    let mut words = question.splitn(5, " ");
     let m = module(words.next().unwrap_or(""));
     let asked = (
         m,
@@ -120,16 +119,33 @@ fn answered(alloc: Global, world: &World, line: &str) -> Result<Option<String>, 
     meaning(alloc, world, &path, asked)
 }
 
-/// Whether a question has this answer, asked once more where it is refused. What is no path is not asked.
-fn is_answered(alloc: Global, world: &World, line: &str, wanted: &str) -> Result<bool, AllocError> {
-    if !line.starts_with("path ") {
-        return Ok(true);
-    }
-    let text = again!(answered(alloc, world, line))?;
+/// Whether a question has this answer, asked once more where it is refused.
+fn is_answered(
+    alloc: Global,
+    world: &World,
+    question: &str,
+    wanted: &str,
+) -> Result<bool, AllocError> {
+    let text = again!(answered(alloc, world, question))?;
     Ok(match &text {
         None => false,
         Some(text) => text.as_str() == wanted,
     })
+}
+
+fn first_line(text: &str) -> &str {
+    match text.split_once("\n") {
+        None => text,
+        Some((line, _)) => line,
+    }
+}
+
+/// Whether a row of a transcript holds: a question, and then its answer; or nothing, before the first.
+fn holds(alloc: Global, world: &World, row: &str) -> Result<bool, AllocError> {
+    match row.split_once("\n=> ") {
+        None => Ok(row.is_empty()),
+        Some((question, rest)) => is_answered(alloc, world, question, first_line(rest)),
+    }
 }
 
 /// The first path of a transcript that is answered otherwise.
@@ -138,15 +154,9 @@ fn first_unlike(
     world: &World,
     transcript: &'static str,
 ) -> Result<Option<&'static str>, AllocError> {
-    let mut question = "";
-    for line in transcript.lines() {
-        match line.strip_prefix("=> ") {
-            None => question = line,
-            Some(wanted) => {
-                if !is_answered(alloc, world, question, wanted)? {
-                    return Ok(Some(question));
-                }
-            }
+    for row in transcript.split("path ") {
+        if !holds(alloc, world, row)? {
+            return Ok(Some(row));
         }
     }
     Ok(None)
