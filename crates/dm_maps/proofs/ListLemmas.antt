@@ -2,7 +2,7 @@
 use Rattle.std.proofs.Common.{◌≡◌, ◌<◌, ◌≤◌, ◌+◌, ℕ, Bool, true, false, cond, List, [], ◌∷◌, ◌++◌, Option, None, Some, length, slice_get, refl, sym, ap, ◌∙◌, subst, arith, true≢false, IsTrue, length-append}
 use Rattle.std.specs.List.{AllByRecursion}
 use Rattle.std.specs.Map.{lookup}
-use Rattle.std.proofs.lemmas.Bool.{eqb-true, ltb-true, lt-ltb}
+use Rattle.std.proofs.lemmas.Bool.{ltb-true, lt-ltb}
 use Rattle.indexmap.specs.IndexMap.{insert_entry}
 use Rattle.dm_ids.specs.declared.ids.EnumId.{EnumId}
 use Rattle.dm_ids.specs.declared.ids.EnumVariantId.{EnumVariantId}
@@ -23,6 +23,7 @@ use Rattle.dm_ids.specs.declared.item_ids.AdtId.TheVariants as adt
 use Rattle.dm_ids.specs.Names.{Name, same_name, find_name}
 use Rattle.std.specs.Option.{ForSome, option_map_or, option_and_then}
 use Rattle.std.proofs.lemmas.Option.{slice_get_within}
+use Rattle.dm_maps.specs.CutLaws.{same-enum}
 use Rattle.dm_maps.specs.World.{World}
 use Rattle.dm_maps.specs.BuildItems.{with_use, with_macro, with_variant}
 use Rattle.dm_maps.specs.Build.{with_item}
@@ -84,9 +85,6 @@ IsOf vs d v = slice_get vs v.1.0.0 ≡ Some d
 
 abbrev IsOwn : List EnumId → EnumId × Variants → Type 0
 IsOwn vs e = AllByRecursion (IsOf vs e.0) e.1
-
-same-enum : (e d : EnumId) → same_enum e d ≡ true → e ≡ d
-same-enum e d h = let n : e.0 ≡ d.0 = eqb-true e.0 d.0 h in λ i. record { 0 = n i }
 
 -- the variants that are found of an enum are its own
 pub variants_in-own : (vs : List EnumId) (es : Enums) (e : EnumId) → AllByRecursion (IsOwn vs) es → AllByRecursion (IsOf vs e) (variants_in es e)

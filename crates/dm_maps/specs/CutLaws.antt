@@ -79,7 +79,7 @@ last-alone {A} ms = go (last_of ms)
 
 -- ---- the enums of a cut world
 
-same-enum : (e d : EnumId) → same_enum e d ≡ true → e ≡ d
+pub same-enum : (e d : EnumId) → same_enum e d ≡ true → e ≡ d
 same-enum e d h = ap (λ (n : ℕ). let i : EnumId = record { 0 = n } in i) (eqb-true e.0 d.0 h)
 
 find-without : (k e : EnumId) (es : Enums) → lookup (same_enum k) (without_enum e es) ≡ cond (not (same_enum e k)) (lookup (same_enum k) es) None
