@@ -1,10 +1,10 @@
 //! What a check of a world can find.
 use dm_base::ids::{MapId, ModuleId};
 
-/// What is wrong with an id that something holds, in the order in which faults of one holder are told.
+/// What is wrong with an id that something holds, with the number by which faults of one holder are told in order.
 #[derive(Clone, Copy, PartialEq, Eq, Debug)]
 pub enum WorldFaultKind {
-    UnknownModule,
+    UnknownModule = 1,
     UnknownCrate,
     UnknownUse,
     /// The world has no such item or variant, or one of another kind.

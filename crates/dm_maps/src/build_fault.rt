@@ -4,11 +4,11 @@ ghost use Rattle.dm_maps.specs.declared.build_fault.BuildFault.TheVariants.{OutO
 
 use std::alloc::AllocError;
 
-/// Why a builder refuses, in the order in which the reasons are tested. The builder is then as it was.
+/// Why a builder refuses, by the numbers in whose order the reasons are tested. The builder is then as it was.
 #[derive(Clone, Copy, PartialEq, Eq, Debug)]
 pub enum BuildFault {
     /// The crate, or the crate or block of the map, is not the builder's.
-    NoSuchCrate,
+    NoSuchCrate = 1,
     /// The module that something is put into is not the builder's.
     NoSuchModule,
     /// The enum of a variant is not the builder's.
