@@ -1,10 +1,13 @@
 //! Items per namespace.
 use crate::tests::same;
+use defmap_callers::base::{definitions, type_or};
 use dm_base::ids::{Crate, ExternCrateId, FunctionId, MacroRulesId, StructId};
 use dm_base::imports::ImportOrExternCrate;
 use dm_base::item_ids::{AdtId, MacroId, ModuleDefId};
+use dm_base::item_in_ns::ItemInNs;
 use dm_base::per_ns::PerNs;
 use dm_base::visibility::Visibility;
+use std::test::Fail;
 
 const STRUCT: ModuleDefId = ModuleDefId::AdtId(AdtId::StructId(StructId(1)));
 
@@ -69,4 +72,25 @@ fn a_filter_asks_types_then_values_then_macros(rt: HostRuntime) {
         &items,
         &PerNs::types(STRUCT, SEEN_BY[0], None).or(PerNs::values(FUNCTION, SEEN_BY[1], None)),
     );
+}
+
+#[test]
+fn the_callers_of_the_page_give_what_it_says(rt: HostRuntime) -> Result<(), Fail> {
+    let listed = definitions(rt.alloc(), full())?;
+    same(
+        &rt,
+        &listed.as_slice(),
+        &[
+            ItemInNs::Types(STRUCT),
+            ItemInNs::Values(FUNCTION),
+            ItemInNs::Macros(MACRO),
+        ]
+        .as_slice(),
+    );
+    same(
+        &rt,
+        &type_or(PerNs::none(), STRUCT),
+        &PerNs::types(STRUCT, Visibility::Public, None),
+    );
+    Ok(())
 }

@@ -4,6 +4,7 @@ ghost use Rattle.dm_base.specs.declared.visibility.Visibility.TheVariants.{Modul
 ghost use Rattle.dm_base.specs.declared.visibility.VisibilityExplicitness.TheVariants.{Implicit};
 
 use crate::tests::same;
+use defmap_callers::base::{is_reached, is_seen_around_its_block, widened_by};
 use defmap_callers::tree::SmallTree;
 use dm_base::ids::{BlockId, Crate, MapId, ModuleId};
 use dm_base::module_tree::ModuleTree;
@@ -62,5 +63,30 @@ fn modules_are_lifted_out_of_nested_blocks(rt: HostRuntime) {
         &rt,
         &inside(6).min(&tree, inside(5), BLOCK_0),
         &Some(inside(6)),
+    );
+}
+
+#[test]
+fn the_callers_of_the_page_see_what_it_says(rt: HostRuntime) {
+    let tree = SmallTree::new();
+    assert!(rt; is_seen_around_its_block());
+    assert!(rt;
+        is_reached(
+            &tree,
+            inside(1),
+            Visibility::PubCrate(Crate(0)),
+            ModuleId(2)
+        )
+    );
+    assert!(rt; !is_reached(&tree, inside(1), inside(2), ModuleId(1)));
+    same(
+        &rt,
+        &widened_by(&tree, BLOCK_0, inside(6), inside(5)),
+        &inside(5),
+    );
+    same(
+        &rt,
+        &widened_by(&tree, BLOCK_0, inside(1), inside(5)),
+        &inside(1),
     );
 }
