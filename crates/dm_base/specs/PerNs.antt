@@ -107,6 +107,17 @@ abbrev pub AsksItem : {F D I : Type 0} → (F → Visibility → Bool → F → 
 AsksItem step None f r g = (r ≡ None) × (g ≡ f)
 AsksItem step (Some x) f r g = (b : Bool) × step f x.vis b g × (r ≡ (if b then Some x else None))
 
+-- the asker may be asked about an item, if there is one
+abbrev pub MayAskItem : {F D I : Type 0} → (F → Visibility → Type 0) → Option (Item D I) → F → Type 0
+MayAskItem may None f = Unit {0}
+MayAskItem may (Some x) f = may f x.vis
+
+-- The asker f may be asked about the type, then about the value, then about the macro, each time in the state that its answers left.
+pub record MayAskInOrder {F : Type 0} (may : F → Visibility → Type 0) (step : F → Visibility → Bool → F → Type 0) (n : PerNs) (f : F) : Type 0 where
+  pub of_type : MayAskItem may n.types f
+  pub of_value : (t : Option (Item ModuleDefId ImportOrExternCrate)) (g : F) → AsksItem step n.types f t g → MayAskItem may n.values g
+  pub of_macro : (t : Option (Item ModuleDefId ImportOrExternCrate)) (g : F) → AsksItem step n.types f t g → (v : Option (Item ModuleDefId ImportOrGlob)) (h : F) → AsksItem step n.values g v h → MayAskItem may n.macros h
+
 -- the type, the value and the macro are asked about in that order, and those stay that pass
 abbrev pub AsksInOrder : {F : Type 0} → (F → Visibility → Bool → F → Type 0) → PerNs → F → PerNs → Type 0
 AsksInOrder {F} step n f r =

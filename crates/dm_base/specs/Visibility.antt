@@ -95,14 +95,14 @@ are_apart t Public v = false
 abbrev pub IsNoneWhereApart : Tree → MapId → Visibility → Visibility → Option Visibility → Type 0
 IsNoneWhereApart t map a b answer = IsTrue (are_of_map t map a b) → is_none answer ≡ are_apart t a b
 
--- What is said of the most of two visibilities, if there is one: which it is, also of them in the other order, and that it
--- sees all that either sees.
+-- What is said of the most of two visibilities, if there is one: which it is, also of them in the other order, and that
+-- those who see either see it.
 pub record IsMost (t : Tree) (map : MapId) (a b : Visibility) (most : Option Visibility) : Type 0 where
   pub table : most ≡ max_of t map a b
   pub either_order : most ≡ max_of t map b a
   pub union : ForSome most (IsUnion t a b)
 
--- The same of the least, which sees what both see.
+-- The same of the least, which those see who see both.
 pub record IsLeast (t : Tree) (map : MapId) (a b : Visibility) (least : Option Visibility) : Type 0 where
   pub table : least ≡ min_of t map a b
   pub either_order : least ≡ min_of t map b a

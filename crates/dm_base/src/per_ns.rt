@@ -1,6 +1,6 @@
 //! What a name means: one item in each namespace at most.
 ghost use Rattle.std.specs.Prelude.{◌≡◌, ⊤, [], ◌∷◌, codes, true, false};
-ghost use Rattle.dm_base.specs.PerNs.{nothing, over, items_of, is_reresolved, type_alone, value_alone, macro_alone, type_and_value, of_def, is_empty, is_full, definition, seen_as, availability, AsksItem, AsksInOrder};
+ghost use Rattle.dm_base.specs.PerNs.{nothing, over, items_of, is_reresolved, type_alone, value_alone, macro_alone, type_and_value, of_def, is_empty, is_full, definition, seen_as, availability, AsksItem, AsksInOrder, MayAskItem, MayAskInOrder};
 
 use crate::items::IterItems;
 use crate::visibility::Visibility;
@@ -266,9 +266,10 @@ impl PerNs {
 
     /// The items whose visibility passes.
     ///
-    /// `f` is asked about the type, the value and the macro in that order, once about each that is there.
+    /// `f` is asked about the type, the value and the macro in that order, once about each that is there; no more than that has to be
+    /// askable.
     pub fn filter_visibility<F: FnMut(Visibility) -> bool + Drop>(self, mut f: F) -> PerNs
-        requires { F.IsAlwaysCallable f }
+        requires { MayAskInOrder F.pre F.step self f }
         ensures { AsksInOrder F.step self f result }
     {
         let types = kept_if(self.types, &mut f);
@@ -338,9 +339,8 @@ fn kept_if<D: Copy, I: Copy, F: FnMut(Visibility) -> bool>(
     item: Option<Item<D, I>>,
     f: &mut F,
 ) -> Option<Item<D, I>>
-    requires { F.IsAlwaysCallable f.old }
-    ensures asks { AsksItem F.step item f.old result f.new }
-    ensures callable { F.IsAlwaysCallable f.new }
+    requires { MayAskItem F.pre item f.old }
+    ensures { AsksItem F.step item f.old result f.new }
 {
     match item {
         None => None,

@@ -52,7 +52,7 @@ impl Visibility {
 
     /// Whether the module `from` sees an item of this visibility (docs/RULES.md, "Who sees what").
     ///
-    /// Takes no memory, and climbs at most once along the chain of `from`.
+    /// The tree has to have `from`, and the module that the visibility names. Takes no memory.
     pub fn is_visible_from<T: ModuleTree>(self, tree: &T, from: ModuleId) -> bool
         requires named { NamesKnown (T.tree tree.now) self }
         requires known { IsKnown (T.tree tree.now) from }
@@ -68,7 +68,7 @@ impl Visibility {
         self.is_visible_from_def_map(tree, map, from)
     }
 
-    /// The same, where the map that `from` lies in is at hand.
+    /// The same, where the map that `from` lies in is at hand: `krate` and `block` of the tree tell it.
     pub fn is_visible_from_def_map<T: ModuleTree>(
         self,
         tree: &T,
@@ -87,9 +87,10 @@ impl Visibility {
         }
     }
 
-    /// The most of two visibilities: one of them, which sees all that either sees. `None` where there is none such.
+    /// The most of two visibilities: one of them, seen by all who see either. `None` where the table of docs/RULES.md has none.
     ///
-    /// Two different modules are compared where both lie in `map`. One module twice is explicit if either is. Takes no memory.
+    /// Two different modules are compared where both lie in `map`. One module twice is explicit if either is. The tree has to have
+    /// the modules that the two name. Takes no memory.
     pub fn max<T: ModuleTree>(self, tree: &T, other: Visibility, map: MapId) -> Option<Visibility>
         requires one { NamesKnown (T.tree tree.now) self }
         requires two { NamesKnown (T.tree tree.now) other }
@@ -100,9 +101,10 @@ impl Visibility {
         Some(most)
     }
 
-    /// The least of two visibilities: one of them, which sees what both see. `None` where there is none such.
+    /// The least of two visibilities: one of them, seen by those who see both. `None` where the table of docs/RULES.md has none.
     ///
-    /// Two different modules are compared where both lie in `map`. One module twice is explicit if either is. Takes no memory.
+    /// Two different modules are compared where both lie in `map`. One module twice is explicit if either is. The tree has to have
+    /// the modules that the two name. Takes no memory.
     pub fn min<T: ModuleTree>(self, tree: &T, other: Visibility, map: MapId) -> Option<Visibility>
         requires one { NamesKnown (T.tree tree.now) self }
         requires two { NamesKnown (T.tree tree.now) other }

@@ -2,8 +2,8 @@
 use Rattle.std.specs.Prelude.{◌≡◌, true, List, [], ◌∷◌, map, string_bytes, refl}
 use Rattle.std.specs.Cmp.Lexicographic.{pointwise, bytes_decides}
 use Rattle.std.specs.String.{string_eq}
-use Rattle.std.proofs.Common.{rules, Global, String}
-use Rattle.std.proofs.lemmas.Bool.{and_parts}
+use Rattle.std.proofs.Common.{rules, ap, sym, ◌∙◌, Global, String}
+use Rattle.std.proofs.lemmas.Bool.{and_from, and_parts}
 use Rattle.dm_base.specs.Path.{paths_same}
 use Rattle.dm_ids.specs.declared.ids.MacroCallKind.{MacroCallKind}
 use Rattle.dm_ids.specs.declared.ids.ExpandErrorKind.{ExpandErrorKind}
@@ -18,6 +18,7 @@ use Rattle.dm_diagnostics.specs.declared.DefDiagnosticKind.{DefDiagnosticKind}
 use Rattle.dm_diagnostics.specs.declared.DefDiagnosticKind.TheVariants as kind
 use Rattle.dm_diagnostics.specs.contracts.DefDiagnosticPartialEq.TheImpl as diagnostic_eq
 use Rattle.dm_diagnostics.specs.contracts.DefDiagnosticKindPartialEq.TheImpl as kind_eq
+use Rattle.dm_diagnostics.specs.contracts.DefDiagnosticKindEq.TheImpl.Laws.{laws-law}
 
 -- kinds that say the same
 abbrev pub SaysTheSame : DefDiagnosticKind → DefDiagnosticKind → Type 0
@@ -50,7 +51,7 @@ calls_same = Prim.search rules
 errors_same : (a b : ExpandErrorKind) → error_eq.ghosts.eq a b ≡ true → a ≡ b
 errors_same = Prim.search rules
 
-kinds_same : (x y : DefDiagnosticKind) → kind_eq.ghosts.eq x y ≡ true → SaysTheSame x y
+pub kinds_same : (x y : DefDiagnosticKind) → kind_eq.ghosts.eq x y ≡ true → SaysTheSame x y
 kinds_same (kind.UnresolvedModule a cs) (kind.UnresolvedModule b ds) e =
     let parts = and_parts _ _ e in (ast_same a b parts.0, texts_same cs.items ds.items parts.1)
 kinds_same (kind.UnresolvedMacroCall a p) (kind.UnresolvedMacroCall b q) e =
@@ -60,6 +61,31 @@ kinds_same (kind.MacroError a p k) (kind.MacroError b q l) e =
     let rest = and_parts _ _ first.1 in
     λ i. kind.MacroError (ast_same a b first.0 i) (paths_same p q rest.0 i) (errors_same k l rest.1 i)
 kinds_same x y e = Prim.search (rules, bytes_decides)
+
+-- ---- and the other way round
+
+ast_told : (a b : AstId) → a ≡ b → ast_eq.ghosts.eq a b ≡ true
+ast_told = Prim.search rules
+
+modules_told : (a b : ModuleId) → a ≡ b → module_eq.ghosts.eq a b ≡ true
+modules_told = Prim.search rules
+
+texts_told : (xs ys : List (String Global)) → map string_bytes xs ≡ map string_bytes ys → pointwise string_eq xs ys ≡ true
+texts_told [] [] e = refl
+texts_told [] (y ∷ ys) e = cc
+texts_told (x ∷ xs) [] e = cc
+texts_told (x ∷ xs) (y ∷ ys) e = and_from _ _ ((bytes_decides (string_bytes x) (string_bytes y)).1 cc) (texts_told xs ys cc)
+
+kind_told : (x y : DefDiagnosticKind) → x ≡ y → kind_eq.ghosts.eq x y ≡ true
+kind_told x y e = ap (kind_eq.ghosts.eq x) (sym e) ∙ laws-law.refl x
+
+pub kinds_told : (x y : DefDiagnosticKind) → SaysTheSame x y → kind_eq.ghosts.eq x y ≡ true
+kinds_told (kind.UnresolvedModule a cs) (kind.UnresolvedModule b ds) e = and_from _ _ (ast_told a b e.0) (texts_told cs.items ds.items e.1)
+kinds_told (kind.MacroDefError a m) (kind.MacroDefError b n) e = and_from _ _ (ast_told a b e.0) ((bytes_decides (string_bytes m) (string_bytes n)).1 e.1)
+kinds_told x y e = kind_told x y e
+
+pub diagnostics_told : (x y : DefDiagnostic) → SaySame x y → diagnostic_eq.ghosts.eq x y ≡ true
+diagnostics_told x y e = and_from _ _ (modules_told x.in_module y.in_module e.module_) (kinds_told x.kind y.kind e.kind)
 
 pub diagnostics_same : (x y : DefDiagnostic) → diagnostic_eq.ghosts.eq x y ≡ true → SaySame x y
 diagnostics_same x y e = let parts = and_parts _ _ e in record { module_ = modules_same x.in_module y.in_module parts.0; kind = kinds_same x.kind y.kind parts.1 }

@@ -5,7 +5,7 @@ ghost use Rattle.std.specs.Prelude.{◌≡◌, IfOk, true};
 ghost use Rattle.std.specs.Cmp.{partial_equiv_from_equiv};
 ghost use Rattle.std.specs.Cmp.Lexicographic.{pointwise, lists_equiv};
 ghost use Rattle.std.specs.Slice.Iter.{iter_rest};
-ghost use Rattle.dm_diagnostics.specs.SameTexts.{SaySame, diagnostics_same};
+ghost use Rattle.dm_diagnostics.specs.SameTexts.{SaySame, SaysTheSame, diagnostics_same, diagnostics_told, kinds_same, kinds_told};
 ghost use Rattle.dm_diagnostics.specs.contracts.DefDiagnosticEq.TheImpl.Laws.{laws-law};
 
 use dm_base::ids::{
@@ -26,6 +26,7 @@ pub enum DefDiagnosticKind {
         ast: AstId,
         candidates: Vec<String>,
     },
+    /// No crate is there for an `extern crate`.
     UnresolvedExternCrate {
         ast: AstId,
     },
@@ -40,10 +41,12 @@ pub enum DefDiagnosticKind {
         cfg: CfgExpr,
         opts: CfgOptions,
     },
+    /// The path of a macro call leads to no macro.
     UnresolvedMacroCall {
         ast: MacroCallKind,
         path: ModPath,
     },
+    /// A macro of the compiler's own that is not implemented.
     UnimplementedBuiltinMacro {
         ast: AstId,
     },
@@ -52,14 +55,17 @@ pub enum DefDiagnosticKind {
         ast: AstId,
         id: AttrId,
     },
+    /// A derive that does not list paths.
     MalformedDerive {
         ast: AstId,
         id: AttrId,
     },
+    /// A macro's definition is wrong. No call makes one: it is written as it stands.
     MacroDefError {
         ast: AstId,
         message: String,
     },
+    /// A macro call could not be expanded.
     MacroError {
         ast: AstId,
         path: ModPath,
@@ -187,17 +193,29 @@ impl DefDiagnostic {
     }
 }
 
-/// What is equal only where it says the same: of texts the bytes count, and not the room that these have.
+/// What is equal exactly where it says the same: of texts the bytes count, and not the room that these have.
 pub trait SaidEq: Eq {
     ghost SaySame: { Self → Self → Type 0 };
 
     ghost same: { (x y : Self) → Self.eq x y ≡ true → SaySame x y };
+
+    ghost told: { (x y : Self) → SaySame x y → Self.eq x y ≡ true };
+}
+
+impl SaidEq for DefDiagnosticKind {
+    ghost SaySame = { SaysTheSame };
+
+    ghost same = { kinds_same };
+
+    ghost told = { kinds_told };
 }
 
 impl SaidEq for DefDiagnostic {
     ghost SaySame = { SaySame };
 
     ghost same = { diagnostics_same };
+
+    ghost told = { diagnostics_told };
 }
 
 /// The diagnostics of a map, which contracts see as their list. Clones share it.

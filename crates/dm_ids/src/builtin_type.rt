@@ -203,7 +203,7 @@ impl BuiltinUint {
         BuiltinUint::from_suffix(suffix.as_str())
     }
 
-    /// The word of a unsigned integer type.
+    /// The word of an unsigned integer type.
     pub fn as_str(self) -> &'static str
         ensures word { result.now ≡ uint_word self }
         ensures found { find_name result.now uint_words ≡ Some self }
@@ -250,6 +250,8 @@ impl BuiltinFloat {
 impl fmt::Display for BuiltinType {
     ghost output = { λ word. Some (builtin_word word) };
 
+    ghost styled_output = { λ word _. Some (builtin_word word) };
+
     fn fmt<W: fmt::Write>(&self, f: &mut fmt::Formatter<W>) -> fmt::Result {
         f.write_str(BuiltinType::as_str(*self))
     }
@@ -257,6 +259,8 @@ impl fmt::Display for BuiltinType {
 
 impl fmt::Display for BuiltinInt {
     ghost output = { λ word. Some (int_word word) };
+
+    ghost styled_output = { λ word _. Some (int_word word) };
 
     fn fmt<W: fmt::Write>(&self, f: &mut fmt::Formatter<W>) -> fmt::Result {
         f.write_str(BuiltinInt::as_str(*self))
@@ -266,6 +270,8 @@ impl fmt::Display for BuiltinInt {
 impl fmt::Display for BuiltinUint {
     ghost output = { λ word. Some (uint_word word) };
 
+    ghost styled_output = { λ word _. Some (uint_word word) };
+
     fn fmt<W: fmt::Write>(&self, f: &mut fmt::Formatter<W>) -> fmt::Result {
         f.write_str(BuiltinUint::as_str(*self))
     }
@@ -273,6 +279,8 @@ impl fmt::Display for BuiltinUint {
 
 impl fmt::Display for BuiltinFloat {
     ghost output = { λ word. Some (float_word word) };
+
+    ghost styled_output = { λ word _. Some (float_word word) };
 
     fn fmt<W: fmt::Write>(&self, f: &mut fmt::Formatter<W>) -> fmt::Result {
         f.write_str(BuiltinFloat::as_str(*self))

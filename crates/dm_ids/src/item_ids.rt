@@ -245,7 +245,7 @@ impl From<TypeAliasId> for AssocItemId {
     }
 }
 
-/// What such an item lies in.
+/// What an associated item lies in.
 #[derive(Clone, Copy, PartialEq, Eq, PartialOrd, Ord, Hash, Debug)]
 pub enum ItemContainerId {
     ExternBlockId(ExternBlockId),

@@ -11,3 +11,4 @@ pub mod name;
 pub mod source;
 pub mod symbol;
 mod text;
+pub mod value_eq;

@@ -32,6 +32,18 @@ root-contains = refl
 beside : is_among (m 1) (chain rows (m 17)) ≡ false
 beside = refl
 
+first-contains : is_among (m 1) (chain rows (m 15)) ≡ true
+first-contains = refl
+
+seventh-contains : is_among (m 7) (chain rows (m 15)) ≡ true
+seventh-contains = refl
+
+deeper : is_among (m 15) (chain rows (m 3)) ≡ false
+deeper = refl
+
+itself : is_among (m 5) (chain rows (m 5)) ≡ true
+itself = refl
+
 four-moves : moves rows (m 0) (m 15) ≡ 4
 unfolding ones ones_in
 four-moves = refl

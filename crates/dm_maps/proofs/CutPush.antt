@@ -9,20 +9,21 @@ use Rattle.dm_ids.specs.declared.ids.ModuleId.{ModuleId}
 use Rattle.dm_ids.specs.declared.imports.ImportOrExternCrate.{ImportOrExternCrate}
 use Rattle.dm_base.specs.declared.per_ns.Item.{Item}
 use Rattle.dm_base.specs.declared.per_ns.PerNs.{PerNs}
+use Rattle.dm_base.specs.declared.visibility.Visibility.TheVariants.{Public}
 use Rattle.dm_ids.specs.Names.{Name, same_name, find_name}
 use Rattle.dm_scope.specs.Bindings as b
 use Rattle.dm_scope.specs.Bindings.{Bound}
 use Rattle.dm_scope.specs.Flags.{Flags, Globs, has_flag}
 use Rattle.dm_scope.specs.Push.{types_reading, values_reading, macros_reading, scope_after}
 use Rattle.dm_scope.specs.Scope.{Scope, no_scope}
-use Rattle.dm_modules.specs.Maps.{Map, Module, Modules, nth_module, put_scope, map_with_scope}
+use Rattle.dm_modules.specs.Maps.{Map, Module, Modules, fresh_module, nth_module, put_scope, map_with_scope}
 use Rattle.dm_maps.proofs.MapWrites.{put-cases, with-cases}
 use Rattle.dm_maps.proofs.ModuleGrowth.{map-set_own}
 use Rattle.dm_maps.specs.declared.place.Place.{Place}
 use Rattle.dm_maps.specs.PushRes.{with_push}
 use Rattle.dm_maps.specs.Maps.{Maps}
 use Rattle.dm_maps.specs.World.{World, maps_of, with_maps, place_of, scope_of, with_scope, with_scope_in, placed_module}
-use Rattle.dm_maps.specs.Cut.{among, kept, cut_bound, cut_scope, cut_module, cut_map, cut}
+use Rattle.dm_maps.specs.Cut.{among, kept, cut_bound, cut_scope, cut_module, cut_map, cut, no_origin}
 use Rattle.dm_maps.specs.CutLaws.{find-other}
 
 kept-insert : {A : Type 0} (N : List Name) (n : Name) (v : A) → among N n ≡ false → (es : List (Name × A)) → kept N (insert_entry same_name es n v) ≡ kept N es
@@ -64,7 +65,7 @@ map-cut N m k s same = ap (λ es. record (cut_map N m) { modules = es }) (go (nt
     go : (o : Option Module) → nth_module m.modules k ≡ o → cut_scope N s ≡ cut_scope N (scope_of_module o)
         → cut_entries N (put_scope m.modules k o s) ≡ cut_entries N m.modules
     go None is p = refl
-    go (Some d) is p = entries-cut N m.modules k d (record d { scope = s }) is (ap (λ c. record d { scope = c; children = [] }) p)
+    go (Some d) is p = entries-cut N m.modules k d (record d { scope = s }) is (ap (λ c. record (fresh_module no_origin Public d.parent) { scope = c }) p)
 
 world-cut : (w : World) (N : List Name) (p : Place) (s : Scope) → cut_scope N s ≡ cut_scope N (scope_of_module (placed_module w p)) → cut (with_scope_in w (Some p) s) N ≡ cut w N
 world-cut w N p s same =

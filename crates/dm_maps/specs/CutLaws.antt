@@ -19,16 +19,19 @@ use Rattle.dm_ids.specs.declared.ids.MapId.{MapId}
 use Rattle.dm_ids.specs.declared.ids.ModuleId.{ModuleId}
 use Rattle.dm_ids.specs.declared.ids.UseId.{UseId}
 use Rattle.dm_ids.specs.declared.item_ids.MacroId.{MacroId}
+use Rattle.dm_ids.specs.declared.macros.MacroCallStyles.{MacroCallStyles}
+use Rattle.dm_ids.specs.declared.macros.MacroLoc.{MacroLoc}
 use Rattle.dm_ids.specs.Names.{Name, same_name, find_name}
 use Rattle.dm_ids.specs.Builtins.{builtin_words}
 use Rattle.dm_scope.specs.Scope.{Scope, no_scope, bound_in, legacy_in, last_of}
 use Rattle.dm_tables.specs.Variants.{Variants, Enums, same_enum, variants_in}
+use Rattle.dm_held.specs.Kinds.{macro_number}
 use Rattle.dm_modules.specs.Maps.{Map, Module, Modules, LocalMap, nth_module}
 use Rattle.dm_maps.specs.declared.place.Place.{Place}
-use Rattle.dm_maps.specs.Readings.{setting_of, read, is_edition_2015, styles_of, variants_of, macro_uses_of}
+use Rattle.dm_maps.specs.Readings.{setting_of, read, is_edition_2015, styles_by, styles_of, no_style, variants_of, macro_uses_of}
 use Rattle.dm_maps.specs.Trees.{tree_of, tree_by, outline}
 use Rattle.dm_maps.specs.World.{World, numbered_map, crate_map, place_of, placed_module, scope_of}
-use Rattle.dm_maps.specs.Cut.{among, kept, last_alone, cut_scope, cut_module, cut_prelude, cut_map, without_enum, with_enum, with_variants, cut_enums, cut, cut_local}
+use Rattle.dm_maps.specs.Cut.{among, kept, last_alone, cut_scope, cut_module, cut_prelude, cut_macro, cut_map, without_enum, with_enum, with_variants, cut_enums, cut, cut_local}
 
 -- ---- look-ups in cut tables
 
@@ -214,6 +217,17 @@ tree-cut : (w : World) (N : List Name) → tree_of (cut w N) ≡ tree_of w
 unfolding tree_of
 tree-cut w N = ap (tree_by w.places) (map-map (λ (m : Map). m.parent) (cut_map N) w.block_maps)
 
+-- the kinds of macros stay
+styles-cut : (w : World) (N : List Name) (m : MacroId) → styles_of (cut w N) m ≡ styles_of w m
+styles-cut w N m = ap said (slice_get-map cut_macro w.macros (macro_number m)) ∙ go (slice_get w.macros (macro_number m))
+  where
+    said : Option (ModuleId × MacroLoc) → MacroCallStyles
+    said o = option_map_or (λ e. styles_by m e.1) o no_style
+
+    go : (o : Option (ModuleId × MacroLoc)) → said (option_map cut_macro o) ≡ said o
+    go None = refl
+    go (Some e) = refl
+
 -- of no name the cut says what the world says
 pub setting-cut : (w : World) (N : List Name) → setting_of (cut w N) ≡ setting_of w
 unfolding setting_of
@@ -223,7 +237,7 @@ setting-cut w N = λ i. record {
   is_2015 = λ k. (ap (λ o. option_map_or (λ m. is_edition_2015 m.edition) o false) (slice_get-map (cut_map N) w.crate_maps k.0) ∙ read-map N (λ m. is_edition_2015 m.edition) false (λ m. refl) (crate_map w k)) i;
   block_root = λ b. (ap (λ o. option_map (λ m. m.root) o) (slice_get-map (cut_map N) w.block_maps b.0) ∙ root-cut N (slice_get w.block_maps b.0)) i;
   prelude = λ id. (ap (λ o. option_and_then (λ m. option_map (λ (p : ModuleId × Option UseId). p.0) m.prelude) o) (numbered-cut w N id) ∙ prelude-cut N (numbered_map w id)) i;
-  styles = styles_of w;
+  styles = λ m. styles-cut w N m i;
   rules = w.rules;
 }
 

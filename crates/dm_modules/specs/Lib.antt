@@ -1,4 +1,5 @@
 pub mod Origins
+pub mod SameOrigins
 pub mod Maps
 pub mod Locals
 pub mod LendingModule

@@ -1,4 +1,7 @@
 //! What a question prefers and expects.
+ghost use Rattle.std.proofs.Common.{rules};
+
+use dm_base::value_eq::ValueEq;
 
 /// Whether a builtin type may be shadowed by a module of its name.
 #[derive(Clone, Copy, PartialEq, Eq, Debug)]
@@ -16,4 +19,12 @@ pub enum MacroSubNs {
     Bang,
     /// An attribute or a derive.
     Attr,
+}
+
+impl ValueEq for BuiltinShadowMode {
+    ghost same = { Prim.search rules };
+}
+
+impl ValueEq for MacroSubNs {
+    ghost same = { Prim.search rules };
 }

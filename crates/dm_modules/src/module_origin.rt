@@ -1,9 +1,11 @@
 //! Where modules come from.
 ghost use Rattle.std.specs.Prelude.{◌≡◌};
+ghost use Rattle.dm_modules.specs.SameOrigins.{origins_same};
 ghost use Rattle.dm_modules.specs.Origins.{is_child, declaration, own_file, is_inline, source_file};
 
 use dm_base::ids::{BlockId, FileAstId};
 use dm_base::source::{AstId, EditionedFileId, HirFileId, TreeId};
+use dm_base::value_eq::ValueEq;
 
 /// Where a module comes from.
 #[derive(Clone, Copy, PartialEq, Eq, Hash, Debug)]
@@ -103,4 +105,8 @@ impl ModuleOrigin {
             ModuleOrigin::File { .. } | ModuleOrigin::Inline { .. }
         )
     }
+}
+
+impl ValueEq for ModuleOrigin {
+    ghost same = { origins_same };
 }

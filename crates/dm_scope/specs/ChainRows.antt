@@ -55,6 +55,13 @@ comes_again = refl
 ends_nowhere : ends Types (first, at 0 0) ≡ None
 ends_nowhere = refl
 
+ends_nowhere_either : ends Types (second, at 1 0) ≡ None
+ends_nowhere_either = refl
+
+-- a record that is a definition ends a chain at once
+ends_at_once : EndsIn (leads Types tables) (ends Types) (first, at 0 1) struct
+ends_at_once = ([], tt, refl)
+
 -- the same import ends in a definition in values
 ends_in_values : EndsIn (leads Values tables) (ends Values) (first, at 0 0) function
 ends_in_values = ([], tt, refl)
@@ -69,3 +76,16 @@ glob_ends = refl
 
 missing_ends : leads Values tables (first, at 0 1) ≡ None
 missing_ends = refl
+
+-- nor does a use that the tables lack, nor an extern crate
+abbrev leads_astray : Scope
+leads_astray = record no_scope { types = record { items = []; records = (wide.Import (at 0 0), target.Import (at 9 0)) ∷ (wide.Import (at 0 1), target.ExternCrate (record { 0 = 0 })) ∷ [] } }
+
+lacking_ends : leads Types tables (leads_astray, at 0 0) ≡ None
+lacking_ends = refl
+
+extern_crate_ends : leads Types tables (leads_astray, at 0 1) ≡ None
+extern_crate_ends = refl
+
+extern_crate_is_no_end : ends Types (leads_astray, at 0 1) ≡ None
+extern_crate_is_no_end = refl

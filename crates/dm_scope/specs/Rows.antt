@@ -11,11 +11,14 @@ use Rattle.dm_ids.specs.declared.imports.ImportOrDef.TheVariants as target
 use Rattle.dm_ids.specs.declared.imports.ImportOrExternCrate.{ImportOrExternCrate}
 use Rattle.dm_ids.specs.declared.imports.ImportOrExternCrate.TheVariants as wide
 use Rattle.dm_ids.specs.declared.imports.ImportOrGlob.{ImportOrGlob}
+use Rattle.dm_ids.specs.declared.imports.ImportOrGlob.TheVariants as narrow
 use Rattle.dm_ids.specs.declared.item_ids.AdtId.TheVariants as adt
 use Rattle.dm_ids.specs.declared.item_ids.ModuleDefId.{ModuleDefId}
 use Rattle.dm_ids.specs.declared.item_ids.ModuleDefId.TheVariants as def
 use Rattle.dm_ids.specs.declared.ids.ModuleId.{ModuleId}
-use Rattle.dm_scope.specs.Flags.{Globs, no_globs}
+use Rattle.dm_base.specs.Sameness.{same_def}
+use Rattle.dm_scope.specs.Changes.{without_binding}
+use Rattle.dm_scope.specs.Flags.{Globs, no_globs, has_flag}
 use Rattle.dm_scope.specs.Push.{types_reading, values_reading, scope_after, globs_after, push_answer}
 use Rattle.dm_scope.specs.Pushes.{binding, record_of}
 use Rattle.dm_scope.specs.Scope.{Scope, no_scope, bound_in}
@@ -137,6 +140,9 @@ extern_crate_value = refl
 extern_crate_answers : answers [] extern_crate ≡ true ∷ []
 extern_crate_answers = refl
 
+extern_crate_by_steps : answers_by_steps no_scope no_globs extern_crate ≡ true ∷ []
+extern_crate_by_steps = refl
+
 extern_crate_records : type_record_of extern_crate (extern 0) ≡ Some (target.Def (struct 0))
 extern_crate_records = refl
 
@@ -152,6 +158,16 @@ two_declarations_bind = refl
 
 two_declarations_answer : answers [] two_declarations ≡ true ∷ false ∷ []
 two_declarations_answer = refl
+
+two_declarations_by_steps : answers_by_steps no_scope no_globs two_declarations ≡ true ∷ false ∷ []
+two_declarations_by_steps = refl
+
+-- an import stands for the import that its pushed item came by
+abbrev carried : List ScopePush
+carried = record { name = A; res = type (struct 1) Public (Some (glob 7)); by = Some (import 0) } ∷ []
+
+carried_record : type_record_of carried (import 0) ≡ Some (target.Glob (record { use_ = record { 0 = 0 }; idx = record { 0 = 7 } }))
+carried_record = refl
 
 -- an empty push is answered once, and a glob can bind in two namespaces at once
 abbrev unresolved_then_both : List ScopePush
@@ -169,3 +185,48 @@ unresolved_then_both_answers = refl
 
 unresolved_then_both_by_steps : answers_by_steps no_scope no_globs unresolved_then_both ≡ true ∷ false ∷ true ∷ []
 unresolved_then_both_by_steps = refl
+
+-- ---- where a removal stands between pushes, and where two scopes have one table
+
+abbrev value : ModuleDefId → PerNs
+value d = record { types = None; values = Some (record { def = d; vis = Public; import = None }); macros = None }
+
+abbrev of_value : ModuleDefId → Option ImportOrExternCrate → ScopePush
+of_value d i = record { name = A; res = value d; by = i }
+
+abbrev by_glob : Scope
+by_glob = scope_after no_scope no_globs m0 A (value (function 0)) (Some (glob 0))
+
+abbrev glob_stands : Globs
+glob_stands = globs_after no_scope no_globs m0 A (value (function 0)) (Some (glob 0))
+
+glob_sets_flag : has_flag glob_stands.values m0 A ≡ true
+glob_sets_flag = refl
+
+-- a removal leaves the flag
+abbrev removed : Scope
+removed = record by_glob { values = without_binding same_def A (function 0) by_glob.values }
+
+removed_is_unbound : (bound_in removed A).values ≡ None
+removed_is_unbound = refl
+
+-- a named import binds the name again, and clears the flag
+bound_again : push_answer removed glob_stands m0 A (value (function 1)) (Some (import 1)) ≡ true
+bound_again = refl
+
+bound_again_by : (bound_in (scope_after removed glob_stands m0 A (value (function 1)) (Some (import 1))) A).values ≡ Some (record { def = function 1; vis = Public; import = Some (narrow.Import (record { use_ = record { 0 = 0 }; idx = record { 0 = 1 } })) })
+bound_again_by = refl
+
+flag_is_cleared : has_flag (globs_after removed glob_stands m0 A (value (function 1)) (Some (import 1))).values m0 A ≡ false
+flag_is_cleared = refl
+
+-- so does a declaration, which no later import replaces
+declared_again : answers_by_steps removed glob_stands (of_value (function 1) None ∷ of_value (function 2) (Some (import 1)) ∷ []) ≡ true ∷ false ∷ []
+declared_again = refl
+
+-- two scopes under one module of one table: the second clears the flag of the first, whose glob's binding then stays
+second_clears : push_answer no_scope glob_stands m0 A (value (function 1)) (Some (import 1)) ≡ true
+second_clears = refl
+
+first_keeps : push_answer by_glob (globs_after no_scope glob_stands m0 A (value (function 1)) (Some (import 1))) m0 A (value (function 2)) (Some (import 2)) ≡ false
+first_keeps = refl

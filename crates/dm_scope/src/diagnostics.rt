@@ -1,2 +1,2 @@
 //! What went wrong while a map was made.
-pub use dm_diagnostics::{DefDiagnostic, DefDiagnosticKind, DefDiagnostics};
+pub use dm_diagnostics::{DefDiagnostic, DefDiagnosticKind, DefDiagnostics, SaidEq};

@@ -75,7 +75,7 @@ impl Model for ItemScope {
 }
 
 impl ItemScope {
-    /// A fresh scope.
+    /// A fresh scope. Takes no memory.
     pub fn new(alloc: Global) -> ItemScope
         ensures empty { result ≡ no_scope }
 

@@ -10,7 +10,7 @@ use dm_base::macros::MacroCallStyles;
 use dm_base::name::Name;
 use dm_base::per_ns::Namespace;
 
-/// Whoever has the scopes of modules, with what stands beside them.
+/// Whoever has the scopes of modules, with what stands beside them. Modules are numbered from 0, without gaps.
 pub trait ScopeTables {
     /// What the tables are, for contracts.
     ghost tables: { Self → Tables };

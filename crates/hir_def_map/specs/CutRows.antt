@@ -1,16 +1,19 @@
 -- What cuts of a worked world are, as equations that compute.
 use Rattle.std.specs.Prelude.{◌≡◌, ℕ, [], ◌∷◌, Some, None, codes, refl}
 use Rattle.dm_ids.specs.declared.fields_shape.FieldsShape.TheVariants.{Unit}
+use Rattle.dm_ids.specs.declared.macros.MacroExpander.TheVariants.{BuiltIn}
+use Rattle.dm_ids.specs.declared.macros.MacroLoc.TheVariants.{MacroRules}
 use Rattle.dm_ids.specs.declared.source.Edition.TheVariants.{Edition2021}
 use Rattle.dm_ids.specs.Names.{Name}
 use Rattle.dm_tables.specs.Variants.{Enums, Variants}
 use Rattle.dm_scope.specs.Flags.{no_globs}
 use Rattle.dm_scope.specs.Scope.{no_scope}
+use Rattle.dm_modules.specs.declared.module_origin.ModuleOrigin.TheVariants.{CrateRoot}
 use Rattle.dm_maps.specs.PushRes.{with_push}
 use Rattle.dm_maps.specs.Build.{no_world}
-use Rattle.dm_maps.specs.Cut.{cut, cut_enums, cut_local, cut_module, cut_prelude}
+use Rattle.dm_maps.specs.Cut.{cut, cut_enums, cut_local, cut_macro, cut_module, cut_prelude}
 use Rattle.dm_maps.specs.World.{World}
-use Rattle.hir_def_map.specs.Written.{a_struct, by_rules, crate_id, block_id, number, module_with, a_map}
+use Rattle.hir_def_map.specs.Written.{a_struct, by_rules, within_crate, crate_id, block_id, number, module_with, a_map}
 use Rattle.hir_def_map.specs.WorldS.{world_s, a_type, outer_scope, inner_scope}
 
 -- by `mm`: of its two legacy macros the last; no `A`, no `X`, no record; maps, roots, editions, places and styles as they are
@@ -68,6 +71,14 @@ of_enums = refl
 -- of a module its children go, also those under the names
 pub of_children : cut_module (codes "c" ∷ []) (record (module_with 0 None no_scope).1 { children = (codes "c", number 1) ∷ [] }) ≡ (module_with 0 None no_scope).1
 of_children = refl
+
+-- where it comes from and who sees it go too
+pub of_origins : cut_module [] (record (module_with 0 None no_scope).1 { origin = CrateRoot (record { file = record { 0 = 7 }; edition = Edition2021 }); visibility = within_crate 0 }) ≡ (module_with 0 None no_scope).1
+of_origins = refl
+
+-- of a macro its kind stays, and not the module that it was added to
+pub of_macros : cut_macro (number 3, MacroRules BuiltIn) ≡ (number 0, MacroRules BuiltIn)
+of_macros = refl
 
 -- of a prelude its module stays, and not the use that named it
 pub of_preludes : cut_prelude (number 1, Some (record { 0 = 0 })) ≡ (number 1, None)

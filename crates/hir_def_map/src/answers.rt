@@ -22,14 +22,14 @@ pub(crate) fn reached(here: PerNs) -> ResolvePathResult
     }
 }
 
-/// Nothing, for good.
+/// Nothing, yes.
 pub(crate) fn nothing_yes() -> ResolvePathResult
     ensures { result ≡ nothing_yes }
 {
     reached(PerNs::none())
 }
 
-/// Nothing yet.
+/// Nothing, no.
 pub(crate) fn nothing_no() -> ResolvePathResult
     ensures { result ≡ nothing_no }
 {
@@ -89,7 +89,7 @@ pub(crate) fn marked(differing: bool, answer: ResolvePathResult) -> ResolvePathR
     }
 }
 
-/// The answer of a module that lies in a block, or does not: a block's is for good.
+/// The answer of a module that lies in a block, or does not: a block's has status yes.
 pub(crate) fn settled(in_block: bool, answer: ResolvePathResult) -> ResolvePathResult
     ensures { result ≡ settled in_block answer }
 {

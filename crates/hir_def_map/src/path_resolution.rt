@@ -37,8 +37,8 @@ pub trait ResolvePath {
     /// The map, as contracts see it.
     ghost map: { Self → Map };
 
-    /// What a path means from a module of this map: definitions per namespace, the first segment that is left unresolved, whether
-    /// the answer is for good, and what the path went through.
+    /// What a path means from a module of this map: definitions per namespace, the first segment that is left unresolved, the
+    /// status, and what the path went through.
     fn resolve_path_fp_with_macro(
         &self,
         local: &LocalDefMap,

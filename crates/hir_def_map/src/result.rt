@@ -11,7 +11,8 @@ pub enum ResolveMode {
     Other,
 }
 
-/// Whether what is known settles the answer: `No` only where more bindings could still change nothing into something.
+/// The status of an answer. `No` comes with nothing alone. `Yes` comes with all that is found, and with nothing too, as for a name
+/// alone that is not bound: it does not say that later pushes would leave the answer.
 #[derive(Clone, Copy, PartialEq, Eq, Debug)]
 pub enum ReachedFixedPoint {
     Yes,
@@ -44,7 +45,7 @@ impl Default for ResolvePathResultPrefixInfo {
 pub struct ResolvePathResult {
     /// The definitions, per namespace.
     pub resolved_def: PerNs,
-    /// The first segment that is left unresolved; none where the whole path is resolved.
+    /// The first segment that is left unresolved; none where the whole path is resolved, and where nothing is found.
     pub segment_index: Option<usize>,
     pub reached_fixedpoint: ReachedFixedPoint,
     pub prefix_info: ResolvePathResultPrefixInfo,

@@ -80,7 +80,8 @@ impl WorldBuilder {
         Ok(())
     }
 
-    /// Adds a module below `parent`, and answers its number.
+    /// Adds a module below `parent`, and answers its number. Its origin has to be that of a child: a file or inline
+    /// (`ModuleOrigin::is_child`).
     ///
     /// Refused are, in this order, `NoSuchModule` of a parent that is not the builder's, `TakenChild` where the parent
     /// has a child of that name, `OutOfNumbers` and `OutOfMemory`; the builder is then as it was. The visibility may name
@@ -109,7 +110,7 @@ impl WorldBuilder {
         }
     }
 
-    /// Why a child of that name is refused, if it is and though there is memory. Takes none.
+    /// The fault for which a child of that name is refused, if there is one, want of memory aside. Takes no memory.
     #[tactic(auto, unfolding(crate::specs::Faults::child_fault))]
     pub fn child_fault(&self, parent: ModuleId, name: &str) -> Option<BuildFault>
         ensures { result ≡ child_fault self.now parent name.now }

@@ -47,7 +47,7 @@ impl WorldBuilder {
         }
     }
 
-    /// Why a variant of that name is refused, if it is and though there is memory. Takes none.
+    /// The fault for which a variant of that name is refused, if there is one, want of memory aside. Takes no memory.
     #[tactic(auto, unfolding(crate::specs::ItemFaults::variant_fault))]
     pub fn variant_fault(&self, e: EnumId, name: &str) -> Option<BuildFault>
         ensures { result ≡ variant_fault self.now e name.now }

@@ -21,7 +21,7 @@ use dm_def_map::def_map::DefMap;
 use dm_modules::local_def_map::LocalDefMap;
 use std::alloc::AllocError;
 
-/// The map of a crate.
+/// The map of a crate. The crate has to be the world's (`World::has_crate`).
 pub fn crate_def_map(world: &World, krate: Crate) -> &DefMap
     requires { IsTrue (knows world.now (held.Crate krate)) }
     ensures map { crate_map world.now krate ≡ Some result.now }
@@ -32,7 +32,7 @@ pub fn crate_def_map(world: &World, krate: Crate) -> &DefMap
     world.tables().crate_map_at(krate)
 }
 
-/// The map of a block.
+/// The map of a block. The block has to be the world's (`World::has_block`).
 pub fn block_def_map(world: &World, block: BlockId) -> &DefMap
     requires { IsTrue (nat_lt block.0 (length world.now.block_maps)) }
     ensures map { slice_get world.now.block_maps block.0 ≡ Some result.now }
@@ -43,7 +43,7 @@ pub fn block_def_map(world: &World, block: BlockId) -> &DefMap
     world.tables().block_map_at(block)
 }
 
-/// The extern prelude of a crate.
+/// The extern prelude of a crate, which has to be the world's (`World::has_crate`).
 pub fn local_def_map(world: &World, krate: Crate) -> &LocalDefMap
     requires { IsTrue (knows world.now (held.Crate krate)) }
     ensures map { slice_get world.now.local_maps krate.0 ≡ Some result.now }
