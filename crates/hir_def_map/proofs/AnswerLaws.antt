@@ -1,4 +1,4 @@
--- Every answer is open only where it is nothing, and leaves no segment but one of the path's, and never the first.
+-- The status of every answer is no only where it is nothing, and leaves no segment but one of the path's, and never the first.
 use Rattle.std.proofs.Common.{◌≡◌, ◌≤◌, ◌<◌, ◌+◌, ℕ, suc, max, Bool, true, false, List, [], ◌∷◌, length, map, slice_get, cond, Option, Some, None, refl, sym, subst, arith}
 use Rattle.std.specs.Option.{ForSome, option_map_or}
 use Rattle.std.proofs.lemmas.List.{length-map}
@@ -47,7 +47,7 @@ of-none n = λ x e. cc
 of-some : (n i : ℕ) → Inner n i → ForSome (Some i) (Inner n)
 of-some n i h = λ x e. let same : i ≡ x = cc in subst (Inner n) same h
 
--- an answer for good that leaves no segment
+-- an answer of status yes that leaves no segment
 settled-whole : (n : ℕ) (a : ResolvePathResult) → a.reached_fixedpoint ≡ Yes → a.segment_index ≡ None → IsAnswer n a
 settled-whole n a y none = record { unsettled = λ e. absurd (is-no a.reached_fixedpoint y e); index = subst (λ o. ForSome o (Inner n)) (sym none) (of-none n) }
 

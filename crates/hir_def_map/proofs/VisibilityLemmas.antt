@@ -1,20 +1,25 @@
--- The modules that written visibilities name are the world's.
-use Rattle.std.proofs.Common.{◌≡◌, ◌||◌, ℕ, Bool, true, false, cond, Option, Some, None, refl, subst}
-use Rattle.std.specs.Option.{ForSome, option_and_then}
+-- The modules and crates that written visibilities name are the world's.
+use Rattle.std.proofs.Common.{◌≡◌, ◌||◌, ℕ, Bool, true, false, cond, IsTrue, Option, Some, None, length, refl, subst}
+use Rattle.std.specs.Option.{ForSome, option_and_then, option_map}
+use Rattle.std.proofs.lemmas.Bool.{lt-ltb}
+use Rattle.std.proofs.lemmas.Option.{slice_get_within}
+use Rattle.dm_ids.specs.declared.ids.Crate.{Crate}
 use Rattle.dm_ids.specs.declared.ids.ModuleId.{ModuleId}
 use Rattle.dm_ids.specs.declared.imports.ImportOrExternCrate.{ImportOrExternCrate}
 use Rattle.dm_ids.specs.declared.item_ids.ModuleDefId.{ModuleDefId}
 use Rattle.dm_ids.specs.declared.item_ids.ModuleDefId.TheVariants as def
 use Rattle.dm_base.specs.declared.per_ns.Item.{Item}
 use Rattle.dm_base.specs.declared.per_ns.PerNs.{PerNs}
-use Rattle.dm_base.specs.declared.visibility.Visibility.TheVariants.{Module}
+use Rattle.dm_base.specs.declared.visibility.Visibility.TheVariants.{Module, PubCrate}
 use Rattle.dm_base.specs.declared.visibility.VisibilityExplicitness.{VisibilityExplicitness}
 use Rattle.dm_base.specs.Tree.{IsKnown, same_block}
 use Rattle.dm_base.specs.Visibility.{NamesKnown}
-use Rattle.dm_held.specs.Holding.{res_holds}
-use Rattle.dm_maps.specs.Known.{KnowsAll}
+use Rattle.dm_held.specs.declared.held.HeldId.TheVariants as held
+use Rattle.dm_held.specs.Holding.{res_holds, vis_holds}
+use Rattle.dm_maps.specs.Family.{common}
+use Rattle.dm_maps.specs.Known.{KnowsAll, knows}
 use Rattle.dm_maps.specs.Trees.{tree_of}
-use Rattle.dm_maps.specs.World.{World}
+use Rattle.dm_maps.specs.World.{World, crate_map}
 use Rattle.dm_modules.specs.Maps.{Map}
 use Rattle.hir_def_map.specs.RawVisibilities.{module_named, module_reached, block_in, restricted}
 use Rattle.hir_def_map.proofs.KnownLemmas.{type_module-known}
@@ -50,3 +55,19 @@ restricted-known w M within t known root = by (within || same_block (block_in w 
 
 pub names-known : (w : World) (m : ModuleId) (e : VisibilityExplicitness) → IsKnown (tree_of w) m → ForSome (Some (Module m e)) (NamesKnown (tree_of w))
 names-known w m e k v is = let same : Module m e ≡ v = cc in subst (NamesKnown (tree_of w)) same k
+
+-- so what such a visibility holds is the world's
+pub module-held : (w : World) (m : ModuleId) (e : VisibilityExplicitness) → IsKnown (tree_of w) m → ForSome (Some (Module m e)) (λ v. KnowsAll w (vis_holds v))
+unfolding tree_of
+module-held w m e k v is = let same : Module m e ≡ v = cc in subst (λ x. KnowsAll w (vis_holds x)) same (k, tt)
+
+pub crate-held : (w : World) (k : Crate) → IsTrue (knows w (held.Crate k)) → ForSome (Some (PubCrate k)) (λ v. KnowsAll w (vis_holds v))
+crate-held w k known v is = let same : PubCrate k ≡ v = cc in subst (λ x. KnowsAll w (vis_holds x)) same (known, tt)
+
+-- the crate of a map is the world's
+pub crate-known : (w : World) (M : Map) → option_map common (crate_map w M.id.krate) ≡ Some (common M) → IsTrue (knows w (held.Crate M.id.krate))
+crate-known w M shared = by (crate_map w M.id.krate) refl shared
+  where
+    by : (o : Option Map) → crate_map w M.id.krate ≡ o → option_map common o ≡ Some (common M) → IsTrue (knows w (held.Crate M.id.krate))
+    by None is h = cc
+    by (Some K) is h = lt-ltb M.id.krate.0 (length w.crate_maps) (slice_get_within w.crate_maps M.id.krate.0 K is)

@@ -9,7 +9,7 @@ use Rattle.hir_def_map.specs.Answers.{nothing_no}
 abbrev pub IsLeft : ℕ → Option ℕ → Type 0
 IsLeft n left = ForSome left (λ i. (1 ≤ i) × (i < n))
 
--- An answer to a path of n segments: it is open only where it is nothing, with no segment left and no flag, and the segment that
+-- An answer to a path of n segments: its status is no only where it is nothing, with no segment left and no flag, and the segment that
 -- it leaves is one of the path's, and never the first.
 pub record IsAnswer (n : ℕ) (a : ResolvePathResult) : Type 0 where
   pub unsettled : a.reached_fixedpoint ≡ No → a ≡ nothing_no

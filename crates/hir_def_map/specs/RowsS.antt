@@ -7,39 +7,39 @@ use Rattle.dm_modules.specs.declared.modes.MacroSubNs.TheVariants.{Bang, Attr}
 use Rattle.hir_def_map.specs.declared.result.ResolveMode.TheVariants as mode
 use Rattle.hir_def_map.specs.declared.result.ReachedFixedPoint.TheVariants.{Yes}
 use Rattle.hir_def_map.specs.Paths.{answer}
-use Rattle.hir_def_map.specs.Written.{asked, said, an_item, a_struct, a_function, by_rules, named}
+use Rattle.hir_def_map.specs.Written.{meaning, said, an_item, a_struct, a_function, by_rules, named}
 use Rattle.hir_def_map.specs.WorldS.{world_s}
 
 -- a named import takes the place of what a glob brought
-pub glob_and_import : asked world_s [] 0 mode.Other shadow.Module None kind.Plain (codes "A" ∷ [])
+pub glob_and_import : meaning world_s [] 0 mode.Other shadow.Module None kind.Plain (codes "A" ∷ [])
     ≡ said (Some (an_item (a_struct 1) Public (Some (named 0 1)))) None None Yes None false false
 unfolding answer
 glob_and_import = refl
 
 -- of two legacy macros under one name the last counts, where it fits
-pub last_legacy : asked world_s [] 0 mode.Other shadow.Module (Some Bang) kind.Plain (codes "mm" ∷ [])
+pub last_legacy : meaning world_s [] 0 mode.Other shadow.Module (Some Bang) kind.Plain (codes "mm" ∷ [])
     ≡ said None None (Some (an_item (by_rules 1) Public None)) Yes None false false
 unfolding answer
 last_legacy = refl
 
-pub no_fitting_legacy : asked world_s [] 0 mode.Other shadow.Module (Some Attr) kind.Plain (codes "mm" ∷ [])
+pub no_fitting_legacy : meaning world_s [] 0 mode.Other shadow.Module (Some Attr) kind.Plain (codes "mm" ∷ [])
     ≡ said None None None Yes None false false
 unfolding answer
 no_fitting_legacy = refl
 
 -- from a block in a module of a block: the value of the inner block, the type of the module outside it, the macro of the crate's preludes
-pub three_places : asked world_s [] 3 mode.Other shadow.Module None kind.Plain (codes "X" ∷ [])
+pub three_places : meaning world_s [] 3 mode.Other shadow.Module None kind.Plain (codes "X" ∷ [])
     ≡ said (Some (an_item (a_struct 0) Public None)) (Some (an_item (a_function 2) Public None)) (Some (an_item (by_rules 0) Public None)) Yes None false false
 unfolding answer
 three_places = refl
 
 -- the module outside it has no value, and the crate's root none of the three
-pub two_places : asked world_s [] 2 mode.Other shadow.Module None kind.Plain (codes "X" ∷ [])
+pub two_places : meaning world_s [] 2 mode.Other shadow.Module None kind.Plain (codes "X" ∷ [])
     ≡ said (Some (an_item (a_struct 0) Public None)) None (Some (an_item (by_rules 0) Public None)) Yes None false false
 unfolding answer
 two_places = refl
 
-pub one_place : asked world_s [] 0 mode.Other shadow.Module None kind.Plain (codes "X" ∷ [])
+pub one_place : meaning world_s [] 0 mode.Other shadow.Module None kind.Plain (codes "X" ∷ [])
     ≡ said None None (Some (an_item (by_rules 0) Public None)) Yes None false false
 unfolding answer
 one_place = refl

@@ -118,9 +118,9 @@ said t v m status index differing variant = record {
   prefix_info = record { differing_crate = differing; enum_variant = variant };
 }
 
--- a question from module m
-abbrev pub asked : World → LocalMap → ℕ → ResolveMode → BuiltinShadowMode → Option MacroSubNs → PathKind → List Name → ResolvePathResult
-asked w L m mode shadow expected kind segments = answer w L (record { origin = record { 0 = m }; mode = mode; shadow = shadow; expected = expected; kind = kind }) segments
+-- what a path means from module m
+abbrev pub meaning : World → LocalMap → ℕ → ResolveMode → BuiltinShadowMode → Option MacroSubNs → PathKind → List Name → ResolvePathResult
+meaning w L m mode shadow expected kind segments = answer w L (record { origin = record { 0 = m }; mode = mode; shadow = shadow; expected = expected; kind = kind }) segments
 
 -- tables of worked worlds
 abbrev pub crate_id : ℕ → MapId

@@ -1,10 +1,11 @@
 //! Paths, resolved over a checked world.
-ghost use Rattle.std.specs.Prelude.{◌≡◌, None, Some, IsSome, length};
+ghost use Rattle.std.specs.Prelude.{◌≡◌, None, Some, IsSome, IsTrue, length};
 ghost use Rattle.std.specs.Option.{ForSome};
 ghost use Rattle.dm_base.specs.Tree.{IsKnown};
 ghost use Rattle.dm_base.specs.Visibility.{NamesKnown};
-ghost use Rattle.dm_held.specs.Holding.{res_holds};
-ghost use Rattle.dm_maps.specs.Known.{KnowsAll};
+ghost use Rattle.dm_held.specs.declared.held.HeldId.TheVariants as held;
+ghost use Rattle.dm_held.specs.Holding.{res_holds, vis_holds};
+ghost use Rattle.dm_maps.specs.Known.{KnowsAll, knows};
 ghost use Rattle.dm_maps.specs.Trees.{tree_of};
 ghost use Rattle.dm_maps.specs.World.{numbered_map};
 ghost use Rattle.dm_modules.specs.Maps.{Map, module_at};
@@ -31,8 +32,10 @@ use dm_maps::world::World;
 
 /// What a map resolves. No call takes memory (docs/RULES.md, "Paths").
 ///
-/// A question has to be one that the world knows: the map is the world's of its id, the origin lies in it, and local map and path
-/// name only what the world has (`World::knows_local`, `World::knows_path`).
+/// A question has an origin, the module that asks; the local map, which is the extern prelude, as `local_def_map` gives a crate's;
+/// a mode, of an import or not; `shadow`, whether builtin types may go before modules; and what kind of macro is expected. It has
+/// to be one that the world knows: the map is the world's of its id, the origin lies in it, or for the calls on preludes in any map
+/// of its crate, and local map and path name only what the world has (`World::knows_local`, `World::knows_path`).
 pub trait ResolvePath {
     /// The map, as contracts see it.
     ghost map: { Self → Map };
@@ -157,7 +160,8 @@ pub trait ResolvePath {
     ) -> Option<Visibility>
         requires { IsKnownVisibility world.now (map self.now) local.now original_module visibility.now }
         ensures value { result ≡ raw_visibility world.now local.now (map self.now) original_module within_impl visibility.now }
-        ensures known { ForSome result (NamesKnown (tree_of world.now)) };
+        ensures known { ForSome result (NamesKnown (tree_of world.now)) }
+        ensures held { ForSome result (λ v. KnowsAll world.now (vis_holds v)) };
 }
 
 impl ResolvePath for DefMap {
@@ -327,12 +331,13 @@ impl ResolvePath for DefMap {
     }
 }
 
-/// A module of a map of the world is known, and so is the map's root. It does nothing: what a question requires says it.
+/// A module of a map of the world is known, and so are the map's root and crate. It does nothing: what a question requires says it.
 fn origin_known(world: &World, map: &DefMap, m: ModuleId)
     requires map { numbered_map world.now map.now.id ≡ Some map.now }
     requires lies { IsSome (module_at map.now.modules m) }
     ensures known { IsKnown (tree_of world.now) m }
     ensures root { IsKnown (tree_of world.now) map.now.root }
+    ensures krate { IsTrue (knows world.now (held.Crate map.now.id.krate)) }
 {
     world.facts_of(map);
 }

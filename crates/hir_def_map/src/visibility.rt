@@ -5,7 +5,7 @@ ghost use Rattle.dm_ids.specs.declared.item_ids.AssocItemId.{AssocItemId};
 ghost use Rattle.dm_base.specs.declared.visibility.RawVisibility.TheVariants as raws;
 ghost use Rattle.dm_base.specs.declared.visibility.VisibilityExplicitness.TheVariants.{Implicit};
 ghost use Rattle.dm_base.specs.Visibility.{NamesKnown};
-ghost use Rattle.dm_held.specs.Holding.{def_holds};
+ghost use Rattle.dm_held.specs.Holding.{def_holds, vis_holds};
 ghost use Rattle.dm_held.specs.TablesHold.{raw_holds};
 ghost use Rattle.dm_maps.specs.Known.{KnowsAll};
 ghost use Rattle.dm_maps.specs.Trees.{tree_of};
@@ -72,7 +72,8 @@ pub trait ResolveVisibility {
     ) -> Visibility
         requires { IsKnownVisibility world.now map.now local.now m raw.now }
         ensures value { result ≡ or_public (raw_visibility world.now local.now map.now m within_impl raw.now) }
-        ensures known { NamesKnown (tree_of world.now) result };
+        ensures known { NamesKnown (tree_of world.now) result }
+        ensures held { KnowsAll world.now (vis_holds result) };
 }
 
 impl ResolveVisibility for Visibility {
@@ -102,6 +103,7 @@ pub fn visibility_from_raw(
     requires { KnowsAll world.now (raw_holds raw.now) }
     ensures value { result ≡ visibility_in world.now m within_impl raw.now }
     ensures known { NamesKnown (tree_of world.now) result }
+    ensures held { KnowsAll world.now (vis_holds result) }
 {
     match world.map_of(m) {
         None => Visibility::Public,
@@ -125,6 +127,7 @@ impl VariantFields {
         requires { KnowsAll world.now (def_holds (variant_def variant)) }
         ensures value { IfOk result (λ seen. seen.items ≡ field_visibilities_of world.now variant) }
         ensures known { IfOk result (λ seen. AllByRecursion (NamesKnown (tree_of world.now)) seen.items) }
+        ensures held { IfOk result (λ seen. AllByRecursion (λ v. KnowsAll world.now (vis_holds v)) seen.items) }
     {
         let declared_in = ItemInNs::Types(variant_def(variant)).module(world);
         match (declared_in, world.raw_fields_of(variant)) {
@@ -154,6 +157,7 @@ fn visibilities_in(
     requires { AllByRecursion (λ v. KnowsAll world.now (raw_holds v)) fields.now }
     ensures value { IfOk result (λ seen. seen.items ≡ visibilities_in world.now m fields.now) }
     ensures known { IfOk result (λ seen. AllByRecursion (NamesKnown (tree_of world.now)) seen.items) }
+    ensures held { IfOk result (λ seen. AllByRecursion (λ v. KnowsAll world.now (vis_holds v)) seen.items) }
 {
     let mut seen = Vec::new(alloc);
     let mut rest = fields;
@@ -174,7 +178,8 @@ pub trait AssocVisibility {
     fn assoc_visibility(self, world: &World) -> Visibility
         requires { KnowsAll world.now (def_holds (assoc_def (item self))) }
         ensures value { result ≡ assoc_visibility_of world.now (item self) }
-        ensures known { NamesKnown (tree_of world.now) result };
+        ensures known { NamesKnown (tree_of world.now) result }
+        ensures held { KnowsAll world.now (vis_holds result) };
 }
 
 impl AssocVisibility for AssocItemId {
@@ -211,6 +216,7 @@ fn written_at(world: &World, def: ModuleDefId, within_impl: bool, raw: &RawVisib
     requires { KnowsAll world.now (raw_holds raw.now) }
     ensures value { result ≡ written_at world.now def within_impl raw.now }
     ensures known { NamesKnown (tree_of world.now) result }
+    ensures held { KnowsAll world.now (vis_holds result) }
 {
     match ItemInNs::Types(def).module(world) {
         None => Visibility::Public,
@@ -228,6 +234,7 @@ fn by_container(
     requires { KnowsAll world.now (raw_holds raw.now) }
     ensures value { result ≡ by_container world.now def container raw.now }
     ensures known { NamesKnown (tree_of world.now) result }
+    ensures held { KnowsAll world.now (vis_holds result) }
 {
     match container {
         ItemContainerId::TraitId(t) => {
