@@ -3,3 +3,4 @@ pub mod Known
 pub mod Settled
 pub mod Retries
 pub mod Rows
+pub mod RoundRows

@@ -12,6 +12,7 @@ pub mod WorldS
 pub mod WorldP
 pub mod WorldT
 pub mod RowsA
+pub mod RowsB
 pub mod RowsS
 pub mod RowsP
 pub mod RowsT

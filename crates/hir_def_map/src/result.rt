@@ -1,8 +1,10 @@
 //! What a path resolves to.
 ghost use Rattle.std.specs.Prelude.{◌≡◌};
+ghost use Rattle.std.proofs.Common.{rules};
 ghost use Rattle.hir_def_map.specs.Answers.{no_flags};
 
 use dm_base::per_ns::PerNs;
+use dm_base::value_eq::ValueEq;
 
 /// What a path is resolved for: an import, or anything else.
 #[derive(Clone, Copy, PartialEq, Eq, Debug)]
@@ -49,4 +51,16 @@ pub struct ResolvePathResult {
     pub segment_index: Option<usize>,
     pub reached_fixedpoint: ReachedFixedPoint,
     pub prefix_info: ResolvePathResultPrefixInfo,
+}
+
+impl ValueEq for ResolveMode {
+    ghost same = { Prim.search rules };
+}
+
+impl ValueEq for ReachedFixedPoint {
+    ghost same = { Prim.search rules };
+}
+
+impl ValueEq for ResolvePathResultPrefixInfo {
+    ghost same = { Prim.search rules };
 }

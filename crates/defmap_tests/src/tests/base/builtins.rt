@@ -1,7 +1,10 @@
-//! The builtin types, asked once more where memory is refused.
-use dm_base::builtin_type::BuiltinType;
+//! The builtin types, asked once more where memory is refused, and what is displayed of them.
+use crate::tests::same;
+use dm_base::builtin_type::{BuiltinFloat, BuiltinInt, BuiltinType, BuiltinUint};
+use dm_base::mod_path::PathKind;
 use dm_base::name::{AsName, Name};
 use std::alloc::{AllocError, Global};
+use std::test::Fail;
 
 /// The words, in order.
 const WORDS: [&str; 19] = [
@@ -32,4 +35,21 @@ fn first_other(
 pub(super) fn first_other_of_all(alloc: Global) -> Result<Option<&'static str>, AllocError> {
     let all = again!(BuiltinType::all_builtin_types(alloc))?;
     first_other(alloc, all.as_slice())
+}
+
+#[test]
+fn numbers_are_displayed_as_their_words(rt: HostRuntime) -> Result<(), Fail> {
+    let text = format!(in rt.alloc();
+        "{} {} {}",
+        BuiltinInt::Isize,
+        BuiltinUint::U8,
+        BuiltinFloat::F128
+    )?;
+    same(&rt, &text.as_str(), &"isize u8 f128");
+    Ok(())
+}
+
+#[test]
+fn self_is_no_step_outwards(rt: HostRuntime) {
+    same(&rt, &PathKind::SELF, &PathKind::Super(0));
 }

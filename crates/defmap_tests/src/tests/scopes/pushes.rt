@@ -88,7 +88,9 @@ fn records(
 /// The same as `after`, where a glob brought function 0 as a value before, which was taken out.
 fn after_removal(alloc: Global, pushes: &[Push]) -> Result<Option<Reading>, AllocError> {
     let mut filled = Filled::new(alloc);
-    filled.push_all(alloc, &[(valued(0, None), Some(GLOB), true)])?;
+    if !filled.push_all(alloc, &[(valued(0, None), Some(GLOB), true)])? {
+        return Ok(None);
+    }
     filled.take_out(alloc)?;
     if !filled.push_all(alloc, pushes)? {
         return Ok(None);
