@@ -11,7 +11,8 @@ use Rattle.dm_maps.specs.Build.{no_world}
 use Rattle.dm_maps.specs.World.{World}
 use Rattle.hir_def_map.specs.declared.result.ResolveMode.TheVariants as mode
 use Rattle.hir_def_map.specs.declared.result.ReachedFixedPoint.TheVariants.{Yes, No}
-use Rattle.hir_def_map.specs.Paths.{Ask, answer, answer_alone, prelude_answer, asked}
+use Rattle.hir_def_map.specs.declared.question.Ask.{Ask}
+use Rattle.hir_def_map.specs.Paths.{answer, answer_alone, prelude_answer, asked}
 use Rattle.hir_def_map.specs.Written.{meaning, said, an_item, a_module, a_struct, a_function, by_rules, within, binds_types, crate_id, module_with, a_map, number, place}
 use Rattle.hir_def_map.specs.WorldA.{world_a, externs}
 
