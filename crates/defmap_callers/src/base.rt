@@ -1,6 +1,7 @@
 //! The callers that docs/USING.md shows.
 ghost use Rattle.std.specs.Prelude.{◌≡◌, ◌↔◌, ◌&&◌, IsTrue, IfOk, None, map, true};
-ghost use Rattle.dm_base.specs.PerNs.{items_of, over, type_alone};
+ghost use Rattle.std.specs.Option.{ForSome};
+ghost use Rattle.dm_base.specs.PerNs.{items_of, over, seen_by, type_alone};
 ghost use Rattle.dm_base.specs.Tree.{IsKnown, sees};
 ghost use Rattle.dm_base.specs.Visibility.{NamesKnown};
 ghost use Rattle.dm_ids.specs.declared.ids.ModuleId.{ModuleId};
@@ -62,6 +63,17 @@ pub fn is_reached<T: ModuleTree>(
     ensures { result ≡ (sees (T.tree tree.now) item from && sees (T.tree tree.now) reexport from) }
 {
     item.is_visible_from(tree, from) && reexport.is_visible_from(tree, from)
+}
+
+/// The items of a name that a module sees.
+pub fn seen_from<T: ModuleTree>(tree: &T, from: ModuleId, items: PerNs) -> PerNs
+    requires from { IsKnown (T.tree tree.now) from }
+    requires types { ForSome items.types (λ i. NamesKnown (T.tree tree.now) i.vis) }
+    requires values { ForSome items.values (λ i. NamesKnown (T.tree tree.now) i.vis) }
+    requires macros { ForSome items.macros (λ i. NamesKnown (T.tree tree.now) i.vis) }
+    ensures { result ≡ seen_by (λ v. sees (T.tree tree.now) v from) items }
+{
+    items.filter_visibility(|vis| vis.is_visible_from(tree, from))
 }
 
 /// The first visibility, widened by the second where one of them is the most: whoever saw the item still does.

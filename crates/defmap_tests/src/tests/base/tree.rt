@@ -4,10 +4,12 @@ ghost use Rattle.dm_base.specs.declared.visibility.Visibility.TheVariants.{Modul
 ghost use Rattle.dm_base.specs.declared.visibility.VisibilityExplicitness.TheVariants.{Implicit};
 
 use crate::tests::same;
-use defmap_callers::base::{is_reached, is_seen_around_its_block, widened_by};
+use defmap_callers::base::{is_reached, is_seen_around_its_block, seen_from, widened_by};
 use defmap_callers::tree::SmallTree;
 use dm_base::ids::{BlockId, Crate, MapId, ModuleId};
+use dm_base::item_ids::ModuleDefId;
 use dm_base::module_tree::ModuleTree;
+use dm_base::per_ns::PerNs;
 use dm_base::visibility::{Visibility, VisibilityExplicitness};
 
 /// The root of block 2, which lies in module 6 of block 0.
@@ -70,6 +72,9 @@ fn modules_are_lifted_out_of_nested_blocks(rt: HostRuntime) {
 fn the_callers_of_the_page_see_what_it_says(rt: HostRuntime) {
     let tree = SmallTree::new();
     assert!(rt; is_seen_around_its_block());
+    let item = PerNs::types(ModuleDefId::ModuleId(ModuleId(2)), inside(1), None);
+    same(&rt, &seen_from(&tree, ModuleId(2), item), &item);
+    same(&rt, &seen_from(&tree, ModuleId(3), item), &PerNs::none());
     assert!(rt;
         is_reached(
             &tree,
