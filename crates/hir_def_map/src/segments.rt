@@ -31,15 +31,24 @@ pub(crate) struct Entered {
     asked: ModuleId,
 }
 
-/// The items that `from` sees.
-fn seen(world: &World, from: ModuleId, items: PerNs) -> PerNs
+/// The item, if `from` sees it.
+fn seen_item<D: Copy, I: Copy>(
+    world: &World,
+    from: ModuleId,
+    item: Option<Item<D, I>>,
+) -> Option<Item<D, I>>
     requires from { IsKnown (tree_of world.now) from }
-    requires types { ForSome items.types (λ i. NamesKnown (tree_of world.now) i.vis) }
-    requires values { ForSome items.values (λ i. NamesKnown (tree_of world.now) i.vis) }
-    requires macros { ForSome items.macros (λ i. NamesKnown (tree_of world.now) i.vis) }
-    ensures { result ≡ seen_by (λ v. sees (tree_of world.now) v from) items }
+    requires named { ForSome item (λ i. NamesKnown (tree_of world.now) i.vis) }
+    ensures { result ≡ keep (λ i. sees (tree_of world.now) i.vis from) item }
 {
-    items.filter_visibility(|vis| vis.is_visible_from(world, from))
+    match item {
+        None => None,
+        Some(i) => if i.vis.is_visible_from(world, from) {
+            Some(i)
+        } else {
+            None
+        },
+    }
 }
 
 /// What a module's scope binds under a segment, each item kept if `from` sees it.
@@ -49,7 +58,11 @@ pub(crate) fn seen_in(world: &World, from: ModuleId, m: ModuleId, segment: &Name
     ensures known { KnowsAll world.now (res_holds result) }
 {
     let bound = world.bound_in(m, segment);
-    seen(world, from, bound)
+    PerNs {
+        types: seen_item(world, from, bound.types),
+        values: seen_item(world, from, bound.values),
+        macros: seen_item(world, from, bound.macros),
+    }
 }
 
 /// The type, if `from` sees it.
