@@ -31,9 +31,6 @@ words-pieces bs o e = ap (filter is_word) (slice_split-cut 32 bs ∙ ap (pieces 
 pub words-last : (bs : List ℕ) → cut 32 bs ≡ None → eqb (length bs) 0 ≡ false → words bs ≡ bs ∷ []
 words-last bs e h = words-pieces bs None e ∙ rw h
 
-pub words-none : (bs : List ℕ) → cut 32 bs ≡ None → eqb (length bs) 0 ≡ true → words bs ≡ []
-words-none bs e h = words-pieces bs None e ∙ rw h
-
 -- a part that is no word falls away
 pub words-skip : (bs w r : List ℕ) → cut 32 bs ≡ Some (w, r) → eqb (length w) 0 ≡ true → words bs ≡ words r
 words-skip bs w r e h = words-pieces bs (Some (w, r)) e ∙ rw h

@@ -19,9 +19,9 @@ use Rattle.defmap_script.specs.declared.dump_lines.Dumping.{Dumping}
 use Rattle.defmap_script.specs.BuildLines.{Added}
 use Rattle.defmap_script.specs.Building.{added_to}
 use Rattle.defmap_script.specs.Dumping.{dumped, Dumps as DumpsOf}
-use Rattle.defmap_script.specs.Engine.{Tool, Answers, IsAnswered, IsKnownQuestion, IsLineStep, IsSaidStep, IsStep, PushesWithinBy, Steps, added_on, answer_of, building, held_on, pushed_within, reply_text}
+use Rattle.defmap_script.specs.Engine.{Tool, Answers, IsKnownQuestion, IsLineStep, IsSaidStep, IsStep, PushesWithinBy, Steps, added_on, answer_of, building, held_on, pushed_within, reply_text}
 use Rattle.defmap_script.specs.Faults.{IsRefused}
-use Rattle.defmap_script.specs.Lines.{Asked, Asking, Adds, Asks, Dumps, Said, Sense, said}
+use Rattle.defmap_script.specs.Lines.{Asked, Asking, Adds, Asks, Dumps, Sense, said}
 
 refused-addition : (w : World) (g : Globs) (a : Added) (f : Fault) → IsRefused (λ s. added_to w a ≡ s) f → IsRefused (IsStep (building w g) (Adds a)) f
 refused-addition w g a f (inl e) = inl (sym (ap (added_on g) e))

@@ -1,5 +1,5 @@
 -- Runs of scripts, line by line.
-use Rattle.std.proofs.Common.{◌≡◌, ◌⊎◌, ℕ, ◌+◌, ◌≤◌, List, [], ◌∷◌, ◌++◌, Ok, Err, length, arith, refl, sym, ◌∙◌, ap, subst, inl, inr, append_assoc, append-nil, eqb}
+use Rattle.std.proofs.Common.{◌≡◌, ◌⊎◌, ℕ, ◌+◌, ◌≤◌, List, [], ◌∷◌, ◌++◌, Ok, length, arith, refl, sym, ◌∙◌, ap, subst, inl, inr, append_assoc, append-nil, eqb}
 use Rattle.std.proofs.lemmas.List.Splits.{length-slice_split}
 use Rattle.std.proofs.lemmas.List.Sums.{count_by-le-length}
 use Rattle.defmap_script.specs.declared.fault.Fault.{Fault}

@@ -1,4 +1,3 @@
 pub mod HomeLemmas
 pub mod TreeLemmas
-pub mod PathLemmas
 pub mod SeesLemmas

@@ -172,10 +172,6 @@ module _ (t : Tree) (tree : IsTree t) where
       ∙ sym (member-climb j (climb t i m) (climb-known i m known))
       ∙ ap (member t j) (sym (member-climb i m known))
 
-  -- a member of a chain is a module
-  pub member-known : (n : ℕ) (m : ModuleId) → IsKnown t m → IsKnown t (member t n m)
-  member-known n m known = subst (IsKnown t) (sym (member-climb n m known)) (climb-known n m known)
-
 -- ---- Trees that agree on what contains their modules.
 
 module _ (s t : Tree) (tree : IsTree s) (same : (m : ModuleId) → IsKnown s m → containing s m ≡ containing t m) where

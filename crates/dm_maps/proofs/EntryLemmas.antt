@@ -1,6 +1,8 @@
 -- Lists and entries that grow, or are written at a place.
 use Rattle.std.proofs.Common.{◌≡◌, ◌-◌, ℕ, zero, suc, List, [], ◌∷◌, ◌++◌, Some, length, take, set, slice_get, ◌⊎◌, inl, inr, sym, ap, ◌∙◌, refl, arith, length-append}
 use Rattle.std.proofs.Math.Seq.{take-append_seam}
+use Rattle.std.proofs.lemmas.List.{set-get_or}
+use Rattle.std.proofs.lemmas.Option.{get_or_from_slice_get}
 
 -- a list less the one that was added
 pub take-push : {X : Type 0} (xs : List X) (x : X) → take (length (xs ++ x ∷ []) - 1) (xs ++ x ∷ []) ≡ xs
@@ -10,9 +12,7 @@ take-push xs x =
 
 -- what stands at a place, written there again, changes nothing
 pub set-own : {X : Type 0} (xs : List X) (i : ℕ) (x : X) → slice_get xs i ≡ Some x → set xs i x ≡ xs
-set-own [] i x h = refl
-set-own (y ∷ ys) zero x h = let same : y ≡ x = cc in ap (λ z. z ∷ ys) (sym same)
-set-own (y ∷ ys) (suc i) x h = ap (λ l. y ∷ l) (set-own ys i x h)
+set-own xs i x h = ap (set xs i) (sym (get_or_from_slice_get xs i x x h)) ∙ set-get_or xs i x
 
 -- an element of a list with one more at its end is one of the list, or the new one
 pub get-push : {X : Type 0} (xs : List X) (x : X) (i : ℕ) (y : X) → slice_get (xs ++ x ∷ []) i ≡ Some y → (slice_get xs i ≡ Some y) ⊎ ((i ≡ length xs) × (x ≡ y))

@@ -153,9 +153,6 @@ module _ (w : World) (is : IsWorld w) (ups : List (Option ModuleId)) (table : Ar
   unfolding tree_of
   tree = is.tree
 
-  pub listed-long : length ups ≡ length w.places
-  listed-long = ap length table.each ∙ length-map w.places (above_place (containers_of w.block_maps))
-
   pub chain-listed : (a m : ModuleId) → m.0 < length w.places → is_among a (chain (tree_above ups) m) ≡ is_among a (chain (tree_of w) m)
   chain-listed a m less = ap (is_among a) (sym (chains-agree (tree_of w) (tree_above ups) tree containing-listed m (known-in m less)))
 

@@ -7,7 +7,6 @@ pub mod BlockGrowth
 pub mod BlockMade
 pub mod MapWrites
 pub mod MapsKept
-pub mod MarkLemmas
 pub mod WorldGrowth
 pub mod FaultLemmas
 pub mod VariantLemmas

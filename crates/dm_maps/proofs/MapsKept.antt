@@ -50,13 +50,6 @@ entries-with_scope es i s = by (nth_module es i) refl
 pub Keeps-scoped : (i : ℕ) (s : Scope) → Keeps (λ m. map_with_scope m i s)
 Keeps-scoped i s = record { shape = λ m. ap (λ es. record (outline m) { modules = es }) (entries-with_scope m.modules i s); around = λ m. refl }
 
-pub length-locals_with : (Ls : List LocalMap) (k : ℕ) (f : LocalMap → LocalMap) → length (locals_with Ls k f) ≡ length Ls
-length-locals_with Ls k f = by (slice_get Ls k)
-  where
-    by : (o : Option LocalMap) → length (option_map_or (λ L. set Ls k (f L)) o Ls) ≡ length Ls
-    by None = refl
-    by (Some L) = length-set Ls k (f L)
-
 -- ---- New data of a crate.
 
 outline-shared : (k : Crate) (d : CrateData) (m : Map) → outline (map_with_shared k d m) ≡ outline m

@@ -9,6 +9,7 @@ use Rattle.std.specs.declared.cmp.Ordering.{Ordering}
 use Rattle.std.specs.declared.cmp.Ordering.TheVariants.{Less, Equal, Greater}
 use Rattle.dm_ids.specs.Names.{Name}
 use Rattle.dm_scope.specs.Dumps.{IsDump}
+use Rattle.dm_scope.specs.OrderLaws.{AreInOrder-one, in_either, in_front, in_back}
 use Rattle.dm_scope.specs.Scope.{Scope}
 use Rattle.dm_scope.specs.Sorted.{AreInOrder, names_of}
 use Rattle.dm_scope.specs.Tables.{Tables}
@@ -16,24 +17,6 @@ use Rattle.dm_maps.specs.MapDumps.{placed, in_order, scope_text}
 
 abbrev cmp : Name → Name → Ordering
 cmp = slice_cmp nat_cmp
-
--- what holds of an element of a list: it is the first, or it stands behind it
-in_either : {X : Type 0} (G : Type 0) (y : X) (ys : List X) (x : X) → (y ≡ x → G) → (Contains ys x → G) → Contains (y ∷ ys) x → G
-in_either G y ys x first behind h = by h.0 h.1 h.2
-  where
-    by : (k : ℕ) → k < length (y ∷ ys) → slice_index_or (y ∷ ys) k x ≡ x → G
-    by zero less is = first is
-    by (suc k) less is = behind (k, omega arith, is)
-
-in_front : {X : Type 0} (x : X) (xs : List X) → Contains (x ∷ xs) x
-in_front x xs = (0, omega arith, refl)
-
-in_back : {X : Type 0} (y : X) (ys : List X) (x : X) → Contains ys x → Contains (y ∷ ys) x
-in_back y ys x h = (suc h.0, omega (arith, h.1), h.2)
-
-of_each : {X : Type 0} (P : X → Type 0) (xs : List X) (x : X) → AllByRecursion P xs → Contains xs x → P x
-of_each P [] x all h = absurd (omega (arith, h.1))
-of_each P (y ∷ ys) x all h = in_either (P x) y ys x (λ e. subst P e all.0) (λ t. of_each P ys x all.1 t) h
 
 -- ---- A name in its place
 
@@ -118,23 +101,6 @@ IsDump-scope_text t s = record {
   is = refl;
 }
 
-not_below_itself : (n : Name) → cmp n n ≡ Less → ⊥
-not_below_itself n h = let f : Less ≡ Greater = sym h ∙ nat_list_cmp_total.antisymm n n ∙ ap ordering_reverse h in cc
-
--- names in order that are the same names are one list
-one : (ns ms : List Name) → IsStrictlySortedBy cmp ns → IsStrictlySortedBy cmp ms → ((x : Name) → Contains ns x → Contains ms x) → ((x : Name) → Contains ms x → Contains ns x) → ns ≡ ms
-unfolding IsStrictlySortedBy
-one [] [] s t f g = refl
-one [] (m ∷ ms) s t f g = absurd (omega (arith, (g m (in_front m ms)).1))
-one (n ∷ ns) [] s t f g = absurd (omega (arith, (f n (in_front n ns)).1))
-one (n ∷ ns) (m ∷ ms) s t f g =
-    let crossed : Contains ms n → Contains ns m → ⊥ = λ h k. not_below_itself n (nat_list_cmp_total.trans n m n (of_each (λ y. cmp n y ≡ Less) ns m s.0 k) (of_each (λ y. cmp m y ≡ Less) ms n t.0 h)) in
-    let same : n ≡ m = in_either (n ≡ m) m ms n sym (λ h. in_either (n ≡ m) n ns m (λ e. e) (λ k. absurd (crossed h k)) (g m (in_front m ms))) (f n (in_front n ns)) in
-    ap (λ l. n ∷ l)
-    (one ns ms s.1 t.1
-    (λ x h. in_either (Contains ms x) m ms x (λ e. absurd (not_below_itself n (subst (λ y. cmp n y ≡ Less) (sym (same ∙ e)) (of_each (λ y. cmp n y ≡ Less) ns x s.0 h)))) (λ k. k) (f x (in_back n ns x h)))
-    (λ x h. in_either (Contains ns x) n ns x (λ e. absurd (not_below_itself m (subst (λ y. cmp m y ≡ Less) (sym (sym same ∙ e)) (of_each (λ y. cmp m y ≡ Less) ms x t.0 h)))) (λ k. k) (g x (in_back m ms x h))))
-    ∙ ap (λ k. k ∷ ms) same
-
+-- there is no other way to put them in order
 pub AreInOrder-is : (ns all : List Name) → AreInOrder ns all → ns ≡ in_order all
-AreInOrder-is ns all a = one ns (in_order all) a.sorted (in_order-sorted all) (λ x h. (in_order-same all x).1 ((a.same x).0 h)) (λ x h. (a.same x).1 ((in_order-same all x).0 h))
+AreInOrder-is ns all a = AreInOrder-one ns (in_order all) all a (in_order-AreInOrder all)

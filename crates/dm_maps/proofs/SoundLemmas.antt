@@ -249,11 +249,3 @@ IsSound-checked w checked is = record {
   variant_enums = variant-enum w is.1;
   crates = crate_of-known w is.0;
 }
-
--- the root of a map of the world is the world's
-pub own-root : (w : World) → IsSound w → (M : Map) → numbered_map w M.id ≡ Some M → IsKnown (tree_of w) M.root
-own-root w sound M e = by M.id.block e
-  where
-    by : (b : Option BlockId) → elim b [ None ↦ slice_get w.crate_maps M.id.krate.0 | Some x ↦ slice_get w.block_maps x.0 ] ≡ Some M → IsKnown (tree_of w) M.root
-    by None g = sound.roots M.id.krate M.root (ap (option_map (λ (m : Map). m.root)) g)
-    by (Some b) g = sound.block_roots b M.root (ap (option_map (λ (m : Map). m.root)) g)

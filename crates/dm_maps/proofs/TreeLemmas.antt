@@ -73,18 +73,6 @@ module _ (w : World) (M : Map) where
   pub left_text-popped : (all bs : List Branch) (b : Branch) → all ≡ bs ++ b ∷ [] → left_text w M all ≡ branch_text w M b ++ left_text w M bs
   left_text-popped all bs b e = ap (left_text w M) e ∙ left_text-push bs b
 
-  -- the last of the names that are left is put in front
-  pub children-last : (path : Text) (d : Module) (ns : List (Bor Name)) (n : Bor Name) (behind rest all : Text) → behind ≡ child_text w M path d n.now ++ rest
-      → flat_map (child_text w M path d) (seen (ns ++ n ∷ [])) ++ rest ≡ all → flat_map (child_text w M path d) (seen ns) ++ behind ≡ all
-  children-last path d ns n behind rest all e h =
-      let f = child_text w M path d in
-      ap (λ x. flat_map f (seen ns) ++ x) e
-      ∙ sym (append_assoc (flat_map f (seen ns)) (f n.now) rest)
-      ∙ ap (λ x. (flat_map f (seen ns) ++ x) ++ rest) (sym (append-nil (f n.now)))
-      ∙ ap (λ x. x ++ rest) (sym (flat_map-append f (seen ns) (n.now ∷ [])))
-      ∙ ap (λ x. flat_map f x ++ rest) (sym (map-append (λ (x : Bor Name). x.now) ns (n ∷ [])))
-      ∙ h
-
 -- what is written in front leaves less
 pub shorter : (a b c d : Text) → a ++ b ≡ c ++ d → length c < length a → length b < length d
 shorter a b c d e less =
@@ -108,11 +96,6 @@ module _ (w : World) (is : IsWorld w) where
   map_dump-next M P p e =
       ap (flat_map one) (outwards-step w is M M.root ∙ ap (λ o. (M, M.root) ∷ option_map_or (λ (x : Map × ModuleId). maps_outwards w x.0 x.1) o []) (sym e))
       ∙ ap (λ x. map_text w M ++ x) (from-any P p P.root)
-
-  pub map_dump-last : (M : Map) → None ≡ next_outwards w M → map_dump w M ≡ map_text w M
-  map_dump-last M e =
-      ap (flat_map one) (outwards-step w is M M.root ∙ ap (λ o. (M, M.root) ∷ option_map_or (λ (x : Map × ModuleId). maps_outwards w x.0 x.1) o []) (sym e))
-      ∙ append-nil (map_text w M)
 
   pub fewer-outwards : (M P : Map) (p : ModuleId) → Some (P, p) ≡ next_outwards w M → length (maps_outwards w P P.root) < length (maps_outwards w M M.root)
   fewer-outwards M P p e =

@@ -24,11 +24,12 @@ use Rattle.dm_ids.specs.declared.macros.MacroLoc.{MacroLoc}
 use Rattle.dm_ids.specs.Names.{Name, same_name, find_name}
 use Rattle.dm_ids.specs.Builtins.{builtin_words}
 use Rattle.dm_scope.specs.Scope.{Scope, no_scope, bound_in, legacy_in, last_of}
+use Rattle.dm_scope.specs.Tables.{no_style}
 use Rattle.dm_tables.specs.Variants.{Variants, Enums, same_enum, variants_in}
 use Rattle.dm_held.specs.Kinds.{macro_number}
 use Rattle.dm_modules.specs.Maps.{Map, Module, Modules, LocalMap, nth_module}
 use Rattle.dm_maps.specs.declared.place.Place.{Place}
-use Rattle.dm_maps.specs.Readings.{setting_of, read, is_edition_2015, styles_by, styles_of, no_style, variants_of, macro_uses_of}
+use Rattle.dm_maps.specs.Readings.{setting_of, read, is_edition_2015, styles_by, styles_of, variants_of, macro_uses_of}
 use Rattle.dm_maps.specs.Trees.{tree_of, tree_by, outline}
 use Rattle.dm_maps.specs.World.{World, numbered_map, crate_map, place_of, placed_module, scope_of}
 use Rattle.dm_maps.specs.Cut.{among, kept, last_alone, cut_scope, cut_module, cut_prelude, cut_macro, cut_map, without_enum, with_enum, with_variants, cut_enums, cut, cut_local}

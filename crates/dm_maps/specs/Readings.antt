@@ -24,6 +24,7 @@ use Rattle.dm_base.specs.Tree.{Tree}
 use Rattle.dm_ids.specs.Builtins.{builtin_words}
 use Rattle.dm_ids.specs.Styles as kinds
 use Rattle.dm_scope.specs.Scope.{bound_in, legacy_in}
+use Rattle.dm_scope.specs.Tables.{no_style}
 use Rattle.dm_modules.specs.Maps.{LocalMap}
 use Rattle.dm_tables.specs.Variants.{same_enum}
 use Rattle.dm_maps.specs.declared.rules.Rules.{Rules}
@@ -59,9 +60,6 @@ pub record Reading : Type 0 where
   -- the module that the local map has, and the builtin type of that name
   pub extern : Option (ModuleId × Option ExternCrateId)
   pub builtin : Option BuiltinType
-
-abbrev pub no_style : MacroCallStyles
-no_style = record { 0 = 0 }
 
 abbrev pub is_edition_2015 : Edition → Bool
 is_edition_2015 Edition2015 = true

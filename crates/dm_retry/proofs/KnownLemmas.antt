@@ -1,8 +1,7 @@
 -- What is known of what an import brings.
-use Rattle.std.proofs.Common.{◌≡◌, ◌∙◌, ◌<◌, ◌&&◌, ℕ, zero, suc, Bool, true, false, cond, not, List, [], ◌∷◌, ◌++◌, Option, None, Some, IsSome, IsTrue, ap, sym, refl, arith, is_none, is_some, length, slice_get}
-use Rattle.std.specs.Option.{option_map, option_map_or, option_and_then}
+use Rattle.std.proofs.Common.{◌≡◌, ◌<◌, ◌&&◌, ℕ, zero, suc, Bool, true, false, cond, not, List, [], ◌∷◌, ◌++◌, Option, None, Some, IsSome, IsTrue, ap, refl, arith, is_none, is_some, length, slice_get}
+use Rattle.std.specs.Option.{option_map, option_map_or}
 use Rattle.std.proofs.lemmas.Bool.{ltb-true}
-use Rattle.dm_ids.specs.declared.ids.Crate.{Crate}
 use Rattle.dm_ids.specs.declared.ids.ModuleId.{ModuleId}
 use Rattle.dm_ids.specs.declared.imports.ImportOrExternCrate.{ImportOrExternCrate}
 use Rattle.dm_ids.specs.declared.imports.ImportOrGlob.{ImportOrGlob}
@@ -20,10 +19,9 @@ use Rattle.dm_maps.specs.declared.place.Place.{Place}
 use Rattle.dm_maps.specs.ItemHomes.{homes_of}
 use Rattle.dm_maps.specs.Known.{knows, KnowsAll}
 use Rattle.dm_maps.specs.World.{World}
-use Rattle.dm_modules.specs.Maps.{LocalMap}
 use Rattle.hir_def_map.specs.declared.result.ResolvePathResult.{ResolvePathResult}
 use Rattle.dm_retry.specs.Known.{parts}
-use Rattle.dm_retry.specs.Rounds.{Pending, brought, by_import, found, local_of, meaning}
+use Rattle.dm_retry.specs.Rounds.{Pending, brought, by_import, found, meaning}
 
 pub knows-left : (w : World) (hs ks : List HeldId) → KnowsAll w (hs ++ ks) → KnowsAll w hs
 knows-left w [] ks k = tt
@@ -68,10 +66,6 @@ module _ (w : World) (v : Visibility) (seen : KnowsAll w (vis_holds v)) where
 pub push-known : (w : World) (p : Pending) (x : PerNs) → KnowsAll w (parts p) → KnowsAll w (res_holds x) → KnowsAll w (push_holds p.origin (seen_as p.visibility x) (by_import p))
 push-known w p x k l = (k.0, (k.1.0, res-seen w p.visibility (knows-right w (path_holds p.path.kind) (vis_holds p.visibility) k.1.1) x l))
 
--- the crate of its path's `$crate`
-pub path-known : (w : World) (p : Pending) → KnowsAll w (parts p) → KnowsAll w (path_holds p.path.kind)
-path-known w p k = knows-left w (path_holds p.path.kind) (vis_holds p.visibility) k.1.1
-
 -- ---- The extern prelude of a module's crate
 
 map-there : {A B : Type 0} (f : A → B) (xs : List A) (i : ℕ) → i < length xs → is_some (option_map f (slice_get xs i)) ≡ true
@@ -83,11 +77,6 @@ map-there f (x ∷ xs) (suc i) lt = map-there f xs i (omega arith)
 pub krate-there : (w : World) (m : ModuleId) → IsTrue (knows w (held.Module m)) → IsSome ((homes_of w).krate m)
 unfolding homes_of
 krate-there w m k = map-there (λ (p : Place). p.map.krate) w.places m.0 (ltb-true m.0 (length w.places) k)
-
--- its extern prelude is that of the crate
-pub local-is : (w : World) (m : ModuleId) (k : Crate) (L : LocalMap) → (homes_of w).krate m ≡ Some k → slice_get w.local_maps k.0 ≡ Some L → L ≡ local_of w m
-local-is w m k L crate map =
-    sym (ap (λ o. option_map_or (λ l. l) (option_and_then (λ (c : Crate). slice_get w.local_maps c.0) o) []) crate ∙ ap (λ o. option_map_or (λ l. l) o []) map)
 
 -- ---- What is found
 

@@ -1,9 +1,8 @@
 -- Imports that are taken: none stands twice, and what they hold is the world's.
-use Rattle.std.proofs.Common.{◌≡◌, ◌∙◌, ◌↔◌, ◌&&◌, ℕ, zero, suc, Bool, true, false, cond, List, [], ◌∷◌, ◌++◌, Option, None, Some, IsTrue, ap, sym, refl, subst, slice_get, map, rules, true≢false}
+use Rattle.std.proofs.Common.{◌≡◌, ◌∙◌, ℕ, zero, suc, Bool, true, false, cond, List, [], ◌∷◌, Option, None, Some, ap, sym, refl, subst, slice_get, map, rules, true≢false}
 use Rattle.std.specs.List.{list_any, list_all}
 use Rattle.std.specs.Option.{option_map}
-use Rattle.std.proofs.lemmas.Bool.{false≢true, and_from, and_parts, or_parts}
-use Rattle.std.proofs.lemmas.List.Folds.{list_all-append}
+use Rattle.std.proofs.lemmas.Bool.{and_parts, or_parts}
 use Rattle.std.proofs.lemmas.Option.{slice_get-map}
 use Rattle.dm_ids.specs.declared.imports.ImportId.{ImportId}
 use Rattle.dm_held.specs.declared.held.HeldId.{HeldId}
@@ -30,24 +29,6 @@ all-at t (y ∷ ys) (suc i) x all at = all-at t ys i x ((and_parts (t y) (list_a
 knows-from : (w : World) (hs : List HeldId) → list_all (knows w) hs ≡ true → KnowsAll w hs
 knows-from w [] all = tt
 knows-from w (h ∷ hs) all = ((and_parts (knows w h) (list_all (knows w) hs) all).0, knows-from w hs ((and_parts (knows w h) (list_all (knows w) hs) all).1))
-
-knows-to : (w : World) (hs : List HeldId) → KnowsAll w hs → list_all (knows w) hs ≡ true
-knows-to w [] k = refl
-knows-to w (h ∷ hs) k = and_from (knows w h) (list_all (knows w) hs) k.0 (knows-to w hs k.1)
-
--- a test that holds exactly where all is known is that of each
-pub tested : (w : World) (hs : List HeldId) (b : Bool) → (IsTrue b ↔ KnowsAll w hs) → b ≡ list_all (knows w) hs
-tested w hs true iff = sym (knows-to w hs (iff.0 refl))
-tested w hs false iff = by (list_all (knows w) hs) refl
-  where
-    by : (b : Bool) → list_all (knows w) hs ≡ b → false ≡ b
-    by true all = absurd (false≢true (iff.1 (knows-from w hs all)))
-    by false some = refl
-
--- the parts of an import are known where each of three tests holds
-pub all-parts : (w : World) (hs ks ls : List HeldId) (a b c : Bool) → a ≡ list_all (knows w) hs → b ≡ list_all (knows w) ks → c ≡ list_all (knows w) ls → (a && b && c) ≡ list_all (knows w) (hs ++ ks ++ ls)
-all-parts w hs ks ls a b c first second third =
-    (λ i. first i && second i && third i) ∙ sym (list_all-append (knows w) (hs ++ ks) ls ∙ ap (λ d. d && list_all (knows w) ls) (list_all-append (knows w) hs ks))
 
 -- ---- Imports that are taken
 

@@ -1,26 +1,21 @@
 -- A world in which a module gets its own scope again is that world; and what a push leaves of a world's crates.
-use Rattle.std.proofs.Common.{◌≡◌, ◌∙◌, ℕ, zero, suc, List, [], ◌∷◌, Option, None, Some, ap, sym, refl, slice_get, slice_set}
+use Rattle.std.proofs.Common.{◌≡◌, ◌∙◌, ℕ, List, Option, None, Some, ap, sym, refl, slice_get, slice_set}
 use Rattle.std.specs.Option.{option_map_or, option_and_then}
-use Rattle.indexmap.specs.IndexMap.{set_value_at}
+use Rattle.std.proofs.lemmas.List.{set-get_or}
+use Rattle.std.proofs.lemmas.Option.{get_or_from_slice_get}
+use Rattle.dm_tables.specs.TableLaws.{set_value_at-own}
 use Rattle.dm_ids.specs.declared.ids.ModuleId.{ModuleId}
 use Rattle.dm_ids.specs.declared.ids.MapId.{MapId}
 use Rattle.dm_ids.specs.declared.ids.BlockId.{BlockId}
 use Rattle.dm_scope.specs.Scope.{Scope, no_scope}
-use Rattle.dm_modules.specs.Maps.{Map, Module, Modules, nth_module, put_scope, map_with_scope}
+use Rattle.dm_modules.specs.Maps.{Map, Module, nth_module, put_scope, map_with_scope}
 use Rattle.dm_maps.specs.declared.place.Place.{Place}
 use Rattle.dm_maps.specs.Maps.{Maps, map_at, put_map, maps_with_scope}
 use Rattle.dm_maps.specs.World.{World, maps_of, with_maps, scope_of, placed_module, place_of, with_scope, with_scope_in}
 
 -- a list with the element at a place put there again
 pub set-own : {A : Type 0} (xs : List A) (k : ℕ) (x : A) → slice_get xs k ≡ Some x → slice_set xs k x ≡ xs
-set-own [] k x is = refl
-set-own (y ∷ ys) zero x is = let same : y ≡ x = cc in ap (λ z. z ∷ ys) (sym same)
-set-own (y ∷ ys) (suc k) x is = ap (λ l. y ∷ l) (set-own ys k x is)
-
-module-own : (es : Modules) (k : ℕ) (d : Module) → nth_module es k ≡ Some d → set_value_at es k d ≡ es
-module-own [] k d is = refl
-module-own (e ∷ es) zero d is = let same : e.1 ≡ d = cc in ap (λ z. (e.0, z) ∷ es) (sym same)
-module-own (e ∷ es) (suc k) d is = ap (λ l. e ∷ l) (module-own es k d is)
+set-own xs k x is = ap (slice_set xs k) (sym (get_or_from_slice_get xs k x x is)) ∙ set-get_or xs k x
 
 abbrev scope_in : Option Module → Scope
 scope_in o = option_map_or (λ d. d.scope) o no_scope
@@ -30,7 +25,7 @@ map-own m k = ap (λ es. record m { modules = es }) (by (nth_module m.modules k)
   where
     by : (o : Option Module) → nth_module m.modules k ≡ o → put_scope m.modules k o (scope_in o) ≡ m.modules
     by None is = refl
-    by (Some d) is = module-own m.modules k d is
+    by (Some d) is = set_value_at-own m.modules k d is
 
 put-own : (ms : Maps) (id : MapId) (m : Map) → map_at ms id ≡ Some m → put_map ms id m ≡ ms
 put-own ms id m is = by id.block is

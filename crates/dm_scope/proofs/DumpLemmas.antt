@@ -8,7 +8,7 @@ use Rattle.dm_scope.specs.Dumps.{Text, IsDump, lines}
 use Rattle.dm_scope.specs.Scope.{Scope}
 use Rattle.dm_scope.specs.Sorted.{seen, names_of}
 use Rattle.dm_scope.specs.Tables.{Tables}
-use Rattle.dm_scope.proofs.SortLemmas.{AreInOrder-one}
+use Rattle.dm_scope.specs.OrderLaws.{AreInOrder-one}
 
 -- what is written with the lines of what is left stays, where the line of the next name is written
 pub line_more : (line : Name → Text) (names : List (Bor Name)) (i : ℕ) (d : Bor Name) (before after all : Text) → i < length names → after ≡ before ++ line (get_or names i d).now

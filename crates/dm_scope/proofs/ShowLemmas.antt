@@ -1,5 +1,5 @@
 -- What a namespace shows of a list of pushes, and of one push more.
-use Rattle.std.proofs.Common.{◌≡◌, ℕ, ◌+◌, ◌≤◌, Bool, true, false, cond, not, ◌&&◌, List, [], ◌∷◌, ◌++◌, length, filter, append-nil, append_assoc, slice_get, Option, None, Some, IfSome, refl, sym, ap, subst, ◌∙◌, true≢false, nat_eq, ne_eqb, eq-eqb, arith}
+use Rattle.std.proofs.Common.{◌≡◌, ℕ, ◌+◌, ◌≤◌, Bool, true, false, cond, not, ◌&&◌, List, [], ◌∷◌, ◌++◌, length, filter, append-nil, append_assoc, slice_get, Option, None, Some, IfSome, refl, sym, ap, ◌∙◌, true≢false, nat_eq, ne_eqb, eq-eqb, arith}
 use Rattle.std.proofs.lemmas.Bool.{and_parts, not-true}
 use Rattle.std.proofs.Math.Bool.{and-true}
 use Rattle.std.specs.List.{list_all, enumerate_from}
@@ -188,17 +188,3 @@ module _ {D I : Type 0} (r : Reading D I) (law : IsReading r) where
       recorded_at : (w : Bool) (i : I) → lookup (r.same_import i) (cond w (bound r s p.name p.item p.by) s).records ≡ cond (w && is_by r i p) (Some (recorded r p.item)) (record_of r ps i)
       recorded_at true i = with_import p.by i (recorded r p.item) ∙ ap (cond (is_by r i p) (Some (recorded r p.item))) (shows.records i)
       recorded_at false i = shows.records i
-
-  -- the same, as a function's clauses say it
-  pub ShowsIn-pushed : (s t : Bound D I) (flag flag_after : List ℕ → Bool) (f w : Bool) (ps : List (Push D I)) (p : Push D I) → ShowsIn r s flag ps
-      → flag p.name ≡ f → w ≡ writes r (lookup (bytes_eq p.name) s.items) f p.item p.by → t ≡ pushed r s f p.name p.item p.by
-      → ((n : List ℕ) → flag_after n ≡ cond (w && bytes_eq n p.name) (is_glob r p.by) (flag n))
-      → ShowsIn r t flag_after (ps ++ p ∷ [])
-  ShowsIn-pushed s t flag flag_after f w ps p shows same wrote is change =
-      subst (λ u. ShowsIn r u flag_after (ps ++ p ∷ [])) (ap (λ g. pushed r s g p.name p.item p.by) same ∙ sym is)
-      (ShowsIn-push s flag flag_after ps p shows (λ n. change n ∙ ap (λ w. cond (w && bytes_eq n p.name) (is_glob r p.by) (flag n)) (wrote ∙ ap (λ g. writes r (lookup (bytes_eq p.name) s.items) g p.item p.by) (sym same))))
-
-  pub is_effective-wrote : (s : Bound D I) (flag : List ℕ → Bool) (f w : Bool) (ps : List (Push D I)) (p : Push D I) → ShowsIn r s flag ps
-      → flag p.name ≡ f → w ≡ writes r (lookup (bytes_eq p.name) s.items) f p.item p.by → w ≡ is_effective r ps p
-  is_effective-wrote s flag f w ps p shows same wrote =
-      wrote ∙ ap (λ g. writes r (lookup (bytes_eq p.name) s.items) g p.item p.by) (sym same) ∙ ShowsIn-writes s flag ps p shows

@@ -13,6 +13,7 @@ pub mod Iterators
 pub mod LazyMaps
 pub mod Lookups
 pub mod MacroCalls
+pub mod OrderLaws
 pub mod Push
 pub mod PushSteps
 pub mod Pushes

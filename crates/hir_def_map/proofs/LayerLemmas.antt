@@ -1,5 +1,5 @@
 -- Which layers a question has.
-use Rattle.std.proofs.Common.{◌≡◌, Bool, false, cond, List, [], ◌∷◌, refl, ap, sym, ◌∙◌, map, nat_eq, length}
+use Rattle.std.proofs.Common.{◌≡◌, Bool, cond, List, ◌∷◌, ap, sym, ◌∙◌, map, nat_eq, length}
 use Rattle.dm_base.specs.declared.mod_path.PathKind.{PathKind}
 use Rattle.dm_base.specs.declared.mod_path.PathKind.TheVariants as kind
 use Rattle.dm_base.specs.declared.per_ns.PerNs.{PerNs}
@@ -14,22 +14,9 @@ use Rattle.hir_def_map.specs.Answers.{nothing_no}
 use Rattle.hir_def_map.proofs.WalkLemmas.{empty-map}
 use Rattle.hir_def_map.specs.declared.question.Ask.{Ask}
 use Rattle.hir_def_map.specs.declared.result.ResolvePathResult.{ResolvePathResult}
-use Rattle.hir_def_map.specs.Paths.{from_root, from_super, single, by_2015_rule, layers_by_2015_rule, extern_prelude, plain_layers, layers, missed, by_first_segment, stop, enter, seen_from}
+use Rattle.hir_def_map.specs.Paths.{from_root, from_super, single, by_2015_rule, layers, missed, by_first_segment, stop, enter, seen_from}
 use Rattle.hir_def_map.specs.declared.place.Place.{Place}
 use Rattle.hir_def_map.specs.declared.place.Place.TheVariants.{In}
-
-abbrev later_layers : Setting → Ask → Place → Reading → Bool → PathKind → List PerNs
-later_layers w q p s is_last k = elim k [ kind.Abs ↦ extern_prelude s ∷ [] | _ ↦ plain_layers w q p s is_last ]
-
-pub layers-plain : (w : Setting) (q : Ask) (p : Place) (s : Reading) (is_last : Bool) → by_2015_rule w q p ≡ false → (q.kind ≡ kind.Abs → ⊥) → layers w q p s is_last ≡ plain_layers w q p s is_last
-layers-plain w q p s is_last later is = ap (λ (b : Bool). cond b (layers_by_2015_rule w p s) (later_layers w q p s is_last q.kind)) later ∙ by q.kind is
-  where
-    by : (k : PathKind) → (k ≡ kind.Abs → ⊥) → later_layers w q p s is_last k ≡ plain_layers w q p s is_last
-    by kind.Abs f = absurd (f refl)
-    by kind.Plain f = refl
-    by kind.Crate f = refl
-    by (kind.DollarCrate c) f = refl
-    by (kind.Super n) f = refl
 
 -- the answer by a first segment, along names
 pub first-names : (w : World) (L : LocalMap) (q : Ask) (p : Place) (n : Name) (rest segments : List Name) (x : PerNs) (is_last is_missed : Bool)

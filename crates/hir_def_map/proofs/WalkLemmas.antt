@@ -20,7 +20,7 @@ use Rattle.dm_maps.specs.Trees.{tree_of}
 use Rattle.dm_maps.specs.World.{World}
 use Rattle.hir_def_map.specs.declared.result.ResolvePathResult.{ResolvePathResult}
 use Rattle.hir_def_map.specs.declared.segments.Entered.{Entered}
-use Rattle.hir_def_map.specs.Answers.{from_other_crate, nothing_no}
+use Rattle.hir_def_map.specs.Answers.{from_other_crate}
 use Rattle.hir_def_map.specs.Paths.{Entering, is_empty, at_variant, stop, seen_in, root_item, enter, enter_within}
 use Rattle.hir_def_map.specs.Walk.{Stand, marked, standing, entry, module_in, left_at, through, walk}
 use Rattle.hir_def_map.proofs.StopLemmas.{stop-through, stop-here, own_crate, stop-enters}
@@ -146,9 +146,6 @@ module _ (w : World) (L : LocalMap) (d : Bool) (f : ModuleId) (o : Option (Item 
     | Some m ↦ walk (tree_of w) (through (tree_of w) (standing d f o) m (read w L s)) (pos + 1) (map (read w L) rest)
     | None ↦ marked d (left_at i pos (read w L s) (is_empty (map (read w L) rest)) i.def)
   ]
-
-  pub walk-nowhere : o ≡ None → walk (tree_of w) (standing d f o) pos (map (read w L) (s ∷ rest)) ≡ marked d nothing_no
-  walk-nowhere is = ap at_type is
 
   pub walk-leaves : (i : Item ModuleDefId ImportOrExternCrate) → o ≡ Some i → module_in i.def ≡ None
       → walk (tree_of w) (standing d f o) pos (map (read w L) (s ∷ rest)) ≡ marked d (left_at i pos (read w L s) (is_empty (map (read w L) rest)) i.def)

@@ -1,7 +1,7 @@
 use Rattle.std.proofs.Common.{◌∙◌, subst, sym}
 use Rattle.dm_base.specs.Tree.{IsKnown}
 use Rattle.dm_maps.specs.Trees.{tree_of}
-use Rattle.hir_def_map.proofs.VisibilityLemmas.{reached-known, restricted-known, names-known, module-held, crate-held}
+use Rattle.hir_def_map.proofs.VisibilityLemmas.{reached-known, restricted-known, names-known, module-held}
 use Rattle.hir_def_map.proofs.path_resolution.DefMapResolvePath.resolve_visibility.Goals as goal
 
 pub returns-in-PubSelf-clause-known : goal.returns-in-PubSelf-clause-known
