@@ -1,7 +1,5 @@
 -- What is set in maps, beside their modules, keeps what holds of every world.
 use Rattle.std.proofs.Common.{◌≡◌, ℕ, Bool, true, false, cond, nat_eq, List, [], ◌∷◌, Option, Some, None, length, map, set, slice_get, refl, subst, sym, ap}
-use Rattle.std.proofs.Math.ListN.{length-set}
-use Rattle.std.specs.Option.{option_map_or}
 use Rattle.dm_ids.specs.declared.ids.Crate.{Crate}
 use Rattle.dm_ids.specs.declared.ids.MapId.{MapId}
 use Rattle.dm_ids.specs.declared.ids.ModuleId.{ModuleId}
@@ -10,9 +8,9 @@ use Rattle.dm_def_map.specs.declared.map_change.MapChange.TheVariants.{Prelude, 
 use Rattle.dm_maps.specs.BuildCrateData.{map_with_shared, with_shared, sharing}
 use Rattle.dm_tables.specs.CrateData.{CrateData}
 use Rattle.dm_scope.specs.Scope.{Scope}
-use Rattle.dm_modules.specs.Maps.{Map, Module, Modules, LocalMap, nth_module, put_scope, with_scope_at, map_with_scope}
+use Rattle.dm_modules.specs.Maps.{Map, Module, Modules, nth_module, put_scope, with_scope_at, map_with_scope}
 use Rattle.dm_maps.specs.World.{World, maps_of, with_maps}
-use Rattle.dm_maps.specs.BuildMaps.{with_map, locals_with}
+use Rattle.dm_maps.specs.BuildMaps.{with_map}
 use Rattle.dm_def_map.specs.MapChanges.{changed}
 use Rattle.dm_maps.specs.Trees.{Outline, outline, outlines, containers_of, IsWorldOf, IsWorld}
 use Rattle.dm_maps.proofs.MapWrites.{put-cases, with-cases}

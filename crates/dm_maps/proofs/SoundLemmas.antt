@@ -12,7 +12,6 @@ use Rattle.dm_ids.specs.declared.ids.ExternCrateId.{ExternCrateId}
 use Rattle.dm_ids.specs.declared.ids.UseId.{UseId}
 use Rattle.dm_ids.specs.declared.item_ids.MacroId.{MacroId}
 use Rattle.dm_ids.specs.Names.{Name, find_name}
-use Rattle.dm_base.specs.Tree.{IsKnown}
 use Rattle.dm_scope.specs.Scope.{Scope, no_scope, bound_in, legacy_in, last_of}
 use Rattle.dm_held.specs.declared.held.HeldId.{HeldId}
 use Rattle.dm_held.specs.declared.held.HeldId.TheVariants as held

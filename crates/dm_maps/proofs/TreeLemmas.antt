@@ -1,17 +1,14 @@
 -- Trees of modules, and what is left of one while it is written.
 use Rattle.std.proofs.Common.{◌≡◌, ◌++◌, ◌<◌, ◌≤◌, ◌+◌, ◌∙◌, ℕ, zero, suc, List, [], ◌∷◌, Option, None, Some, IsSome, map, codes, length, is_some, refl, sym, ap, arith}
-use Rattle.std.specs.Borrow.{Bor}
 use Rattle.std.specs.List.{flat_map}
 use Rattle.std.specs.Option.{option_map_or}
 use Rattle.std.proofs.lemmas.Bool.{ltb-true}
-use Rattle.std.proofs.lemmas.Grind.{flat_map-append}
-use Rattle.std.proofs.lemmas.List.{append_assoc, append-nil, length-append, map-append}
+use Rattle.std.proofs.lemmas.List.{append_assoc, append-nil, length-append}
 use Rattle.dm_ids.specs.declared.ids.ModuleId.{ModuleId}
 use Rattle.dm_ids.specs.Names.{Name, find_name}
 use Rattle.dm_scope.specs.Dumps.{Text}
-use Rattle.dm_scope.specs.Sorted.{seen}
 use Rattle.dm_modules.specs.Maps.{Map, Module, module_at}
-use Rattle.dm_maps.specs.Branches.{child_text, children_text, branch_text, left_text}
+use Rattle.dm_maps.specs.Branches.{children_text, branch_text, left_text}
 use Rattle.dm_maps.specs.MapDumps.{in_order, path_and, module_text, of_children, tree_within, tree, map_text, map_dump}
 use Rattle.dm_maps.specs.MapFacts.{IsChild, IsMapOf}
 use Rattle.dm_maps.specs.Outwards.{maps_outwards, next_outwards}

@@ -3,14 +3,13 @@ use Rattle.std.proofs.Common.{◌≡◌, ◌||◌, ℕ, Bool, true, false, cond,
 use Rattle.std.specs.Option.{ForSome, option_and_then, option_map}
 use Rattle.std.proofs.lemmas.Bool.{lt-ltb}
 use Rattle.std.proofs.lemmas.Option.{slice_get_within}
-use Rattle.dm_ids.specs.declared.ids.Crate.{Crate}
 use Rattle.dm_ids.specs.declared.ids.ModuleId.{ModuleId}
 use Rattle.dm_ids.specs.declared.imports.ImportOrExternCrate.{ImportOrExternCrate}
 use Rattle.dm_ids.specs.declared.item_ids.ModuleDefId.{ModuleDefId}
 use Rattle.dm_ids.specs.declared.item_ids.ModuleDefId.TheVariants as def
 use Rattle.dm_base.specs.declared.per_ns.Item.{Item}
 use Rattle.dm_base.specs.declared.per_ns.PerNs.{PerNs}
-use Rattle.dm_base.specs.declared.visibility.Visibility.TheVariants.{Module, PubCrate}
+use Rattle.dm_base.specs.declared.visibility.Visibility.TheVariants.{Module}
 use Rattle.dm_base.specs.declared.visibility.VisibilityExplicitness.{VisibilityExplicitness}
 use Rattle.dm_base.specs.Tree.{IsKnown, same_block}
 use Rattle.dm_base.specs.Visibility.{NamesKnown}
@@ -60,9 +59,6 @@ names-known w m e k v is = let same : Module m e ≡ v = cc in subst (NamesKnown
 pub module-held : (w : World) (m : ModuleId) (e : VisibilityExplicitness) → IsKnown (tree_of w) m → ForSome (Some (Module m e)) (λ v. KnowsAll w (vis_holds v))
 unfolding tree_of
 module-held w m e k v is = let same : Module m e ≡ v = cc in subst (λ x. KnowsAll w (vis_holds x)) same (k, tt)
-
-pub crate-held : (w : World) (k : Crate) → IsTrue (knows w (held.Crate k)) → ForSome (Some (PubCrate k)) (λ v. KnowsAll w (vis_holds v))
-crate-held w k known v is = let same : PubCrate k ≡ v = cc in subst (λ x. KnowsAll w (vis_holds x)) same (known, tt)
 
 -- the crate of a map is the world's
 pub crate-known : (w : World) (M : Map) → option_map common (crate_map w M.id.krate) ≡ Some (common M) → IsTrue (knows w (held.Crate M.id.krate))
