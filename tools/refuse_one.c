@@ -1,8 +1,15 @@
 /* Refuses one request for memory of the program that it is loaded into, for tools/refusals.
  *
  * It stands before the C library by LD_PRELOAD. REFUSED says which request is refused, counted from 1 since the program began,
- * and TOLD_TO is the number of an open file, to which it writes one byte when it refuses.
+ * and TOLD_TO is the number of an open file, to which it writes one byte when it refuses. Where REFUSED is 0 none is refused,
+ * and it writes one byte for each request.
+ *
+ * It needs glibc on x86-64: it hands requests on by names that glibc alone has, and is built for that machine.
  */
+#ifndef __x86_64__
+#error "refuse_one.c needs glibc on x86-64"
+#endif
+
 typedef __SIZE_TYPE__ size_t;
 
 char *getenv(const char *name);
@@ -16,18 +23,27 @@ void *__libc_memalign(size_t alignment, size_t size);
 enum { OUT_OF_MEMORY = 12 };
 
 static int left;
-static int told_to;
+static int told_to = -1;
+static int counts;
 
 __attribute__((constructor)) static void begin(void) {
   const char *refused = getenv("REFUSED"), *file = getenv("TOLD_TO");
   told_to = file ? atoi(file) : -1;
   left = refused ? atoi(refused) : 0;
+  counts = left == 0 && told_to >= 0;
+}
+
+static void tell(void) {
+  if (write(told_to, "!", 1) != 1)
+    __builtin_trap();
 }
 
 static int refuses(void) {
+  if (counts)
+    tell();
   if (left == 0 || --left != 0)
     return 0;
-  write(told_to, "!", 1);
+  tell();
   return 1;
 }
 

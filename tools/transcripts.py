@@ -1,16 +1,15 @@
-"""The transcripts that stand in the tests of crates/defmap_tests, and where programs are that `rt ci` builds."""
+"""The transcripts that stand in the tests of crates/defmap_tests. A test reads no file, so they are texts in its source;
+this is what reads them for a program."""
 import os
 import re
 
-ROOT = os.path.dirname(os.path.dirname(os.path.abspath(__file__)))
+from judging import ROOT, Wrong, read_text
+
 FOLDER = f"{ROOT}/crates/defmap_tests/src/tests/scripts"
 
 CONSTANT = re.compile(r'const (\w+): &str =\s*"((?:[^"\\]|\\.)*)";', re.S)
+ANY_TEXT = re.compile(r"\bconst (\w+):\s*&(?:'static )?str\b")
 ESCAPES = {"n": "\n", '"': '"', "\\": "\\"}
-
-
-class Wrong(Exception):
-    """What is not as it should be."""
 
 
 def unescaped(literal):
@@ -18,25 +17,31 @@ def unescaped(literal):
 
 
 class Transcripts:
-    """The texts of these tests."""
+    """The texts of these tests, and which of them were asked for."""
 
     def __init__(self):
-        self.constants = {}
+        self.constants, self.used = {}, set()
         for name in sorted(os.listdir(FOLDER)):
-            with open(f"{FOLDER}/{name}", encoding="utf-8") as it:
-                text = it.read()
-            for found in CONSTANT.finditer(text):
-                self.constants[os.path.splitext(name)[0], found[1]] = unescaped(found[2])
+            text, file = read_text(f"{FOLDER}/{name}"), os.path.splitext(name)[0]
+            self.constants.update({(file, found[1]): unescaped(found[2]) for found in CONSTANT.finditer(text)})
+            unread = [it for it in ANY_TEXT.findall(text) if (file, it) not in self.constants]
+            if unread:
+                raise Wrong(f"{name} has texts of another form: {', '.join(unread)}")
 
     def constant(self, file, name):
         """The text of a constant of a file."""
         if (file, name) not in self.constants:
             raise Wrong(f"there is no text {name} in {file}.rt")
+        self.used.add((file, name))
         return self.constants[file, name]
 
     def lines(self, *places):
         """The lines of constants, each given by its file and its name, or a line that is given as it is."""
         return [line for it in places for line in ([it] if isinstance(it, str) else self.constant(*it).splitlines())]
+
+    def unused(self):
+        """The texts that were not asked for."""
+        return [f"{file}.rt's {name}" for file, name in self.constants if (file, name) not in self.used]
 
 
 def parted(transcript):
@@ -50,11 +55,3 @@ def parted(transcript):
         else:
             script.append(line + "\n")
     return "".join(script), "".join(printed)
-
-
-def built(folder, crate, name):
-    """A program that `rt ci` built, or the one of that name in a folder."""
-    path = f"{folder or f'{ROOT}/crates/{crate}/out'}/{name}"
-    if not os.path.isfile(path):
-        raise Wrong(f"there is no {path}: rt ci builds it")
-    return path

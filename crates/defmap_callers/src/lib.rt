@@ -3,6 +3,7 @@
 #![tactic(auto)]
 
 pub mod base;
+pub mod building;
 pub mod maps;
 pub mod modules;
 pub mod paths;

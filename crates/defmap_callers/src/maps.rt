@@ -1,25 +1,36 @@
 //! The callers that docs/USING.md shows.
-ghost use Rattle.std.specs.Prelude.{◌≡◌, None, Some, IfOk, IfSome, IsSome, IsTrue, OnErr, length, nat_lt};
+ghost use Rattle.std.specs.Prelude.{◌≡◌, ◌∷◌, [], false, None, Some, IfOk, IfSome, IsSome, IsTrue, OnErr, OnOk, length, nat_lt, slice_get};
+ghost use Rattle.std.specs.List.{filter_map};
+ghost use Rattle.dm_ids.specs.declared.ids.ModuleId.{ModuleId};
 ghost use Rattle.dm_base.specs.PerNs.{type_alone};
+ghost use Rattle.dm_base.specs.Tree.{same_module};
 ghost use Rattle.dm_maps.specs.Build.{no_world, with_crate, with_rules};
+ghost use Rattle.dm_maps.specs.BuildCrateData.{with_data};
 ghost use Rattle.dm_maps.specs.ItemHomes.{homes_of};
-ghost use Rattle.dm_maps.specs.World.{scope_of};
+ghost use Rattle.dm_maps.specs.Outwards.{maps_outwards};
+ghost use Rattle.dm_maps.specs.PushRes.{StaysShown};
+ghost use Rattle.dm_maps.specs.World.{map_of, scope_of};
+ghost use Rattle.dm_modules.specs.Maps.{Map};
 ghost use Rattle.dm_scope.specs.Shows.{PushShows, push_of};
+ghost use Rattle.dm_tables.specs.CrateData.{with_feature};
+ghost use Rattle.defmap_callers.specs.Maps.{child_in};
 
-use dm_base::ids::{BlockId, ModuleId};
+use dm_base::ids::{BlockId, Crate, ModuleId};
 use dm_base::item_ids::ModuleDefId;
 use dm_base::item_in_ns::ItemModules;
 use dm_base::name::Name;
 use dm_base::per_ns::PerNs;
 use dm_base::source::{Edition, EditionedFileId};
+use dm_base::symbol::Symbol;
 use dm_base::visibility::Visibility;
 use dm_maps::build_fault::BuildFault;
 use dm_maps::builder::WorldBuilder;
+use dm_maps::crate_setting::CrateSetting;
 use dm_maps::def_map::DefMap;
 use dm_maps::module_data::ModuleData;
 use dm_maps::rules::Rules;
 use dm_maps::world::World;
-use dm_maps::world::maps_of::{block_def_map, crate_def_map};
+use dm_maps::world::maps_of::{AskWorld, block_def_map, crate_def_map};
 use dm_scope::glob_imports::PerNsGlobImports;
 use std::alloc::{AllocError, Global};
 
@@ -54,6 +65,36 @@ pub fn by_version(world: World, rules: Rules) -> World
     }
 }
 
+/// Two features, to be set in this order.
+fn both_features(
+    alloc: Global,
+    first: Symbol,
+    second: Symbol,
+) -> Result<Vec<CrateSetting>, AllocError>
+    ensures { IfOk result (λ features. features.items ≡ CrateSetting.Feature first ∷ CrateSetting.Feature second ∷ []) }
+{
+    let mut features = Vec::new(alloc);
+    features.push(CrateSetting::Feature(first))?;
+    features.push(CrateSetting::Feature(second))?;
+    Ok(features)
+}
+
+/// Two features of a crate, by one call: the builder is as two calls of `add_feature` would leave it.
+pub fn enable_both(
+    builder: &mut WorldBuilder,
+    alloc: Global,
+    krate: Crate,
+    first: Symbol,
+    second: Symbol,
+) -> Result<(), BuildFault>
+    ensures ok { OnOk result (builder.new ≡ with_data (with_data builder.old krate (λ d. with_feature d first)) krate (λ d. with_feature d second)) }
+    ensures err { OnErr result (builder.new ≡ builder.old) }
+{
+    let features = both_features(alloc, first, second)?;
+    builder.set_crate_data(krate, features)?;
+    Ok(())
+}
+
 /// Why a declaration is refused.
 #[derive(Clone, Copy, PartialEq, Eq, Debug)]
 pub enum Refused {
@@ -68,7 +109,8 @@ impl From<AllocError> for Refused {
     }
 }
 
-/// Declares a public type in a module of a world: the list of pushes that the module's scope shows has it last.
+/// Declares a public type in a module of a world: the list of pushes that the module's scope shows has it last, and what
+/// other scopes show stays.
 pub fn declare_type(
     world: &mut World,
     globs: &mut PerNsGlobImports,
@@ -76,6 +118,7 @@ pub fn declare_type(
     def: ModuleDefId,
 ) -> Result<bool, Refused>
     ensures shown { PushShows (scope_of world.old lookup.0) globs.old (scope_of world.new lookup.0) globs.new lookup.0 (push_of lookup.1 (type_alone def Visibility.Public None) None) result }
+    ensures elsewhere { (k : ModuleId) → same_module lookup.0 k ≡ false → StaysShown world.old globs.old world.new globs.new k }
     ensures err { OnErr result (world.new ≡ world.old) }
 {
     let items = PerNs::types(def, Visibility::Public, None);
@@ -93,6 +136,17 @@ pub fn child_of<'a>(world: &'a World, m: ModuleId, name: &Name) -> Option<&'a Mo
     let map = world.map_of(m)?;
     let child = map.get(m)?.child(name)?;
     Some(map.module(child))
+}
+
+/// The first child of a name that a module has, or one of those that contain its block and so on outwards. Each map that is asked has
+/// the module that it is asked about, so the asker takes that without a test.
+pub fn child_outwards(world: &World, m: ModuleId, name: &Name) -> Option<ModuleId>
+    ensures { (map : Map) → map_of world.now m ≡ Some map → result ≡ slice_get (filter_map (child_in name.now) (maps_outwards world.now map m)) 0 }
+{
+    let map = world.map_of(m)?;
+    map.with_ancestor_maps(world, m, |map: &DefMap, m: ModuleId| -> Option<ModuleId> {
+        map.module(m).child(name)
+    })
 }
 
 /// The map in which an item was declared: each item of a world has one.

@@ -88,26 +88,27 @@ pub fn bring_in(
     )
 }
 
-/// What a path means in a module before and after a push under a name that is no segment of it: the same.
+/// What a path means in a module, by the extern prelude of a crate, before and after a push under a name that is no segment
+/// of it: the same.
 pub fn before_and_after(
     world: &mut World,
     globs: &mut PerNsGlobImports,
-    local: &LocalDefMap,
+    krate: Crate,
     m: ModuleId,
     path: &ModPath,
     lookup: (ModuleId, Name),
     items: PerNs,
 ) -> Result<(ResolvePathResult, ResolvePathResult), AllocError>
+    requires krate { IsTrue (knows world.old (held.Crate krate)) }
     requires m { IsTrue (knows world.old (held.Module m)) }
-    requires local { KnowsAll world.old (local_holds local.now) }
     requires path { KnowsAll world.old (path_holds path.now.kind) }
     requires push { KnowsAll world.old (push_holds lookup.0 items None) }
     requires other { among path.now.segments lookup.1 ≡ false }
     ensures { IfOk result (λ answers. answers.0 ≡ answers.1) }
 {
-    let before = meaning(world, local, m, path);
+    let before = meaning(world, local_def_map(world, krate), m, path);
     world.push_res(globs, lookup, items, None)?;
-    let after = meaning(world, local, m, path);
+    let after = meaning(world, local_def_map(world, krate), m, path);
     answers_alike();
     Ok((before, after))
 }

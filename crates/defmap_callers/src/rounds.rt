@@ -1,7 +1,15 @@
-//! The caller that docs/USING.md shows.
-ghost use Rattle.std.specs.Prelude.{IfOk, OnErr};
+//! The callers that docs/USING.md shows.
+ghost use Rattle.std.specs.Prelude.{◌≡◌, ◌<◌, ℕ, IfOk, OnErr, length};
+ghost use Rattle.std.specs.Bool.{OnTrue};
+ghost use Rattle.std.specs.Option.{option_and_then};
+ghost use Rattle.dm_retry.specs.Known.{refusal};
+ghost use Rattle.dm_retry.specs.Retries.{NoneDue, RestsAt};
 ghost use Rattle.defmap_callers.specs.Resolving.{IsResolved, IsStopped};
+ghost use Rattle.defmap_callers.specs.Waiting.{import_at};
 
+use dm_base::imports::ImportId;
+use dm_maps::world::World;
+use dm_retry::pending::Pending;
 use dm_retry::retry::Retry;
 use std::alloc::AllocError;
 
@@ -19,4 +27,34 @@ pub fn resolve(retry: &mut Retry, most: u32) -> Result<bool, AllocError>
         }
     }
     Ok(false)
+}
+
+/// Whether none of these imports, all that wait, is due: then a try of any of them would write nothing.
+pub fn is_settled(retry: &Retry, count: usize) -> bool
+    requires { count ≡ length retry.now.state.pending }
+    ensures { OnTrue result ((i : ℕ) → i < count → RestsAt retry.now.state i) }
+{
+    for i in 0..count {
+        if retry.due(i) != Some(false) {
+            return false;
+        }
+    }
+    true
+}
+
+/// A round where none is due, which takes no memory and changes nothing.
+pub fn rest(retry: &mut Retry)
+    requires { NoneDue retry.old.state }
+    ensures { retry.new.state ≡ retry.old.state }
+{
+    let _answer = retry.round_changed();
+}
+
+/// The import for which `Retry::new` refused what it handed back.
+pub fn refused_import(world: &World, pendings: &[Pending]) -> Option<ImportId>
+    ensures { result ≡ option_and_then (λ r. import_at pendings.now r.1) (refusal world.now pendings.now) }
+{
+    let (_fault, place) = Retry::refusal(world, pendings)?;
+    let pending = pendings.get(place)?;
+    Some(pending.import())
 }

@@ -1,5 +1,5 @@
 //! The callers that docs/USING.md shows.
-ghost use Rattle.std.specs.Prelude.{◌≡◌, ◌<◌, ◌^◌, None, Some, List, length, option_map};
+ghost use Rattle.std.specs.Prelude.{◌≡◌, ◌↔◌, ◌<◌, ◌^◌, IsTrue, None, Some, List, length, option_map};
 ghost use Rattle.dm_ids.specs.declared.ids.ModuleId.{ModuleId};
 ghost use Rattle.dm_base.specs.PerNs.{type_alone};
 ghost use Rattle.dm_scope.specs.Chains.{EndsIn, leads, ends};
@@ -16,6 +16,7 @@ use dm_base::item_ids::ModuleDefId;
 use dm_base::name::Name;
 use dm_base::per_ns::{Namespace, PerNs};
 use dm_base::visibility::Visibility;
+use dm_scope::diagnostics::SaidEq;
 use dm_scope::glob_imports::PerNsGlobImports;
 use dm_scope::item_scope::ItemScope;
 use dm_scope::scope_tables::ScopeTables;
@@ -50,4 +51,11 @@ pub fn imported_type<T: ScopeTables>(
     ensures { length (all_records Namespace.Types (T.tables tables.now)) < 2 ^ 64 → (d : ModuleDefId) → EndsIn (leads Namespace.Types (T.tables tables.now)) (ends Namespace.Types) (scope.now, import) d → result ≡ Some d }
 {
     scope.fully_resolve_import(tables, import).take_types()
+}
+
+/// Whether two diagnostics, or two lists of them, say the same.
+pub fn say_the_same<T: SaidEq>(one: &T, two: &T) -> bool
+    ensures { IsTrue result ↔ T.SaySame one.now two.now }
+{
+    one == two
 }

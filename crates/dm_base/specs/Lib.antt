@@ -8,3 +8,4 @@ pub mod Overlays
 pub mod ItemHomes
 pub mod VisibilityRows
 pub mod IdLaws
+pub mod RunLaws

@@ -1,7 +1,7 @@
 -- When two imports are one, two definitions, two items of the syntax, and two sets of items: as their `==` says.
 use Rattle.std.specs.Prelude.{◌≡◌, ◌&&◌, Bool, true, Option, Some, None, refl}
 use Rattle.std.specs.Option.{option_eq}
-use Rattle.std.proofs.Common.{ap, rules}
+use Rattle.std.proofs.Common.{ap}
 use Rattle.std.proofs.lemmas.Bool.{and_parts}
 use Rattle.dm_ids.specs.declared.imports.ImportOrExternCrate.{ImportOrExternCrate}
 use Rattle.dm_ids.specs.declared.imports.ImportOrGlob.{ImportOrGlob}
@@ -16,6 +16,11 @@ use Rattle.dm_ids.specs.contracts.imports.ImportOrGlobPartialEq.TheImpl as value
 use Rattle.dm_ids.specs.contracts.item_ids.MacroIdPartialEq.TheImpl as macro_eq
 use Rattle.dm_ids.specs.contracts.item_ids.ModuleDefIdPartialEq.TheImpl as def_eq
 use Rattle.dm_ids.specs.contracts.source.AstIdPartialEq.TheImpl as ast_eq
+use Rattle.dm_ids.specs.contracts.value_eq.ImportOrExternCrateValueEq.TheImpl.Laws as import_value
+use Rattle.dm_ids.specs.contracts.value_eq.ImportOrGlobValueEq.TheImpl.Laws as value_import_value
+use Rattle.dm_ids.specs.contracts.value_eq.MacroIdValueEq.TheImpl.Laws as macro_value
+use Rattle.dm_ids.specs.contracts.value_eq.ModuleDefIdValueEq.TheImpl.Laws as def_value
+use Rattle.dm_base.specs.contracts.value_eq.VisibilityValueEq.TheImpl.Laws as visibility_value
 use Rattle.dm_base.specs.contracts.visibility.VisibilityPartialEq.TheImpl as visibility_eq
 use Rattle.dm_base.specs.contracts.per_ns.PerNsPartialEq.TheImpl as per_ns_eq
 
@@ -41,34 +46,19 @@ abbrev pub same_visibility : Visibility → Visibility → Bool
 same_visibility = visibility_eq.ghosts.eq
 
 -- optional values are one where they are both missing, or both there and one
-options_same : {A : Type 0} {E : A → A → Bool} → ((a b : A) → E a b ≡ true → a ≡ b) → (x y : Option A) → option_eq E x y ≡ true → x ≡ y
+pub options_same : {A : Type 0} {E : A → A → Bool} → ((a b : A) → E a b ≡ true → a ≡ b) → (x y : Option A) → option_eq E x y ≡ true → x ≡ y
 options_same same None None e = refl
 options_same same None (Some y) e = cc
 options_same same (Some x) None e = cc
 options_same same (Some x) (Some y) e = ap Some (same x y e)
 
-visibility_same : (x y : Visibility) → same_visibility x y ≡ true → x ≡ y
-visibility_same = Prim.search rules
-
-def_same : (x y : ModuleDefId) → same_def x y ≡ true → x ≡ y
-def_same = Prim.search rules
-
-macro_same : (x y : MacroId) → same_macro x y ≡ true → x ≡ y
-macro_same = Prim.search rules
-
-import_same : (x y : ImportOrExternCrate) → same_import x y ≡ true → x ≡ y
-import_same = Prim.search rules
-
-value_import_same : (x y : ImportOrGlob) → same_value_import x y ≡ true → x ≡ y
-value_import_same = Prim.search rules
-
 -- items are one where their definitions, visibilities and imports are
-item_same : {D I : Type 0} {E : D → D → Bool} {F : I → I → Bool} → ((a b : D) → E a b ≡ true → a ≡ b) → ((a b : I) → F a b ≡ true → a ≡ b)
+pub item_same : {D I : Type 0} {E : D → D → Bool} {F : I → I → Bool} → ((a b : D) → E a b ≡ true → a ≡ b) → ((a b : I) → F a b ≡ true → a ≡ b)
     → (x y : Item D I) → (E x.def y.def && (same_visibility x.vis y.vis && option_eq F x.import y.import)) ≡ true → x ≡ y
 item_same defs imports x y e =
     let first = and_parts _ _ e in
     let rest = and_parts _ _ first.1 in
-    λ i. record { def = defs x.def y.def first.0 i; vis = visibility_same x.vis y.vis rest.0 i; import = options_same imports x.import y.import rest.1 i }
+    λ i. record { def = defs x.def y.def first.0 i; vis = visibility_value.same-law x.vis y.vis rest.0 i; import = options_same imports x.import y.import rest.1 i }
 
 -- sets of items are one where they have the same items
 pub per_ns_same : (x y : PerNs) → per_ns_eq.ghosts.eq x y ≡ true → x ≡ y
@@ -76,7 +66,7 @@ per_ns_same x y e =
     let first = and_parts _ _ e in
     let rest = and_parts _ _ first.1 in
     λ i. record {
-      types = options_same (item_same def_same import_same) x.types y.types first.0 i;
-      values = options_same (item_same def_same value_import_same) x.values y.values rest.0 i;
-      macros = options_same (item_same macro_same import_same) x.macros y.macros rest.1 i;
+      types = options_same (item_same def_value.same-law import_value.same-law) x.types y.types first.0 i;
+      values = options_same (item_same def_value.same-law value_import_value.same-law) x.values y.values rest.0 i;
+      macros = options_same (item_same macro_value.same-law import_value.same-law) x.macros y.macros rest.1 i;
     }

@@ -1,13 +1,13 @@
 //! What a namespace's definitions are, for code that serves every namespace.
-ghost use Rattle.std.specs.Prelude.{◌≡◌, true};
-ghost use Rattle.std.proofs.Common.{rules};
+ghost use Rattle.std.specs.Prelude.{◌≡◌};
 ghost use Rattle.dm_ids.specs.declared.item_ids.ModuleDefId.{ModuleDefId};
 ghost use Rattle.dm_base.specs.Definitions.{widened_macro, widened_macro_injective};
 
 use dm_ids::item_ids::{MacroId, ModuleDefId};
+use dm_ids::value_eq::ValueEq;
 
 /// The definitions that a namespace can hold.
-pub trait Definition: Copy + Eq {
+pub trait Definition: Copy + ValueEq {
     ghost widened_def: { Self → ModuleDefId };
 
     /// The same definition, among those of every namespace.
@@ -15,16 +15,12 @@ pub trait Definition: Copy + Eq {
         ensures { result ≡ widened_def self };
 
     ghost injective: { (x y : Self) → widened_def x ≡ widened_def y → x ≡ y };
-
-    ghost same: { (x y : Self) → Self.eq x y ≡ true → x ≡ y };
 }
 
 impl Definition for ModuleDefId {
     ghost widened_def = { λ d. d };
 
     ghost injective = { λ _ _ e. e };
-
-    ghost same = { Prim.search rules };
 
     fn widen_def(self) -> Self {
         self
@@ -35,8 +31,6 @@ impl Definition for MacroId {
     ghost widened_def = { widened_macro };
 
     ghost injective = { widened_macro_injective };
-
-    ghost same = { Prim.search rules };
 
     fn widen_def(self) -> ModuleDefId {
         ModuleDefId::MacroId(self)

@@ -5,10 +5,11 @@ ghost use Rattle.dm_ids.specs.declared.imports.ImportOrExternCrate.{ImportOrExte
 ghost use Rattle.dm_ids.specs.Imports.{narrowed, widened, is_glob, is_glob_or_import, narrow_widen, widen_narrow, globs_narrow, globs_stay};
 
 use dm_ids::imports::{ImportOrExternCrate, ImportOrGlob};
+use dm_ids::value_eq::ValueEq;
 use std::hash::Hash;
 
 /// The imports that can bring a name into a namespace.
-pub trait ImportSource: Copy + Eq + Hash {
+pub trait ImportSource: Copy + ValueEq + Hash {
     ghost narrowed: { ImportOrExternCrate → Option Self };
 
     ghost widened: { Self → ImportOrExternCrate };
@@ -34,8 +35,6 @@ pub trait ImportSource: Copy + Eq + Hash {
     ghost globs_narrow: { (i : ImportOrExternCrate) → is_glob i ≡ true → (x : Self) × (narrowed i ≡ Some x) };
 
     ghost globs_stay: { (x : Self) → globs x ≡ is_glob (widened x) };
-
-    ghost same: { (x y : Self) → Self.eq x y ≡ true → x ≡ y };
 }
 
 impl ImportSource for ImportOrExternCrate {
@@ -52,8 +51,6 @@ impl ImportSource for ImportOrExternCrate {
     ghost globs_narrow = { λ i _. (i, refl) };
 
     ghost globs_stay = { λ _. refl };
-
-    ghost same = { Prim.search rules };
 
     fn narrow(import: ImportOrExternCrate) -> Option<Self> {
         Some(import)
@@ -82,8 +79,6 @@ impl ImportSource for ImportOrGlob {
     ghost globs_narrow = { globs_narrow };
 
     ghost globs_stay = { globs_stay };
-
-    ghost same = { Prim.search rules };
 
     fn narrow(import: ImportOrExternCrate) -> Option<Self> {
         import.import_or_glob()

@@ -1,5 +1,7 @@
 //! The items of all namespaces in a row.
-ghost use Rattle.std.specs.Iterator.{YieldsFirst, item_count};
+ghost use Rattle.std.specs.Prelude.{length};
+ghost use Rattle.std.specs.Iterator.{at_most};
+ghost use Rattle.std.specs.Map.Iter.{TakesFirst};
 
 use crate::item_in_ns::ItemInNs;
 use crate::per_ns::PerNs;
@@ -25,11 +27,13 @@ impl Model for IterItems {
 
 impl IterItems {
     ghost use Rattle.std.specs.Prelude.{◌≡◌};
-    ghost use Rattle.dm_base.specs.PerNs.{items_of};
+    ghost use Rattle.std.specs.Map.Iter.{ShowsInOrder};
+    ghost use Rattle.dm_base.specs.PerNs.{Listed, items_of};
 
     /// The items of a set, none of them taken yet.
     pub(crate) fn new(items: PerNs) -> IterItems
-        ensures { result ≡ items_of items }
+        ensures rest { result ≡ items_of items }
+        ensures runs { ShowsInOrder (λ (x : Listed). x) }
     {
         IterItems { left: items }
     }
@@ -38,9 +42,9 @@ impl IterItems {
 impl Iterator for IterItems {
     type Item = (ItemInNs, Option<ImportOrExternCrate>);
 
-    ghost next_gives = { YieldsFirst (λ items. items) };
+    ghost next_gives = { TakesFirst (λ x. x) };
 
-    ghost remaining = { item_count (λ items. items) };
+    ghost remaining = { λ s. at_most (length s) };
 
     fn next(&mut self) -> Option<(ItemInNs, Option<ImportOrExternCrate>)> {
         if let Some(item) = self.left.types.take() {

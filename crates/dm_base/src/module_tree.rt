@@ -40,23 +40,6 @@ pub trait ModuleTree {
         ensures value { result ≡ outside (tree self.now) m }
         ensures lawful { IsTree (tree self.now) };
 
-    /// The containing module, with what a climb along the chain needs of it: a step of `outer_member`, for no other caller.
-    #[doc(hidden)]
-    fn climb(&self, m: ModuleId) -> Option<ModuleId>
-        requires { IsKnown (tree self.now) m }
-        ensures value { result ≡ containing (tree self.now) m }
-
-        // The chain of a module is the module, then the chain of its containing module.
-        ensures chain { chain (tree self.now) m ≡ begun_by m (chain (tree self.now)) result }
-        ensures known { ForSome result (IsKnown (tree self.now)) }
-        ensures smaller { ForSome result (λ c. c.0 < m.0) }
-
-        // What nothing contains lies in no block.
-        ensures outmost { ForNone result (in_block_map (tree self.now) m ≡ false) }
-    {
-        self.containing(m)
-    }
-
     /// Whether a module is the root of a block's map.
     fn is_block_root(&self, m: ModuleId) -> bool
         requires { IsKnown (tree self.now) m }
@@ -103,15 +86,15 @@ pub trait ModuleTree {
         nearest
     }
 
-    /// Member `k`, from 0, of the chain of `m` without the roots of blocks.
-    fn outer_member(&self, m: ModuleId, k: u8) -> Option<ModuleId>
+    /// Member `k`, from 0, of the chain of `m` without the roots of blocks. No tree has another body for it.
+    final fn outer_member(&self, m: ModuleId, k: u8) -> Option<ModuleId>
         requires { IsKnown (tree self.now) m }
         ensures value { result ≡ slice_get (outer (tree self.now) m) k }
         ensures known { ForSome result (IsKnown (tree self.now)) }
     {
         let mut at = self.home(m);
         'members: for _ in 0..k {
-            at = self.home(self.climb(at)?);
+            at = self.home(climb(self, at)?);
         }
         Some(at)
     }
@@ -132,4 +115,20 @@ pub trait ModuleTree {
             }
         }
     }
+}
+
+/// The containing module, with what a climb along the chain needs of it.
+fn climb<T: ModuleTree>(tree: &T, m: ModuleId) -> Option<ModuleId>
+    requires { IsKnown (T.tree tree.now) m }
+    ensures value { result ≡ containing (T.tree tree.now) m }
+
+    // The chain of a module is the module, then the chain of its containing module.
+    ensures chain { chain (T.tree tree.now) m ≡ begun_by m (chain (T.tree tree.now)) result }
+    ensures known { ForSome result (IsKnown (T.tree tree.now)) }
+    ensures smaller { ForSome result (λ c. c.0 < m.0) }
+
+    // What nothing contains lies in no block.
+    ensures outmost { ForNone result (in_block_map (T.tree tree.now) m ≡ false) }
+{
+    tree.containing(m)
 }

@@ -1,6 +1,7 @@
 //! What a name means: one item in each namespace at most.
 ghost use Rattle.std.specs.Prelude.{◌≡◌, ⊤, [], ◌∷◌, codes, true, false};
-ghost use Rattle.dm_base.specs.PerNs.{nothing, over, items_of, is_reresolved, type_alone, value_alone, macro_alone, type_and_value, of_def, is_empty, is_full, definition, seen_as, availability, AsksItem, AsksInOrder, MayAskItem, MayAskInOrder};
+ghost use Rattle.std.specs.Map.Iter.{ShowsInOrder};
+ghost use Rattle.dm_base.specs.PerNs.{nothing, over, Listed, items_of, is_reresolved, type_alone, value_alone, macro_alone, type_and_value, of_def, is_empty, is_full, definition, seen_as, availability, AsksItem, AsksInOrder, MayAskItem, MayAskInOrder};
 
 use crate::items::IterItems;
 use crate::visibility::Visibility;
@@ -320,7 +321,8 @@ impl PerNs {
 
     /// The items in a row, types before values before macros, each with the import that brought it.
     pub fn iter_items(self) -> IterItems
-        ensures { result ≡ items_of self }
+        ensures rest { result ≡ items_of self }
+        ensures runs { ShowsInOrder (λ (x : Listed). x) }
     {
         IterItems::new(self)
     }

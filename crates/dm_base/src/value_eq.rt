@@ -1,7 +1,5 @@
 //! Types whose `==` holds of the same value alone.
 ghost use Rattle.std.proofs.Common.{rules};
-ghost use Rattle.dm_base.specs.Path.{paths_same};
-ghost use Rattle.dm_base.specs.Sameness.{per_ns_same};
 
 use crate::item_in_ns::ItemInNs;
 use crate::mod_path::{ModPath, PathKind};
@@ -34,13 +32,19 @@ impl ValueEq for PathKind {
 }
 
 impl ValueEq for ModPath {
+    ghost use Rattle.dm_base.specs.Path.{paths_same};
+
     ghost same = { paths_same };
 }
 
 impl<Def: ValueEq, Import: ValueEq> ValueEq for Item<Def, Import> {
-    ghost same = { Prim.search rules };
+    ghost use Rattle.dm_base.specs.Sameness.{item_same};
+
+    ghost same = { item_same Def.same Import.same };
 }
 
 impl ValueEq for PerNs {
+    ghost use Rattle.dm_base.specs.Sameness.{per_ns_same};
+
     ghost same = { per_ns_same };
 }

@@ -1,21 +1,22 @@
-//! For the crates of this repository which build maps: how a map begins, grows, and is changed.
+//! For the crates of this repository which build maps: how a map begins, grows, is changed, and is read whole.
 ghost use Rattle.std.specs.Prelude.{◌≡◌, false, None, IsOk, IfOk, OnOk, OnErr};
-ghost use Rattle.std.specs.Option.{option_copied_mut};
+ghost use Rattle.std.specs.Option.{option_copied, option_copied_mut};
 ghost use Rattle.std.specs.Borrow.{sem};
-ghost use Rattle.dm_modules.specs.Maps.{module_at, nth_scope, fresh_map, map_with_child};
+ghost use Rattle.dm_modules.specs.Maps.{module_at, nth_module, nth_scope, fresh_map, map_with_child};
 ghost use Rattle.dm_def_map.specs.LendingMap.{LendsMapScope};
 ghost use Rattle.dm_def_map.specs.MapChanges.{changed, grows};
 
 use crate::def_map::DefMap;
 use crate::map_change::MapChange;
-use dm_base::ids::{MapId, ModuleId};
+use dm_base::ids::{ExternCrateId, MapId, ModuleId};
+use dm_base::item_ids::MacroId;
 use dm_base::name::Name;
-use dm_base::source::Edition;
+use dm_base::source::{AstId, Edition};
 use dm_modules::building;
 use dm_modules::module_data::ModuleData;
 use dm_scope::item_scope::ItemScope;
 use dm_tables::crate_data::CrateData;
-use dm_tables::derive_helpers::add_helper;
+use dm_tables::derive_helpers::{DeriveHelpers, add_helper};
 use dm_tables::keyed_tables::put_macro_def;
 use indexmap::IndexMap;
 use std::alloc::{AllocError, Global};
@@ -87,6 +88,34 @@ pub fn change(map: &mut DefMap, change: MapChange, alloc: Global) -> Result<(), 
         }
     }
     Ok(())
+}
+
+/// The module at place `i`, counted from the root.
+pub fn nth(map: &DefMap, i: usize) -> Option<&ModuleData>
+    ensures { option_copied result ≡ nth_module map.now.modules i }
+{
+    map.modules.nth(i)
+}
+
+/// The macro that each item of the syntax defines.
+pub fn macro_defs(map: &DefMap) -> &IndexMap<AstId, MacroId>
+    ensures { result.now.entries ≡ map.now.macro_defs }
+{
+    &map.macro_defs
+}
+
+/// The derive helpers of each item of the syntax.
+pub fn derive_helpers(map: &DefMap) -> &IndexMap<AstId, DeriveHelpers>
+    ensures { result.now.entries ≡ map.now.derive_helpers }
+{
+    &map.derive_helpers
+}
+
+/// The macros that `#[macro_use]` brings.
+pub fn macro_uses(map: &DefMap) -> &IndexMap<Name, (MacroId, Option<ExternCrateId>)>
+    ensures { result.now.entries ≡ map.now.macro_use }
+{
+    &map.macro_use_prelude
 }
 
 /// What the module at place `i` binds, to be changed.

@@ -4,7 +4,7 @@ ghost use Rattle.std.specs.Option.{option_copied};
 ghost use Rattle.std.specs.Map.{lookup};
 ghost use Rattle.dm_ids.specs.Names.{find_name};
 ghost use Rattle.dm_base.specs.Sameness.{same_ast};
-ghost use Rattle.dm_modules.specs.Maps.{module_at, nth_module};
+ghost use Rattle.dm_modules.specs.Maps.{module_at};
 
 use dm_base::ids::{BlockId, Crate, ExternCrateId, MapId, ModuleId, UseId};
 use dm_base::item_ids::MacroId;
@@ -127,13 +127,6 @@ impl DefMap {
         self.modules.get(m)
     }
 
-    /// The module at place `i`, counted from the root.
-    pub fn nth(&self, i: usize) -> Option<&ModuleData>
-        ensures { option_copied result ≡ nth_module self.now.modules i }
-    {
-        self.modules.nth(i)
-    }
-
     /// The prelude module, with the use that named it.
     pub fn prelude(&self) -> Option<(ModuleId, Option<UseId>)>
         ensures { result ≡ self.now.prelude }
@@ -174,26 +167,5 @@ impl DefMap {
         ensures { result.now.value ≡ self.now.shared }
     {
         &self.shared
-    }
-
-    /// The macro that each item of the syntax defines.
-    pub fn macro_defs(&self) -> &IndexMap<AstId, MacroId>
-        ensures { result.now.entries ≡ self.now.macro_defs }
-    {
-        &self.macro_defs
-    }
-
-    /// The derive helpers of each item of the syntax.
-    pub fn derive_helpers(&self) -> &IndexMap<AstId, DeriveHelpers>
-        ensures { result.now.entries ≡ self.now.derive_helpers }
-    {
-        &self.derive_helpers
-    }
-
-    /// The macros that `#[macro_use]` brings.
-    pub fn macro_uses(&self) -> &IndexMap<Name, (MacroId, Option<ExternCrateId>)>
-        ensures { result.now.entries ≡ self.now.macro_use }
-    {
-        &self.macro_use_prelude
     }
 }

@@ -4,15 +4,15 @@ use Rattle.std.specs.Cmp.Lexicographic.{pointwise, bytes_decides}
 use Rattle.std.specs.String.{string_eq}
 use Rattle.std.proofs.Common.{rules, ap, sym, ◌∙◌, Global, String}
 use Rattle.std.proofs.lemmas.Bool.{and_from, and_parts}
-use Rattle.dm_base.specs.Path.{paths_same}
-use Rattle.dm_ids.specs.declared.ids.MacroCallKind.{MacroCallKind}
-use Rattle.dm_ids.specs.declared.ids.ExpandErrorKind.{ExpandErrorKind}
+use Rattle.dm_base.specs.contracts.value_eq.ModPathValueEq.TheImpl.Laws as path_value
 use Rattle.dm_ids.specs.declared.ids.ModuleId.{ModuleId}
 use Rattle.dm_ids.specs.contracts.ids.ModuleIdPartialEq.TheImpl as module_eq
-use Rattle.dm_ids.specs.contracts.ids.MacroCallKindPartialEq.TheImpl as call_eq
-use Rattle.dm_ids.specs.contracts.ids.ExpandErrorKindPartialEq.TheImpl as error_eq
 use Rattle.dm_ids.specs.declared.source.AstId.{AstId}
 use Rattle.dm_ids.specs.contracts.source.AstIdPartialEq.TheImpl as ast_eq
+use Rattle.dm_ids.specs.contracts.value_eq.AstIdValueEq.TheImpl.Laws as ast_value
+use Rattle.dm_ids.specs.contracts.value_eq.ExpandErrorKindValueEq.TheImpl.Laws as error_value
+use Rattle.dm_ids.specs.contracts.value_eq.MacroCallKindValueEq.TheImpl.Laws as call_value
+use Rattle.dm_ids.specs.contracts.value_eq.ModuleIdValueEq.TheImpl.Laws as module_value
 use Rattle.dm_diagnostics.specs.declared.DefDiagnostic.{DefDiagnostic}
 use Rattle.dm_diagnostics.specs.declared.DefDiagnosticKind.{DefDiagnosticKind}
 use Rattle.dm_diagnostics.specs.declared.DefDiagnosticKind.TheVariants as kind
@@ -31,6 +31,13 @@ pub record SaySame (x y : DefDiagnostic) : Type 0 where
   pub module_ : x.in_module ≡ y.in_module
   pub kind : SaysTheSame x.kind y.kind
 
+-- lists that say the same, each diagnostic in its place
+abbrev pub AllSaySame : List DefDiagnostic → List DefDiagnostic → Type 0
+AllSaySame [] [] = Unit {0}
+AllSaySame [] (y ∷ ys) = ⊥
+AllSaySame (x ∷ xs) [] = ⊥
+AllSaySame (x ∷ xs) (y ∷ ys) = SaySame x y × AllSaySame xs ys
+
 texts_same : (xs ys : List (String Global)) → pointwise string_eq xs ys ≡ true → map string_bytes xs ≡ map string_bytes ys
 texts_same [] [] e = refl
 texts_same [] (y ∷ ys) e = cc
@@ -39,27 +46,15 @@ texts_same (x ∷ xs) (y ∷ ys) e =
     let parts = and_parts _ _ e in
     λ i. (bytes_decides (string_bytes x) (string_bytes y)).0 parts.0 i ∷ texts_same xs ys parts.1 i
 
-ast_same : (a b : AstId) → ast_eq.ghosts.eq a b ≡ true → a ≡ b
-ast_same = Prim.search rules
-
-modules_same : (a b : ModuleId) → module_eq.ghosts.eq a b ≡ true → a ≡ b
-modules_same = Prim.search rules
-
-calls_same : (a b : MacroCallKind) → call_eq.ghosts.eq a b ≡ true → a ≡ b
-calls_same = Prim.search rules
-
-errors_same : (a b : ExpandErrorKind) → error_eq.ghosts.eq a b ≡ true → a ≡ b
-errors_same = Prim.search rules
-
 pub kinds_same : (x y : DefDiagnosticKind) → kind_eq.ghosts.eq x y ≡ true → SaysTheSame x y
 kinds_same (kind.UnresolvedModule a cs) (kind.UnresolvedModule b ds) e =
-    let parts = and_parts _ _ e in (ast_same a b parts.0, texts_same cs.items ds.items parts.1)
+    let parts = and_parts _ _ e in (ast_value.same-law a b parts.0, texts_same cs.items ds.items parts.1)
 kinds_same (kind.UnresolvedMacroCall a p) (kind.UnresolvedMacroCall b q) e =
-    let parts = and_parts _ _ e in λ i. kind.UnresolvedMacroCall (calls_same a b parts.0 i) (paths_same p q parts.1 i)
+    let parts = and_parts _ _ e in λ i. kind.UnresolvedMacroCall (call_value.same-law a b parts.0 i) (path_value.same-law p q parts.1 i)
 kinds_same (kind.MacroError a p k) (kind.MacroError b q l) e =
     let first = and_parts _ _ e in
     let rest = and_parts _ _ first.1 in
-    λ i. kind.MacroError (ast_same a b first.0 i) (paths_same p q rest.0 i) (errors_same k l rest.1 i)
+    λ i. kind.MacroError (ast_value.same-law a b first.0 i) (path_value.same-law p q rest.0 i) (error_value.same-law k l rest.1 i)
 kinds_same x y e = Prim.search (rules, bytes_decides)
 
 -- ---- and the other way round
@@ -88,4 +83,18 @@ pub diagnostics_told : (x y : DefDiagnostic) → SaySame x y → diagnostic_eq.g
 diagnostics_told x y e = and_from _ _ (modules_told x.in_module y.in_module e.module_) (kinds_told x.kind y.kind e.kind)
 
 pub diagnostics_same : (x y : DefDiagnostic) → diagnostic_eq.ghosts.eq x y ≡ true → SaySame x y
-diagnostics_same x y e = let parts = and_parts _ _ e in record { module_ = modules_same x.in_module y.in_module parts.0; kind = kinds_same x.kind y.kind parts.1 }
+diagnostics_same x y e = let parts = and_parts _ _ e in record { module_ = module_value.same-law x.in_module y.in_module parts.0; kind = kinds_same x.kind y.kind parts.1 }
+
+-- ---- Lists
+
+pub lists_same : (xs ys : List DefDiagnostic) → pointwise diagnostic_eq.ghosts.eq xs ys ≡ true → AllSaySame xs ys
+lists_same [] [] e = tt
+lists_same [] (y ∷ ys) e = cc
+lists_same (x ∷ xs) [] e = cc
+lists_same (x ∷ xs) (y ∷ ys) e = let parts = and_parts _ _ e in (diagnostics_same x y parts.0, lists_same xs ys parts.1)
+
+pub lists_told : (xs ys : List DefDiagnostic) → AllSaySame xs ys → pointwise diagnostic_eq.ghosts.eq xs ys ≡ true
+lists_told [] [] e = refl
+lists_told [] (y ∷ ys) e = absurd e
+lists_told (x ∷ xs) [] e = absurd e
+lists_told (x ∷ xs) (y ∷ ys) e = and_from _ _ (diagnostics_told x y e.0) (lists_told xs ys e.1)

@@ -5,7 +5,7 @@ ghost use Rattle.std.specs.Prelude.{◌≡◌, IfOk, true};
 ghost use Rattle.std.specs.Cmp.{partial_equiv_from_equiv};
 ghost use Rattle.std.specs.Cmp.Lexicographic.{pointwise, lists_equiv};
 ghost use Rattle.std.specs.Slice.Iter.{iter_rest};
-ghost use Rattle.dm_diagnostics.specs.SameTexts.{SaySame, SaysTheSame, diagnostics_same, diagnostics_told, kinds_same, kinds_told};
+ghost use Rattle.dm_diagnostics.specs.SameTexts.{AllSaySame, SaySame, SaysTheSame, diagnostics_same, diagnostics_told, kinds_same, kinds_told, lists_same, lists_told};
 ghost use Rattle.dm_diagnostics.specs.contracts.DefDiagnosticEq.TheImpl.Laws.{laws-law};
 
 use dm_base::ids::{
@@ -262,6 +262,14 @@ impl PartialEq for DefDiagnostics {
 
 impl Eq for DefDiagnostics {
     ghost laws = { lists_equiv laws-law };
+}
+
+impl SaidEq for DefDiagnostics {
+    ghost SaySame = { AllSaySame };
+
+    ghost same = { lists_same };
+
+    ghost told = { lists_told };
 }
 
 impl Clone for DefDiagnostics {

@@ -22,6 +22,10 @@ pub mod Refusals
 pub mod InOrder
 pub mod CutPush
 pub mod StayLemmas
+pub mod GrownLemmas
+pub mod AddedMaps
+pub mod AddedItems
+pub mod SetLemmas
 pub mod RawLemmas
 pub mod NameOrder
 pub mod OutwardLemmas
@@ -33,7 +37,9 @@ pub mod BuiltGrowth
 pub mod RecordLemmas
 pub mod RecordGrowth
 pub mod LadderLemmas
+pub mod LawLemmas
 pub mod BlockListLemmas
 pub mod SharedMaps
+pub mod SettingLemmas
 pub mod IndexLemmas
 pub mod Pops

@@ -6,7 +6,7 @@ use Rattle.dm_ids.specs.declared.ids.BlockId.{BlockId}
 use Rattle.dm_ids.specs.declared.ids.ModuleId.{ModuleId}
 use Rattle.dm_modules.specs.Maps.{Map}
 use Rattle.dm_maps.specs.MapFacts.{HasContainer}
-use Rattle.dm_maps.specs.Outwards.{container_of, next_outwards, outwards_within, maps_outwards, AsksMaps}
+use Rattle.dm_maps.specs.Outwards.{container_of, next_outwards, outwards_within, maps_outwards, AsksMaps, IsHandedOut, MayAskMaps, MayAskNext}
 use Rattle.dm_maps.specs.Trees.{IsWorld}
 use Rattle.dm_maps.specs.World.{World, map_of}
 use Rattle.dm_maps.proofs.InOrder.{Standing, in_order}
@@ -26,6 +26,10 @@ outwards-first w M m = by (length w.places)
 -- an asker answers about the first
 pub asks-answered : {F T : Type 0} (w : World) (step : F → Bor Map → ModuleId → Option T → F → Type 0) (M : Bor Map) (m : ModuleId) (f g : F) (y : T) → step f M m (Some y) g → AsksMaps step (maps_outwards w M.now m) f (Some y) g
 asks-answered w step M m f g y s = subst (λ xs. AsksMaps step xs f (Some y) g) (sym (outwards-first w M.now m).1) (Some y, g, (M, refl, s), (refl, refl))
+
+-- it may be asked about the first
+pub may-first : {F T : Type 0} (w : World) (may : F → Bor Map → ModuleId → Type 0) (step : F → Bor Map → ModuleId → Option T → F → Type 0) (M : Bor Map) (m : ModuleId) (f : F) → MayAskMaps w may step (maps_outwards w M.now m) f → may f M m
+may-first w may step M m f h = (subst (λ xs. MayAskMaps w may step xs f) (outwards-first w M.now m).1 h).0 M refl
 
 module _ (w : World) (is : IsWorld w) where
   known-of : (p : ModuleId) (P : Map) → map_of w p ≡ Some P → Standing w p
@@ -102,3 +106,12 @@ module _ (w : World) (is : IsWorld w) where
     asks-on M P m p f h g r e s rest =
         let all = outwards-step M.now m ∙ ap (λ o. (M.now, m) ∷ option_map_or (λ (x : Map × ModuleId). maps_outwards w x.0 x.1) o []) (sym e) in
         subst (λ xs. AsksMaps step xs f r g) (sym all) (None, h, (M, refl, s), rest)
+
+    -- it does not, and may be asked about the next ones
+    pub may-on : (may : F → Bor Map → ModuleId → Type 0) (M : Bor Map) (P : Map) (m p : ModuleId) (f h : F) → Some (P, p) ≡ next_outwards w M.now → IsHandedOut w (P, p) → step f M m None h
+        → MayAskMaps w may step (maps_outwards w M.now m) f → MayAskMaps w may step (maps_outwards w P p) h
+    may-on may M P m p f h e out s all_may =
+        let all = outwards-step M.now m ∙ ap (λ o. (M.now, m) ∷ option_map_or (λ (x : Map × ModuleId). maps_outwards w x.0 x.1) o []) (sym e) in
+        let begun = (outwards-first w P p).1 in
+        let next = subst (λ xs. MayAskNext w may step xs h) begun ((subst (λ xs. MayAskMaps w may step xs f) all all_may).1 h (M, refl, s)) in
+        subst (λ xs. MayAskMaps w may step xs h) (sym begun) (next.0 out, next.1)

@@ -10,3 +10,8 @@ pub out_of_memory : {A B : Type 0} (fault : Option BuildFault) (x : A) (r : Resu
 out_of_memory None x (Ok y) known e = tt
 out_of_memory None x (Err f) known e = e
 out_of_memory (Some f) x r known e = cc
+
+-- no fault, whatever is answered
+pub no_fault : {A B : Type 0} (fault : Option BuildFault) (x : A) (y : B) → Answers fault (Ok x) → Answers fault (Ok y)
+no_fault None x y known = tt
+no_fault (Some f) x y known = cc

@@ -31,7 +31,7 @@ use Rattle.dm_maps.proofs.WorldGrowth.{numbered-outlines}
 
 -- ---- What stands at a place after a write.
 
-values-set : (es : Modules) (i : ℕ) (d : Module) → map (λ e. e.1) (set_value_at es i d) ≡ set (map (λ e. e.1) es) i d
+pub values-set : (es : Modules) (i : ℕ) (d : Module) → map (λ e. e.1) (set_value_at es i d) ≡ set (map (λ e. e.1) es) i d
 values-set [] i d = refl
 values-set (e ∷ es) zero d = refl
 values-set (e ∷ es) (suc i) d = ap (λ l. e.1 ∷ l) (values-set es i d)

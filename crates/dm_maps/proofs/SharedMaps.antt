@@ -63,12 +63,16 @@ module _ (k : Crate) (d : CrateData) where
       by true = refl
       by false = refl
 
-  pub given-twice : (m : Map) → given (given m) ≡ given m
-  given-twice m = ap (λ (i : MapId). one (nat_eq i.krate.0 k.0) (given m)) (id-given m) ∙ by (nat_eq m.id.krate.0 k.0)
+  -- of data given twice the last counts
+  pub given-again : (e : CrateData) (m : Map) → map_with_shared k e (given m) ≡ map_with_shared k e m
+  given-again e m = ap (λ (i : MapId). cond (nat_eq i.krate.0 k.0) (record (given m) { shared = e }) (given m)) (id-given m) ∙ by (nat_eq m.id.krate.0 k.0)
     where
-      by : (b : Bool) → one b (one b m) ≡ one b m
+      by : (b : Bool) → cond b (record (one b m) { shared = e }) (one b m) ≡ cond b (record m { shared = e }) m
       by true = refl
       by false = refl
+
+  pub given-twice : (m : Map) → given (given m) ≡ given m
+  given-twice = given-again d
 
   -- another crate's map is left
   given-none : (m : Map) → nat_eq m.id.krate.0 k.0 ≡ false → given m ≡ m

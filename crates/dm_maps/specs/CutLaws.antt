@@ -1,5 +1,5 @@
 -- What a cut keeps: the setting, the maps without what scopes hold, and what is said of the names of the list.
-use Rattle.std.proofs.Common.{◌≡◌, ℕ, Bool, true, false, cond, not, ◌||◌, List, [], ◌∷◌, Option, None, Some, refl, sym, ◌∙◌, ap, map, true≢false, eqb-true, eq-eqb}
+use Rattle.std.proofs.Common.{◌≡◌, ℕ, Bool, true, false, cond, not, ◌||◌, List, [], ◌∷◌, Option, None, Some, refl, sym, ◌∙◌, ap, map, true≢false, eq-eqb}
 use Rattle.std.specs.Cmp.{nat_eq_equiv}
 use Rattle.std.specs.List.{cons_option}
 use Rattle.std.specs.Option.{option_map, option_map_or, option_and_then, is_some}
@@ -13,6 +13,7 @@ use Rattle.std.proofs.lemmas.Map.Made.{lookup-map_values}
 use Rattle.std.proofs.lemmas.Bool.{cond-true, cond-false}
 use Rattle.std.proofs.lemmas.Slice.Eq.{bytes_eq-Decides}
 use Rattle.indexmap.specs.IndexMap.{insert_entry}
+use Rattle.dm_ids.specs.contracts.value_eq.EnumIdValueEq.TheImpl.Laws as enum_value
 use Rattle.dm_ids.specs.declared.ids.BlockId.{BlockId}
 use Rattle.dm_ids.specs.declared.ids.EnumId.{EnumId}
 use Rattle.dm_ids.specs.declared.ids.MapId.{MapId}
@@ -84,7 +85,7 @@ last-alone {A} ms = go (last_of ms)
 -- ---- the enums of a cut world
 
 pub same-enum : (e d : EnumId) → same_enum e d ≡ true → e ≡ d
-same-enum e d h = ap (λ (n : ℕ). let i : EnumId = record { 0 = n } in i) (eqb-true e.0 d.0 h)
+same-enum = enum_value.same-law
 
 find-without : (k e : EnumId) (es : Enums) → lookup (same_enum k) (without_enum e es) ≡ cond (not (same_enum e k)) (lookup (same_enum k) es) None
 find-without k e es = lookup-filter-keys (same_enum k) (λ x. not (same_enum e x)) (not (same_enum e k)) (λ x is. ap (λ y. not (same_enum e y)) (sym (same-enum k x is))) es

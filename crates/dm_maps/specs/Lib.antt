@@ -21,11 +21,13 @@ pub mod MapDumps
 pub mod MapDumpRows
 pub mod Branches
 pub mod Maps
+pub mod OutwardLaws
 pub mod Outwards
 pub mod RawTables
 pub mod Readings
 pub mod Sound
 pub mod Stays
+pub mod Added
 pub mod Trees
 pub mod Lists
 pub mod Family

@@ -1,5 +1,5 @@
 -- What a push leaves of a world: which ids are known, and what is said of no name.
-use Rattle.std.specs.Prelude.{◌≡◌, List}
+use Rattle.std.specs.Prelude.{◌≡◌, List, length}
 use Rattle.std.specs.Option.{option_map}
 use Rattle.dm_ids.specs.declared.ids.MapId.{MapId}
 use Rattle.dm_held.specs.declared.held.HeldId.{HeldId}
@@ -17,3 +17,6 @@ pub record StaysKnown (w v : World) : Type 0 where
   pub setting : setting_of v ≡ setting_of w
   -- each map is there, with its id, its root and its modules
   pub maps : (id : MapId) → option_map outline (numbered_map v id) ≡ option_map outline (numbered_map w id)
+  -- there are as many blocks, and each crate has its extern prelude
+  pub blocks : length v.block_maps ≡ length w.block_maps
+  pub locals : v.local_maps ≡ w.local_maps

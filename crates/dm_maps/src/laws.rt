@@ -1,10 +1,32 @@
-//! Laws of dumps, for proofs above.
-ghost use Rattle.dm_maps.specs.MapDumps.{scope_text};
+//! Laws of dumps and of what a builder is told, for proofs above. A law does nothing: what has to be proved by it calls it.
+ghost use Rattle.std.specs.Prelude.{◌≡◌, List};
+ghost use Rattle.dm_ids.specs.declared.ids.Crate.{Crate};
+ghost use Rattle.dm_ids.specs.declared.ids.MapId.{MapId};
 ghost use Rattle.dm_scope.specs.Dumps.{IsDump};
 ghost use Rattle.dm_scope.specs.Scope.{Scope};
 ghost use Rattle.dm_scope.specs.Tables.{Tables};
+ghost use Rattle.dm_tables.specs.CrateData.{CrateData};
+ghost use Rattle.dm_tables.specs.ItemTables.{ItemTables};
+ghost use Rattle.dm_modules.specs.Maps.{LocalMap, Map};
+ghost use Rattle.dm_maps.specs.Added.{IsGrown};
+ghost use Rattle.dm_maps.specs.Build.{with_rules};
+ghost use Rattle.dm_maps.specs.BuildCrateData.{sharing};
+ghost use Rattle.dm_maps.specs.BuildMaps.{with_map};
+ghost use Rattle.dm_maps.specs.MapDumps.{scope_text};
+ghost use Rattle.dm_maps.specs.World as worlds;
+ghost use Rattle.dm_maps.specs.declared.rules.Rules.{Rules};
 
-/// The lines of a scope, its names put in order, are its dump. It does nothing: a proof that needs it calls it.
+/// The lines of a scope, its names put in order, are its dump.
 pub fn scope_is_dumped()
     ensures { (t : Tables) (s : Scope) → IsDump t s (scope_text t s) }
+{}
+
+/// What is set in maps, in the data of a crate, in extern preludes, in tables that belong to no map, and of the version of the
+/// rules leaves what was known, and each scope.
+pub fn settings_keep_scopes()
+    ensures maps { (w : worlds.World) (id : MapId) (f : Map → Map) → ((m : Map) → (f m).modules ≡ m.modules) → IsGrown w (with_map w id f) }
+    ensures crate_data { (w : worlds.World) (k : Crate) (d : CrateData) → IsGrown w (sharing w k d) }
+    ensures externs { (w : worlds.World) (ls : List LocalMap) → IsGrown w (record w { local_maps = ls }) }
+    ensures tables { (w : worlds.World) (t : ItemTables) → IsGrown w (record w { item_tables = t }) }
+    ensures rules { (w : worlds.World) (r : Rules) → IsGrown w (with_rules w r) }
 {}

@@ -12,6 +12,7 @@ use dm_base::name::Name;
 use dm_base::source::HirFileId;
 use dm_base::visibility::Visibility;
 use dm_scope::item_scope::ItemScope;
+use dm_tables::texts::has_text;
 use indexmap::IndexMap;
 use std::alloc::{AllocError, Global};
 use std::marker::Model;
@@ -114,11 +115,12 @@ impl ModuleData {
         self.children.get(name).copied()
     }
 
-    /// Whether there is a child of that name.
-    pub fn has_child(&self, name: &str) -> bool
-        ensures { result ≡ is_some (find_name name.now self.now.children) }
+    /// Whether there is a child of the name of that text. It compares with each name: where the name is at hand, `child` looks
+    /// it up. Takes no memory.
+    pub fn has_child(&self, text: &str) -> bool
+        ensures { result ≡ is_some (find_name text.now self.now.children) }
     {
-        self.children.contains_key(name)
+        has_text(&self.children, text)
     }
 
     /// Adds a child. A name that is there would keep its place and take the new child.

@@ -1,4 +1,3 @@
-pub mod RestLemmas
 pub mod ScopeLemmas
 pub mod WorldLemmas
 pub mod ListLemmas

@@ -3,13 +3,14 @@ use Rattle.std.proofs.Common.{◌≡◌, ◌∙◌, ◌⊎◌, inl, inr, rules, 
 use Rattle.std.specs.Option.{option_map, option_map_or}
 use Rattle.std.proofs.lemmas.Bool.{false≢true, true≢false, or_parts}
 use Rattle.std.proofs.lemmas.Option.{slice_get-map}
-use Rattle.dm_ids.specs.declared.imports.ImportId.{ImportId}
+use Rattle.dm_ids.specs.contracts.value_eq.ImportIdValueEq.TheImpl.Laws as import_value
 use Rattle.dm_scope.specs.Flags.{Globs}
 use Rattle.dm_maps.specs.Cut.{among}
 use Rattle.dm_maps.specs.Known.{KnowsAll}
 use Rattle.dm_maps.specs.World.{World}
 use Rattle.dm_retry.specs.Known.{parts, same_import}
 use Rattle.dm_retry.specs.Rounds.{Pending, State, awoken, brings, brings_at, is_due, marked, marked_after, marked_at, name_at, refused_at, tried, try_at}
+use Rattle.dm_retry.specs.Retries.{RestsAt}
 use Rattle.dm_retry.specs.Settled.{IsSettled}
 use Rattle.dm_retry.proofs.ListLemmas.{get-put}
 use Rattle.dm_retry.proofs.TryLemmas.{brings-marked, idle-table, idle-world}
@@ -63,10 +64,6 @@ module _ (ps : List Pending) (i : ℕ) (p : Pending) (at : slice_get ps i ≡ So
   comes true j r is = woken j r is
   comes false j r is = kept j r is
 
--- what two tests of an import's sameness say
-import-same : (p q : ImportId) → same_import p q ≡ true → p ≡ q
-import-same = Prim.search rules
-
 -- A try keeps what holds of imports that wait, where what was known is known, the push of the tried import leaves each other
 -- import that has no segment of its name, and itself, writing nothing, and a push that answers false leaves all.
 pub settles : (s : State) (i : ℕ) (p : Pending) → IsSettled s → slice_get s.pending i ≡ Some p → (v : World) (h : Globs) (b : Bool) → b ≡ brings s.world s.globs p
@@ -99,7 +96,7 @@ settles s i p before at v h b is known others own idle = record {
     rests true w j q stood (inr none) apart = by (same_import q.import p.import) refl
       where
         by : (d : Bool) → same_import q.import p.import ≡ d → brings v h q ≡ false
-        by true e = itself true w q (one-of j q stood (before.single j i q p stood at (import-same q.import p.import e))) apart
+        by true e = itself true w q (one-of j q stood (before.single j i q p stood at (import_value.same-law q.import p.import e))) apart
         by false e = others q e (apart refl) (before.settled j q stood none)
     rests false w j q stood (inr none) apart = idle w q (before.settled j q stood none)
 
@@ -128,10 +125,7 @@ module _ (s : State) (settled : IsSettled s) (i : ℕ) where
   rest-at None at none = refl
   rest-at (Some p) at none = settled.settled i p at none
 
-  pub brings-rest : is_due s i ≡ false → brings_at s i ≡ false
-  brings-rest none = rest-at (slice_get s.pending i) refl none
-
-  pub try-rest : is_due s i ≡ false → try_at s i ≡ s
+  try-rest : is_due s i ≡ false → try_at s i ≡ s
   try-rest none = by (slice_get s.pending i) refl none
     where
       by : (o : Option Pending) → slice_get s.pending i ≡ o → option_map_or (λ (p : Pending). p.due) o false ≡ false → option_map_or (tried s i) o s ≡ s
@@ -141,3 +135,11 @@ module _ (s : State) (settled : IsSettled s) (i : ℕ) where
           let marks : marked_after s.pending i (brings s.world s.globs p) ≡ s.pending =
           ap (marked_after s.pending i) idle ∙ rest-is s.pending i p at false ∙ ap (λ (d : Bool). slice_set s.pending i (marked d p)) (sym none) ∙ set-own s.pending i p at in
           λ k. record { world = idle-world s.world s.globs p idle k; globs = idle-table s.world s.globs p idle k; pending = marks k }
+
+  pub rests : is_due s i ≡ false → RestsAt s i
+  rests none = record { writes = rest-at (slice_get s.pending i) refl none; leaves = try-rest none }
+
+-- what is said not to be due is none that is due
+pub undue : (o : Option Pending) → option_map (λ (p : Pending). p.due) o ≡ Some false → option_map_or (λ (p : Pending). p.due) o false ≡ false
+undue None none = refl
+undue (Some p) none = cc

@@ -3,7 +3,6 @@ use Rattle.std.proofs.Common.{◌≡◌, ◌∙◌, ◌&&◌, Bool, true, false,
 use Rattle.std.specs.Option.{option_map, option_map_or, option_and_then}
 use Rattle.std.proofs.lemmas.Bool.{and_parts, not-true}
 use Rattle.dm_ids.specs.declared.ids.ModuleId.{ModuleId}
-use Rattle.dm_base.specs.IdLaws.{same_module-true}
 use Rattle.dm_ids.specs.declared.imports.ImportId.{ImportId}
 use Rattle.dm_ids.specs.declared.imports.ImportOrExternCrate.TheVariants as wide
 use Rattle.dm_base.specs.declared.mod_path.PathKind.{PathKind}
@@ -12,11 +11,12 @@ use Rattle.dm_base.specs.declared.per_ns.PerNs.{PerNs}
 use Rattle.dm_base.specs.declared.visibility.Visibility.{Visibility}
 use Rattle.dm_ids.specs.Names.{Name}
 use Rattle.dm_base.specs.PerNs.{is_empty, seen_as, seen_as_item}
-use Rattle.dm_base.specs.Tree.{same_module}
 use Rattle.dm_modules.specs.declared.modes.BuiltinShadowMode.TheVariants as shadow
 use Rattle.dm_modules.specs.Maps.{LocalMap}
 use Rattle.dm_scope.specs.Flags.{Globs}
-use Rattle.dm_scope.specs.Push.{scope_after, globs_after, push_answer}
+use Rattle.dm_scope.specs.Push.{scope_after}
+use Rattle.dm_scope.specs.PushLaw.{PushLaw}
+use Rattle.dm_scope.specs.Shows.{ScopePush, push_of}
 use Rattle.dm_maps.specs.Cut.{among, cut, cut_local}
 use Rattle.dm_maps.specs.ItemHomes.{homes_of}
 use Rattle.dm_maps.specs.PushRes.{with_push}
@@ -26,7 +26,7 @@ use Rattle.hir_def_map.specs.declared.result.ResolvePathResult.{ResolvePathResul
 use Rattle.hir_def_map.specs.Paths.{answer, asked}
 use Rattle.dm_retry.specs.Known.{same_import}
 use Rattle.dm_retry.specs.Rounds.{Pending, answered, brings, brought, by_import, found, globs_with, local_of, marked, meaning, world_after}
-use Rattle.dm_retry.proofs.ScopeLemmas.{idle-scope, idle-globs, scope-again, scope-rests, scope-rests-elsewhere}
+use Rattle.dm_retry.proofs.ScopeLemmas.{idle-scope, idle-globs}
 use Rattle.dm_retry.proofs.WorldLemmas.{scope-own, places-stay, locals-stay}
 
 -- ---- What is found is something
@@ -82,23 +82,18 @@ pub record IsPushed (w v : World) (g h : Globs) (p : Pending) (x : PerNs) : Type
   pub alike : Alike
   pub found : found w p ≡ Some x
   pub world : v ≡ with_push w g p.origin p.name x (by_import p)
-  pub globs : h ≡ globs_after (scope_of w p.origin) g p.origin p.name x (by_import p)
-  pub scope : scope_of v p.origin ≡ scope_after (scope_of w p.origin) g p.origin p.name x (by_import p)
-  pub others : (k : ModuleId) → same_module p.origin k ≡ false → scope_of v k ≡ scope_of w k
+  pub law : PushLaw scope_of w g v h p.origin (push_of p.name x (by_import p))
   pub cuts : (N : List Name) → among N p.name ≡ false → cut v N ≡ cut w N
 
 -- the same of a push whose module, name and import are those of p
 pub pushed-by : (w v : World) (g h : Globs) (p : Pending) (x : PerNs) → Alike → found w p ≡ Some x
     → (m : ModuleId) (n : Name) (i : ImportId) → m ≡ p.origin → n ≡ p.name → i ≡ p.import
-    → v ≡ with_push w g m n x (Some (wide.Import i)) → h ≡ globs_after (scope_of w m) g m n x (Some (wide.Import i)) → scope_of v m ≡ scope_after (scope_of w m) g m n x (Some (wide.Import i))
-    → ((k : ModuleId) → same_module m k ≡ false → scope_of v k ≡ scope_of w k) → ((N : List Name) → among N n ≡ false → cut v N ≡ cut w N) → IsPushed w v g h p x
-pushed-by w v g h p x alike is m n i origin name import world globs scope others cuts = record {
+    → v ≡ with_push w g m n x (Some (wide.Import i)) → PushLaw scope_of w g v h m (push_of n x (Some (wide.Import i))) → ((N : List Name) → among N n ≡ false → cut v N ≡ cut w N) → IsPushed w v g h p x
+pushed-by w v g h p x alike is m n i origin name import world law cuts = record {
   alike = alike;
   found = is;
   world = world ∙ (λ k. with_push w g (origin k) (name k) x (Some (wide.Import (import k))));
-  globs = globs ∙ (λ k. globs_after (scope_of w (origin k)) g (origin k) (name k) x (Some (wide.Import (import k))));
-  scope = ap (scope_of v) (sym origin) ∙ scope ∙ (λ k. scope_after (scope_of w (origin k)) g (origin k) (name k) x (Some (wide.Import (import k))));
-  others = λ k e. others k (ap (λ o. same_module o k) origin ∙ e);
+  law = subst (λ (q : ModuleId × ScopePush). PushLaw scope_of w g v h q.0 q.1) (λ k. (origin k, push_of (name k) x (Some (wide.Import (import k))))) law;
   cuts = λ N e. cuts N (ap (among N) name ∙ e);
 }
 
@@ -121,27 +116,12 @@ module _ (w v : World) (g h : Globs) (p : Pending) (x : PerNs) (push : IsPushed 
 
   -- another import that would write nothing, and has no segment of the pushed name, writes nothing
   pub others-rest : (q : Pending) → same_import q.import p.import ≡ false → among q.path.segments p.name ≡ false → brings w g q ≡ false → brings v h q ≡ false
-  others-rest q differ other none = ap (answered v h q) (found-stays q other) ∙ by (found w q) refl none
+  others-rest q differ other none = ap (answered v h q) (found-stays q other) ∙ by (found w q) none
     where
-      there : (y : PerNs) → is_empty y ≡ false → p.origin ≡ q.origin → push_answer (scope_of w q.origin) g q.origin q.name y (by_import q) ≡ false → push_answer (scope_of v q.origin) h q.origin q.name y (by_import q) ≡ false
-      there y some same none =
-          subst (λ (k : ModuleId). push_answer (scope_of v k) h k q.name y (by_import q) ≡ false) same
-          ((λ i. push_answer (push.scope i) (push.globs i) p.origin q.name y (by_import q))
-          ∙ scope-rests (scope_of w p.origin) g p.origin q.name p.name y x q.import p.import some differ (subst (λ (k : ModuleId). push_answer (scope_of w k) g k q.name y (by_import q) ≡ false) (sym same) none))
-
-      at : (y : PerNs) → is_empty y ≡ false → (b : Bool) → same_module p.origin q.origin ≡ b → push_answer (scope_of w q.origin) g q.origin q.name y (by_import q) ≡ false → push_answer (scope_of v q.origin) h q.origin q.name y (by_import q) ≡ false
-      at y some true here none = there y some (same_module-true p.origin q.origin here) none
-      at y some false elsewhere none =
-          (λ i. push_answer (push.others q.origin elsewhere i) (push.globs i) q.origin q.name y (by_import q))
-          ∙ scope-rests-elsewhere (scope_of w q.origin) (scope_of w p.origin) g q.origin p.origin q.name p.name y x q.import p.import some none
-
-      by : (o : Option PerNs) → found w q ≡ o → answered w g q o ≡ false → answered v h q o ≡ false
-      by None is none = refl
-      by (Some y) is none = at y (found-some w q y is) (same_module p.origin q.origin) refl none
+      by : (o : Option PerNs) → answered w g q o ≡ false → answered v h q o ≡ false
+      by None none = refl
+      by (Some y) none = push.law.rests q.origin (push_of q.name y (by_import q)) refl differ none
 
   -- and the import itself, if the name is none of its own segments
   pub own-rests : among p.path.segments p.name ≡ false → brings v h p ≡ false
-  own-rests other =
-      ap (answered v h p) (found-stays p other ∙ push.found)
-      ∙ (λ i. push_answer (push.scope i) (push.globs i) p.origin p.name x (by_import p))
-      ∙ scope-again (scope_of w p.origin) g p.origin p.name x p.import (found-some w p x push.found)
+  own-rests other = ap (answered v h p) (found-stays p other ∙ push.found) ∙ push.law.again

@@ -1,6 +1,7 @@
 -- Which imports a world can be asked about, and why imports are not taken.
-use Rattle.std.specs.Prelude.{◌||◌, Bool, false, List, [], ◌∷◌, ◌++◌, Option, Some, None, if◌then◌else◌}
-use Rattle.std.specs.List.{list_any, list_all}
+use Rattle.std.specs.Prelude.{ℕ, ◌+◌, Bool, not, List, [], ◌∷◌, ◌++◌, Option, Some, None, if◌then◌else◌}
+use Rattle.std.specs.List.{list_any, list_all, position_from}
+use Rattle.std.specs.Option.{option_map, option_or}
 use Rattle.dm_ids.specs.declared.imports.ImportId.{ImportId}
 use Rattle.dm_ids.specs.contracts.imports.ImportIdPartialEq.TheImpl as import_eq
 use Rattle.dm_held.specs.declared.held.HeldId.{HeldId}
@@ -23,11 +24,24 @@ is_known w p = list_all (knows w) (parts p)
 abbrev pub same_import : ImportId → ImportId → Bool
 same_import = import_eq.ghosts.eq
 
--- whether an import stands twice
-abbrev pub has_double : List Pending → Bool
-has_double [] = false
-has_double (p ∷ ps) = list_any (λ q. same_import p.import q.import) ps || has_double ps
+-- the place of the first import that stands once more behind it, where the first of these stands at place i
+abbrev pub double_from : ℕ → List Pending → Option ℕ
+double_from i [] = None
+double_from i (p ∷ ps) = if list_any (λ q. same_import p.import q.import) ps then Some i else double_from (i + 1) ps
 
--- why imports are not taken, a double one before an unknown part; nothing where they are
+-- the place of the first import that stands twice
+abbrev pub first_double : List Pending → Option ℕ
+first_double ps = double_from 0 ps
+
+-- the place of the first import that holds what the world lacks
+abbrev pub first_unknown : World → List Pending → Option ℕ
+first_unknown w ps = position_from (λ p. not (is_known w p)) 0 ps
+
+-- Why imports are not taken, and the place of the one that is meant: a double one before an unknown part; nothing where they
+-- are taken.
+abbrev pub refusal : World → List Pending → Option (RetryFault × ℕ)
+refusal w ps = option_or (option_map (λ i. (DoubleImport, i)) (first_double ps)) (option_map (λ i. (UnknownPart, i)) (first_unknown w ps))
+
+-- why they are not taken
 abbrev pub fault_of : World → List Pending → Option RetryFault
-fault_of w ps = if has_double ps then Some DoubleImport else (if list_all (is_known w) ps then None else Some UnknownPart)
+fault_of w ps = option_map (λ r. r.0) (refusal w ps)

@@ -1,11 +1,20 @@
 -- Rounds of tries, as contracts see them: what stands, how many tries the last round began, and where want of memory stops one.
-use Rattle.std.specs.Prelude.{◌≡◌, ◌<◌, ℕ, suc, true, length}
-use Rattle.dm_retry.specs.Rounds.{State, after, due_turns, is_due, refused_at, rounds}
+use Rattle.std.specs.Prelude.{◌≡◌, ◌<◌, ℕ, suc, true, false, length}
+use Rattle.dm_retry.specs.Rounds.{State, after, brings_at, due_turns, is_due, refused_at, rounds, try_at}
 
 -- what stands, and how many tries the last round began
 pub record Retries : Type 0 where
   pub state : State
   pub last_tries : ℕ
+
+-- A try of the import at a place would write nothing, and change nothing.
+pub record RestsAt (s : State) (i : ℕ) : Type 0 where
+  pub writes : brings_at s i ≡ false
+  pub leaves : try_at s i ≡ s
+
+-- No import is due.
+abbrev pub NoneDue : State → Type 0
+NoneDue s = (i : ℕ) → is_due s i ≡ false
 
 -- Want of memory stops a round of all imports at a place: the tries before it stand, and with it they are counted.
 pub record StopsAt (s : State) (r : Retries) : Type 0 where

@@ -1,9 +1,9 @@
 -- Worked rows: which imports are due after a push.
-use Rattle.std.specs.Prelude.{◌≡◌, Bool, true, false, [], ◌∷◌, refl}
+use Rattle.std.specs.Prelude.{◌≡◌, Bool, true, false, None, Some, [], ◌∷◌, refl}
 use Rattle.dm_base.specs.declared.mod_path.PathKind.TheVariants.{Plain, Crate}
 use Rattle.dm_base.specs.declared.visibility.Visibility.TheVariants.{Public}
 use Rattle.dm_ids.specs.Names.{Name}
-use Rattle.dm_retry.specs.Known.{has_double}
+use Rattle.dm_retry.specs.Known.{first_double}
 use Rattle.dm_retry.specs.Rounds.{Pending, marked_after}
 
 abbrev x : Name
@@ -50,8 +50,11 @@ first_wakes_second : marked_after (needs true ∷ brings false ∷ []) 0 true �
 first_wakes_second = refl
 
 -- the same import twice, and two imports of one use
-twice : has_double (needs true ∷ brings true ∷ needs false ∷ []) ≡ true
+twice : first_double (needs true ∷ brings true ∷ needs false ∷ []) ≡ Some 0
 twice = refl
 
-once : has_double (needs true ∷ brings true ∷ []) ≡ false
+last_twice : first_double (needs true ∷ brings true ∷ brings false ∷ []) ≡ Some 1
+last_twice = refl
+
+once : first_double (needs true ∷ brings true ∷ []) ≡ None
 once = refl

@@ -2,6 +2,7 @@
 ghost use Rattle.std.specs.Prelude.{◌≡◌, ◌<◌, None, false, true, IfOk, OnErr, OnOk, length, map, slice_get};
 ghost use Rattle.std.specs.Option.{option_map};
 ghost use Rattle.dm_retry.specs.Rounds.{awoken, brings_at, is_due, marked_after, marked_at, marked, name_at, refused_at, try_at};
+ghost use Rattle.dm_retry.specs.Retries.{RestsAt};
 ghost use Rattle.dm_retry.specs.Known.{fault_of};
 
 use crate::attempt::attempt;
@@ -9,7 +10,7 @@ use crate::pending::{Pending, mark_each};
 use crate::wake::wake;
 use dm_maps::world::World;
 use dm_scope::glob_imports::PerNsGlobImports;
-use std::alloc::{AllocError, Global};
+use std::alloc::AllocError;
 use std::marker::Model;
 
 /// A world, a glob table and the imports that wait: each that is not due would write nothing.
@@ -17,7 +18,6 @@ pub(crate) struct Imports {
     world: World,
     globs: PerNsGlobImports,
     pendings: Vec<Pending>,
-    alloc: Global,
 }
 
 impl Model for Imports {
@@ -38,19 +38,13 @@ impl Drop for Imports {
             world: _world,
             globs: _globs,
             pendings: _pendings,
-            alloc: _alloc,
         } = self;
     }
 }
 
 impl Imports {
     /// Of these parts, with all imports due.
-    pub(crate) fn all_due(
-        alloc: Global,
-        world: World,
-        globs: PerNsGlobImports,
-        pendings: Vec<Pending>,
-    ) -> Imports
+    pub(crate) fn all_due(world: World, globs: PerNsGlobImports, pendings: Vec<Pending>) -> Imports
         requires { fault_of world pendings.items ≡ None }
         ensures { result ≡ record { world = world; globs = globs; pending = map (marked true) pendings.items } }
     {
@@ -60,7 +54,6 @@ impl Imports {
             world,
             globs,
             pendings: due,
-            alloc,
         }
     }
 
@@ -83,16 +76,16 @@ impl Imports {
 
     /// Whether the import at place i is due, if there is one.
     pub(crate) fn due(&self, i: usize) -> Option<bool>
-        ensures { result ≡ option_map (λ p. p.due) (slice_get self.now.pending i) }
+        ensures value { result ≡ option_map (λ p. p.due) (slice_get self.now.pending i) }
+        ensures rests { result ≡ Some false → RestsAt self.now i }
     {
-        self.pendings.get(i).map(|pending| pending.is_due())
+        mark_of(&self.pendings, i)
     }
 
     /// A try of an import that is not due changes nothing. It does nothing: a proof that needs it calls it.
     pub(crate) fn rests(&self, i: usize)
         requires { is_due self.now i ≡ false }
-        ensures state { try_at self.now i ≡ self.now }
-        ensures answer { brings_at self.now i ≡ false }
+        ensures { RestsAt self.now i }
     {
         let _pendings = &self.pendings;
     }
@@ -104,8 +97,9 @@ impl Imports {
         ensures answer { IfOk result (λ answer. answer ≡ brings_at self.old i) }
         ensures err { OnErr result (self.new ≡ refused_at self.old i) }
     {
+        let alloc = *self.pendings.allocator();
         let pending = &self.pendings[i];
-        match attempt(&mut self.world, &mut self.globs, pending, self.alloc) {
+        match attempt(&mut self.world, &mut self.globs, pending, alloc) {
             Err(refused) => {
                 mark_at(&mut self.pendings, i, true);
                 Err(refused)
@@ -134,10 +128,16 @@ impl Imports {
             world,
             globs,
             pendings,
-            alloc: _alloc,
         } = self;
         (world, globs, pendings)
     }
+}
+
+/// Whether the import at place i is due, if there is one.
+fn mark_of(pendings: &[Pending], i: usize) -> Option<bool>
+    ensures { result ≡ option_map (λ p. p.due) (slice_get pendings.now i) }
+{
+    pendings.get(i).map(|pending| pending.is_due())
 }
 
 /// Says whether the import at place i is due.

@@ -1,9 +1,9 @@
 //! Imports that wait.
 ghost use Rattle.std.specs.Prelude.{◌≡◌, ◌↔◌, false, true, map, IsTrue};
-ghost use Rattle.std.specs.List.{list_all, list_any};
+ghost use Rattle.std.specs.List.{list_any};
 ghost use Rattle.dm_held.specs.Holding.{vis_holds};
 ghost use Rattle.dm_maps.specs.Known.{KnowsAll};
-ghost use Rattle.dm_retry.specs.Known.{has_double, is_known, parts, same_import};
+ghost use Rattle.dm_retry.specs.Known.{first_double, first_unknown, is_known, parts, same_import};
 ghost use Rattle.dm_retry.specs.Rounds.{marked};
 
 use dm_base::ids::ModuleId;
@@ -57,35 +57,35 @@ impl Pending {
     }
 
     /// The module that the import stands in.
-    pub(crate) fn origin(&self) -> ModuleId
+    pub fn origin(&self) -> ModuleId
         ensures { result ≡ self.now.origin }
     {
         self.origin
     }
 
     /// The name that it binds.
-    pub(crate) fn name(&self) -> &Name
+    pub fn name(&self) -> &Name
         ensures { result.now ≡ self.now.name }
     {
         &self.name
     }
 
     /// Its path.
-    pub(crate) fn path(&self) -> &ModPath
+    pub fn path(&self) -> &ModPath
         ensures { result.now ≡ self.now.path }
     {
         &self.path
     }
 
     /// Who sees what it binds.
-    pub(crate) fn visibility(&self) -> Visibility
+    pub fn visibility(&self) -> Visibility
         ensures { result ≡ self.now.visibility }
     {
         self.visibility
     }
 
     /// The import itself.
-    pub(crate) fn import(&self) -> ImportId
+    pub fn import(&self) -> ImportId
         ensures { result ≡ self.now.import }
     {
         self.import
@@ -128,18 +128,20 @@ fn knows_visibility(world: &World, visibility: Visibility) -> bool
     }
 }
 
-/// Whether an import stands twice. Takes no memory.
-pub(crate) fn has_double(pendings: &[Pending]) -> bool
-    ensures { result ≡ has_double pendings.now }
+/// The place of the first import that stands twice. Takes no memory.
+pub(crate) fn first_double(pendings: &[Pending]) -> Option<usize>
+    ensures { result ≡ first_double pendings.now }
 {
     let mut rest = pendings;
+    let mut place = 0;
     'imports: while let Some((first, after)) = rest.split_first() {
         if has_import(after, first.import()) {
-            return true;
+            return Some(place);
         }
         rest = after;
+        place += 1;
     }
-    false
+    None
 }
 
 /// Whether one of these is that import.
@@ -149,11 +151,11 @@ fn has_import(pendings: &[Pending], import: ImportId) -> bool
     pendings.iter().any(|q| import == q.import())
 }
 
-/// Whether all that these imports hold is the world's.
-pub(crate) fn are_known(world: &World, pendings: &[Pending]) -> bool
-    ensures { result ≡ list_all (is_known world.now) pendings.now }
+/// The place of the first import that holds what the world lacks.
+pub(crate) fn first_unknown(world: &World, pendings: &[Pending]) -> Option<usize>
+    ensures { result ≡ first_unknown world.now pendings.now }
 {
-    pendings.iter().all(|p| p.is_known(world))
+    pendings.iter().position(|p| !p.is_known(world))
 }
 
 /// All of these are due.

@@ -1,17 +1,17 @@
 //! Imports that wait in a world.
 ghost use Rattle.std.specs.Prelude.{◌≡◌, false, IfErr, IfOk, None, OnErr, OnOk, Some, length, map, slice_get, true};
 ghost use Rattle.std.specs.Option.{option_map};
-ghost use Rattle.dm_retry.specs.Known.{fault_of};
-ghost use Rattle.dm_retry.specs.Retries.{StopsAt, StopsAtDue};
+ghost use Rattle.dm_retry.specs.Known.{fault_of, refusal};
+ghost use Rattle.dm_retry.specs.Retries.{NoneDue, RestsAt, StopsAt, StopsAtDue};
 ghost use Rattle.dm_retry.specs.Rounds.{due_turns, marked, round, round_answer};
 
 use crate::imports::Imports;
-use crate::pending::{Pending, are_known, has_double};
+use crate::pending::{Pending, first_double, first_unknown};
 use crate::retry_fault::RetryFault;
 use crate::rounds::{try_all, try_due};
 use dm_maps::world::World;
 use dm_scope::glob_imports::PerNsGlobImports;
-use std::alloc::{AllocError, Global};
+use std::alloc::AllocError;
 use std::marker::Model;
 
 /// A world, a glob table, and imports that wait there (docs/RULES.md, "Rounds").
@@ -39,12 +39,11 @@ impl Drop for Retry {
 }
 
 impl Retry {
-    /// Imports that wait, all of them due. Takes no memory; rounds take theirs from `alloc`.
+    /// Imports that wait, all of them due. Takes no memory; rounds take theirs from the allocator of the list of imports.
     ///
     /// Refuses where an import stands twice, and then where the module of one, its use, the `$crate` of its path or what its
-    /// visibility names is not the world's; and hands all parts back as they were.
+    /// visibility names is not the world's; and hands all parts back as they were. `refusal` tells which import is meant.
     pub fn new(
-        alloc: Global,
         world: World,
         globs: PerNsGlobImports,
         pendings: Vec<Pending>,
@@ -54,16 +53,24 @@ impl Retry {
         ensures fault { IfErr result (λ e. fault_of world pendings.items ≡ Some e.0) }
         ensures parts { IfErr result (λ e. (e.1 ≡ world) × (e.2 ≡ globs) × (e.3.items ≡ pendings.items)) }
     {
-        if has_double(&pendings) {
-            return Err((RetryFault::DoubleImport, world, globs, pendings));
+        match Retry::refusal(&world, &pendings) {
+            Some((fault, _place)) => Err((fault, world, globs, pendings)),
+            None => Ok(Retry {
+                imports: Imports::all_due(world, globs, pendings),
+                last_tries: 0,
+            }),
         }
-        if !are_known(&world, &pendings) {
-            return Err((RetryFault::UnknownPart, world, globs, pendings));
+    }
+
+    /// Why `new` refuses these imports in that world, and the place of the one that is meant: of the first that stands twice,
+    /// or, where none does, of the first that holds what the world lacks. None where it takes them. Takes no memory.
+    pub fn refusal(world: &World, pendings: &[Pending]) -> Option<(RetryFault, usize)>
+        ensures { result ≡ refusal world.now pendings.now }
+    {
+        match first_double(pendings) {
+            Some(place) => Some((RetryFault::DoubleImport, place)),
+            None => first_unknown(world, pendings).map(|place| (RetryFault::UnknownPart, place)),
         }
-        Ok(Retry {
-            imports: Imports::all_due(alloc, world, globs, pendings),
-            last_tries: 0,
-        })
     }
 
     /// Tries each import once, in order, whether it is due or not. Answers whether a push answered true.
@@ -88,14 +95,19 @@ impl Retry {
         ensures tries { OnOk result (self.new.last_tries ≡ due_turns self.old.state (length self.old.state.pending)) }
         ensures idle { IfOk result (λ answer. self.new.last_tries ≡ 0 → answer ≡ false) }
         ensures err { OnErr result (StopsAtDue self.old.state self.new) }
+
+        // Where none is due nothing is tried, and no memory taken.
+        ensures none { NoneDue self.old.state → result ≡ Ok false }
+        ensures rests { NoneDue self.old.state → self.new ≡ record self.old { last_tries = 0 } }
     {
         let answer = try_due(&mut self.imports, &mut self.last_tries)?;
         Ok(answer)
     }
 
-    /// Whether the import at a place is due; none past the last.
+    /// Whether the import at a place is due; none past the last. A try of one that is not due would write nothing.
     pub fn due(&self, i: usize) -> Option<bool>
-        ensures { result ≡ option_map (λ p. p.due) (slice_get self.now.state.pending i) }
+        ensures value { result ≡ option_map (λ p. p.due) (slice_get self.now.state.pending i) }
+        ensures rests { result ≡ Some false → RestsAt self.now.state i }
     {
         self.imports.due(i)
     }

@@ -1,6 +1,6 @@
 //! The rounds.
 ghost use Rattle.std.specs.Prelude.{◌≡◌, false, IfOk, OnErr, OnOk, length};
-ghost use Rattle.dm_retry.specs.Retries.{StopsAt, StopsAtDue};
+ghost use Rattle.dm_retry.specs.Retries.{NoneDue, StopsAt, StopsAtDue};
 ghost use Rattle.dm_retry.specs.Rounds.{due_turns, round, round_answer};
 
 use crate::imports::Imports;
@@ -30,6 +30,9 @@ pub(crate) fn try_due(imports: &mut Imports, tries: &mut usize) -> Result<bool, 
     ensures tries { OnOk result (tries.new ≡ due_turns imports.old (length imports.old.pending)) }
     ensures idle { IfOk result (λ answer. tries.new ≡ 0 → answer ≡ false) }
     ensures err { OnErr result (StopsAtDue imports.old (record { state = imports.new; last_tries = tries.new })) }
+    ensures none { NoneDue imports.old → result ≡ Ok false }
+    ensures rests { NoneDue imports.old → imports.new ≡ imports.old }
+    ensures untried { NoneDue imports.old → tries.new ≡ 0 }
 {
     *tries = 0;
     let mut written = false;

@@ -4,7 +4,7 @@ use Rattle.std.specs.Option.{is_none, is_some}
 use Rattle.dm_base.specs.declared.per_ns.Item.{Item}
 use Rattle.dm_base.specs.declared.visibility.Visibility.{Visibility}
 use Rattle.dm_ids.specs.Names.{Name}
-use Rattle.dm_scope.specs.Lookups.{shown_name, names_in, AsksNames}
+use Rattle.dm_scope.specs.Lookups.{shown_name, names_in, MayAskNames, AsksNames}
 
 none-is : {A : Type 0} (o : Option A) (b : Bool) → is_some o ≡ not b → b ≡ is_none o
 none-is None true h = refl
@@ -27,3 +27,8 @@ module _ {F T D I : Type 0} (step : F → Bor Name → Visibility → Bool → O
 pub AsksNames-same : {F T : Type 0} (step : F → Bor Name → Visibility → Bool → Option T → F → Type 0) (xs ys : List (Name × Visibility × Bool)) (f : F) (r : Option T)
     → xs ≡ ys → (last : F) × AsksNames step xs f r last → (last : F) × AsksNames step ys f r last
 AsksNames-same {F} step xs ys f r same asked = subst (λ l. (last : F) × AsksNames step l f r last) same asked
+
+-- and may be asked about them
+pub MayAskNames-same : {F T : Type 0} (may : F → Bor Name → Visibility → Bool → Type 0) (step : F → Bor Name → Visibility → Bool → Option T → F → Type 0) (xs ys : List (Name × Visibility × Bool)) (f : F)
+    → xs ≡ ys → MayAskNames may step xs f → MayAskNames may step ys f
+MayAskNames-same may step xs ys f same asked = subst (λ l. MayAskNames may step l f) same asked

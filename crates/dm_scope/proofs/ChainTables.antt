@@ -1,11 +1,10 @@
 -- The chains that the records of scopes make.
-use Rattle.std.proofs.Common.{◌≡◌, ℕ, suc, ◌<◌, ◌++◌, Bool, true, false, List, [], ◌∷◌, length, map, Option, None, Some, IfSome, refl, sym, ap, subst, ◌∙◌, arith, rules, ◌^◌, cond}
+use Rattle.std.proofs.Common.{◌≡◌, ℕ, suc, ◌<◌, ◌++◌, Bool, true, false, List, [], ◌∷◌, length, map, Option, None, Some, IfSome, refl, sym, ap, subst, ◌∙◌, arith, ◌^◌, cond}
 use Rattle.std.specs.Map.{lookup, keys_of}
 use Rattle.std.specs.List.{flat_map, list_any}
 use Rattle.std.specs.Option.{option_and_then, option_map, option_or, option_eq}
 use Rattle.std.specs.Prelude.{slice_get, is_some, ◌||◌, zero}
 use Rattle.std.specs.Set.{is_member}
-use Rattle.std.specs.Cmp.{IsEquivalence}
 use Rattle.std.proofs.lemmas.List.{length-map, map-append}
 use Rattle.std.proofs.lemmas.List.Folds.{list_any-append}
 use Rattle.std.proofs.lemmas.Map.Made.{is_some-lookup}
@@ -13,10 +12,12 @@ use Rattle.dm_ids.specs.Imports.{widened}
 use Rattle.dm_base.specs.Definitions.{widened_macro}
 use Rattle.dm_base.specs.Sameness.{same_import, same_value_import}
 use Rattle.dm_ids.specs.contracts.imports.ImportIdPartialEq.TheImpl as id_eq
+use Rattle.dm_ids.specs.contracts.imports.ImportOrExternCrateEq.TheImpl.Laws as import_eq
+use Rattle.dm_ids.specs.contracts.value_eq.ImportIdValueEq.TheImpl.Laws as id_value
+use Rattle.dm_ids.specs.contracts.value_eq.ImportOrExternCrateValueEq.TheImpl.Laws as import_value
 use Rattle.dm_ids.specs.declared.imports.ImportId.{ImportId}
 use Rattle.dm_ids.specs.declared.imports.ImportOrDef.{ImportOrDef}
 use Rattle.dm_ids.specs.declared.imports.ImportOrDef.TheVariants.{Import, Glob, ExternCrate, Def}
-use Rattle.dm_ids.specs.declared.imports.ImportOrExternCrate.{ImportOrExternCrate}
 use Rattle.dm_ids.specs.declared.imports.ImportOrExternCrate.TheVariants as wide
 use Rattle.dm_ids.specs.declared.imports.ImportOrGlob.{ImportOrGlob}
 use Rattle.dm_ids.specs.declared.imports.ImportOrGlob.TheVariants as narrow
@@ -41,22 +42,13 @@ pub lookup_widened : (i : ImportId) (es : List (ImportOrGlob × ImportOrDef))
 lookup_widened i [] = refl
 lookup_widened i (e ∷ es) = ap (λ b. cond b (Some e.1) (lookup (same_value_import (narrow.Import i)) es)) (same_widened i e.0) ∙ ap (cond (same_import (wide.Import i) (widened e.0)) (Some e.1)) (lookup_widened i es)
 
-same_import-laws : IsEquivalence same_import
-same_import-laws = Prim.search rules
-
-import_same : (i j : ImportOrExternCrate) → same_import i j ≡ true → i ≡ j
-import_same = Prim.search rules
-
 import_is : (i j : ImportId) → same_import (wide.Import i) (wide.Import j) ≡ true → i ≡ j
-import_is = Prim.search rules
+import_is = id_value.same-law
 
 -- an optional import that is equal to one is that one
-import_id_is : (i j : ImportId) → id_eq.ghosts.eq i j ≡ true → i ≡ j
-import_id_is = Prim.search rules
-
 pub same_import_id : (o : Option ImportId) (i : ImportId) → option_eq id_eq.ghosts.eq o (Some i) ≡ true → o ≡ Some i
 same_import_id None i e = absurd (let f : ⊥ = cc in f)
-same_import_id (Some j) i e = ap Some (import_id_is j i e)
+same_import_id (Some j) i e = ap Some (id_value.same-law j i e)
 
 pub some_is : {X : Type 0} (x y : X) → Some x ≡ Some y → x ≡ y
 some_is x y e = cc
@@ -146,7 +138,7 @@ module _ (ns : Namespace) (t : Tables) where
   found_from-whole p d fits h =
       let count : length (keys_of (all_records ns t)) ≡ length (all_records ns t) = length-map (all_records ns t) (λ e. e.0) in
       let enough : length (keys_of (all_records ns t)) < suc (record_count ns t) = grind (arith, count) in
-      found_within-keys (leads ns t) (ends ns) same_import (λ y. wide.Import y.1) same_import-laws import_same apart one (keys_of (all_records ns t))
+      found_within-keys (leads ns t) (ends ns) same_import (λ y. wide.Import y.1) import_eq.laws-law import_value.same-law apart one (keys_of (all_records ns t))
       (λ x y z h k. let v = from_some import_of (record_of ns y) _ (from_some (home t) (option_and_then import_of (record_of ns y)) z k).1 in known x y v.0 h v.1)
       (λ x y d h e. let v = from_some def_of (record_of ns y) d e in known x y v.0 h v.1)
       (suc (record_count ns t)) p d enough h

@@ -3,6 +3,7 @@ use Rattle.std.proofs.Common.{◌≡◌, Bool, true, false, cond, not, ◌&&◌,
 use Rattle.std.specs.Option.{option_map, option_map_or}
 use Rattle.std.specs.List.{list_any, filter_map}
 use Rattle.std.specs.Cmp.Lexicographic.{nat_list_eq_equiv}
+use Rattle.std.proofs.lemmas.Slice.Eq.{bytes_eq-Decides}
 use Rattle.std.proofs.lemmas.List.Elements.{filter_map-append}
 use Rattle.std.proofs.lemmas.List.Folds.{list_any-append}
 use Rattle.indexmap.specs.IndexSet.{insert_key}
@@ -13,13 +14,13 @@ use Rattle.dm_base.specs.declared.per_ns.Item.{Item}
 use Rattle.dm_base.specs.declared.per_ns.PerNs.{PerNs}
 use Rattle.dm_ids.specs.declared.imports.ImportOrExternCrate.{ImportOrExternCrate}
 use Rattle.dm_scope.specs.Bindings.{Bound, Reading, import_of, is_effective_at, bound_after, flags_after}
-use Rattle.dm_scope.specs.Flags.{Flags, Globs, has_flag, no_globs}
+use Rattle.dm_scope.specs.Flags.{Flags, Globs, has_flag, no_flags, no_globs}
 use Rattle.dm_base.specs.PerNs.{is_empty}
 use Rattle.dm_scope.specs.Push.{types_reading, values_reading, macros_reading, unresolved_after, scope_after, globs_after, push_answer}
 use Rattle.dm_scope.specs.Pushes.{Push, is_effective, ShowsIn}
 use Rattle.dm_scope.specs.Scope.{Scope, no_scope}
 use Rattle.dm_scope.specs.Shows.{ScopePush, push_in, pushes_in, is_effective_in, has_empty_push, is_answered, Shows}
-use Rattle.dm_scope.proofs.HasFlagLemmas.{has_flag-after, has_flag-elsewhere, list_any-insert_key}
+use Rattle.dm_scope.proofs.FlagLemmas.{has_flag-after, has_flag-elsewhere}
 use Rattle.dm_scope.proofs.PushLemmas.{IsReading}
 use Rattle.dm_scope.proofs.ReadingLemmas.{types_lawful, values_lawful, macros_lawful}
 use Rattle.dm_scope.proofs.ShowLemmas.{ShowsIn-none, ShowsIn-push, ShowsIn-writes}
@@ -57,6 +58,21 @@ module _ {D I : Type 0} (r : Reading D I) (s : Bound D I) (f : Flags) (m : Modul
       records = shows.records;
       flags = λ n. has_flag-elsewhere r f (is_effective_at r s f m name item by) m name (import_of r by) k n apart ∙ shows.flags n;
     }
+
+-- which names stand among others after one is put there
+pub list_any-insert_key : (ks : List Name) (name n : Name) → list_any (same_name n) (insert_key same_name ks name) ≡ cond (same_name name n) true (list_any (same_name n) ks)
+list_any-insert_key ks name n = by (list_any (same_name name) ks) refl (same_name name n) refl
+  where
+    last : (a c : Bool) → same_name n name ≡ c → (a || (c || false)) ≡ cond c true a
+    last true true e = refl
+    last true false e = refl
+    last false true e = refl
+    last false false e = refl
+
+    by : (a : Bool) → list_any (same_name name) ks ≡ a → (c : Bool) → same_name name n ≡ c → list_any (same_name n) (cond a ks (ks ++ name ∷ [])) ≡ cond c true (list_any (same_name n) ks)
+    by true p true q = ap (λ x. list_any (same_name x) ks) (sym ((bytes_eq-Decides name n).0 q)) ∙ p
+    by true p false q = refl
+    by false p c q = list_any-append (same_name n) ks (name ∷ []) ∙ ap (λ x. list_any (same_name n) ks || (x || false)) (nat_list_eq_equiv.symm n name ∙ q) ∙ last (list_any (same_name n) ks) c (nat_list_eq_equiv.symm n name ∙ q)
 
 -- the unresolved names after a push
 unresolved-push : (ns : List Name) (ps : List ScopePush) → ((n : Name) → list_any (same_name n) ns ≡ has_empty_push ps n) → (p : ScopePush) (n : Name)
@@ -107,8 +123,8 @@ Shows-elsewhere s t g m k ps apart shows p = record {
 -- a fresh scope and a new table show the empty list
 pub Shows-none : (m : ModuleId) → Shows no_scope no_globs m []
 Shows-none m = record {
-  types = ShowsIn-none types_reading types_lawful (has_flag [] m) (λ n. refl);
-  values = ShowsIn-none values_reading values_lawful (has_flag [] m) (λ n. refl);
-  macros = ShowsIn-none macros_reading macros_lawful (has_flag [] m) (λ n. refl);
+  types = ShowsIn-none types_reading types_lawful (has_flag no_flags m) (λ n. refl);
+  values = ShowsIn-none values_reading values_lawful (has_flag no_flags m) (λ n. refl);
+  macros = ShowsIn-none macros_reading macros_lawful (has_flag no_flags m) (λ n. refl);
   unresolved = λ n. refl;
 }

@@ -9,11 +9,12 @@ pub mod ChainTables
 pub mod ChangeLemmas
 pub mod ClosedLemmas
 pub mod FlagLemmas
-pub mod HasFlagLemmas
+pub mod LawLemmas
 pub mod LookupLemmas
 pub mod NameLemmas
 pub mod PushLemmas
 pub mod ReadingLemmas
+pub mod RestLemmas
 pub mod SortLemmas
 pub mod TableListLemmas
 pub mod ShowLemmas

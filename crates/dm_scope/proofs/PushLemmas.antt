@@ -13,6 +13,7 @@ use Rattle.dm_scope.specs.Pushes.{Push, is_explicit, is_by, has_same_def, last_r
 pub record IsReading {D I : Type 0} (r : Reading D I) : Type 0 where
   pub import_refl : (i : I) → r.same_import i i ≡ true
   pub import_same : (i j : I) → r.same_import i j ≡ true → i ≡ j
+  pub def_refl : (d : D) → r.same_def d d ≡ true
   pub def_same : (d e : D) → r.same_def d e ≡ true → d ≡ e
 
 abbrev or_this : {X : Type 0} → Option X → X → Option X

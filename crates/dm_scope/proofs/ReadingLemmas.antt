@@ -1,36 +1,20 @@
--- The tests of imports and definitions hold of the same value alone.
-use Rattle.std.proofs.Common.{◌≡◌, true, rules}
-use Rattle.dm_ids.specs.declared.imports.ImportOrExternCrate.{ImportOrExternCrate}
-use Rattle.dm_ids.specs.declared.imports.ImportOrGlob.{ImportOrGlob}
-use Rattle.dm_ids.specs.declared.item_ids.MacroId.{MacroId}
-use Rattle.dm_ids.specs.declared.item_ids.ModuleDefId.{ModuleDefId}
-use Rattle.dm_base.specs.Sameness.{same_import, same_value_import, same_macro, same_def}
+-- The tests of imports and definitions hold of the same value, and of it alone.
+use Rattle.dm_ids.specs.contracts.imports.ImportOrExternCrateEq.TheImpl.Laws as import_eq
+use Rattle.dm_ids.specs.contracts.imports.ImportOrGlobEq.TheImpl.Laws as value_import_eq
+use Rattle.dm_ids.specs.contracts.item_ids.MacroIdEq.TheImpl.Laws as macro_eq
+use Rattle.dm_ids.specs.contracts.item_ids.ModuleDefIdEq.TheImpl.Laws as def_eq
+use Rattle.dm_ids.specs.contracts.value_eq.ImportOrExternCrateValueEq.TheImpl.Laws as import_value
+use Rattle.dm_ids.specs.contracts.value_eq.ImportOrGlobValueEq.TheImpl.Laws as value_import_value
+use Rattle.dm_ids.specs.contracts.value_eq.MacroIdValueEq.TheImpl.Laws as macro_value
+use Rattle.dm_ids.specs.contracts.value_eq.ModuleDefIdValueEq.TheImpl.Laws as def_value
 use Rattle.dm_scope.specs.Push.{types_reading, values_reading, macros_reading}
 use Rattle.dm_scope.proofs.PushLemmas.{IsReading}
 
-import_is : (x y : ImportOrExternCrate) → same_import x y ≡ true → x ≡ y
-import_is = search rules
-
-import_refl : (x : ImportOrExternCrate) → same_import x x ≡ true
-import_refl = search rules
-
-value_import_is : (x y : ImportOrGlob) → same_value_import x y ≡ true → x ≡ y
-value_import_is = search rules
-
-value_import_refl : (x : ImportOrGlob) → same_value_import x x ≡ true
-value_import_refl = search rules
-
-macro_is : (x y : MacroId) → same_macro x y ≡ true → x ≡ y
-macro_is = search rules
-
-def_is : (x y : ModuleDefId) → same_def x y ≡ true → x ≡ y
-def_is = search rules
-
 pub types_lawful : IsReading types_reading
-types_lawful = record { import_refl = import_refl; import_same = import_is; def_same = def_is }
+types_lawful = record { import_refl = import_eq.laws-law.refl; import_same = import_value.same-law; def_refl = def_eq.laws-law.refl; def_same = def_value.same-law }
 
 pub values_lawful : IsReading values_reading
-values_lawful = record { import_refl = value_import_refl; import_same = value_import_is; def_same = def_is }
+values_lawful = record { import_refl = value_import_eq.laws-law.refl; import_same = value_import_value.same-law; def_refl = def_eq.laws-law.refl; def_same = def_value.same-law }
 
 pub macros_lawful : IsReading macros_reading
-macros_lawful = record { import_refl = import_refl; import_same = import_is; def_same = macro_is }
+macros_lawful = record { import_refl = import_eq.laws-law.refl; import_same = import_value.same-law; def_refl = macro_eq.laws-law.refl; def_same = macro_value.same-law }

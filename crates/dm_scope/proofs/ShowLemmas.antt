@@ -107,7 +107,8 @@ module _ {D I : Type 0} (r : Reading D I) (law : IsReading r) where
       by true = kept (is_by r i p)
       by false = kept false
 
-lookup-insert_entry : {K V : Type 0} (eq : K → K → Bool) → ((x y : K) → eq x y ≡ true → x ≡ y) → (k l : K) (v : V) (es : List (K × V))
+-- what is found after an entry is put in
+pub lookup-insert_entry : {K V : Type 0} (eq : K → K → Bool) → ((x y : K) → eq x y ≡ true → x ≡ y) → (k l : K) (v : V) (es : List (K × V))
     → lookup (eq l) (insert_entry eq es k v) ≡ cond (eq l k) (Some v) (lookup (eq l) es)
 lookup-insert_entry eq same k l v [] = refl
 lookup-insert_entry {K} {V} eq same k l v (e ∷ es) = by (eq k e.0) refl (lookup-insert_entry eq same k l v es)

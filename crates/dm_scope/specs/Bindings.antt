@@ -10,7 +10,7 @@ use Rattle.dm_ids.specs.declared.imports.ImportOrDef.{ImportOrDef}
 use Rattle.dm_ids.specs.declared.imports.ImportOrDef.TheVariants as target
 use Rattle.dm_ids.specs.declared.imports.ImportOrExternCrate.{ImportOrExternCrate}
 use Rattle.dm_ids.specs.declared.item_ids.ModuleDefId.{ModuleDefId}
-use Rattle.dm_scope.specs.Flags.{Flags, has_flag, add_flag, clear_flag}
+use Rattle.dm_scope.specs.Flags.{Flags, has_flag, with_flag}
 
 -- one namespace of a scope: its bindings in order of first binding, and what each import that brought one stands for
 pub record Bound (D I : Type 0) : Type 0 where
@@ -87,7 +87,7 @@ module _ {D I : Type 0} (r : Reading D I) where
 
   -- the flags after an effective push: a glob's is set, and any other push's is cleared
   abbrev pub flagged : Flags → ModuleId → Name → Option I → Flags
-  flagged fs m name import = if is_glob import then add_flag fs m name else clear_flag fs m name
+  flagged fs m name import = with_flag fs m name (is_glob import)
 
   -- One push into a namespace, of an item that the push may have there: whether it is effective, the bindings that it
   -- leaves, and the flags.

@@ -9,12 +9,14 @@ pub mod DumpRows
 pub mod Dumps
 pub mod Entries
 pub mod Flags
+pub mod Gives
 pub mod Iterators
 pub mod LazyMaps
 pub mod Lookups
 pub mod MacroCalls
 pub mod OrderLaws
 pub mod Push
+pub mod PushLaw
 pub mod PushSteps
 pub mod Pushes
 pub mod Rare
@@ -26,4 +28,3 @@ pub mod Sorted
 pub mod TableLists
 pub mod Tables
 pub mod Outcomes
-pub mod RunLaws

@@ -42,6 +42,22 @@ abbrev pub AsksNames : {F T : Type 0} → (F → Bor Name → Visibility → Boo
 AsksNames step [] f r g = (r ≡ None) × (g ≡ f)
 AsksNames {F} {T} step (x ∷ xs) f r g = (a : Option T) × (h : F) × AsksName step f x a h × elim a [ None ↦ AsksNames step xs h r g | Some y ↦ (r ≡ Some y) × (g ≡ h) ]
 
+-- An asker may be asked about a name.
+abbrev pub MayAskName : {F : Type 0} → (F → Bor Name → Visibility → Bool → Type 0) → F → Name × Visibility × Bool → Type 0
+MayAskName may f x = (n : Bor Name) → n.now ≡ x.0 → may f n x.1 x.2
+
+-- An asker may be asked about names in order until it answers Some: about the first, and about the others in each state that it may be left in
+-- where it does not answer about the first.
+abbrev pub MayAskNames : {F T : Type 0} → (F → Bor Name → Visibility → Bool → Type 0) → (F → Bor Name → Visibility → Bool → Option T → F → Type 0) → List (Name × Visibility × Bool) → F → Type 0
+MayAskNames may step [] f = Unit {0}
+MayAskNames {F} {T} may step (x ∷ xs) f = MayAskName may f x × ((g : F) → AsksName step f x None g → MayAskNames may step xs g)
+
+-- one that may be asked about any name, whatever its state, may be asked about these
+pub MayAskNames-any : {F T : Type 0} (may : F → Bor Name → Visibility → Bool → Type 0) (step : F → Bor Name → Visibility → Bool → Option T → F → Type 0) (xs : List (Name × Visibility × Bool)) (f : F)
+    → ((g : F) (n : Bor Name) (v : Visibility) (b : Bool) → may g n v b) → MayAskNames may step xs f
+MayAskNames-any may step [] f any = tt
+MayAskNames-any may step (x ∷ xs) f any = (λ n is. any f n x.1 x.2, λ g asked. MayAskNames-any may step xs g any)
+
 -- who sees an unnamed trait, by its first import
 abbrev pub trait_vis : TraitId → List (TraitId × Visibility × Option ImportId) → Option Visibility
 trait_vis t [] = None

@@ -56,11 +56,9 @@ globs_after s g m n x by = record {
 }
 
 -- its answer: whether a namespace was written, or the unresolved names grew
-abbrev pub push_answer_from_macros : Scope → Globs → ModuleId → Name → PerNs → Option ImportOrExternCrate → Bool
-push_answer_from_macros s g m n x by = is_effective_at macros_reading s.macros g.macros m n x.macros by || is_new_unresolved s.unresolved n x
-
-abbrev pub push_answer_from_values : Scope → Globs → ModuleId → Name → PerNs → Option ImportOrExternCrate → Bool
-push_answer_from_values s g m n x by = is_effective_at values_reading s.values g.values m n x.values by || push_answer_from_macros s g m n x by
-
 abbrev pub push_answer : Scope → Globs → ModuleId → Name → PerNs → Option ImportOrExternCrate → Bool
-push_answer s g m n x by = is_effective_at types_reading s.types g.types m n x.types by || push_answer_from_values s g m n x by
+push_answer s g m n x by =
+    is_effective_at types_reading s.types g.types m n x.types by
+    || (is_effective_at values_reading s.values g.values m n x.values by
+    || (is_effective_at macros_reading s.macros g.macros m n x.macros by
+    || is_new_unresolved s.unresolved n x))

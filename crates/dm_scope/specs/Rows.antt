@@ -18,7 +18,7 @@ use Rattle.dm_ids.specs.declared.item_ids.ModuleDefId.TheVariants as def
 use Rattle.dm_ids.specs.declared.ids.ModuleId.{ModuleId}
 use Rattle.dm_base.specs.Sameness.{same_def}
 use Rattle.dm_scope.specs.Changes.{without_binding}
-use Rattle.dm_scope.specs.Flags.{Globs, no_globs, has_flag}
+use Rattle.dm_scope.specs.Flags.{Globs, no_flags, no_globs, has_flag, with_flag}
 use Rattle.dm_scope.specs.Push.{types_reading, values_reading, scope_after, globs_after, push_answer}
 use Rattle.dm_scope.specs.Pushes.{binding, record_of}
 use Rattle.dm_scope.specs.Scope.{Scope, no_scope, bound_in}
@@ -230,3 +230,13 @@ second_clears = refl
 
 first_keeps : push_answer by_glob (globs_after no_scope glob_stands m0 A (value (function 1)) (Some (import 1))) m0 A (value (function 2)) (Some (import 2)) ≡ false
 first_keeps = refl
+
+-- flags that say the same are the same, in whatever order they were set; and one that was set and cleared leaves no trace
+abbrev B : Name
+B = 66 ∷ []
+
+flags_have_no_order : with_flag (with_flag no_flags m0 A true) m0 B true ≡ with_flag (with_flag no_flags m0 B true) m0 A true
+flags_have_no_order = refl
+
+flag_leaves_no_trace : with_flag (with_flag no_flags m0 A true) m0 A false ≡ no_flags
+flag_leaves_no_trace = refl

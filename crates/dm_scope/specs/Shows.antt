@@ -12,7 +12,7 @@ use Rattle.dm_scope.specs.Bindings.{Reading, import_of}
 use Rattle.dm_scope.specs.Flags.{Globs, has_flag}
 use Rattle.dm_scope.specs.Push.{types_reading, values_reading, macros_reading}
 use Rattle.dm_base.specs.PerNs.{is_empty}
-use Rattle.dm_scope.specs.Pushes.{Push, is_effective, ShowsIn}
+use Rattle.dm_scope.specs.Pushes.{IsByName, Push, is_effective, ShowsIn}
 use Rattle.dm_scope.specs.Scope.{Scope}
 
 -- one push of a scope: the name, what it resolved to, and the import by which it came
@@ -72,3 +72,10 @@ StillShows s g t h k r = (ps : List ScopePush) → Shows s g k ps → OnErr r (S
 -- Whatever any scope showed in another module than m, it shows.
 abbrev pub ShowsElsewhere : Globs → Globs → ModuleId → Type 0
 ShowsElsewhere g h m = (other : Scope) (k : ModuleId) (ps : List ScopePush) → same_module m k ≡ false → Shows other g k ps → Shows other h k ps
+
+-- What any list of pushes binds to a name in a namespace rests on the pushes of that name that have an item there, and with
+-- an explicit one among them not on those by globs.
+pub record IsByNameInEach (n : Name) : Type 0 where
+  pub types : IsByName types_reading n
+  pub values : IsByName values_reading n
+  pub macros : IsByName macros_reading n

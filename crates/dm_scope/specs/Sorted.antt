@@ -1,8 +1,8 @@
 -- The sorted lists of a scope.
-use Rattle.std.specs.Prelude.{◌≡◌, ◌↔◌, ◌++◌, List, Option, Some, None, map, Contains}
+use Rattle.std.specs.Prelude.{◌≡◌, ◌↔◌, ◌++◌, Bool, true, List, Option, Some, None, map, Contains}
 use Rattle.std.specs.Borrow.{Bor}
 use Rattle.std.specs.declared.cmp.Ordering.{Ordering}
-use Rattle.std.specs.List.{filter_map}
+use Rattle.std.specs.List.{filter_map, list_any}
 use Rattle.std.specs.List.Sorted.{IsStrictlySortedBy}
 use Rattle.std.specs.Option.{option_map}
 use Rattle.std.specs.Cmp.Lexicographic.{slice_cmp}
@@ -20,6 +20,12 @@ use Rattle.dm_scope.specs.Scope.{Scope, bound_in}
 -- the names that are bound or unresolved, each as often as it is
 abbrev pub names_of : Scope → List Name
 names_of s = map (λ e. e.0) s.types.items ++ map (λ e. e.0) s.values.items ++ map (λ e. e.0) s.macros.items ++ s.unresolved
+
+-- The elements of a list in order, of those that are equal one.
+pub record AreSortedOnce {X : Type 0} (cmp : X → X → Ordering) (same : X → X → Bool) (once all : List X) : Type 0 where
+  pub sorted : IsStrictlySortedBy cmp once
+  pub of_all : (x : X) → Contains once x → Contains all x
+  pub has_each : (x : X) → Contains all x → list_any (same x) once ≡ true
 
 -- Names in order of their bytes, without repeats: just those of a list.
 pub record AreInOrder (names all : List Name) : Type 0 where

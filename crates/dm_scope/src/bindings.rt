@@ -12,7 +12,8 @@ ghost use Rattle.dm_ids.specs.Names.{Name, same_name, find_name};
 ghost use Rattle.dm_base.specs.Tree.{same_module};
 ghost use Rattle.dm_scope.specs.Pushes.{PushAnswersIn, PushShowsIn, one_push, Push, ShowsIn, IsByName, is_effective};
 ghost use Rattle.dm_scope.specs.Entries.{is_new};
-ghost use Rattle.dm_scope.specs.Flags.{has_flag, without_flag};
+ghost use Rattle.dm_scope.specs.Gives.{PushGivesIn};
+ghost use Rattle.dm_scope.specs.Flags.{has_flag, flags_undone, no_flags};
 ghost use Rattle.dm_scope.specs.Bindings.{import_of, is_glob_by, writes, stored, recorded, with_record, bound, bound_after, flags_after, is_effective_at};
 ghost use Rattle.dm_scope.specs.PushSteps.{with_keys, without_keys, is_new_record, written, is_new_import, add_import, set_import, finished, flags_done};
 
@@ -24,7 +25,7 @@ use crate::import_records::Records;
 use crate::keys::{add_key, add_name, add_vacant};
 use crate::lazy_map::LazyMap;
 use crate::reads::Reads;
-use crate::steps::{NewFlag, NewKeys};
+use crate::steps::NewKeys;
 use dm_base::definition::Definition;
 use dm_base::ids::ModuleId;
 use dm_base::import_source::ImportSource;
@@ -95,7 +96,7 @@ impl<D: Definition, I: ImportSource> Bindings<D, I> {
         ensures empty { result ≡ record { items = []; records = [] } }
 
         // With a new table they show the empty list of pushes.
-        ensures shown { (m : ModuleId) → ShowsIn ⟦<D as Reads<I>>⟧.reading result (has_flag [] m) [] }
+        ensures shown { (m : ModuleId) → ShowsIn ⟦<D as Reads<I>>⟧.reading result (has_flag no_flags m) [] }
     {
         Bindings {
             items: LazyMap::new(alloc),
@@ -138,11 +139,7 @@ impl<D: Definition, I: ImportSource> Bindings<D, I> {
         item: Item<D, I>,
         import: Option<ImportOrExternCrate>,
     ) -> Result<bool, AllocError>
-        ensures answer { IfOk result (λ effective. effective ≡ is_effective_at ⟦<D as Reads<I>>⟧.reading self.old flags.old lookup.0 lookup.1 (Some item) import) }
-        ensures bindings { OnOk result (self.new ≡ bound_after ⟦<D as Reads<I>>⟧.reading self.old flags.old lookup.0 lookup.1 (Some item) import) }
-        ensures flags { OnOk result (flags.new ≡ flags_after ⟦<D as Reads<I>>⟧.reading self.old flags.old lookup.0 lookup.1 (Some item) import) }
-        ensures err { OnErr result (self.new ≡ self.old) }
-        ensures err_flags { OnErr result (flags.new ≡ flags.old) }
+        ensures gives { PushGivesIn ⟦<D as Reads<I>>⟧.reading self.old flags.old self.new flags.new lookup.0 lookup.1 item import result }
 
         // Where they show a list of pushes, they show it with this push after it, and the answer is as that list says.
         ensures shown { PushShowsIn ⟦<D as Reads<I>>⟧.reading self.old (has_flag flags.old lookup.0) self.new (has_flag flags.new lookup.0) (one_push ⟦<D as Reads<I>>⟧.reading lookup.1 item import) result }
@@ -166,11 +163,7 @@ impl<D: Definition, I: ImportSource> Bindings<D, I> {
         item: Item<D, I>,
         import: Option<ImportOrExternCrate>,
     ) -> Result<bool, AllocError>
-        ensures answer { IfOk result (λ effective. effective ≡ is_effective_at ⟦<D as Reads<I>>⟧.reading self.old flags.old m name (Some item) import) }
-        ensures bindings { OnOk result (self.new ≡ bound_after ⟦<D as Reads<I>>⟧.reading self.old flags.old m name (Some item) import) }
-        ensures flags { OnOk result (flags.new ≡ flags_after ⟦<D as Reads<I>>⟧.reading self.old flags.old m name (Some item) import) }
-        ensures err { OnErr result (self.new ≡ self.old) }
-        ensures err_flags { OnErr result (flags.new ≡ flags.old) }
+        ensures { PushGivesIn ⟦<D as Reads<I>>⟧.reading self.old flags.old self.new flags.new m name item import result }
     {
         let narrow = narrowed(import);
         if self.is_first(flags, m, &name, narrow) {
@@ -258,7 +251,7 @@ impl<D: Definition, I: ImportSource> Bindings<D, I> {
     ) -> Result<NewKeys, AllocError>
         ensures writes { IfOk result (λ new. new.writes ≡ is_effective_at ⟦<D as Reads<I>>⟧.reading self.old flags.old m name.now item import) }
         ensures undo { IfOk result (λ new. without_keys self.new new.item new.record_key ≡ self.old) }
-        ensures undo_flags { IfOk result (λ new. without_flag flags.new m new.flag ≡ flags.old) }
+        ensures undo_flags { IfOk result (λ new. flags_undone flags.new m name.now new.flag ≡ flags.old) }
         ensures finish { IfOk result (λ new. finished ⟦<D as Reads<I>>⟧.reading self.new new.writes name.now item import ≡ bound_after ⟦<D as Reads<I>>⟧.reading self.old flags.old m name.now item import) }
         ensures finish_flags { IfOk result (λ new. flags_done ⟦<D as Reads<I>>⟧.reading flags.new new.writes m name.now import ≡ flags_after ⟦<D as Reads<I>>⟧.reading self.old flags.old m name.now item import) }
         ensures err { OnErr result (self.new ≡ self.old) }
@@ -282,12 +275,12 @@ impl<D: Definition, I: ImportSource> Bindings<D, I> {
     }
 
     /// Takes the first step of a push back.
-    pub(crate) fn undo(&mut self, flags: &mut GlobFlags, new: NewKeys, m: ModuleId)
+    pub(crate) fn undo(&mut self, flags: &mut GlobFlags, new: NewKeys, m: ModuleId, name: &Name)
         ensures bindings { self.new ≡ without_keys self.old new.item new.record_key }
-        ensures flags { flags.new ≡ without_flag flags.old m new.flag }
+        ensures flags { flags.new ≡ flags_undone flags.old m name.now new.flag }
     {
         self.remove_keys(new);
-        flags.undo(m, new.flag);
+        flags.undo(m, name, new.flag);
     }
 
     /// The second step of a push. Takes no memory.
@@ -342,7 +335,7 @@ impl<D: Definition, I: ImportSource> Bindings<D, I> {
                 writes: true,
                 item: item_is_new,
                 record_key: record_is_new,
-                flag: NewFlag::Stood,
+                flag: false,
             }),
             Err(refused) => {
                 self.items.take_off(item_is_new);

@@ -1,23 +1,22 @@
 //! Which names a glob import bound.
-ghost use Rattle.std.specs.Prelude.{◌≡◌, [], None, OnOk, OnErr, IfOk};
+ghost use Rattle.std.specs.Prelude.{◌≡◌, [], None, true, false, cond, OnOk, OnErr, IfOk};
 ghost use Rattle.std.specs.Map.{lookup};
 ghost use Rattle.std.specs.List.{list_any};
-ghost use Rattle.indexmap.specs.IndexSet.{insert_key};
 ghost use Rattle.dm_ids.specs.declared.ids.ModuleId.{ModuleId};
-ghost use Rattle.dm_ids.specs.Names.{same_name};
+ghost use Rattle.dm_ids.specs.Names.{Name, same_name};
 ghost use Rattle.dm_base.specs.Tree.{same_module};
 ghost use Rattle.dm_scope.specs.Scope.{no_scope};
 ghost use Rattle.dm_scope.specs.Shows.{Shows};
-ghost use Rattle.dm_scope.specs.Flags.{flags_of, has_flag, add_flag, clear_flag, without_flag, without_name, all_but_last, change_names, no_globs, added, flags_grown, flags_finished};
+ghost use Rattle.dm_scope.specs.Flags.{flags_of, has_flag, with_flag, no_flags, no_globs, flags_grown, flags_undone, flags_finished};
 
-use crate::steps::NewFlag;
 use dm_base::ids::ModuleId;
 use dm_base::name::Name;
 use indexmap::{IndexMap, IndexSet};
 use std::alloc::{AllocError, Global};
 use std::marker::Model;
 
-/// The glob flags of one namespace: for each module, the names that a glob bound.
+/// The glob flags of one namespace: for each module, the names that a glob bound. Their order is not kept, and contracts see
+/// what they say of a name of a module alone.
 #[derive(Drop)]
 pub struct GlobFlags {
     names: IndexMap<ModuleId, IndexSet<Name>>,
@@ -35,7 +34,7 @@ impl Model for GlobFlags {
 impl GlobFlags {
     /// No flags. Takes no memory.
     pub fn new(alloc: Global) -> GlobFlags
-        ensures { result ≡ [] }
+        ensures { result ≡ no_flags }
     {
         GlobFlags {
             names: IndexMap::new(alloc),
@@ -53,26 +52,22 @@ impl GlobFlags {
         }
     }
 
-    /// The first step of a push that writes: a glob's flag is set. Where memory is short, nothing changes.
-    pub(crate) fn grow(
-        &mut self,
-        m: ModuleId,
-        name: &Name,
-        glob: bool,
-    ) -> Result<NewFlag, AllocError>
+    /// The first step of a push that writes: a glob's flag is set. Answers whether it is new. Where memory is short, nothing
+    /// changes.
+    pub(crate) fn grow(&mut self, m: ModuleId, name: &Name, glob: bool) -> Result<bool, AllocError>
         ensures ok { OnOk result (self.new ≡ flags_grown self.old m name.now glob) }
-        ensures undo { IfOk result (λ new. without_flag self.new m new ≡ self.old) }
+        ensures undo { IfOk result (λ new. flags_undone self.new m name.now new ≡ self.old) }
         ensures err { OnErr result (self.new ≡ self.old) }
     {
         if !glob {
-            return Ok(NewFlag::Stood);
+            return Ok(false);
         }
         if self.contains(m, name) {
-            return Ok(NewFlag::Stood);
+            return Ok(false);
         }
         let key = name.copy(self.alloc)?;
-        let new = self.add(m, key)?;
-        Ok(new)
+        self.set(m, key)?;
+        Ok(true)
     }
 
     /// The second step of a push that writes: the flag of any other push is cleared. Takes no memory.
@@ -84,59 +79,46 @@ impl GlobFlags {
         }
     }
 
-    /// Takes the first step back.
-    pub(crate) fn undo(&mut self, m: ModuleId, new: NewFlag)
-        ensures { self.new ≡ without_flag self.old m new }
+    /// Takes the first step back. A module's set stays, also where it is empty.
+    pub(crate) fn undo(&mut self, m: ModuleId, name: &Name, new: bool)
+        ensures { self.new ≡ flags_undone self.old m name.now new }
     {
-        match new {
-            NewFlag::Stood => (),
-            NewFlag::NewName => self.drop_last_name(m),
-            NewFlag::NewModule => drop_last_module(&mut self.names),
+        if new {
+            self.clear(m, name);
         }
     }
 
-    fn add(&mut self, m: ModuleId, name: Name) -> Result<NewFlag, AllocError>
-        ensures ok { OnOk result (self.new ≡ add_flag self.old m name) }
-        ensures undo { IfOk result (λ new. without_flag self.new m new ≡ self.old) }
+    /// Sets the flag of a name.
+    fn set(&mut self, m: ModuleId, name: Name) -> Result<(), AllocError>
+        ensures ok { OnOk result (self.new ≡ with_flag self.old m name true) }
         ensures err { OnErr result (self.new ≡ self.old) }
     {
         match self.names.get_mut(&m) {
             Some(names) => {
-                let new = add_name(names, name)?;
-                Ok(new)
+                add_name(names, name)?;
+                Ok(())
             }
             None => add_first(&mut self.names, m, name, self.alloc),
         }
     }
 
+    /// Clears the flag of a name. Takes no memory, and goes by key: no other flag is passed.
     fn clear(&mut self, m: ModuleId, name: &Name)
-        ensures { self.new ≡ clear_flag self.old m name.now }
+        ensures { self.new ≡ with_flag self.old m name.now false }
     {
         if let Some(names) = self.names.get_mut(&m) {
             take_name(names, name);
         }
     }
-
-    fn drop_last_name(&mut self, m: ModuleId)
-        ensures { self.new ≡ change_names all_but_last self.old m }
-    {
-        if let Some(names) = self.names.get_mut(&m) {
-            drop_last(names);
-        }
-    }
 }
 
 /// Adds a name to the names of a module.
-fn add_name(names: &mut IndexSet<Name>, name: Name) -> Result<NewFlag, AllocError>
-    ensures keys { OnOk result (names.new.keys ≡ insert_key same_name names.old.keys name) }
-    ensures new { IfOk result (λ new. new ≡ added (list_any (same_name name) names.old.keys)) }
+fn add_name(names: &mut IndexSet<Name>, name: Name) -> Result<(), AllocError>
+    ensures has { OnOk result ((n : Name) → list_any (same_name n) names.new.keys ≡ cond (same_name name n) true (list_any (same_name n) names.old.keys)) }
     ensures err { OnErr result (names.new.keys ≡ names.old.keys) }
 {
-    if names.insert(name)? {
-        Ok(NewFlag::NewName)
-    } else {
-        Ok(NewFlag::Stood)
-    }
+    names.insert(name)?;
+    Ok(())
 }
 
 /// Adds a module, with its first name.
@@ -145,38 +127,22 @@ fn add_first(
     m: ModuleId,
     name: Name,
     alloc: Global,
-) -> Result<NewFlag, AllocError>
+) -> Result<(), AllocError>
     requires { lookup (same_module m) flags.old.entries ≡ None }
-    ensures ok { OnOk result (flags_of flags.new.entries ≡ add_flag (flags_of flags.old.entries) m name) }
-    ensures new { IfOk result (λ new. new ≡ NewFlag.NewModule) }
-    ensures undo { OnOk result (all_but_last (flags_of flags.new.entries) ≡ flags_of flags.old.entries) }
+    ensures ok { OnOk result (flags_of flags.new.entries ≡ with_flag (flags_of flags.old.entries) m name true) }
     ensures err { OnErr result (flags.new.entries ≡ flags.old.entries) }
 {
     let mut names = IndexSet::new(alloc);
-    names.insert(name)?;
+    add_name(&mut names, name)?;
     flags.insert(m, names)?;
-    Ok(NewFlag::NewModule)
+    Ok(())
 }
 
-/// Takes a name off the names of a module.
+/// Takes a name off the names of a module, by its key: the last one comes into its place.
 fn take_name(names: &mut IndexSet<Name>, name: &Name)
-    ensures { names.new.keys ≡ without_name name.now names.old.keys }
+    ensures { (n : Name) → list_any (same_name n) names.new.keys ≡ cond (same_name name.now n) false (list_any (same_name n) names.old.keys) }
 {
-    names.shift_remove(name);
-}
-
-/// Takes the last module off, with its names.
-fn drop_last_module(flags: &mut IndexMap<ModuleId, IndexSet<Name>>)
-    ensures { flags.new.entries ≡ all_but_last flags.old.entries }
-{
-    flags.pop();
-}
-
-/// Takes the last name off the names of a module.
-fn drop_last(names: &mut IndexSet<Name>)
-    ensures { names.new.keys ≡ all_but_last names.old.keys }
-{
-    names.pop();
+    names.swap_remove(name);
 }
 
 /// The names that globs bound, in each namespace.

@@ -1,6 +1,6 @@
 -- What all maps of a crate share.
-use Rattle.std.specs.Prelude.{ℕ, Bool, false, ◌||◌, nat_eq, List, [], ◌∷◌, Option, None, codes}
-use Rattle.std.specs.List.{list_any}
+use Rattle.std.specs.Prelude.{ℕ, Bool, true, false, ◌||◌, nat_eq, List, [], ◌∷◌, ◌++◌, Option, None, Some, codes}
+use Rattle.std.specs.List.{fold, list_any}
 use Rattle.std.specs.Map.{lookup}
 use Rattle.std.specs.Option.{option_map_or}
 use Rattle.indexmap.specs.IndexMap.{insert_entry}
@@ -8,6 +8,8 @@ use Rattle.indexmap.specs.IndexSet.{insert_key}
 use Rattle.dm_ids.specs.declared.ids.FunctionId.{FunctionId}
 use Rattle.dm_ids.specs.declared.ids.ProcMacroId.{ProcMacroId}
 use Rattle.dm_ids.specs.Names.{same_name}
+use Rattle.dm_tables.specs.declared.crate_setting.CrateSetting.{CrateSetting}
+use Rattle.dm_tables.specs.declared.crate_setting.CrateSetting.TheVariants.{NoStd, NoCore, CoherenceIsCore, RecursionLimit, Tool, Feature, ProcMacro}
 
 -- a symbol is its bytes
 abbrev pub Symbol : Type 0
@@ -55,6 +57,20 @@ with_proc_macro d f m = record d {
   macro_of_fn = insert_entry same_function d.macro_of_fn f m;
   fn_of_macro = insert_entry same_proc_macro d.fn_of_macro m f;
 }
+
+-- with one thing that is set
+abbrev pub with_setting : CrateData → CrateSetting → CrateData
+with_setting d NoStd = record d { no_std = true }
+with_setting d NoCore = record d { no_core = true }
+with_setting d CoherenceIsCore = record d { coherence_is_core = true }
+with_setting d (RecursionLimit limit) = record d { recursion_limit = Some limit }
+with_setting d (Tool tool) = record d { tools = d.tools ++ tool ∷ [] }
+with_setting d (Feature feature) = with_feature d feature
+with_setting d (ProcMacro f m) = with_proc_macro d f m
+
+-- with all that is set, in order
+abbrev pub with_settings : CrateData → List CrateSetting → CrateData
+with_settings d settings = fold with_setting d settings
 
 -- how deep macros may expand: 128 where the crate sets nothing
 abbrev pub limit_of : CrateData → ℕ

@@ -1,7 +1,8 @@
 //! What all maps of a crate share.
-ghost use Rattle.std.specs.Prelude.{◌≡◌, ◌++◌, ◌∷◌, [], true, Some, IfOk, OnOk, OnErr};
-ghost use Rattle.dm_tables.specs.CrateData.{fresh_data, limit_of, goes_without_std, with_feature, with_proc_macro};
+ghost use Rattle.std.specs.Prelude.{◌≡◌, IfOk, OnOk};
+ghost use Rattle.dm_tables.specs.CrateData.{fresh_data, limit_of, goes_without_std, with_proc_macro, with_setting, with_settings};
 
+use crate::crate_setting::CrateSetting;
 use crate::growth::put;
 use crate::unstable_features::UnstableFeatures;
 use dm_base::ids::{FunctionId, ProcMacroId};
@@ -90,56 +91,42 @@ impl CrateData {
         })
     }
 
-    pub fn set_no_std(&mut self)
-        ensures { self.new ≡ record self.old { no_std = true } }
-    {
-        self.no_std = true;
-    }
-
-    pub fn set_no_core(&mut self)
-        ensures { self.new ≡ record self.old { no_core = true } }
-    {
-        self.no_core = true;
-    }
-
-    pub fn set_coherence_is_core(&mut self)
-        ensures { self.new ≡ record self.old { coherence_is_core = true } }
-    {
-        self.coherence_is_core = true;
-    }
-
-    pub fn set_recursion_limit(&mut self, limit: u32)
-        ensures { self.new ≡ record self.old { recursion_limit = Some limit } }
-    {
-        self.recursion_limit = Some(limit);
-    }
-
-    /// Adds a tool, the last.
-    pub fn add_tool(&mut self, tool: Symbol) -> Result<(), AllocError>
-        ensures ok { OnOk result (self.new ≡ record self.old { tools = self.old.tools ++ tool ∷ [] }) }
-        ensures err { OnErr result (self.new ≡ self.old) }
-    {
-        self.tools.push(tool)?;
-        Ok(())
-    }
-
-    /// Adds a feature.
-    pub fn add_feature(&mut self, feature: Symbol) -> Result<(), AllocError>
-        ensures ok { OnOk result (self.new ≡ with_feature self.old feature) }
-        ensures err { OnErr result (self.new ≡ self.old) }
-    {
-        self.features.enable(feature)?;
-        Ok(())
-    }
-
-    /// The same data with a procedural macro that a function defines, in a table each way. What is there is replaced.
+    /// The same data with what is set.
     ///
     /// Fails where memory runs out, and the data is then dropped.
-    pub fn with_proc_macro(mut self, f: FunctionId, m: ProcMacroId) -> Result<CrateData, AllocError>
-        ensures { IfOk result (λ d. d ≡ with_proc_macro self f m) }
+    pub fn with_setting(mut self, setting: CrateSetting) -> Result<CrateData, AllocError>
+        ensures { IfOk result (λ d. d ≡ with_setting self setting) }
     {
-        self.add_proc_macro(f, m)?;
+        self.set(setting)?;
         Ok(self)
+    }
+
+    /// The same data with all that is set, in order.
+    ///
+    /// Fails where memory runs out, and the data is then dropped.
+    pub fn with_settings(mut self, settings: Vec<CrateSetting>) -> Result<CrateData, AllocError>
+        ensures { IfOk result (λ d. d ≡ with_settings self settings.items) }
+    {
+        for setting in settings {
+            self.set(setting)?;
+        }
+        Ok(self)
+    }
+
+    /// Sets one thing. Where memory is short, one of two tables may have it.
+    fn set(&mut self, setting: CrateSetting) -> Result<(), AllocError>
+        ensures { OnOk result (self.new ≡ with_setting self.old setting) }
+    {
+        match setting {
+            CrateSetting::NoStd => self.no_std = true,
+            CrateSetting::NoCore => self.no_core = true,
+            CrateSetting::CoherenceIsCore => self.coherence_is_core = true,
+            CrateSetting::RecursionLimit(limit) => self.recursion_limit = Some(limit),
+            CrateSetting::Tool(tool) => self.tools.push(tool)?,
+            CrateSetting::Feature(feature) => self.features.enable(feature)?,
+            CrateSetting::ProcMacro(f, m) => self.add_proc_macro(f, m)?,
+        }
+        Ok(())
     }
 
     /// Adds a procedural macro that a function defines. Where memory is short, one table may have it.

@@ -5,6 +5,7 @@ ghost use Rattle.dm_ids.specs.Names.{find_name};
 ghost use Rattle.dm_tables.specs.Variants.{variants_in, enums_with_variant, IsFreeAt, enums_with_variant_at};
 
 use crate::growth::put_last;
+use crate::texts::has_text;
 use dm_base::fields_shape::FieldsShape;
 use dm_base::ids::{EnumId, EnumVariantId};
 use dm_base::name::Name;
@@ -60,11 +61,12 @@ impl EnumVariants {
         self.variants.get(name).copied()
     }
 
-    /// Whether there is a variant of that name.
-    pub fn contains(&self, name: &str) -> bool
-        ensures { result ≡ is_some (find_name name.now self.now) }
+    /// Whether there is a variant of the name of that text. It compares with each name: where the name is at hand, `get` looks
+    /// it up. Takes no memory.
+    pub fn contains(&self, text: &str) -> bool
+        ensures { result ≡ is_some (find_name text.now self.now) }
     {
-        self.variants.contains_key(name)
+        has_text(&self.variants, text)
     }
 }
 

@@ -1,17 +1,21 @@
 -- A question stays known where ids and maps do.
-use Rattle.std.proofs.Common.{◌≡◌, ◌∙◌, Option, None, Some, ap, sym, refl, is_some}
+use Rattle.std.proofs.Common.{◌≡◌, ◌∙◌, Option, None, Some, ap, sym, subst, refl, is_some}
 use Rattle.std.specs.Map.{lookup}
 use Rattle.std.specs.Option.{option_map}
 use Rattle.std.proofs.lemmas.Map.Made.{lookup-map_values}
 use Rattle.dm_ids.specs.declared.ids.ModuleId.{ModuleId}
 use Rattle.dm_base.specs.declared.mod_path.PathKind.{PathKind}
-use Rattle.dm_base.specs.Tree.{same_module}
+use Rattle.dm_base.specs.declared.visibility.RawVisibility.{RawVisibility}
+use Rattle.dm_base.specs.Tree.{IsKnown, crate_of, same_module}
 use Rattle.dm_held.specs.Holding.{local_holds, path_holds}
+use Rattle.dm_held.specs.TablesHold.{raw_holds}
 use Rattle.dm_modules.specs.Maps.{Map, Module, LocalMap, module_at}
 use Rattle.dm_maps.specs.Stays.{StaysKnown}
-use Rattle.dm_maps.specs.Trees.{Outline, outline}
+use Rattle.dm_maps.specs.Readings.{Setting, setting_of}
+use Rattle.dm_maps.specs.Trees.{Outline, outline, tree_of}
 use Rattle.dm_maps.specs.World.{World, numbered_map}
-use Rattle.hir_def_map.specs.Questions.{IsKnownQuestion}
+use Rattle.hir_def_map.specs.Questions.{IsKnownInCrate, IsKnownQuestion}
+use Rattle.hir_def_map.specs.RawVisibilities.{IsKnownVisibility}
 
 there-mapped : {A B : Type 0} (f : A → B) (o : Option A) → is_some (option_map f o) ≡ is_some o
 there-mapped f None = refl
@@ -24,13 +28,55 @@ has-outlined m M = ap is_some (lookup-map_values (λ (d : Module). d.parent) (sa
 has-same : (m : ModuleId) (M N : Map) → outline N ≡ outline M → is_some (module_at N.modules m) ≡ is_some (module_at M.modules m)
 has-same m M N same = sym (has-outlined m N) ∙ ap (λ (o : Outline). is_some (lookup (same_module m) o.modules)) same ∙ has-outlined m M
 
-pub asks-on : (w v : World) → StaysKnown w v → (M N : Map) (L : LocalMap) (m : ModuleId) (kind : PathKind) → IsKnownQuestion w M L m kind → numbered_map v M.id ≡ Some N → IsKnownQuestion v N L m kind
-asks-on w v stays M N L m kind asked there =
-    let outlines : Some (outline N) ≡ Some (outline M) = ap (option_map outline) (sym there) ∙ stays.maps M.id ∙ ap (option_map outline) asked.map in
-    let same : outline N ≡ outline M = cc in
-    record {
-      map = ap (λ (o : Outline). numbered_map v o.id) same ∙ there;
-      origin = has-same m M N same ∙ asked.origin;
-      local_known = stays.all (local_holds L) asked.local_known;
-      path_known = stays.all (path_holds kind) asked.path_known;
-    }
+-- of the tree a setting says all
+trees-same : (w v : World) → StaysKnown w v → tree_of v ≡ tree_of w
+unfolding setting_of
+trees-same w v stays = ap (λ (s : Setting). s.tree) stays.setting
+
+module _ (w v : World) (stays : StaysKnown w v) (M N : Map) (there : numbered_map v M.id ≡ Some N) where
+  -- the map of the same id has the outline that it had
+  outlined : numbered_map w M.id ≡ Some M → outline N ≡ outline M
+  outlined own =
+      let outlines : Some (outline N) ≡ Some (outline M) = ap (option_map outline) (sym there) ∙ stays.maps M.id ∙ ap (option_map outline) own in
+      cc
+
+  its-own : outline N ≡ outline M → numbered_map v N.id ≡ Some N
+  its-own same = ap (λ (o : Outline). numbered_map v o.id) same ∙ there
+
+  path-on : (L : LocalMap) (m : ModuleId) (kind : PathKind) → IsKnownQuestion w M L m kind → IsKnownQuestion v N L m kind
+  path-on L m kind asked =
+      let same = outlined asked.map in record {
+        map = its-own same;
+        origin = has-same m M N same ∙ asked.origin;
+        local_known = stays.all (local_holds L) asked.local_known;
+        path_known = stays.all (path_holds kind) asked.path_known;
+      }
+
+  preludes-on : (L : LocalMap) (m : ModuleId) (kind : PathKind) → IsKnownInCrate w M L m kind → IsKnownInCrate v N L m kind
+  preludes-on L m kind asked =
+      let same = outlined asked.map in
+      let tree : tree_of v ≡ tree_of w = trees-same w v stays in record {
+        map = its-own same;
+        origin = subst (λ t. IsKnown t m) (sym tree) asked.origin;
+        of_crate = ap (λ t. crate_of t m) tree ∙ asked.of_crate ∙ sym (ap (λ (o : Outline). o.id.krate) same);
+        local_known = stays.all (local_holds L) asked.local_known;
+        path_known = stays.all (path_holds kind) asked.path_known;
+      }
+
+  visibility-on : (L : LocalMap) (m : ModuleId) (raw : RawVisibility) → IsKnownVisibility w M L m raw → IsKnownVisibility v N L m raw
+  visibility-on L m raw asked =
+      let same = outlined asked.map in record {
+        map = its-own same;
+        origin = has-same m M N same ∙ asked.origin;
+        local_known = stays.all (local_holds L) asked.local_known;
+        path_known = stays.all (raw_holds raw) asked.path_known;
+      }
+
+pub paths-on : (w v : World) → StaysKnown w v → (M N : Map) (L : LocalMap) (m : ModuleId) (kind : PathKind) → IsKnownQuestion w M L m kind → numbered_map v M.id ≡ Some N → IsKnownQuestion v N L m kind
+paths-on w v stays M N L m kind asked there = path-on w v stays M N there L m kind asked
+
+pub all-preludes-on : (w v : World) → StaysKnown w v → (M N : Map) (L : LocalMap) (m : ModuleId) (kind : PathKind) → IsKnownInCrate w M L m kind → numbered_map v M.id ≡ Some N → IsKnownInCrate v N L m kind
+all-preludes-on w v stays M N L m kind asked there = preludes-on w v stays M N there L m kind asked
+
+pub visibilities-on : (w v : World) → StaysKnown w v → (M N : Map) (L : LocalMap) (m : ModuleId) (raw : RawVisibility) → IsKnownVisibility w M L m raw → numbered_map v M.id ≡ Some N → IsKnownVisibility v N L m raw
+visibilities-on w v stays M N L m raw asked there = visibility-on w v stays M N there L m raw asked

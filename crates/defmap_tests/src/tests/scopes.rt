@@ -5,6 +5,7 @@ mod lists;
 mod pushes;
 mod refused;
 mod reported;
+pub(super) mod told;
 
 use dm_base::ids::{FileAstId, FileId, FunctionId, ModuleId, StructId, UseId, UseTreeIdx};
 use dm_base::imports::{GlobId, ImportId, ImportOrExternCrate, ImportOrGlob};

@@ -7,6 +7,7 @@ mod local_maps;
 mod outwards;
 mod reading;
 mod refused;
+mod reported;
 mod rounds;
 mod visibilities;
 

@@ -1,5 +1,6 @@
 //! Blocks, added to a builder.
 ghost use Rattle.std.specs.Prelude.{◌≡◌, ◌<◌, None, Some, IfOk, OnOk, OnErr, length, slice_get};
+ghost use Rattle.dm_maps.specs.Added.{IsAddedBlock};
 ghost use Rattle.dm_maps.specs.BuildBlocks.{with_block, next_block, crate_in, fresh_block, block_fault};
 ghost use Rattle.dm_maps.specs.Build.{next_module};
 ghost use Rattle.dm_maps.specs.Faults.{Answers};
@@ -30,7 +31,11 @@ impl WorldBuilder {
         ensures number { IfOk result (λ b. b ≡ next_block self.old) }
         ensures fault { Answers (block_fault self.old containing) result }
         ensures err { OnErr result (self.new ≡ self.old) }
+
+        // The block was added with the root of its map, and what was there stays.
+        ensures added { IfOk result (λ b. IsAddedBlock self.old self.new containing b) }
     {
+        self.lawful();
         if !self.has(containing) {
             return Err(BuildFault::NoSuchModule);
         }

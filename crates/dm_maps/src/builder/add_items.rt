@@ -1,5 +1,7 @@
 //! Items, added to a builder.
 ghost use Rattle.std.specs.Prelude.{◌≡◌, IfOk, OnOk, OnErr, length};
+ghost use Rattle.dm_held.specs.Holding.{def_holds};
+ghost use Rattle.dm_maps.specs.Added.{AreAdded};
 ghost use Rattle.dm_maps.specs.Build.{with_item, item_def};
 ghost use Rattle.dm_maps.specs.Faults.{Answers, item_fault, is_full};
 ghost use Rattle.dm_maps.specs.Lists.{IsAmong};
@@ -23,6 +25,7 @@ impl WorldBuilder {
         ensures number { IfOk result (λ def. def ≡ item_def kind (length self.old.items)) }
         ensures fault { Answers (item_fault self.old m) result }
         ensures err { OnErr result (self.new ≡ self.old) }
+        ensures added { IfOk result (λ def. AreAdded self.old self.new (def_holds def)) }
     {
         if !self.has(m) {
             return Err(BuildFault::NoSuchModule);

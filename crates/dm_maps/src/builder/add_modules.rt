@@ -1,7 +1,9 @@
 //! Crates and modules, added to a builder.
 ghost use Rattle.std.specs.Prelude.{◌≡◌, ◌<◌, [], IsTrue, IfOk, OnOk, OnErr, None, Some, length};
+ghost use Rattle.dm_maps.specs.Added.{IsAddedCrate, IsAddedModule};
 ghost use Rattle.dm_maps.specs.Build.{with_crate, with_module, with_child_of, next_crate, next_module, next_place, fresh_crate};
-ghost use Rattle.dm_maps.specs.Faults.{Answers, new_crate_fault, child_fault, has_child, is_full};
+ghost use Rattle.dm_maps.specs.Faults.{Answers, new_crate_fault, child_fault, first_fault, none_found, lacks_module, is_full};
+ghost use Rattle.dm_maps.specs.Trees.{map_id_in};
 ghost use Rattle.dm_modules.specs.Origins.{is_child};
 
 use crate::build_fault::BuildFault;
@@ -38,6 +40,9 @@ impl WorldBuilder {
         ensures number { IfOk result (λ krate. krate ≡ next_crate self.old) }
         ensures fault { Answers (new_crate_fault self.old) result }
         ensures err { OnErr result (self.new ≡ self.old) }
+
+        // The crate was added with the root of its map, and what was there stays.
+        ensures added { IfOk result (λ krate. IsAddedCrate self.old self.new krate) }
     {
         if self.is_full() {
             return Err(BuildFault::OutOfNumbers);
@@ -98,8 +103,11 @@ impl WorldBuilder {
         ensures number { IfOk result (λ m. m ≡ next_module self.old) }
         ensures fault { Answers (child_fault self.old parent name) result }
         ensures err { OnErr result (self.new ≡ self.old) }
+
+        // The module was added in the map of its parent, without a binding, and what was there stays.
+        ensures added { IfOk result (λ m. IsAddedModule self.old self.new (map_id_in self.old.places parent) (Some parent) m) }
     {
-        match self.child_fault(parent, name.as_str()) {
+        match self.named_child_fault(parent, &name) {
             Some(fault) => Err(fault),
             None => {
                 let m = self.next_module();
@@ -110,31 +118,46 @@ impl WorldBuilder {
         }
     }
 
-    /// The fault for which a child of that name is refused, if there is one, want of memory aside. Takes no memory.
+    /// The fault for which a child of the name of that text is refused, if there is one, want of memory aside. Takes no memory.
+    ///
+    /// It is for who has no memory for the name: the text is compared with the name of each child of the parent.
     #[tactic(auto, unfolding(crate::specs::Faults::child_fault))]
-    pub fn child_fault(&self, parent: ModuleId, name: &str) -> Option<BuildFault>
+    pub fn child_fault(&self, parent: ModuleId, text: &str) -> Option<BuildFault>
+        ensures { result ≡ child_fault self.now parent text.now }
+    {
+        let is_taken = match self.module_of(parent) {
+            None => false,
+            Some(module) => module.has_child(text),
+        };
+        self.fault_of_child(parent, is_taken)
+    }
+
+    /// The same, where the name is at hand and is looked up.
+    #[tactic(auto, unfolding(crate::specs::Faults::child_fault))]
+    fn named_child_fault(&self, parent: ModuleId, name: &Name) -> Option<BuildFault>
         ensures { result ≡ child_fault self.now parent name.now }
+    {
+        let is_taken = match self.module_of(parent) {
+            None => false,
+            Some(module) => module.child(name).is_some(),
+        };
+        self.fault_of_child(parent, is_taken)
+    }
+
+    /// The first fault of a new child, where it is known whether the parent has a child of its name.
+    fn fault_of_child(&self, parent: ModuleId, is_taken: bool) -> Option<BuildFault>
+        ensures { result ≡ first_fault (record none_found { no_module = lacks_module self.now parent; taken_child = is_taken; full = is_full self.now.places }) }
     {
         if !self.has(parent) {
             return Some(BuildFault::NoSuchModule);
         }
-        if self.has_child(parent, name) {
+        if is_taken {
             return Some(BuildFault::TakenChild);
         }
         if self.is_full() {
             return Some(BuildFault::OutOfNumbers);
         }
         None
-    }
-
-    /// Whether a module has a child of that name.
-    fn has_child(&self, m: ModuleId, name: &str) -> bool
-        ensures { result ≡ has_child self.now m name.now }
-    {
-        match self.module_of(m) {
-            None => false,
-            Some(parent) => parent.has_child(name),
-        }
     }
 
     /// Whether there is no number for another module.

@@ -1,5 +1,7 @@
 //! Uses and macros, added to a builder.
-ghost use Rattle.std.specs.Prelude.{◌≡◌, IfOk, OnOk, OnErr, length};
+ghost use Rattle.std.specs.Prelude.{◌≡◌, ◌∷◌, [], IfOk, OnOk, OnErr, length};
+ghost use Rattle.dm_held.specs.declared.held.HeldId.TheVariants as held;
+ghost use Rattle.dm_maps.specs.Added.{AreAdded};
 ghost use Rattle.dm_maps.specs.BuildItems.{with_use, with_macro, next_use, macro_id};
 ghost use Rattle.dm_maps.specs.Faults.{Answers};
 ghost use Rattle.dm_maps.specs.ItemFaults.{use_fault, macro_fault};
@@ -23,6 +25,7 @@ impl WorldBuilder {
         ensures number { IfOk result (λ id. id ≡ next_use self.old) }
         ensures fault { Answers (use_fault self.old m) result }
         ensures err { OnErr result (self.new ≡ self.old) }
+        ensures added { IfOk result (λ id. AreAdded self.old self.new (held.Use id ∷ [])) }
     {
         if !self.has(m) {
             return Err(BuildFault::NoSuchModule);
@@ -53,6 +56,7 @@ impl WorldBuilder {
         ensures number { IfOk result (λ id. id ≡ macro_id loc (length self.old.macros)) }
         ensures fault { Answers (macro_fault self.old m) result }
         ensures err { OnErr result (self.new ≡ self.old) }
+        ensures added { IfOk result (λ id. AreAdded self.old self.new (held.Macro id ∷ [])) }
     {
         if !self.has(m) {
             return Err(BuildFault::NoSuchModule);

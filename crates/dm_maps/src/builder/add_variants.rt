@@ -1,9 +1,11 @@
 //! Variants of enums, added to a builder.
-ghost use Rattle.std.specs.Prelude.{◌≡◌, ◌<◌, None, IfOk, OnOk, OnErr, length};
+ghost use Rattle.std.specs.Prelude.{◌≡◌, ◌<◌, ◌∷◌, [], None, IfOk, OnOk, OnErr, length};
 ghost use Rattle.dm_ids.specs.Names.{find_name};
+ghost use Rattle.dm_held.specs.declared.held.HeldId.TheVariants as held;
+ghost use Rattle.dm_maps.specs.Added.{AreAdded};
 ghost use Rattle.dm_maps.specs.BuildItems.{with_variant, next_variant};
-ghost use Rattle.dm_maps.specs.Faults.{Answers};
-ghost use Rattle.dm_maps.specs.ItemFaults.{variant_fault, has_variant};
+ghost use Rattle.dm_maps.specs.Faults.{Answers, first_fault, none_found, is_full};
+ghost use Rattle.dm_maps.specs.ItemFaults.{variant_fault, lacks_enum};
 ghost use Rattle.dm_maps.specs.Lists.{IsEnum};
 ghost use Rattle.dm_maps.specs.Readings.{variants_of};
 
@@ -36,8 +38,9 @@ impl WorldBuilder {
         ensures number { IfOk result (λ id. id ≡ next_variant self.old) }
         ensures fault { Answers (variant_fault self.old e name) result }
         ensures err { OnErr result (self.new ≡ self.old) }
+        ensures added { IfOk result (λ id. AreAdded self.old self.new (held.Variant id ∷ [])) }
     {
-        match self.variant_fault(e, name.as_str()) {
+        match self.named_variant_fault(e, &name) {
             Some(fault) => Err(fault),
             None => {
                 let id = self.next_variant();
@@ -47,31 +50,44 @@ impl WorldBuilder {
         }
     }
 
-    /// The fault for which a variant of that name is refused, if there is one, want of memory aside. Takes no memory.
+    /// The fault for which a variant of the name of that text is refused, if there is one, want of memory aside. Takes no
+    /// memory.
+    ///
+    /// It is for who has no memory for the name: the text is compared with the name of each variant of the enum.
     #[tactic(auto, unfolding(crate::specs::ItemFaults::variant_fault))]
-    pub fn variant_fault(&self, e: EnumId, name: &str) -> Option<BuildFault>
+    pub fn variant_fault(&self, e: EnumId, text: &str) -> Option<BuildFault>
+        ensures { result ≡ variant_fault self.now e text.now }
+    {
+        let is_taken = match self.enums.get(&e) {
+            None => false,
+            Some(variants) => variants.contains(text),
+        };
+        self.fault_of_variant(e, is_taken)
+    }
+
+    /// The same, where the name is at hand and is looked up.
+    #[tactic(auto, unfolding(crate::specs::ItemFaults::variant_fault))]
+    fn named_variant_fault(&self, e: EnumId, name: &Name) -> Option<BuildFault>
         ensures { result ≡ variant_fault self.now e name.now }
+    {
+        let is_taken = self.variant_of(e, name).is_some();
+        self.fault_of_variant(e, is_taken)
+    }
+
+    /// The first fault of a new variant, where it is known whether the enum has one of its name.
+    fn fault_of_variant(&self, e: EnumId, is_taken: bool) -> Option<BuildFault>
+        ensures { result ≡ first_fault (record none_found { no_enum = lacks_enum self.now e; taken_variant = is_taken; full = is_full self.now.variants }) }
     {
         if !self.knows(HeldId::Item(ItemKind::Enum, e.0)) {
             return Some(BuildFault::NoSuchEnum);
         }
-        if self.has_variant(e, name) {
+        if is_taken {
             return Some(BuildFault::TakenVariant);
         }
         if !(self.variants.len() < LAST_NUMBER) {
             return Some(BuildFault::OutOfNumbers);
         }
         None
-    }
-
-    /// Whether an enum has a variant of that name.
-    fn has_variant(&self, e: EnumId, name: &str) -> bool
-        ensures { result ≡ has_variant self.now e name.now }
-    {
-        match self.enums.get(&e) {
-            None => false,
-            Some(variants) => variants.contains(name),
-        }
     }
 
     /// The number of the next variant.

@@ -1,8 +1,12 @@
 //! The scopes of a builder's modules, lent to be changed.
-ghost use Rattle.std.specs.Prelude.{◌≡◌};
+ghost use Rattle.std.specs.Prelude.{◌≡◌, IsTrue, Some};
 ghost use Rattle.std.specs.Option.{option_copied_mut};
 ghost use Rattle.std.specs.Borrow.{sem};
-ghost use Rattle.dm_maps.specs.World.{scope_if_known};
+ghost use Rattle.dm_scope.specs.Scope.{Scope};
+ghost use Rattle.dm_held.specs.declared.held.HeldId.TheVariants as held;
+ghost use Rattle.dm_maps.specs.Added.{IsScoped};
+ghost use Rattle.dm_maps.specs.Known.{knows};
+ghost use Rattle.dm_maps.specs.World.{scope_if_known, scope_of, with_scope};
 ghost use Rattle.dm_maps.specs.LendingWorld.{LendsScope};
 
 use crate::builder::WorldBuilder;
@@ -20,5 +24,17 @@ impl WorldBuilder {
     {
         let place = self.place_of(m)?;
         self.maps.scope_mut(place.map, place.index)
+    }
+
+    /// What holds of the scope of a module of the builder's. It does nothing: a caller whose proof needs it calls it, before
+    /// `scope_mut`.
+    pub fn scope_facts_of(&self, m: ModuleId)
+        requires { IsTrue (knows self.now (held.Module m)) }
+
+        // There is one, and with another in its place what was known is known, and each other scope stays.
+        ensures there { scope_if_known self.now m ≡ Some (scope_of self.now m) }
+        ensures written { (s : Scope) → IsScoped self.now (with_scope self.now m s) m s }
+    {
+        self.lawful();
     }
 }

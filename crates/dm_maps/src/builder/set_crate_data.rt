@@ -1,6 +1,6 @@
 //! What is set for all maps of a crate.
 ghost use Rattle.std.specs.Prelude.{◌≡◌, ◌++◌, ◌∷◌, [], true, Some, IfOk, OnOk, OnErr};
-ghost use Rattle.dm_maps.specs.BuildCrateData.{sharing, data_of, with_data};
+ghost use Rattle.dm_maps.specs.BuildCrateData.{TakesData, sharing, data_of, with_data, with_crate_setting, with_crate_settings, settings_fault};
 ghost use Rattle.dm_maps.specs.BuildMaps.{crate_fault};
 ghost use Rattle.dm_tables.specs.CrateData.{with_feature, with_proc_macro};
 ghost use Rattle.dm_maps.specs.Faults.{Answers};
@@ -12,6 +12,7 @@ use dm_base::ids::{Crate, FunctionId, MapId, ProcMacroId};
 use dm_base::symbol::Symbol;
 use dm_def_map::building;
 use dm_tables::crate_data::CrateData;
+use dm_tables::crate_setting::CrateSetting;
 use std::alloc::AllocError;
 
 /// Each call refuses, in this order, `NoSuchCrate` of a crate that is not the builder's, and `OutOfMemory`; the builder is
@@ -23,10 +24,7 @@ impl WorldBuilder {
         ensures fault { Answers (crate_fault self.old krate) result }
         ensures err { OnErr result (self.new ≡ self.old) }
     {
-        let mut data = self.copy_data(krate)?;
-        data.set_no_std();
-        self.share_data(krate, data)?;
-        Ok(())
+        self.set_one(krate, CrateSetting::NoStd)
     }
 
     /// Says that a crate goes without `core`.
@@ -35,10 +33,7 @@ impl WorldBuilder {
         ensures fault { Answers (crate_fault self.old krate) result }
         ensures err { OnErr result (self.new ≡ self.old) }
     {
-        let mut data = self.copy_data(krate)?;
-        data.set_no_core();
-        self.share_data(krate, data)?;
-        Ok(())
+        self.set_one(krate, CrateSetting::NoCore)
     }
 
     /// Says that a crate counts as `core` where traits are implemented.
@@ -47,10 +42,7 @@ impl WorldBuilder {
         ensures fault { Answers (crate_fault self.old krate) result }
         ensures err { OnErr result (self.new ≡ self.old) }
     {
-        let mut data = self.copy_data(krate)?;
-        data.set_coherence_is_core();
-        self.share_data(krate, data)?;
-        Ok(())
+        self.set_one(krate, CrateSetting::CoherenceIsCore)
     }
 
     /// Sets how deep macros of a crate may expand.
@@ -59,10 +51,7 @@ impl WorldBuilder {
         ensures fault { Answers (crate_fault self.old krate) result }
         ensures err { OnErr result (self.new ≡ self.old) }
     {
-        let mut data = self.copy_data(krate)?;
-        data.set_recursion_limit(limit);
-        self.share_data(krate, data)?;
-        Ok(())
+        self.set_one(krate, CrateSetting::RecursionLimit(limit))
     }
 
     /// Adds a tool whose attributes a crate may have, the last.
@@ -71,10 +60,7 @@ impl WorldBuilder {
         ensures fault { Answers (crate_fault self.old krate) result }
         ensures err { OnErr result (self.new ≡ self.old) }
     {
-        let mut data = self.copy_data(krate)?;
-        data.add_tool(tool)?;
-        self.share_data(krate, data)?;
-        Ok(())
+        self.set_one(krate, CrateSetting::Tool(tool))
     }
 
     /// Adds an unstable feature that a crate asks for. One that is there stays at its place.
@@ -83,10 +69,7 @@ impl WorldBuilder {
         ensures fault { Answers (crate_fault self.old krate) result }
         ensures err { OnErr result (self.new ≡ self.old) }
     {
-        let mut data = self.copy_data(krate)?;
-        data.add_feature(feature)?;
-        self.share_data(krate, data)?;
-        Ok(())
+        self.set_one(krate, CrateSetting::Feature(feature))
     }
 
     /// Sets the procedural macro that a function of a crate defines, in a table each way. What is there is replaced.
@@ -102,7 +85,37 @@ impl WorldBuilder {
         ensures fault { Answers (crate_fault self.old krate) result }
         ensures err { OnErr result (self.new ≡ self.old) }
     {
-        let data = self.copy_data(krate)?.with_proc_macro(f, m)?;
+        self.set_one(krate, CrateSetting::ProcMacro(f, m))
+    }
+
+    /// Sets many things for a crate: what stands, and what is refused, is as of the calls above, one for each in order.
+    ///
+    /// The crate's data is copied once, however many things are set. Where there are none, nothing is refused.
+    pub fn set_crate_data(
+        &mut self,
+        krate: Crate,
+        settings: Vec<CrateSetting>,
+    ) -> Result<(), BuildFault>
+        ensures ok { OnOk result (self.new ≡ with_crate_settings self.old krate settings.items) }
+        ensures fault { Answers (settings_fault self.old krate settings.items) result }
+        ensures err { OnErr result (self.new ≡ self.old) }
+    {
+        if settings.is_empty() {
+            return Ok(());
+        }
+        let data = self.copy_data(krate)?;
+        let changed = data.with_settings(settings)?;
+        self.share_data(krate, changed)?;
+        Ok(())
+    }
+
+    /// Sets one thing for a crate.
+    fn set_one(&mut self, krate: Crate, setting: CrateSetting) -> Result<(), BuildFault>
+        ensures ok { OnOk result (self.new ≡ with_crate_setting self.old krate setting) }
+        ensures fault { Answers (crate_fault self.old krate) result }
+        ensures err { OnErr result (self.new ≡ self.old) }
+    {
+        let data = self.copy_data(krate)?.with_setting(setting)?;
         self.share_data(krate, data)?;
         Ok(())
     }
@@ -110,6 +123,7 @@ impl WorldBuilder {
     /// The data of a crate, to be changed.
     fn copy_data(&self, krate: Crate) -> Result<CrateData, BuildFault>
         ensures value { IfOk result (λ d. d ≡ data_of self.now krate) }
+        ensures own { IfOk result (λ _. TakesData self.now krate) }
         ensures fault { Answers (crate_fault self.now krate) result }
     {
         match self.numbered_map(MapId { krate, block: None }) {

@@ -14,6 +14,7 @@ use dm_base::fields_shape::FieldsShape;
 use dm_base::ids::{BlockId, Crate, EnumId, EnumVariantId, MapId, ModuleId};
 use dm_base::name::Name;
 use dm_base::per_ns::{PerNs, TypesItem};
+use dm_def_map::building;
 use dm_def_map::def_map::DefMap;
 use dm_modules::module_data::ModuleData;
 
@@ -64,7 +65,7 @@ impl WorldBuilder {
     {
         match self.numbered_map(place.map) {
             None => None,
-            Some(map) => map.nth(place.index),
+            Some(map) => building::nth(map, place.index),
         }
     }
 

@@ -8,6 +8,7 @@ ghost use Rattle.dm_maps.specs.Holds.{map_holds, module_holds};
 ghost use Rattle.dm_maps.specs.Known.{knows};
 
 use crate::builder::WorldBuilder;
+use dm_def_map::building::{derive_helpers, macro_defs, macro_uses};
 use dm_def_map::def_map::DefMap;
 use dm_held::held::HeldFault;
 use dm_held::note_diagnostics::note_diagnostics;
@@ -33,10 +34,10 @@ pub(crate) fn note_map(world: &WorldBuilder, map: &DefMap) -> Option<HeldFault>
     ensures { IsLeastFault (knows world.now) (map_holds map.now) result }
 {
     let prelude = note_map_prelude(world, map);
-    let preludes = lesser(prelude, note_macro_uses(world, map.macro_uses()));
-    let helpers = note_helpers(world, map.derive_helpers());
+    let preludes = lesser(prelude, note_macro_uses(world, macro_uses(map)));
+    let helpers = note_helpers(world, derive_helpers(map));
     let told = lesser(helpers, note_diagnostics(world, map.diagnostics()));
-    let rest = lesser(note_macro_defs(world, map.macro_defs()), told);
+    let rest = lesser(note_macro_defs(world, macro_defs(map)), told);
     lesser(preludes, rest)
 }
 

@@ -16,7 +16,7 @@ use dm_base::name::Name;
 use dm_def_map::def_map::DefMap;
 use dm_modules::module_data::ModuleData;
 use dm_scope::item_scope::ItemScope;
-use dm_scope::name_order::sort_names;
+use dm_scope::name_order::sorted_names;
 use dm_scope::scope_tables::ScopeTables;
 use std::alloc::AllocError;
 
@@ -194,17 +194,14 @@ fn path_of(world: &World, path: &str, name: &Name) -> Result<String, AllocError>
 fn child_names<'a>(world: &World, parent: &'a ModuleData) -> Result<Vec<&'a Name>, AllocError>
     ensures { IfOk result (λ v. seen v.items ≡ in_order (map (λ e. e.0) parent.now.children)) }
 {
-    let mut names = Vec::new(world.tables().alloc);
-    for name in parent.children().keys() {
-        names.push(name)?;
-    }
-    put_in_order(&mut names);
-    Ok(names)
+    let children = parent.children().as_slice();
+    names_in_order(world, children.keys().as_slice())
 }
 
-/// Puts names in order of their bytes, each once.
-fn put_in_order(names: &mut Vec<&Name>)
-    ensures { seen names.new.items ≡ in_order (seen names.old.items) }
+/// Names in order of their bytes, each once.
+fn names_in_order<'a>(world: &World, names: &'a [Name]) -> Result<Vec<&'a Name>, AllocError>
+    ensures { IfOk result (λ v. seen v.items ≡ in_order names.now) }
 {
-    sort_names(names);
+    let sorted = sorted_names(names.iter(), world.tables().alloc)?;
+    Ok(sorted)
 }

@@ -5,7 +5,7 @@ ghost use Rattle.dm_maps.specs.Known.{knows, KnowsAll};
 ghost use Rattle.dm_held.specs.Holding.{local_holds};
 ghost use Rattle.dm_maps.specs.MapDumps.{map_dump};
 ghost use Rattle.dm_maps.specs.MapFacts.{IsMapOf};
-ghost use Rattle.dm_maps.specs.Outwards.{maps_outwards, AsksMaps};
+ghost use Rattle.dm_maps.specs.Outwards.{maps_outwards, AsksMaps, MayAskMaps};
 ghost use Rattle.dm_maps.specs.Readings.{root_of, styles_of};
 ghost use Rattle.dm_maps.specs.World.{crate_map, numbered_map};
 ghost use Rattle.dm_modules.specs.Maps.{Map};
@@ -72,14 +72,15 @@ pub trait AskWorld {
     /// What `f` answers about the first map for which it answers anything, from this one outwards.
     ///
     /// It is asked about this map with `m`, then about the map of the module that contains this map's block, with that
-    /// module, and so on; and about none after it has answered.
+    /// module, and so on; and about none after it has answered. No more than that has to be askable, and of each map after
+    /// the first the asker may rely on that it is the world's and has the module.
     fn with_ancestor_maps<T, F: FnMut(&DefMap, ModuleId) -> Option<T> + Drop>(
         &self,
         world: &World,
         m: ModuleId,
         f: F,
     ) -> Option<T>
-        requires { F.IsAlwaysCallable f }
+        requires { MayAskMaps world.now F.pre F.step (maps_outwards world.now (map self.now) m) f }
         ensures { (last : F) × AsksMaps F.step (maps_outwards world.now (map self.now) m) f result last };
 
     /// The dump of the map, and of those from it outwards (docs/RULES.md, "Dumps"). The map has to be the world's of its id.

@@ -1,9 +1,11 @@
 //! From a map outwards. Nothing here takes memory.
-ghost use Rattle.std.specs.Prelude.{◌≡◌, IfSome};
+ghost use Rattle.std.specs.Prelude.{◌≡◌, IfSome, IsSome, Some};
 ghost use Rattle.std.specs.Option.{option_map};
 ghost use Rattle.dm_maps.specs.MapFacts.{IsMapOf};
-ghost use Rattle.dm_maps.specs.Outwards.{maps_outwards, next_outwards, AsksMaps};
+ghost use Rattle.dm_maps.specs.Outwards.{maps_outwards, next_outwards, AsksMaps, MayAskMaps};
 ghost use Rattle.dm_maps.specs.Trees.{IsWorld};
+ghost use Rattle.dm_maps.specs.World.{numbered_map};
+ghost use Rattle.dm_modules.specs.Maps.{module_at};
 
 use crate::world::World;
 use dm_base::ids::ModuleId;
@@ -16,7 +18,7 @@ pub(crate) fn ask_outwards<T, F: FnMut(&DefMap, ModuleId) -> Option<T> + Drop>(
     m: ModuleId,
     mut f: F,
 ) -> Option<T>
-    requires { F.IsAlwaysCallable f }
+    requires { MayAskMaps world.now F.pre F.step (maps_outwards world.now first.now m) f }
     ensures { (last : F) × AsksMaps F.step (maps_outwards world.now first.now m) f result last }
 {
     let mut map = first;
@@ -39,7 +41,9 @@ pub(crate) fn ask_outwards<T, F: FnMut(&DefMap, ModuleId) -> Option<T> + Drop>(
 /// The map of the module that contains a map's block, with that module; none for a crate's map.
 pub(super) fn next_outwards<'a>(world: &'a World, map: &DefMap) -> Option<(&'a DefMap, ModuleId)>
     ensures value { option_map (λ x. (x.0.now, x.1)) result ≡ next_outwards world.now map.now }
+    ensures own { IfSome result (λ x. numbered_map world.now x.0.now.id ≡ Some x.0.now) }
     ensures facts { IfSome result (λ x. IsMapOf world.now x.0.now) }
+    ensures lies { IfSome result (λ x. IsSome (module_at x.0.now.modules x.1)) }
     ensures lawful { IsWorld world.now }
 {
     let _tables = world.tables();

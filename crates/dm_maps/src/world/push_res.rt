@@ -3,6 +3,7 @@ ghost use Rattle.std.specs.Prelude.{◌≡◌, false, List, IsSome, IfOk, OnOk, 
 ghost use Rattle.dm_ids.specs.declared.ids.ModuleId.{ModuleId};
 ghost use Rattle.dm_base.specs.Tree.{same_module};
 ghost use Rattle.dm_scope.specs.Push.{scope_after, globs_after, push_answer};
+ghost use Rattle.dm_scope.specs.PushLaw.{PushLaw, itself};
 ghost use Rattle.dm_scope.specs.Shows.{PushAnswers, PushShows, ShowsElsewhere, StillShows, push_of};
 ghost use Rattle.dm_held.specs.Pushes.{push_holds};
 ghost use Rattle.dm_maps.specs.PushRes.{with_push, StaysShown};
@@ -62,6 +63,11 @@ impl World {
         ensures shown_answer { PushAnswers (scope_of self.old lookup.0) glob_imports.old lookup.0 (push_of lookup.1 res import) result }
         ensures refused { (k : ModuleId) → StillShows (scope_of self.old k) glob_imports.old (scope_of self.new k) glob_imports.new k result }
         ensures elsewhere { (k : ModuleId) → same_module lookup.0 k ≡ false → StaysShown self.old glob_imports.old self.new glob_imports.new k }
+
+        // What it leaves of other pushes, into each module: one that answers false changes nothing, none writes twice, and
+        // what a named import would not write it would not write after this push, if that came by another import, by a glob
+        // or by none.
+        ensures law { OnOk result (PushLaw scope_of self.old glob_imports.old self.new glob_imports.new lookup.0 (push_of lookup.1 res import)) }
     {
         let m = lookup.0;
         let before = RecordCounts::of_scope(&self.tables, m);
@@ -91,6 +97,7 @@ impl WorldBuilder {
         ensures shown { PushShows (scope_of self.old lookup.0) glob_imports.old (scope_after (scope_of self.old lookup.0) glob_imports.old lookup.0 lookup.1 res import) glob_imports.new lookup.0 (push_of lookup.1 res import) result }
         ensures shown_answer { PushAnswers (scope_of self.old lookup.0) glob_imports.old lookup.0 (push_of lookup.1 res import) result }
         ensures elsewhere { ShowsElsewhere glob_imports.old glob_imports.new lookup.0 }
+        ensures law { OnOk result (PushLaw itself (scope_of self.old lookup.0) glob_imports.old (scope_after (scope_of self.old lookup.0) glob_imports.old lookup.0 lookup.1 res import) glob_imports.new lookup.0 (push_of lookup.1 res import)) }
     {
         let scope = self.scope_mut(lookup.0).unwrap();
         let answer = scope.push_res_with_import(glob_imports, lookup, res, import)?;

@@ -1,7 +1,7 @@
 //! The names of a definition in a namespace. Nothing here takes memory.
 ghost use Rattle.std.specs.Prelude.{◌≡◌, slice_get};
 ghost use Rattle.std.specs.Option.{option_map};
-ghost use Rattle.dm_scope.specs.Lookups.{names_in, deref_named, AsksNames};
+ghost use Rattle.dm_scope.specs.Lookups.{names_in, deref_named, MayAskNames, AsksNames};
 
 use super::Bindings;
 use dm_base::definition::Definition;
@@ -29,7 +29,7 @@ impl<D: Definition, I: ImportSource> Bindings<D, I> {
         def: D,
         mut f: F,
     ) -> Option<T>
-        requires { F.IsAlwaysCallable f }
+        requires { MayAskNames F.pre F.step (names_in D.eq def self.now.items) f }
         ensures { (last : F) × AsksNames F.step (names_in D.eq def self.now.items) f result last }
     {
         let mut entries = self.items.as_slice().iter();

@@ -5,8 +5,8 @@ ghost use Rattle.dm_scope.specs.Dumps.{Text, Appends, IsDump, mark, style_marks,
 ghost use Rattle.dm_scope.specs.Sorted.{AreInOrder, seen};
 
 use super::ItemScope;
-use super::sorted::{add_names, resolution_of};
-use crate::name_order::sort_names;
+use super::sorted::resolution_of;
+use crate::name_order::sorted_names;
 use crate::scope_tables::ScopeTables;
 use bitflags::Flags;
 use dm_base::ids::TraitId;
@@ -43,10 +43,9 @@ impl ItemScope {
     fn sorted_legacy_names(&self) -> Result<Vec<&Name>, AllocError>
         ensures { IfOk result (λ v. AreInOrder (seen v.items) (map (λ e. e.0) self.now.legacy_macros)) }
     {
-        let mut names = Vec::new(self.alloc);
-        add_names(&mut names, self.rare.legacy_macros().keys().as_slice())?;
-        sort_names(&mut names);
-        Ok(names)
+        let names = self.rare.legacy_macros().keys().as_slice();
+        let sorted = sorted_names(names.iter(), self.alloc)?;
+        Ok(sorted)
     }
 
     /// Adds the lines of names.

@@ -2,7 +2,7 @@
 ghost use Rattle.std.specs.Prelude.{◌≡◌, option_map, option_copied, find, slice_get};
 ghost use Rattle.std.specs.Map.{lookup};
 ghost use Rattle.dm_ids.specs.Names.{find_name};
-ghost use Rattle.dm_scope.specs.Lookups.{def_and_vis, deref_named, names_for, AsksNames, trait_vis};
+ghost use Rattle.dm_scope.specs.Lookups.{def_and_vis, deref_named, names_for, MayAskNames, AsksNames, trait_vis};
 ghost use Rattle.dm_base.specs.Sameness.{same_ast};
 
 use super::ItemScope;
@@ -81,13 +81,13 @@ impl ItemScope {
     }
 
     /// What `f` answers about the first name of an item for which it answers anything. It is asked about the names of
-    /// `name_of`, in the same order, and about none after it has answered.
+    /// `name_of`, in the same order, and about none after it has answered; no more than that has to be askable.
     pub fn names_of<T, F: FnMut(&Name, Visibility, bool) -> Option<T> + Drop>(
         &self,
         item: ItemInNs,
         f: F,
     ) -> Option<T>
-        requires { F.IsAlwaysCallable f }
+        requires { MayAskNames F.pre F.step (names_for item self.now) f }
         ensures { (last : F) × AsksNames F.step (names_for item self.now) f result last }
     {
         match item {

@@ -1,13 +1,14 @@
 //! A push into all namespaces of a scope.
-ghost use Rattle.std.specs.Prelude.{◌≡◌, false, List, [], ◌∷◌, ◌++◌, IfOk, OnOk, OnErr};
+ghost use Rattle.std.specs.Prelude.{◌≡◌, ◌||◌, false, List, [], ◌∷◌, ◌++◌, IfOk, OnOk, OnErr};
 ghost use Rattle.dm_ids.specs.declared.ids.ModuleId.{ModuleId};
 ghost use Rattle.dm_ids.specs.Names.{Name};
 ghost use Rattle.dm_base.specs.Tree.{same_module};
-ghost use Rattle.dm_scope.specs.Bindings.{bound_after, flags_after};
-ghost use Rattle.dm_scope.specs.Push.{types_reading, values_reading, macros_reading, unresolved_after, is_new_unresolved, scope_after, globs_after, push_answer, push_answer_from_values, push_answer_from_macros};
-ghost use Rattle.dm_scope.specs.Pushes.{IsByName};
+ghost use Rattle.dm_scope.specs.Bindings.{bound_after, flags_after, is_effective_at};
+ghost use Rattle.dm_scope.specs.Gives.{PushGives};
+ghost use Rattle.dm_scope.specs.Push.{types_reading, values_reading, macros_reading, unresolved_after, is_new_unresolved, scope_after, globs_after};
+ghost use Rattle.dm_scope.specs.PushLaw.{PushLaw, itself};
 ghost use Rattle.dm_scope.specs.Scope.{Scope};
-ghost use Rattle.dm_scope.specs.Shows.{PushAnswers, PushShows, ShowsElsewhere, StillShows, push_of};
+ghost use Rattle.dm_scope.specs.Shows.{IsByNameInEach, PushAnswers, PushShows, ShowsElsewhere, StillShows, push_of};
 
 use super::ItemScope;
 use crate::glob_imports::PerNsGlobImports;
@@ -29,11 +30,7 @@ impl ItemScope {
         def: PerNs,
         import: Option<ImportOrExternCrate>,
     ) -> Result<bool, AllocError>
-        ensures answer { IfOk result (λ answer. answer ≡ push_answer self.old glob_imports.old lookup.0 lookup.1 def import) }
-        ensures scope { OnOk result (self.new ≡ scope_after self.old glob_imports.old lookup.0 lookup.1 def import) }
-        ensures globs { OnOk result (glob_imports.new ≡ globs_after self.old glob_imports.old lookup.0 lookup.1 def import) }
-        ensures err { OnErr result (self.new ≡ self.old) }
-        ensures err_globs { OnErr result (glob_imports.new ≡ glob_imports.old) }
+        ensures gives { PushGives self.old glob_imports.old self.new glob_imports.new lookup.0 (push_of lookup.1 def import) result }
 
         // Where scope and table show a list of pushes under the module, they show it with this push after it, and the
         // answer is as that list says. After want of memory, and under another module, what was shown is shown.
@@ -43,10 +40,12 @@ impl ItemScope {
 
         // What any list of pushes binds to a name in a namespace rests on the pushes of that name that have an item
         // there, and not on globs beside an explicit one.
-        ensures types_by_name { (n : Name) → IsByName types_reading n }
-        ensures values_by_name { (n : Name) → IsByName values_reading n }
-        ensures macros_by_name { (n : Name) → IsByName macros_reading n }
+        ensures by_name { (n : Name) → IsByNameInEach n }
         ensures elsewhere { ShowsElsewhere glob_imports.old glob_imports.new lookup.0 }
+
+        // What it leaves of other pushes: one that answers false changes nothing, none writes twice, and what a named
+        // import would not write it would not write after this push, if that came by another import, by a glob or by none.
+        ensures law { OnOk result (PushLaw itself self.old glob_imports.old self.new glob_imports.new lookup.0 (push_of lookup.1 def import)) }
     {
         let (m, name) = lookup;
         let answer = self.push_named(glob_imports, m, name, &def, import)?;
@@ -62,11 +61,7 @@ impl ItemScope {
         def: &PerNs,
         import: Option<ImportOrExternCrate>,
     ) -> Result<bool, AllocError>
-        ensures answer { IfOk result (λ answer. answer ≡ push_answer self.old globs.old m name def.now import) }
-        ensures scope { OnOk result (self.new ≡ scope_after self.old globs.old m name def.now import) }
-        ensures globs { OnOk result (globs.new ≡ globs_after self.old globs.old m name def.now import) }
-        ensures err { OnErr result (self.new ≡ self.old) }
-        ensures err_globs { OnErr result (globs.new ≡ globs.old) }
+        ensures { PushGives self.old globs.old self.new globs.new m (push_of name def.now import) result }
     {
         match (&def.types, &def.values, &def.macros) {
             (Some(item), None, None) => {
@@ -95,11 +90,7 @@ impl ItemScope {
         def: &PerNs,
         import: Option<ImportOrExternCrate>,
     ) -> Result<bool, AllocError>
-        ensures answer { IfOk result (λ answer. answer ≡ push_answer self.old globs.old m name.now def.now import) }
-        ensures scope { OnOk result (self.new ≡ scope_after self.old globs.old m name.now def.now import) }
-        ensures globs { OnOk result (globs.new ≡ globs_after self.old globs.old m name.now def.now import) }
-        ensures err { OnErr result (self.new ≡ self.old) }
-        ensures err_globs { OnErr result (globs.new ≡ globs.old) }
+        ensures { PushGives self.old globs.old self.new globs.new m (push_of name.now def.now import) result }
     {
         let new = self
             .types
@@ -111,7 +102,7 @@ impl ItemScope {
                 Ok(new.writes || below)
             }
             Err(refused) => {
-                self.types.undo(&mut globs.types, new, m);
+                self.types.undo(&mut globs.types, new, m, name);
                 Err(refused)
             }
         }
@@ -126,7 +117,7 @@ impl ItemScope {
         def: &PerNs,
         import: Option<ImportOrExternCrate>,
     ) -> Result<bool, AllocError>
-        ensures answer { IfOk result (λ answer. answer ≡ push_answer_from_values self.old globs.old m name.now def.now import) }
+        ensures answer { IfOk result (λ answer. answer ≡ (is_effective_at values_reading self.old.values globs.old.values m name.now def.now.values import || (is_effective_at macros_reading self.old.macros globs.old.macros m name.now def.now.macros import || is_new_unresolved self.old.unresolved name.now def.now))) }
         ensures scope { OnOk result (self.new ≡ record (scope_after self.old globs.old m name.now def.now import) { types = self.old.types }) }
         ensures globs { OnOk result (globs.new ≡ record (globs_after self.old globs.old m name.now def.now import) { types = globs.old.types }) }
         ensures err { OnErr result (self.new ≡ self.old) }
@@ -142,7 +133,7 @@ impl ItemScope {
                 Ok(new.writes || below)
             }
             Err(refused) => {
-                self.values.undo(&mut globs.values, new, m);
+                self.values.undo(&mut globs.values, new, m, name);
                 Err(refused)
             }
         }
@@ -157,7 +148,7 @@ impl ItemScope {
         def: &PerNs,
         import: Option<ImportOrExternCrate>,
     ) -> Result<bool, AllocError>
-        ensures answer { IfOk result (λ answer. answer ≡ push_answer_from_macros self.old globs.old m name.now def.now import) }
+        ensures answer { IfOk result (λ answer. answer ≡ (is_effective_at macros_reading self.old.macros globs.old.macros m name.now def.now.macros import || is_new_unresolved self.old.unresolved name.now def.now)) }
         ensures scope { OnOk result (self.new ≡ record self.old { macros = bound_after macros_reading self.old.macros globs.old.macros m name.now def.now.macros import; unresolved = unresolved_after self.old.unresolved name.now def.now }) }
         ensures globs { OnOk result (globs.new ≡ record globs.old { macros = flags_after macros_reading self.old.macros globs.old.macros m name.now def.now.macros import }) }
         ensures err { OnErr result (self.new ≡ self.old) }
@@ -173,7 +164,7 @@ impl ItemScope {
                 Ok(new.writes || below)
             }
             Err(refused) => {
-                self.macros.undo(&mut globs.macros, new, m);
+                self.macros.undo(&mut globs.macros, new, m, name);
                 Err(refused)
             }
         }

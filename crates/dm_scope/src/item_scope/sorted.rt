@@ -1,13 +1,12 @@
 //! The sorted lists of a scope, which take memory.
-ghost use Rattle.std.specs.Prelude.{◌≡◌, ◌↔◌, ◌++◌, ◌∷◌, [], true, None, IfOk, OnOk, map, Contains};
+ghost use Rattle.std.specs.Prelude.{◌≡◌, ◌++◌, ◌∷◌, [], None, IfOk, OnOk, map};
 ghost use Rattle.std.specs.List.{filter_map};
-ghost use Rattle.std.specs.List.Sorted.{IsStrictlySortedBy};
 ghost use Rattle.dm_scope.specs.Scope.{bound_in};
 ghost use Rattle.dm_ids.specs.Imports.{named_import};
-ghost use Rattle.dm_scope.specs.Sorted.{names_of, seen, deref_entry, AreNames, AreEntries, imports_of, AreImports, deref_resolution, named_resolution, AreResolutions, unnamed_resolution, unnamed_type};
+ghost use Rattle.dm_scope.specs.Sorted.{seen, deref_entry, AreNames, AreEntries, imports_of, AreImports, deref_resolution, named_resolution, AreResolutions, unnamed_resolution, unnamed_type};
 
 use super::ItemScope;
-use crate::name_order::sort_names;
+use crate::name_order::{sorted_names, sorted_once};
 use dm_base::ids::TraitId;
 use dm_base::import_source::ImportSource;
 use dm_base::imports::{ImportId, ImportOrExternCrate};
@@ -31,21 +30,10 @@ impl ItemScope {
     pub(super) fn sorted_names(&self) -> Result<Vec<&Name>, AllocError>
         ensures { IfOk result (λ v. AreNames (seen v.items) self.now) }
     {
-        let mut names = self.all_names()?;
-        sort_names(&mut names);
-        Ok(names)
-    }
-
-    /// The names that are bound or unresolved, each as often as it is.
-    fn all_names(&self) -> Result<Vec<&Name>, AllocError>
-        ensures { IfOk result (λ v. seen v.items ≡ names_of self.now) }
-    {
-        let mut names = Vec::new(self.alloc);
-        add_names(&mut names, self.types.names())?;
-        add_names(&mut names, self.values.names())?;
-        add_names(&mut names, self.macros.names())?;
-        add_names(&mut names, self.rare.unresolved())?;
-        Ok(names)
+        let types = self.types.names().iter();
+        let bound = types.chain(self.values.names()).chain(self.macros.names());
+        let sorted = sorted_names(bound.chain(self.rare.unresolved()), self.alloc)?;
+        Ok(sorted)
     }
 
     /// Each name with what it is bound to.
@@ -64,9 +52,9 @@ impl ItemScope {
     pub fn imports(&self) -> Result<Vec<ImportId>, AllocError>
         ensures { IfOk result (λ v. AreImports ⟦<ImportId as Ord>⟧.cmp v.items self.now) }
     {
-        let mut imports = self.all_imports()?;
-        sort_once(&mut imports);
-        Ok(imports)
+        let imports = self.all_imports()?;
+        let sorted = sorted_once(imports.into_iter(), self.alloc)?;
+        Ok(sorted)
     }
 
     /// The named imports that have a record, each as often as it has one.
@@ -91,16 +79,6 @@ impl ItemScope {
         add_unnamed(&mut resolutions, self.rare.unnamed_traits())?;
         Ok(resolutions)
     }
-}
-
-/// Adds references to names.
-pub(super) fn add_names<'a>(names: &mut Vec<&'a Name>, more: &'a [Name]) -> Result<(), AllocError>
-    ensures { OnOk result (seen names.new.items ≡ seen names.old.items ++ more.now) }
-{
-    for name in more {
-        names.push(name)?;
-    }
-    Ok(())
 }
 
 /// Adds entries.
@@ -158,14 +136,4 @@ fn add_imports<I: ImportSource>(imports: &mut Vec<ImportId>, more: &[I]) -> Resu
         }
     }
     Ok(())
-}
-
-/// Puts elements in order, each once.
-fn sort_once<T: Ord + Drop>(xs: &mut Vec<T>)
-    requires { (x y : T) → T.eq x y ≡ true → x ≡ y }
-    ensures sorted { IsStrictlySortedBy T.cmp xs.new.items }
-    ensures same { (x : T) → Contains xs.new.items x ↔ Contains xs.old.items x }
-{
-    xs.sort_unstable();
-    xs.dedup();
 }

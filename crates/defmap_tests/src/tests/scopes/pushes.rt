@@ -5,7 +5,6 @@ use dm_base::ids::{ExternCrateId, UseId, UseTreeIdx};
 use dm_base::imports::{ImportId, ImportOrDef, ImportOrExternCrate, ImportOrGlob};
 use dm_base::name::Name;
 use dm_base::per_ns::{Namespace, PerNs};
-use dm_base::visibility::{Visibility, VisibilityExplicitness};
 use std::alloc::{AllocError, Global};
 use std::mem::swap;
 use std::test::Fail;
@@ -141,21 +140,6 @@ fn an_import_replaces_what_it_bound_itself(rt: HostRuntime) -> Result<(), Fail> 
 }
 
 #[test]
-fn who_sees_an_item_is_no_other_definition(rt: HostRuntime) -> Result<(), Fail> {
-    let here = Visibility::Module(HERE, VisibilityExplicitness::Implicit);
-    let pushes = [
-        (typed(0, None), Some(import(1)), true),
-        (typed(0, None).with_visibility(here), Some(import(1)), false),
-        (typed(1, None), Some(GLOB), false),
-    ];
-    gives(
-        &rt,
-        after(rt.alloc(), &pushes),
-        Some((typed(0, Some(import(1))), NO_GLOB)),
-    )
-}
-
-#[test]
 fn an_extern_crate_is_recorded_in_types_alone(rt: HostRuntime) -> Result<(), Fail> {
     let both = typed(0, None).or(valued(3, None));
     let pushes = [(both, Some(EXTERN_CRATE), true)];
@@ -165,16 +149,6 @@ fn an_extern_crate_is_recorded_in_types_alone(rt: HostRuntime) -> Result<(), Fai
         &rt,
         records(rt.alloc(), &pushes, EXTERN_CRATE),
         [Some(ImportOrDef::Def(structure(0))), None, None],
-    )
-}
-
-#[test]
-fn the_first_of_two_declarations_stays(rt: HostRuntime) -> Result<(), Fail> {
-    let pushes = [(typed(0, None), None, true), (typed(1, None), None, false)];
-    gives(
-        &rt,
-        after(rt.alloc(), &pushes),
-        Some((typed(0, None), NO_GLOB)),
     )
 }
 

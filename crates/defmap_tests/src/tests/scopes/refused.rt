@@ -4,6 +4,7 @@
 //! it is, a refused call leaves all as it was, and the same call then answers as it would have.
 ghost use Rattle.std.specs.Iterator.{IsFinite};
 
+use super::told::told;
 use super::{Filled, GLOB, HERE, ast, function, import, import_id, structure, typed, valued};
 use crate::tests::{gives, same};
 use defmap_callers::modules::Modules;
@@ -93,7 +94,7 @@ struct Reading {
     legacy: usize,
 }
 
-/// What a scope says of three names and of one entry of each other table, and how long its lists are.
+/// What a scope says of three names and of one entry of each other table, how long its lists are, and what they tell.
 #[derive(Clone, Copy, PartialEq, Eq, Debug)]
 struct Seen {
     names: [Reading; 3],
@@ -101,6 +102,7 @@ struct Seen {
     defined: [usize; 9],
     calls: [usize; 4],
     records: [usize; 3],
+    told: u64,
     call: Option<MacroCallId>,
     derive: (Option<MacroCallId>, Option<usize>),
     of_trait: Option<Visibility>,
@@ -204,6 +206,7 @@ impl Filled {
                 scope.record_count(Namespace::Values),
                 scope.record_count(Namespace::Macros),
             ],
+            told: told(scope),
             call: scope.macro_invoc(ast(2)),
             derive: (
                 scope.derive_macro_invoc(ast(3), AttrId(0)),

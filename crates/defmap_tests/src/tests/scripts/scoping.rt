@@ -173,29 +173,6 @@ path 2 other module any super:1 S
 path 2 other module any super:3 S
 => - - - yes - -";
 
-/// The most, the least, and who sees what.
-const SIGHTS: &str = "max c0 in:1:implicit in:2:implicit
-=> in:1:implicit
-min c0 in:1:implicit in:2:implicit
-=> in:2:implicit
-max c0 in:2:implicit in:3:implicit
-=> none
-min c0 in:2:implicit in:3:implicit
-=> none
-max c0 in:5:implicit in:1:implicit
-=> none
-max c0 in:1:implicit in:1:explicit
-=> in:1:explicit
-
-sees in:5:implicit 1
-=> true
-sees in:6:implicit 1
-=> true
-sees in:6:implicit 0
-=> false
-sees in:6:implicit 5
-=> false";
-
 /// One more name in each module.
 const ANOTHER: &str = "push 0 nz struct:1/pub/none - - none
 => true
@@ -244,7 +221,6 @@ path 0 other module any crate b a b a b a b a b a b a b a b a b a b a b a b a b 
 fn every_kind_of_path_is_answered(rt: HostRuntime) -> Result<(), Fail> {
     let world = [CRATES, BLOCKS, REST, "check", ATTRIBUTE];
     gives(&rt, first_wrong(rt.alloc(), &world, ANSWERS), None)?;
-    gives(&rt, first_wrong(rt.alloc(), &world, SIGHTS), None)?;
     gives(&rt, first_wrong(rt.alloc(), &[], TWO_CRATES), None)
 }
 

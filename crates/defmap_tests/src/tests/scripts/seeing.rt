@@ -1,22 +1,11 @@
 //! Who sees what, and the most and the least of two visibilities.
 use super::first_wrong;
+use super::worlds::{BLOCKS, CRATES};
 use crate::tests::gives;
 use std::test::Fail;
 
-/// Two crates: module 1 in the root of the first, 2 in 1, 3 beside 1, and the root of the second, 4. Block 0, in module 1,
-/// has its root 5 and 6 in it; block 1, in module 0, has its root 8.
-const WORLD: &str = "crate 2021 0
-module 0 a pub
-module 1 b pub
-module 0 c pub
-crate 2015 1
-block 1 0
-module 5 n pub
-module 0 u8 pub
-block 0 1
-check";
-
-/// Questions to that world.
+/// Questions to the world of two crates: module 1 in the root of the first, 2 in 1, 3 beside 1, and the root of the second,
+/// 4. Block 0, in module 1, has its root 5 and 6 in it; block 1, in module 0, has its root 8.
 const ANSWERS: &str = "max c0 in:1:implicit in:2:implicit
 => in:1:implicit
 
@@ -159,7 +148,8 @@ min c0 pub none
 
 #[test]
 fn questions_are_answered_by_the_tree_of_modules(rt: HostRuntime) -> Result<(), Fail> {
-    gives(&rt, first_wrong(rt.alloc(), &[WORLD], ANSWERS), None)?;
-    gives(&rt, first_wrong(rt.alloc(), &[WORLD], UNKNOWN), None)?;
+    let world = [CRATES, BLOCKS, "check"];
+    gives(&rt, first_wrong(rt.alloc(), &world, ANSWERS), None)?;
+    gives(&rt, first_wrong(rt.alloc(), &world, UNKNOWN), None)?;
     gives(&rt, first_wrong(rt.alloc(), &[], REFUSALS), None)
 }

@@ -1,5 +1,5 @@
-//! Which modules contain which, in how many moves.
-use super::{Building, FILE};
+//! Which modules contain which, in how many moves, and that a climb says the same.
+use super::{Building, FILE, ast};
 use crate::tests::gives;
 use dm_base::ids::ModuleId;
 use dm_base::module_tree::ModuleTree;
@@ -65,4 +65,92 @@ fn a_move_is_a_power_of_two(rt: HostRuntime) -> Result<(), Fail> {
             Some((true, 0)),
         ]),
     )
+}
+
+/// How many modules the mixed tree has.
+const MODULES: u32 = 80;
+
+impl Building {
+    /// Modules and blocks, each in one of the eight before it, as `number` has it.
+    fn mixed(alloc: Global) -> Result<Building, BuildFault> {
+        let mut building = Building::new(alloc);
+        building.builder.add_crate(Edition::Edition2021, FILE)?;
+        let mut number = 1u32;
+        for n in 1..MODULES {
+            number = number.wrapping_mul(1_664_525).wrapping_add(1_013_904_223);
+            building.put_mixed(alloc, n, number)?;
+        }
+        Ok(building)
+    }
+
+    /// Module `n`: below the one that the number says, or the root of a block in it.
+    fn put_mixed(&mut self, alloc: Global, n: u32, number: u32) -> Result<(), BuildFault> {
+        let back = number / 65536 % 8;
+        let container = n.saturating_sub(back + 1);
+        if number / 4_194_304 % 3 == 0 {
+            self.builder.add_block(ModuleId(container), ast(n))?;
+            return Ok(());
+        }
+        let name = format!(in alloc; "m{n}")?;
+        self.put_module(alloc, container, &name)
+    }
+}
+
+/// The module that contains another one, if the world has that.
+fn above(world: &World, m: ModuleId) -> Option<ModuleId> {
+    if world.has(m) {
+        world.containing(m)
+    } else {
+        None
+    }
+}
+
+/// Whether one module is another or contains it, by a climb from module to module.
+fn climbs(world: &World, a: u32, m: u32) -> bool {
+    let mut at = Some(ModuleId(m));
+    for _step in 0..MODULES {
+        if at == Some(ModuleId(a)) {
+            return true;
+        }
+        at = at.and_then(|m| above(world, m));
+    }
+    false
+}
+
+/// Whether a world's tree says that one module is another or contains it.
+fn contained(world: &World, a: u32, m: u32) -> bool {
+    let (a, m) = (ModuleId(a), ModuleId(m));
+    world.has(m) && world.contains(a, m)
+}
+
+/// Whether ladders say of two modules what the climb says.
+fn agree(world: &World, a: u32, m: u32) -> bool {
+    let climbed = climbs(world, a, m);
+    let moves = counted(world, a, m).map(|(contains, _moves)| contains);
+    moves == Some(climbed) && contained(world, a, m) == climbed
+}
+
+/// How many modules a climb from a module meets.
+fn chain_length(world: &World, m: u32) -> usize {
+    (0..MODULES).filter(|a| climbs(world, *a, m)).count()
+}
+
+/// Whether ladders say of each two modules what the climb says, and the length of the longest climb.
+fn compared(world: &World) -> (bool, Option<usize>) {
+    let all_agree = (0..MODULES).all(|m| (0..MODULES).all(|a| agree(world, a, m)));
+    let longest = (0..MODULES).map(|m| chain_length(world, m)).max();
+    (all_agree, longest)
+}
+
+/// The same, of the mixed world.
+fn mixed(alloc: Global) -> Result<Option<(bool, Option<usize>)>, BuildFault> {
+    match Building::mixed(alloc)?.world() {
+        None => Ok(None),
+        Some(checked) => Ok(Some(compared(&checked.world))),
+    }
+}
+
+#[test]
+fn ladders_say_what_the_climb_says(rt: HostRuntime) -> Result<(), Fail> {
+    gives(&rt, mixed(rt.alloc()), Some((true, Some(20))))
 }

@@ -2,6 +2,8 @@
 //!
 //! With ample memory none is. `tools/refusals` runs these tests with each request for memory refused in turn: whichever it
 //! is, the call made again does what it would have done, and the finished world answers as that of the script does.
+pub(super) mod builders;
+mod crate_data;
 mod local_maps;
 
 use super::{Building, STRUCT};

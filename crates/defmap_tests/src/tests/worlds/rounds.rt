@@ -127,24 +127,30 @@ impl Checked {
     }
 }
 
-/// Imports that wait, or why they do not, and how many were handed back.
-type Taken = Result<Waiting, (Option<RetryFault>, usize)>;
+/// Why imports do not wait, the place of the one that is meant, and how many were handed back.
+type Refused = (Option<RetryFault>, Option<usize>, usize);
+
+/// Imports that wait, or why they do not.
+type Taken = Result<Waiting, Refused>;
 
 /// What taking imports answered, with the world and all else let go where they are refused.
 fn outcome(answer: Result<Retry, (RetryFault, World, PerNsGlobImports, Vec<Pending>)>) -> Taken {
     match answer {
         Ok(retry) => Ok(Waiting { retry }),
-        Err((fault, _world, _globs, pendings)) => Err((Some(fault), pendings.len())),
+        Err((fault, world, _globs, pendings)) => {
+            let meant = Retry::refusal(&world, &pendings).map(|(_fault, place)| place);
+            Err((Some(fault), meant, pendings.len()))
+        }
     }
 }
 
 /// What taking imports in the crate's world answers.
 fn taken(alloc: Global, pendings: Vec<Pending>) -> Result<Taken, BuildFault> {
     match again!(a_world(alloc))? {
-        None => Ok(Err((None, 0))),
+        None => Ok(Err((None, None, 0))),
         Some(world) => {
             let globs = PerNsGlobImports::new(alloc);
-            Ok(outcome(Retry::new(alloc, world, globs, pendings)))
+            Ok(outcome(Retry::new(world, globs, pendings)))
         }
     }
 }
@@ -214,38 +220,37 @@ fn rounds_of_all(rt: HostRuntime) -> Result<(), Fail> {
     )
 }
 
-/// Why imports are not taken, and how many are handed back.
-fn refusal(
-    alloc: Global,
-    pendings: Vec<Pending>,
-) -> Result<Option<(Option<RetryFault>, usize)>, BuildFault> {
+/// Why imports are not taken.
+fn refusal(alloc: Global, pendings: Vec<Pending>) -> Result<Option<Refused>, BuildFault> {
     match taken(alloc, pendings)? {
         Ok(_waiting) => Ok(None),
         Err(refusal) => Ok(Some(refusal)),
     }
 }
 
-/// The same import twice, in a module that the crate lacks.
+/// An import in a module that the crate lacks, and another one twice.
 fn doubled(alloc: Global) -> Result<Vec<Pending>, AllocError> {
     let mut pendings = Vec::new(alloc);
     pendings.push(pending(alloc, MISSING, "X", plain_path(alloc)?, 0)?)?;
-    pendings.push(pending(alloc, MISSING, "X", plain_path(alloc)?, 0)?)?;
+    pendings.push(pending(alloc, ROOT, "X", plain_path(alloc)?, 1)?)?;
+    pendings.push(pending(alloc, ROOT, "X", plain_path(alloc)?, 1)?)?;
     Ok(pendings)
 }
 
-/// One import in a module that the crate lacks.
+/// An import, and one in a module that the crate lacks.
 fn lost(alloc: Global) -> Result<Vec<Pending>, AllocError> {
     let mut pendings = Vec::new(alloc);
-    pendings.push(pending(alloc, MISSING, "X", plain_path(alloc)?, 0)?)?;
+    pendings.push(pending(alloc, ROOT, "X", plain_path(alloc)?, 0)?)?;
+    pendings.push(pending(alloc, MISSING, "X", plain_path(alloc)?, 1)?)?;
     Ok(pendings)
 }
 
 #[test]
 fn imports_are_refused(rt: HostRuntime) -> Result<(), Fail> {
     let alloc = rt.alloc();
-    let double = Some((Some(RetryFault::DoubleImport), 2));
+    let double = Some((Some(RetryFault::DoubleImport), Some(1), 3));
     gives(&rt, refusal(alloc, doubled(alloc)?), double)?;
-    let unknown = Some((Some(RetryFault::UnknownPart), 1));
+    let unknown = Some((Some(RetryFault::UnknownPart), Some(1), 2));
     gives(&rt, refusal(alloc, lost(alloc)?), unknown)
 }
 
@@ -277,4 +282,43 @@ fn mixed(alloc: Global) -> Result<Option<PerNs>, BuildFault> {
 #[test]
 fn rounds_of_both_kinds(rt: HostRuntime) -> Result<(), Fail> {
     gives(&rt, mixed(rt.alloc()), Some(the_struct()))
+}
+
+/// What an import is: where it stands, whether it binds `Y`, how many segments its path has, who sees it, and which it is.
+type Read = (ModuleId, bool, usize, Visibility, ImportId);
+
+fn read(pending: &Pending) -> Read {
+    let is_named = pending.name().as_str() == "Y";
+    let segments = pending.path().segments().len();
+    let visibility = pending.visibility();
+    (
+        pending.origin(),
+        is_named,
+        segments,
+        visibility,
+        pending.import(),
+    )
+}
+
+impl Waiting {
+    /// What the last import is, once all are taken out.
+    fn last_import(self) -> Option<Read> {
+        let Waiting { retry } = self;
+        let (_world, _globs, pendings) = retry.into_parts();
+        pendings.last().map(read)
+    }
+}
+
+/// What the last of the two imports is, once they are taken out.
+fn taken_out(alloc: Global) -> Result<Option<Read>, BuildFault> {
+    match taken(alloc, two_imports(alloc)?)? {
+        Err(_) => Ok(None),
+        Ok(waiting) => Ok(waiting.last_import()),
+    }
+}
+
+#[test]
+fn imports_are_read_once_they_are_taken_out(rt: HostRuntime) -> Result<(), Fail> {
+    let wanted = (ROOT, true, 2, Visibility::Public, import(1));
+    gives(&rt, taken_out(rt.alloc()), Some(wanted))
 }

@@ -14,7 +14,7 @@ returns-clause-others c =
     let e = c.in_ok-answer.ensures in
     others-rest w c.push_res.new.self g c.push_res.new.glob_imports p x
     (pushed-by w c.push_res.new.self g c.push_res.new.glob_imports p x (λ w v L K m kind S. c.answers_alike.ensures w v L K (asked m mode.Import shadow.Module None kind) S) (sym c.in-Some.ensures.value) c.origin.result c.in_ok-name.name c.import.result
-    c.origin.ensures (c.in_ok-name.ensures ∙ c.name.ensures) c.import.ensures e.world e.globs e.scope c.push_res.ensures.others c.push_res.ensures.others_stay)
+    c.origin.ensures (c.in_ok-name.ensures ∙ c.name.ensures) c.import.ensures e.world e.law c.push_res.ensures.others_stay)
 
 pub returns-clause-own : goal.returns-clause-own
 returns-clause-own c =
@@ -25,4 +25,4 @@ returns-clause-own c =
     let e = c.in_ok-answer.ensures in
     own-rests w c.push_res.new.self g c.push_res.new.glob_imports p x
     (pushed-by w c.push_res.new.self g c.push_res.new.glob_imports p x (λ w v L K m kind S. c.answers_alike.ensures w v L K (asked m mode.Import shadow.Module None kind) S) (sym c.in-Some.ensures.value) c.origin.result c.in_ok-name.name c.import.result
-    c.origin.ensures (c.in_ok-name.ensures ∙ c.name.ensures) c.import.ensures e.world e.globs e.scope c.push_res.ensures.others c.push_res.ensures.others_stay)
+    c.origin.ensures (c.in_ok-name.ensures ∙ c.name.ensures) c.import.ensures e.world e.law c.push_res.ensures.others_stay)

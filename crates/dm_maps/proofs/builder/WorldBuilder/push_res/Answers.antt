@@ -1,8 +1,10 @@
-use Rattle.std.proofs.Common.{◌≡◌, ◌∙◌, ap, sym, Option, Some, None}
+use Rattle.std.proofs.Common.{◌≡◌, ◌∙◌, ◌++◌, ◌∷◌, [], ap, subst, sym, Option, Some, None}
 use Rattle.std.specs.Option.{option_copied_mut, option_map, option_map_or}
 use Rattle.dm_modules.specs.Maps.{Module}
 use Rattle.dm_scope.specs.Push.{push_answer, scope_after, globs_after}
+use Rattle.dm_scope.specs.PushLaw.{PushLaw, itself}
 use Rattle.dm_scope.specs.Scope.{Scope, no_scope}
+use Rattle.dm_scope.specs.Shows.{ScopePush, Shows}
 use Rattle.dm_maps.specs.World.{module_of, scope_of, with_scope}
 use Rattle.dm_scope.specs.Outcomes.{on-err}
 use Rattle.dm_maps.proofs.ScopeWrites.{with_scope-own}
@@ -10,7 +12,7 @@ use Rattle.dm_maps.proofs.builder.WorldBuilder.push_res.Goals as goal
 
 pub returns-in_err-answer-clause-err : goal.returns-in_err-answer-clause-err
 returns-in_err-answer-clause-err c = on-err c.from_residual.result
-    (ap (with_scope c.args.self.now c.args.lookup.0) c.in_err-answer.ensures.err
+    (ap (with_scope c.args.self.now c.args.lookup.0) c.in_err-answer.ensures.gives.err
     ∙ with_scope-own c.unwrap-scope.result.now c.args.self.now c.args.lookup.0 (sym c.scope_mut.ensures.value ∙ ap option_copied_mut c.unwrap-scope.ensures))
 
 -- a scope that is read is the one that is lent
@@ -24,14 +26,35 @@ lent c = read c.unwrap-scope.result.now (module_of c.args.self.now c.args.lookup
 pub returns-clause-answer : goal.returns-clause-answer
 returns-clause-answer c =
     let a = c.args in
-    c.in_ok-answer.ensures.answer ∙ ap (λ s. push_answer s a.glob_imports.now a.lookup.0 a.lookup.1 a.res a.import) (lent c)
+    c.in_ok-answer.ensures.gives.answer ∙ ap (λ s. push_answer s a.glob_imports.now a.lookup.0 a.lookup.1 a.res a.import) (lent c)
 
 pub returns-clause-world : goal.returns-clause-world
 returns-clause-world c =
     let a = c.args in
-    ap (with_scope a.self.now a.lookup.0) (c.in_ok-answer.ensures.scope ∙ ap (λ s. scope_after s a.glob_imports.now a.lookup.0 a.lookup.1 a.res a.import) (lent c))
+    ap (with_scope a.self.now a.lookup.0) (c.in_ok-answer.ensures.gives.scope ∙ ap (λ s. scope_after s a.glob_imports.now a.lookup.0 a.lookup.1 a.res a.import) (lent c))
 
 pub returns-clause-globs : goal.returns-clause-globs
 returns-clause-globs c =
     let a = c.args in
-    c.in_ok-answer.ensures.globs ∙ ap (λ s. globs_after s a.glob_imports.now a.lookup.0 a.lookup.1 a.res a.import) (lent c)
+    c.in_ok-answer.ensures.gives.globs ∙ ap (λ s. globs_after s a.glob_imports.now a.lookup.0 a.lookup.1 a.res a.import) (lent c)
+
+pub returns-clause-law : goal.returns-clause-law
+returns-clause-law c =
+    let a = c.args in
+    let p : ScopePush = record { name = a.lookup.1; res = a.res; by = a.import } in
+    subst (λ s. PushLaw itself s a.glob_imports.now (scope_after s a.glob_imports.now a.lookup.0 a.lookup.1 a.res a.import) c.push_res_with_import.new.glob_imports a.lookup.0 p) (lent c)
+    (subst (λ t. PushLaw itself c.unwrap-scope.result.now a.glob_imports.now t c.push_res_with_import.new.glob_imports a.lookup.0 p) c.in_ok-answer.ensures.gives.scope c.in_ok-answer.ensures.law)
+
+pub returns-clause-shown : goal.returns-clause-shown
+returns-clause-shown c ps shows =
+    let a = c.args in
+    let p : ScopePush = record { name = a.lookup.1; res = a.res; by = a.import } in
+    let more = ps ++ p ∷ [] in
+    let h = c.push_res_with_import.new.glob_imports in
+    subst (λ s. Shows (scope_after s a.glob_imports.now a.lookup.0 a.lookup.1 a.res a.import) h a.lookup.0 more) (lent c)
+    (subst (λ t. Shows t h a.lookup.0 more) c.in_ok-answer.ensures.gives.scope
+    (c.in_ok-answer.ensures.shown ps (subst (λ s. Shows s a.glob_imports.now a.lookup.0 ps) (sym (lent c)) shows)))
+
+pub returns-clause-shown_answer : goal.returns-clause-shown_answer
+returns-clause-shown_answer c ps shows =
+    c.in_ok-answer.ensures.shown_answer ps (subst (λ s. Shows s c.args.glob_imports.now c.args.lookup.0 ps) (sym (lent c)) shows)

@@ -2,8 +2,9 @@ use Rattle.std.proofs.Common.{◌≡◌, ◌∙◌, ◌++◌, ◌∷◌, [], ap,
 use Rattle.dm_ids.specs.declared.ids.ModuleId.{ModuleId}
 use Rattle.dm_base.specs.Tree.{same_module}
 use Rattle.dm_scope.specs.Push.{scope_after}
+use Rattle.dm_scope.specs.PushLaw.{PushLaw, itself}
 use Rattle.dm_scope.specs.Scope.{Scope}
-use Rattle.dm_scope.specs.Shows.{Shows}
+use Rattle.dm_scope.specs.Shows.{ScopePush, Shows}
 use Rattle.dm_held.specs.declared.held.HeldId.TheVariants as held
 use Rattle.dm_maps.specs.PushRes.{with_push}
 use Rattle.dm_maps.specs.Cut.{cut}
@@ -15,6 +16,7 @@ use Rattle.dm_maps.specs.Sound.{IsCheckedWorld}
 use Rattle.dm_maps.specs.Stays.{StaysKnown}
 use Rattle.dm_maps.specs.World.{World, scope_of, with_scope}
 use Rattle.dm_maps.proofs.CutPush.{push-cut}
+use Rattle.dm_maps.proofs.LawLemmas.{world_law}
 use Rattle.dm_maps.proofs.PushedScope.{scope_after-holds}
 use Rattle.dm_maps.proofs.ScopeWrites.{scope_of-own, scope_of-other, scope-known, IsCheckedWorld-scoped}
 use Rattle.dm_maps.proofs.StayLemmas.{push-known}
@@ -94,3 +96,12 @@ returns-clause-shown c ps shown =
 pub returns-clause-elsewhere : goal.returns-clause-elsewhere
 returns-clause-elsewhere c k other ps shown =
     subst (λ s. Shows s c.push_res.new.glob_imports k ps) (sym (other_is c k other)) (c.in_ok-answer.ensures.elsewhere (scope_of c.args.self.now k) k ps other shown)
+
+pub returns-clause-law : goal.returns-clause-law
+returns-clause-law c =
+    let a = c.args in
+    let p : ScopePush = record { name = a.lookup.1; res = a.res; by = a.import } in
+    let h = c.push_res.new.glob_imports in
+    let in_scope = subst (λ w. PushLaw itself (scope_of w a.lookup.0) a.glob_imports.now (scope_after (scope_of w a.lookup.0) a.glob_imports.now a.lookup.0 a.lookup.1 a.res a.import) h a.lookup.0 p) c.self.view_is c.in_ok-answer.ensures.law in
+    world_law a.self.now c.push_res.new.self a.glob_imports.now h a.lookup.0 (left c) p
+    (scope-there a.self.now (was_checked c).lawful a.lookup.0 c.requires.known.0) (world_is c) (scope_is c) (other_is c) in_scope

@@ -1,6 +1,9 @@
-use Rattle.std.proofs.Common.{None, Some, of_calls}
-use Rattle.dm_maps.proofs.OutwardLemmas.{fewer-next, asks-answered, asks-ended, asks-on}
+use Rattle.std.proofs.Common.{None, Some}
+use Rattle.dm_maps.proofs.OutwardLemmas.{fewer-next, asks-answered, asks-ended, asks-on, may-first, may-on}
 use Rattle.dm_maps.proofs.world.outwards.ask_outwards.Goals as goal
+
+pub f-requires : goal.f-requires
+f-requires g c = may-first c.args.world.now (goal.F-pre g) (goal.F-step g) c.maps.map c.maps.at c.maps.f c.maps.invariant.0
 
 pub returns-in-Some : goal.returns-in-Some
 returns-in-Some g c = (
@@ -21,7 +24,9 @@ maps-smaller g c = fewer-next c.args.world.now c.next_outwards.ensures.lawful c.
 
 pub maps-preserved : goal.maps-preserved
 maps-preserved g c = (
-  search of_calls,
+  may-on c.args.world.now c.next_outwards.ensures.lawful (goal.F-step g) (goal.F-pre g) c.maps.map c.in-Some-next_outwards.outer.now c.maps.at c.in-Some-next_outwards.container c.maps.f c.f.new.self c.in-Some-next_outwards.ensures.value
+      (record { own = c.in-Some-next_outwards.ensures.own; facts = c.in-Some-next_outwards.ensures.facts; lies = c.in-Some-next_outwards.ensures.lies })
+      c.in-None.ensures c.maps.invariant.0,
   λ r last rest. c.maps.invariant.1 r last
       (asks-on c.args.world.now c.next_outwards.ensures.lawful _ c.maps.map c.in-Some-next_outwards.outer.now c.maps.at c.in-Some-next_outwards.container c.maps.f c.f.new.self last r c.in-Some-next_outwards.ensures.value c.in-None.ensures rest),
 )

@@ -1,11 +1,11 @@
 use Rattle.std.proofs.Common.{Option, length}
-use Rattle.dm_maps.specs.Outwards.{maps_outwards, AsksMaps}
+use Rattle.dm_maps.specs.Outwards.{maps_outwards, AsksMaps, MayAskMaps}
 use Rattle.dm_maps.proofs.world.outwards.ask_outwards.Given as goal
 
--- what the asker answers about the maps that are left, it answers about all of them
+-- the asker may be asked about the maps that are left, and what it answers about them, it answers about all
 abbrev pub invariant-maps : goal.invariant-maps
 invariant-maps g l =
-    goal.F-IsAlwaysCallable g l.f
+    MayAskMaps l.world (goal.F-pre g) (goal.F-step g) (maps_outwards l.world l.map l.at) l.f
     × ((r : Option _) (last : _) → AsksMaps (goal.F-step g) (maps_outwards l.world l.map l.at) l.f r last → AsksMaps (goal.F-step g) (maps_outwards l.world l.fn.first l.fn.m) l.fn.f r last)
 
 abbrev pub decreases-maps : goal.decreases-maps

@@ -1,5 +1,5 @@
 use Rattle.dm_scope.specs.Iterators.{deref_name}
-use Rattle.dm_scope.specs.RunLaws.{shows_in_order}
+use Rattle.dm_base.specs.RunLaws.{shows_in_order}
 use Rattle.dm_scope.proofs.bindings.Bindings.iter.Goals as goal
 
 pub returns-clause-runs : goal.returns-clause-runs

@@ -4,7 +4,7 @@ use Rattle.dm_scope.specs.Flags.{has_flag}
 use Rattle.dm_scope.specs.Pushes.{ShowsIn}
 use Rattle.dm_scope.proofs.ClosedLemmas.{ShowsIn-after, is_effective-after}
 use Rattle.dm_scope.proofs.NameLemmas.{is_by_name}
-use Rattle.dm_scope.proofs.HasFlagLemmas.{has_flag-elsewhere}
+use Rattle.dm_scope.proofs.FlagLemmas.{has_flag-elsewhere}
 use Rattle.dm_scope.proofs.bindings.Bindings.push.Goals as goal
 
 pub returns-clause-shown : goal.returns-clause-shown
@@ -12,14 +12,14 @@ returns-clause-shown g c ps shows =
     let r = reading g.I.PartialEq.eq g.D.PartialEq.eq g.I.ImportSource.globs g.I.ImportSource.narrowed g.I.ImportSource.widened g.D.Definition.widened_def in
     subst₂ (λ s f. ShowsIn r s (has_flag f c.args.lookup.0) (ps ++ record { name = c.args.lookup.1; item = c.args.item; by = import_of r c.args.import } ∷ []))
     (sym c.in_ok-effective.ensures.bindings) (sym c.in_ok-effective.ensures.flags)
-    (ShowsIn-after r (record { import_refl = g.met.I.Eq.laws.refl; import_same = g.met.I.ImportSource.same; def_same = g.met.D.Definition.same })
+    (ShowsIn-after r (record { import_refl = g.met.I.Eq.laws.refl; import_same = g.met.I.ValueEq.same; def_refl = g.met.D.Eq.laws.refl; def_same = g.met.D.ValueEq.same })
     c.args.self.now c.args.flags.now c.args.lookup.0 ps shows c.args.lookup.1 c.args.item c.args.import)
 
 pub returns-clause-shown_answer : goal.returns-clause-shown_answer
 returns-clause-shown_answer g c ps shows =
     let r = reading g.I.PartialEq.eq g.D.PartialEq.eq g.I.ImportSource.globs g.I.ImportSource.narrowed g.I.ImportSource.widened g.D.Definition.widened_def in
     c.in_ok-effective.ensures.answer
-    ∙ is_effective-after r (record { import_refl = g.met.I.Eq.laws.refl; import_same = g.met.I.ImportSource.same; def_same = g.met.D.Definition.same })
+    ∙ is_effective-after r (record { import_refl = g.met.I.Eq.laws.refl; import_same = g.met.I.ValueEq.same; def_refl = g.met.D.Eq.laws.refl; def_same = g.met.D.ValueEq.same })
     c.args.self.now c.args.flags.now c.args.lookup.0 ps shows c.args.lookup.1 c.args.item c.args.import
 
 pub returns-clause-elsewhere : goal.returns-clause-elsewhere

@@ -1,7 +1,10 @@
 use Rattle.std.proofs.Common.{◌∙◌, ◌++◌, ◌∷◌, [], sym, subst, subst₂}
-use Rattle.dm_scope.specs.Shows.{ScopePush, Shows}
+use Rattle.dm_ids.specs.Names.{Name}
+use Rattle.dm_scope.specs.PushLaw.{PushLaw, itself}
+use Rattle.dm_scope.specs.Shows.{IsByNameInEach, ScopePush, Shows}
 use Rattle.dm_scope.proofs.ClosedLemmas.{Shows-after, push_answer-is_answered, Shows-elsewhere}
 use Rattle.dm_scope.specs.Push.{types_reading, values_reading, macros_reading}
+use Rattle.dm_scope.proofs.LawLemmas.{push_law}
 use Rattle.dm_scope.proofs.NameLemmas.{is_by_name}
 use Rattle.dm_scope.proofs.item_scope.ItemScope.push_res_with_import.Goals as goal
 
@@ -21,20 +24,17 @@ returns-clause-elsewhere c other k ps apart shows =
     subst (λ g. Shows other g k ps) (sym c.in_ok-answer.ensures.globs)
     (Shows-elsewhere c.args.self.now other c.args.glob_imports.now c.args.lookup.0 k ps apart shows (record { name = c.args.lookup.1; res = c.args.def; by = c.args.import }))
 
-pub returns-clause-types_by_name : goal.returns-clause-types_by_name
-returns-clause-types_by_name c n = is_by_name types_reading n
+each : (n : Name) → IsByNameInEach n
+each n = record { types = is_by_name types_reading n; values = is_by_name values_reading n; macros = is_by_name macros_reading n }
 
-pub returns-clause-values_by_name : goal.returns-clause-values_by_name
-returns-clause-values_by_name c n = is_by_name values_reading n
+pub returns-clause-by_name : goal.returns-clause-by_name
+returns-clause-by_name c n = each n
 
-pub returns-clause-macros_by_name : goal.returns-clause-macros_by_name
-returns-clause-macros_by_name c n = is_by_name macros_reading n
+pub returns-in_err-answer-clause-by_name : goal.returns-in_err-answer-clause-by_name
+returns-in_err-answer-clause-by_name c n = each n
 
-pub returns-in_err-answer-clause-types_by_name : goal.returns-in_err-answer-clause-types_by_name
-returns-in_err-answer-clause-types_by_name c n = is_by_name types_reading n
-
-pub returns-in_err-answer-clause-values_by_name : goal.returns-in_err-answer-clause-values_by_name
-returns-in_err-answer-clause-values_by_name c n = is_by_name values_reading n
-
-pub returns-in_err-answer-clause-macros_by_name : goal.returns-in_err-answer-clause-macros_by_name
-returns-in_err-answer-clause-macros_by_name c n = is_by_name macros_reading n
+pub returns-clause-law : goal.returns-clause-law
+returns-clause-law c =
+    let p : ScopePush = record { name = c.args.lookup.1; res = c.args.def; by = c.args.import } in
+    subst₂ (λ t h. PushLaw itself c.args.self.now c.args.glob_imports.now t h c.args.lookup.0 p) (sym c.in_ok-answer.ensures.scope) (sym c.in_ok-answer.ensures.globs)
+    (push_law c.args.self.now c.args.glob_imports.now c.args.lookup.0 p)

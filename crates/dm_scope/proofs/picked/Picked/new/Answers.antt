@@ -1,4 +1,4 @@
-use Rattle.dm_scope.specs.RunLaws.{shows_in_order}
+use Rattle.dm_base.specs.RunLaws.{shows_in_order}
 use Rattle.dm_scope.proofs.picked.Picked.new.Goals as goal
 
 pub returns-clause-runs : goal.returns-clause-runs

@@ -1,0 +1,9 @@
+-- What is asked of the maps of a world.
+use Rattle.std.specs.Prelude.{Option, option_and_then}
+use Rattle.dm_ids.specs.declared.ids.ModuleId.{ModuleId}
+use Rattle.dm_ids.specs.Names.{Name, find_name}
+use Rattle.dm_modules.specs.Maps.{Map, module_at}
+
+-- the child of a name that a map lists for a module
+abbrev pub child_in : Name → Map × ModuleId → Option ModuleId
+child_in n x = option_and_then (λ d. find_name n d.children) (module_at x.0.modules x.1)

@@ -1,0 +1,5 @@
+use Rattle.dm_base.specs.RunLaws.{shows_in_order}
+use Rattle.dm_base.proofs.items.IterItems.new.Goals as goal
+
+pub returns-clause-runs : goal.returns-clause-runs
+returns-clause-runs c = shows_in_order (λ x. x)

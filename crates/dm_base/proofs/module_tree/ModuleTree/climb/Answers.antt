@@ -1,6 +1,0 @@
-use Rattle.dm_base.proofs.TreeLemmas.{chain-step}
-use Rattle.dm_base.proofs.module_tree.ModuleTree.climb.Goals as goal
-
-pub returns-clause-chain : goal.returns-clause-chain
-returns-clause-chain g c =
-    chain-step (g.Self.ModuleTree.tree c.args.self.now) c.containing.ensures.lawful c.args.m c.containing.result c.requires c.containing.ensures.value

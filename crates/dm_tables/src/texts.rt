@@ -1,0 +1,21 @@
+//! Tables by names, asked by a text where no name is at hand.
+ghost use Rattle.std.specs.Prelude.{◌≡◌, is_some};
+ghost use Rattle.std.specs.List.{list_any};
+ghost use Rattle.dm_ids.specs.Names.{find_name, same_name};
+
+use dm_base::name::Name;
+use indexmap::IndexMap;
+
+/// Whether a table has an entry under the name of that text. It compares with each name, and takes no memory.
+pub fn has_text<V>(table: &IndexMap<Name, V>, text: &str) -> bool
+    ensures { result ≡ is_some (find_name text.now table.now.entries) }
+{
+    is_among(table.keys().as_slice(), text)
+}
+
+/// Whether one of the names has that text.
+fn is_among(names: &[Name], text: &str) -> bool
+    ensures { result ≡ list_any (same_name text.now) names.now }
+{
+    names.iter().any(|name| text == name.as_str())
+}
