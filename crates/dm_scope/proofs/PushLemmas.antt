@@ -87,15 +87,11 @@ module _ {D I : Type 0} (r : Reading D I) (law : IsReading r) where
   none_explicit None x h = alone_named x (is_explicit r x.1)
   none_explicit (Some q) x h =
       by (is_explicit r x.1)
-      ∙ ap (λ g. cond (is_explicit r x.1 && (g || (is_same r x.1.by q.1.by && not (has_same_def r q.1 x.1)))) (Some x) (Some q)) (sym h)
+      ∙ ap (λ g. cond (is_explicit r x.1 && (g || (is_same r q.1.by x.1.by && not (has_same_def r q.1 x.1)))) (Some x) (Some q)) (sym h)
     where
       by : (b : Bool) → named_of r (Some q) (cond b (x ∷ []) []) ≡ cond (b && true) (Some x) (Some q)
       by true = alone x x.1.by refl
       by false = refl
-
-  is_same-none : (o : Option I) → is_same r o None ≡ false
-  is_same-none None = refl
-  is_same-none (Some i) = refl
 
   and-false : (a b : Bool) → (a && (false && b)) ≡ false
   and-false true b = refl
@@ -106,9 +102,11 @@ module _ {D I : Type 0} (r : Reading D I) (law : IsReading r) where
   is_same-is i None h = absurd (true≢false (sym h))
   is_same-is i (Some j) h = ap (λ k. Some k) (sym (law.import_same i j h))
 
-  is_same-turned : (i : I) (o : Option I) → is_same r (Some i) o ≡ false → is_same r o (Some i) ≡ false
-  is_same-turned i None h = refl
-  is_same-turned i (Some j) h = by (r.same_import j i) refl
+  pub is_same-turned : (o p : Option I) → is_same r o p ≡ false → is_same r p o ≡ false
+  is_same-turned None None h = refl
+  is_same-turned None (Some j) h = refl
+  is_same-turned (Some i) None h = refl
+  is_same-turned (Some i) (Some j) h = by (r.same_import j i) refl
     where
       by : (b : Bool) → r.same_import j i ≡ b → b ≡ false
       by true e = sym (law.import_refl j) ∙ ap (λ k. r.same_import k j) (law.import_same j i e) ∙ h
@@ -119,22 +117,22 @@ module _ {D I : Type 0} (r : Reading D I) (law : IsReading r) where
       → cond b (after_run (Some q) x) (Some q) ≡ after (Some q) x
   renewed i x q plain is b e =
       by b e (has_same_def r q.1 x.1)
-      ∙ ap (λ g. cond (is_explicit r x.1 && (g || (is_same r x.1.by (Some i) && not (has_same_def r q.1 x.1)))) (Some x) (Some q)) (sym plain)
-      ∙ ap (λ o. cond (is_explicit r x.1 && (is_glob r o || (is_same r x.1.by o && not (has_same_def r q.1 x.1)))) (Some x) (Some q)) (sym is)
+      ∙ ap (λ g. cond (is_explicit r x.1 && (g || (is_same r (Some i) x.1.by && not (has_same_def r q.1 x.1)))) (Some x) (Some q)) (sym plain)
+      ∙ ap (λ o. cond (is_explicit r x.1 && (is_glob r o || (is_same r o x.1.by && not (has_same_def r q.1 x.1)))) (Some x) (Some q)) (sym is)
     where
       turn : (s : Bool) → cond s (Some q) (Some x) ≡ cond (not s) (Some x) (Some q)
       turn true = refl
       turn false = refl
 
-      by : (b : Bool) → is_by r i x.1 ≡ b → (s : Bool) → cond b (cond s (Some q) (Some x)) (Some q) ≡ cond (is_explicit r x.1 && (is_same r x.1.by (Some i) && not s)) (Some x) (Some q)
+      by : (b : Bool) → is_by r i x.1 ≡ b → (s : Bool) → cond b (cond s (Some q) (Some x)) (Some q) ≡ cond (is_explicit r x.1 && (is_same r (Some i) x.1.by && not s)) (Some x) (Some q)
       by true e s =
           turn s
           ∙ ap (λ g. cond (not g && not s) (Some x) (Some q)) (sym plain)
           ∙ ap (λ g. cond (not (r.globs i) && (g && not s)) (Some x) (Some q)) (sym (law.import_refl i))
-          ∙ ap (λ o. cond (not (is_glob r o) && (is_same r o (Some i) && not s)) (Some x) (Some q)) (sym (is_same-is i x.1.by e))
+          ∙ ap (λ o. cond (not (is_glob r o) && (is_same r (Some i) o && not s)) (Some x) (Some q)) (sym (is_same-is i x.1.by e))
       by false e s =
           ap (λ g. cond g (Some x) (Some q)) (sym (and-false (is_explicit r x.1) (not s)))
-          ∙ ap (λ g. cond (is_explicit r x.1 && (g && not s)) (Some x) (Some q)) (sym (is_same-turned i x.1.by e))
+          ∙ ap (λ g. cond (is_explicit r x.1 && (g && not s)) (Some x) (Some q)) (sym e)
 
   list_all-filter : (t : ℕ × Push D I → Bool) (ps : List (ℕ × Push D I)) → list_all t (filter t ps) ≡ true
   list_all-filter t [] = refl
@@ -170,8 +168,7 @@ module _ {D I : Type 0} (r : Reading D I) (law : IsReading r) where
       → named_explicit r e o ((e ∷ es) ++ cond (is_explicit r x.1) (x ∷ []) []) ≡ after (named_explicit r e o (e ∷ es)) x
   some_explicit e es x h None is =
       ap (λ g. cond g (Some x) (Some e)) (sym (and-false (is_explicit r x.1) (not (has_same_def r e.1 x.1))))
-      ∙ ap (λ g. cond (is_explicit r x.1 && (g && not (has_same_def r e.1 x.1))) (Some x) (Some e)) (sym (is_same-none x.1.by))
-      ∙ ap (λ o. cond (is_explicit r x.1 && (is_glob r o || (is_same r x.1.by o && not (has_same_def r e.1 x.1)))) (Some x) (Some e)) (sym is)
+      ∙ ap (λ o. cond (is_explicit r x.1 && (is_glob r o || (is_same r o x.1.by && not (has_same_def r e.1 x.1)))) (Some x) (Some e)) (sym is)
   some_explicit e es x h (Some i) is =
       ap (last_run r) (filter-append (λ p. is_by r i p.1) (e ∷ es) (cond (is_explicit r x.1) (x ∷ []) []))
       ∙ ap (λ l. last_run r (filter (λ p. is_by r i p.1) (e ∷ es) ++ l)) (kept_by i x plain)

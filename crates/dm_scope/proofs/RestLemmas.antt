@@ -12,7 +12,7 @@ use Rattle.dm_base.specs.declared.per_ns.Item.{Item}
 use Rattle.dm_scope.specs.Bindings.{Bound, Reading, import_of, is_glob, is_same, writes, stored, bound, flagged, is_effective_at, bound_after, flags_after}
 use Rattle.dm_scope.specs.Flags.{Flags, has_flag}
 use Rattle.dm_scope.proofs.FlagLemmas.{has_flag-with, has_flag-after, has_flag-elsewhere}
-use Rattle.dm_scope.proofs.PushLemmas.{IsReading}
+use Rattle.dm_scope.proofs.PushLemmas.{IsReading, is_same-turned}
 use Rattle.dm_scope.proofs.ShowLemmas.{lookup-insert_entry}
 
 module _ {D I : Type 0} (r : Reading D I) where
@@ -72,7 +72,7 @@ module _ {D I : Type 0} (r : Reading D I) where
 
     -- what another push has bound is not written by a push by no glob, where no flag stands
     other-kept : (item other : Item D I) (j k : Option I) → is_same r j k ≡ false → writes r (Some (stored r other k)) false item j ≡ false
-    other-kept item other j k differ = ap (λ b. not (is_glob r j) && (b && not (r.same_def other.def item.def))) differ ∙ and_right (not (is_glob r j)) false refl
+    other-kept item other j k differ = ap (λ b. not (is_glob r j) && (b && not (r.same_def other.def item.def))) (is_same-turned r law j k differ) ∙ and_right (not (is_glob r j)) false refl
 
     -- the flags of a bound name that had none, after an effective push: a glob's is not of that name, since it writes no bound one
     unset-after : (f : Flags) (m h : ModuleId) (n name : Name) (k : Option I) → has_flag f m n ≡ false → (same_name name n ≡ true → is_glob r k ≡ false) → has_flag (flagged r f h name k) m n ≡ false
@@ -95,7 +95,7 @@ module _ {D I : Type 0} (r : Reading D I) where
         no_glob true is same =
             let there : find_name name s.items ≡ Some old.old = ap (λ q. find_name q s.items) ((bytes_eq-Decides name n).0 same) ∙ old.is in
             absurd (true≢false (sym e ∙ ap (λ o. writes r o (has_flag f h name) other k) there
-            ∙ ap (λ b. not b && (has_flag f h name || (is_same r k old.old.import && not (r.same_def old.old.def other.def)))) is))
+            ∙ ap (λ b. not b && (has_flag f h name || (is_same r old.old.import k && not (r.same_def old.old.def other.def)))) is))
         no_glob false is same = refl
 
         here : (b : Bool) → writes r (cond b (Some (stored r other k)) (find_name n s.items)) false item j ≡ false

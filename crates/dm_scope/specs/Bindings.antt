@@ -6,6 +6,7 @@ use Rattle.dm_ids.specs.Imports.{target_of}
 use Rattle.dm_ids.specs.Names.{Name, same_name, find_name}
 use Rattle.dm_ids.specs.declared.ids.ModuleId.{ModuleId}
 use Rattle.dm_base.specs.declared.per_ns.Item.{Item}
+use Rattle.dm_base.specs.PerNs.{is_import_of, is_reresolved}
 use Rattle.dm_ids.specs.declared.imports.ImportOrDef.{ImportOrDef}
 use Rattle.dm_ids.specs.declared.imports.ImportOrDef.TheVariants as target
 use Rattle.dm_ids.specs.declared.imports.ImportOrExternCrate.{ImportOrExternCrate}
@@ -50,11 +51,11 @@ module _ {D I : Type 0} (r : Reading D I) where
 
   -- Whether a push is effective, from what is bound under its name and whether the glob flag stands. A vacant name is
   -- bound. Where the name is bound a glob push does nothing. Any other push replaces the binding if the glob flag stood,
-  -- or if its import is the stored one and its definition is another.
+  -- or if it resolves the stored import anew, to another definition.
   abbrev pub writes : Option (Item D I) → Bool → Item D I → Option I → Bool
   writes None flag item import = true
   writes (Some old) flag item import =
-      not (is_glob import) && (flag || (is_same import old.import && not (r.same_def old.def item.def)))
+      not (is_glob import) && (flag || is_reresolved r.same_import r.same_def old item.def import)
 
   -- what the record of an import becomes: the import that the pushed item carried, else its definition
   abbrev pub recorded_from : Option I → D → ImportOrDef
