@@ -1,8 +1,9 @@
 //! Pushes into the scopes of a world.
-ghost use Rattle.std.specs.Prelude.{◌≡◌, false, List, IsSome, IfOk, OnOk, OnErr};
+ghost use Rattle.std.specs.Prelude.{◌≡◌, false, List, IsSome, OnOk, OnErr};
 ghost use Rattle.dm_ids.specs.declared.ids.ModuleId.{ModuleId};
 ghost use Rattle.dm_base.specs.Tree.{same_module};
-ghost use Rattle.dm_scope.specs.Push.{scope_after, globs_after, push_answer};
+ghost use Rattle.dm_scope.specs.Gives.{PushGives};
+ghost use Rattle.dm_scope.specs.Push.{scope_after};
 ghost use Rattle.dm_scope.specs.PushLaw.{PushLaw, itself};
 ghost use Rattle.dm_scope.specs.Shows.{PushAnswers, PushShows, ShowsElsewhere, StillShows, push_of};
 ghost use Rattle.dm_held.specs.Pushes.{push_holds};
@@ -38,17 +39,16 @@ impl World {
         import: Option<ImportOrExternCrate>,
     ) -> Result<bool, AllocError>
         requires known { KnowsAll self.old (push_holds lookup.0 res import) }
-        ensures answer { IfOk result (λ answer. answer ≡ push_answer (scope_of self.old lookup.0) glob_imports.old lookup.0 lookup.1 res import) }
+
+        // What the push gives in the module's scope: its answer, and what scope and glob table are after it.
+        ensures gives { PushGives (scope_of self.old lookup.0) glob_imports.old (scope_of self.new lookup.0) glob_imports.new lookup.0 (push_of lookup.1 res import) result }
         ensures world { OnOk result (self.new ≡ with_push self.old glob_imports.old lookup.0 lookup.1 res import) }
-        ensures globs { OnOk result (glob_imports.new ≡ globs_after (scope_of self.old lookup.0) glob_imports.old lookup.0 lookup.1 res import) }
         ensures err { OnErr result (self.new ≡ self.old) }
-        ensures err_globs { OnErr result (glob_imports.new ≡ glob_imports.old) }
 
         // All that the world's tables hold is the world's.
         ensures checked { IsChecked self.new }
 
-        // The module's scope is as after the push, and that of each other module as before.
-        ensures scope { OnOk result (scope_of self.new lookup.0 ≡ scope_after (scope_of self.old lookup.0) glob_imports.old lookup.0 lookup.1 res import) }
+        // The scope of each other module is as before.
         ensures others { (k : ModuleId) → same_module lookup.0 k ≡ false → scope_of self.new k ≡ scope_of self.old k }
 
         // What the world has under other names than the pushed one is as before.
@@ -89,11 +89,9 @@ impl WorldBuilder {
         import: Option<ImportOrExternCrate>,
     ) -> Result<bool, AllocError>
         requires there { IsSome (scope_if_known self.old lookup.0) }
-        ensures answer { IfOk result (λ answer. answer ≡ push_answer (scope_of self.old lookup.0) glob_imports.old lookup.0 lookup.1 res import) }
+        ensures gives { PushGives (scope_of self.old lookup.0) glob_imports.old (scope_of self.new lookup.0) glob_imports.new lookup.0 (push_of lookup.1 res import) result }
         ensures world { OnOk result (self.new ≡ with_push self.old glob_imports.old lookup.0 lookup.1 res import) }
-        ensures globs { OnOk result (glob_imports.new ≡ globs_after (scope_of self.old lookup.0) glob_imports.old lookup.0 lookup.1 res import) }
         ensures err { OnErr result (self.new ≡ self.old) }
-        ensures err_globs { OnErr result (glob_imports.new ≡ glob_imports.old) }
         ensures shown { PushShows (scope_of self.old lookup.0) glob_imports.old (scope_after (scope_of self.old lookup.0) glob_imports.old lookup.0 lookup.1 res import) glob_imports.new lookup.0 (push_of lookup.1 res import) result }
         ensures shown_answer { PushAnswers (scope_of self.old lookup.0) glob_imports.old lookup.0 (push_of lookup.1 res import) result }
         ensures elsewhere { ShowsElsewhere glob_imports.old glob_imports.new lookup.0 }

@@ -8,5 +8,5 @@ use std::test::Fail;
 
 #[test]
 fn a_call_that_writes_before_it_grows(rt: HostRuntime) -> Result<(), Fail> {
-    gives(&rt, are_left(rt.alloc(), &[Call::TwoDiagnostics]), true)
+    gives(&rt, are_left(rt.alloc(), &[Call::TwoTools]), true)
 }

@@ -18,6 +18,7 @@ use dm_base::visibility::{RawVisibility, Visibility, VisibilityExplicitness};
 use dm_maps::build_fault::BuildFault;
 use dm_maps::def_map::DefMap;
 use dm_maps::world::World;
+use dm_maps::world::maps_of::local_def_map;
 use dm_scope::scope_tables::ScopeTables;
 use std::alloc::{AllocError, Global};
 use std::hash::{DefaultHasher, Hash, Hasher};
@@ -52,7 +53,7 @@ pub(in crate::tests) enum Call {
     LegacyMacro,
     Push,
     /// Two calls, of which the second may be refused when the first has written: no call may be such.
-    TwoDiagnostics,
+    TwoTools,
 }
 
 /// Each call, once, and of those that add to a list the second time.
@@ -163,6 +164,14 @@ fn tell_map(state: &mut DefaultHasher, world: &World, root: u32, words: &Words) 
     }
 }
 
+/// What the extern prelude of the first crate has under the name that is put into it.
+fn tell_extern(state: &mut DefaultHasher, world: &World, words: &Words) {
+    let krate = Crate(0);
+    if world.has_crate(krate) {
+        local_def_map(world, krate).get(&words.prelude).hash(state);
+    }
+}
+
 /// What stands in the tables that belong to no map, each visibility by whether it is there.
 fn tell_visibilities(state: &mut DefaultHasher, world: &World, words: &Words) {
     match world.raw_fields_of(VariantId::StructId(STRUCT)) {
@@ -195,6 +204,7 @@ fn told(world: &World, words: &Words) -> u64 {
     for root in [0, 4, 5, 8] {
         tell_map(&mut state, world, root, words);
     }
+    tell_extern(&mut state, world, words);
     tell_visibilities(&mut state, world, words);
     tell_numbers(&mut state, world, words);
     state.finish()
@@ -288,9 +298,9 @@ impl Building {
                 self.put_legacy(alloc)?;
                 Ok(())
             }
-            Call::TwoDiagnostics => {
-                self.put_diagnostic()?;
-                self.put_diagnostic()
+            Call::TwoTools => {
+                self.put_tool(alloc)?;
+                self.put_tool(alloc)
             }
             _ => {
                 let items = structure(1, Visibility::Public, None);

@@ -1,4 +1,4 @@
-use Rattle.std.proofs.Common.{◌≡◌, ◌∙◌, ◌++◌, ◌∷◌, [], ap, subst, sym, Option, Some, None}
+use Rattle.std.proofs.Common.{◌≡◌, ◌∙◌, ◌++◌, ◌∷◌, [], ap, subst, sym, tt, Option, Some, None}
 use Rattle.std.specs.Option.{option_copied_mut, option_map, option_map_or}
 use Rattle.dm_modules.specs.Maps.{Module}
 use Rattle.dm_scope.specs.Push.{push_answer, scope_after, globs_after}
@@ -7,7 +7,7 @@ use Rattle.dm_scope.specs.Scope.{Scope, no_scope}
 use Rattle.dm_scope.specs.Shows.{ScopePush, Shows}
 use Rattle.dm_maps.specs.World.{module_of, scope_of, with_scope}
 use Rattle.dm_scope.specs.Outcomes.{on-err}
-use Rattle.dm_maps.proofs.ScopeWrites.{with_scope-own}
+use Rattle.dm_maps.proofs.ScopeWrites.{scope_of-own, with_scope-own}
 use Rattle.dm_maps.proofs.builder.WorldBuilder.push_res.Goals as goal
 
 pub returns-in_err-answer-clause-err : goal.returns-in_err-answer-clause-err
@@ -23,20 +23,23 @@ read s (Some d) e = cc
 lent : (c : goal.In_ok-answer) → c.unwrap-scope.result.now ≡ scope_of c.args.self.now c.args.lookup.0
 lent c = read c.unwrap-scope.result.now (module_of c.args.self.now c.args.lookup.0) (sym c.scope_mut.ensures.value ∙ ap option_copied_mut c.unwrap-scope.ensures)
 
-pub returns-clause-answer : goal.returns-clause-answer
-returns-clause-answer c =
-    let a = c.args in
-    c.in_ok-answer.ensures.gives.answer ∙ ap (λ s. push_answer s a.glob_imports.now a.lookup.0 a.lookup.1 a.res a.import) (lent c)
-
 pub returns-clause-world : goal.returns-clause-world
 returns-clause-world c =
     let a = c.args in
     ap (with_scope a.self.now a.lookup.0) (c.in_ok-answer.ensures.gives.scope ∙ ap (λ s. scope_after s a.glob_imports.now a.lookup.0 a.lookup.1 a.res a.import) (lent c))
 
-pub returns-clause-globs : goal.returns-clause-globs
-returns-clause-globs c =
+pub returns-clause-gives : goal.returns-clause-gives
+returns-clause-gives c =
     let a = c.args in
-    c.in_ok-answer.ensures.gives.globs ∙ ap (λ s. globs_after s a.glob_imports.now a.lookup.0 a.lookup.1 a.res a.import) (lent c)
+    let e = c.in_ok-answer.ensures.gives in
+    let own = scope_of-own c.push_res_with_import.new.self a.self.now a.lookup.0 c.requires.there in
+    record {
+      answer = e.answer ∙ ap (λ s. push_answer s a.glob_imports.now a.lookup.0 a.lookup.1 a.res a.import) (lent c);
+      scope = own ∙ e.scope ∙ ap (λ s. scope_after s a.glob_imports.now a.lookup.0 a.lookup.1 a.res a.import) (lent c);
+      globs = e.globs ∙ ap (λ s. globs_after s a.glob_imports.now a.lookup.0 a.lookup.1 a.res a.import) (lent c);
+      err = tt;
+      err_globs = tt;
+    }
 
 pub returns-clause-law : goal.returns-clause-law
 returns-clause-law c =

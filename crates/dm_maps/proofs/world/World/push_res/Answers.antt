@@ -1,7 +1,7 @@
-use Rattle.std.proofs.Common.{◌≡◌, ◌∙◌, ◌++◌, ◌∷◌, [], ap, sym, subst, false, IsTrue}
+use Rattle.std.proofs.Common.{◌≡◌, ◌∙◌, ◌++◌, ◌∷◌, [], ap, sym, subst, tt, false, IsTrue}
 use Rattle.dm_ids.specs.declared.ids.ModuleId.{ModuleId}
 use Rattle.dm_base.specs.Tree.{same_module}
-use Rattle.dm_scope.specs.Push.{scope_after}
+use Rattle.dm_scope.specs.Push.{push_answer, scope_after, globs_after}
 use Rattle.dm_scope.specs.PushLaw.{PushLaw, itself}
 use Rattle.dm_scope.specs.Scope.{Scope}
 use Rattle.dm_scope.specs.Shows.{ScopePush, Shows}
@@ -72,8 +72,17 @@ invariant_of-self-2 c = (is_checked c, is_counted c)
 pub returns-clause-checked : goal.returns-clause-checked
 returns-clause-checked c = (is_checked c).checked
 
-pub returns-clause-scope : goal.returns-clause-scope
-returns-clause-scope c = scope_is c
+pub returns-clause-gives : goal.returns-clause-gives
+returns-clause-gives c =
+    let a = c.args in
+    let e = c.in_ok-answer.ensures.gives in
+    record {
+      answer = e.answer ∙ ap (λ w. push_answer (scope_of w a.lookup.0) a.glob_imports.now a.lookup.0 a.lookup.1 a.res a.import) c.self.view_is;
+      scope = scope_is c;
+      globs = e.globs ∙ ap (λ w. globs_after (scope_of w a.lookup.0) a.glob_imports.now a.lookup.0 a.lookup.1 a.res a.import) c.self.view_is;
+      err = tt;
+      err_globs = tt;
+    }
 
 pub returns-clause-others : goal.returns-clause-others
 returns-clause-others c k other = other_is c k other
