@@ -1,4 +1,4 @@
--- A map lends the scope of a module.
+-- A mutable borrow of a module's scope, from a def map.
 use Rattle.std.specs.Prelude.{ℕ, Option}
 use Rattle.std.specs.Borrow.{LendsIf, MutBor, Fml}
 use Rattle.dm_scope.specs.Scope.{Scope}

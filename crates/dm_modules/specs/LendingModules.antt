@@ -1,4 +1,4 @@
--- The modules of a map lend the scope of one.
+-- A mutable borrow of the scope of a module, from the modules of a def map.
 use Rattle.std.specs.Prelude.{ℕ, Option}
 use Rattle.std.specs.Borrow.{LendsIf, MutBor, Fml}
 use Rattle.dm_scope.specs.Scope.{Scope}

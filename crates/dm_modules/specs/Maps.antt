@@ -1,4 +1,4 @@
--- Modules and maps, as contracts see them.
+-- Modules and def maps, as contracts see them.
 use Rattle.std.specs.Prelude.{ℕ, List, [], ◌∷◌, ◌++◌, Option, Some, None, map, slice_get}
 use Rattle.std.specs.Option.{option_map}
 use Rattle.std.specs.Map.{lookup}
@@ -19,7 +19,7 @@ use Rattle.dm_modules.specs.declared.module_origin.ModuleOrigin.{ModuleOrigin}
 use Rattle.dm_tables.specs.CrateData.{CrateData, fresh_data}
 use Rattle.dm_tables.specs.Helpers.{Helper}
 
--- a module: where it comes from, who sees it, its parent in its map, its children by name, its scope
+-- a module: its origin, its visibility, its parent in its map, its children by name, its scope
 pub record Module : Type 0 where
   pub origin : ModuleOrigin
   pub visibility : Visibility
@@ -35,9 +35,9 @@ LocalMap = List (Name × (ModuleId × Option ExternCrateId))
 abbrev pub Modules : Type 0
 Modules = List (ModuleId × Module)
 
--- The map of a crate or of a block: its root, the module that contains its block, its modules, its prelude module, the
--- macros that `#[macro_use]` brings, the macro that each item of the syntax defines, the derive helpers of each, what went
--- wrong while the map was made, and what all maps of the crate share.
+-- The def map of a crate or of a block expression: its root, the module that contains its block, its modules, its
+-- prelude module, the `#[macro_use]` prelude, the macro that each AST item defines, the derive helpers on each, its
+-- diagnostics, and the data that all def maps of the crate share.
 pub record Map : Type 0 where
   pub id : MapId
   pub edition : Edition

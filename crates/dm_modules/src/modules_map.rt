@@ -1,4 +1,4 @@
-//! The modules of a map, by number.
+//! `ModulesMap`: the modules of a def map, by number.
 ghost use Rattle.std.specs.Prelude.{◌≡◌, ◌↔◌, [], IsTrue, length};
 ghost use Rattle.std.specs.Option.{option_copied};
 ghost use Rattle.dm_modules.specs.Maps.{module_at, nth_module};

@@ -1,4 +1,4 @@
--- What a derive helper changes, that is added at an item.
+-- Derive helpers of items, with one more on an item.
 use Rattle.std.specs.Prelude.{ℕ, List, [], ◌∷◌, ◌++◌, map, slice_get}
 use Rattle.std.specs.Option.{option_map_or}
 use Rattle.std.specs.Map.{lookup}
