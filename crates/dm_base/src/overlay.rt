@@ -8,7 +8,7 @@ use crate::per_ns::{Item, PerNs};
 
 /// Values that shadow one another, part by part: what the upper one lacks shows through from the lower one.
 ///
-/// They are an idempotent monoid: `over` is associative, and an empty layer or a second copy of one changes nothing.
+/// They are an idempotent monoid: `over` is associative, and an empty layer, or the same layer twice, changes nothing.
 pub trait Overlay: Copy {
     ghost nothing: { Self };
 

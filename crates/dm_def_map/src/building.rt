@@ -50,7 +50,7 @@ pub fn with_root(
     })
 }
 
-/// Adds a module, as a child of the one at place `i`.
+/// Adds a module, as a child of the one at index `i`.
 pub fn add_child(
     map: &mut DefMap,
     i: usize,
@@ -90,7 +90,7 @@ pub fn change(map: &mut DefMap, change: MapChange, alloc: Global) -> Result<(), 
     Ok(())
 }
 
-/// The module at place `i`, counted from the root.
+/// The module at index `i`, counted from the root.
 pub fn nth(map: &DefMap, i: usize) -> Option<&ModuleData>
     ensures { option_copied result ≡ nth_module map.now.modules i }
 {
@@ -118,7 +118,7 @@ pub fn macro_uses(map: &DefMap) -> &IndexMap<Name, (MacroId, Option<ExternCrateI
     &map.macro_use_prelude
 }
 
-/// The scope of the module at place `i`, to be changed.
+/// The scope of the module at index `i`, to be changed.
 pub fn scope_mut(map: &mut DefMap, i: usize) -> Option<&mut ItemScope>
     ensures* writes_back { sem 𝓛 (LendsMapScope map.entry i result) }
     ensures value { option_copied_mut result ≡ nth_scope map.old.modules i }

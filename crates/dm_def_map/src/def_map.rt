@@ -134,7 +134,8 @@ impl DefMap {
         self.prelude
     }
 
-    /// The macro of that name in the `#[macro_use]` prelude, with the item that brought it. Does not allocate.
+    /// The macro of that name in the `#[macro_use]` prelude, with the `extern crate` that brought it, if one did.
+    /// Does not allocate.
     pub fn macro_use_prelude(&self, name: &Name) -> Option<(MacroId, Option<ExternCrateId>)>
         ensures { result ≡ find_name name.now self.now.macro_use }
     {

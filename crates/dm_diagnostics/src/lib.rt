@@ -41,12 +41,12 @@ pub enum DefDiagnosticKind {
         cfg: CfgExpr,
         opts: CfgOptions,
     },
-    /// The path of a macro call leads to no macro.
+    /// The path of a macro call resolves to no macro.
     UnresolvedMacroCall {
         ast: MacroCallKind,
         path: ModPath,
     },
-    /// A macro of the compiler's own that is not implemented.
+    /// A builtin macro that is not implemented.
     UnimplementedBuiltinMacro {
         ast: AstId,
     },
@@ -118,7 +118,7 @@ impl DefDiagnostic {
         }
     }
 
-    /// A macro was found, and its expansion went wrong.
+    /// A macro call resolves to a macro, whose expansion fails.
     pub fn macro_error(
         container: ModuleId,
         ast: AstId,
@@ -162,7 +162,7 @@ impl DefDiagnostic {
         }
     }
 
-    /// A macro is declared as a builtin one that is not known.
+    /// A macro is declared as a builtin one (`#[rustc_builtin_macro]`), but no such builtin macro is known.
     pub fn unimplemented_builtin_macro(container: ModuleId, ast: AstId) -> DefDiagnostic
         ensures { result ≡ record { in_module = container; kind = DefDiagnosticKind.UnimplementedBuiltinMacro ast } }
     {

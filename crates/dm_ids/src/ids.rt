@@ -72,7 +72,7 @@ pub struct BuiltinDeriveImplId(pub u32);
 #[derive(Clone, Copy, PartialEq, Eq, PartialOrd, Ord, Hash, Debug)]
 pub struct Macro2Id(pub u32);
 
-/// A `macro_rules!` macro.
+/// A `macro_rules!` macro. Its scope is textual: it is visible in the text after it.
 #[derive(Clone, Copy, PartialEq, Eq, PartialOrd, Ord, Hash, Debug)]
 pub struct MacroRulesId(pub u32);
 

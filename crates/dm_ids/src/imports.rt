@@ -41,7 +41,7 @@ impl Ord for ImportId {
     }
 }
 
-/// A glob import: a `*` of a `use` tree.
+/// A glob import: a `*` of a `use` tree. Explicit names shadow the names that it brings.
 #[derive(Clone, Copy, PartialEq, Eq, Hash, Debug)]
 pub struct GlobId {
     pub use_: UseId,

@@ -56,7 +56,7 @@ impl Flags for MacroCallStyles {
     }
 }
 
-/// The expander of a macro that `macro` or `macro_rules!` declares: its rules, or the compiler's own code.
+/// The expander of a macro that `macro` or `macro_rules!` declares: its rules, or the compiler for a builtin macro.
 #[derive(Clone, Copy, PartialEq, Eq, Hash, Debug)]
 pub enum MacroExpander {
     Declarative { styles: MacroCallStyles },

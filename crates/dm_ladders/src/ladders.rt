@@ -35,7 +35,7 @@ impl Model for Ladders {
 }
 
 impl Ladders {
-    /// The ladders of no modules.
+    /// An empty table.
     pub fn new(alloc: Global) -> Ladders
         ensures { result ≡ [] }
     {

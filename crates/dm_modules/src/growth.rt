@@ -17,7 +17,7 @@ pub(crate) fn drop_last<K: Eq + Hash + Drop, V: Drop>(map: &mut IndexMap<K, V>)
     map.pop();
 }
 
-/// Adds `m` to the children of the module at place `i`.
+/// Adds `m` to the children of the module at index `i`.
 pub(crate) fn list_child(
     modules: &mut IndexMap<ModuleId, ModuleData>,
     i: usize,

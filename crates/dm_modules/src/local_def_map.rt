@@ -13,7 +13,8 @@ use indexmap::{IndexMap, map};
 use std::alloc::{AllocError, Global};
 use std::marker::Model;
 
-/// The roots of other crates that paths of a crate can begin with, by name, each with the item that named it.
+/// The extern prelude of a crate: the roots of other crates, by the names that paths can begin with, each with the item
+/// that named it.
 pub struct LocalDefMap {
     extern_prelude: IndexMap<Name, (ModuleId, Option<ExternCrateId>)>,
 }

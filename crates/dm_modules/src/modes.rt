@@ -12,12 +12,12 @@ pub enum BuiltinShadowMode {
     Other,
 }
 
-/// What kind of macro a name is expected to be.
+/// The sub-namespaces of macros: a path to a macro is resolved in the one that fits how it is called.
 #[derive(Clone, Copy, PartialEq, Eq)]
 pub enum MacroSubNs {
-    /// One that is called as `name!(..)`.
+    /// Function-like (bang) macros, `name!(..)`.
     Bang,
-    /// An attribute or a derive.
+    /// Attributes and derives.
     Attr,
 }
 

@@ -51,7 +51,7 @@ impl ModulesMap {
         &self.entries
     }
 
-    /// The module at place `i`, counted from the root.
+    /// The module at index `i`, counted from the root.
     pub fn nth(&self, i: usize) -> Option<&ModuleData>
         ensures { option_copied result ≡ nth_module self.now i }
     {

@@ -76,7 +76,7 @@ pub fn add_helper(
     }
 }
 
-/// Adds a helper to those of the item at place `i`, the last.
+/// Adds a helper to those of the item at index `i`, the last.
 fn add_helper_at(
     table: &mut IndexMap<AstId, DeriveHelpers>,
     i: usize,

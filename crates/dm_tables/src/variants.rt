@@ -92,7 +92,7 @@ pub fn add_to_enum(
     }
 }
 
-/// Adds a variant to the enum at place `i`, which has none yet of that name.
+/// Adds a variant to the enum at index `i`, which has none yet of that name.
 fn add_to_nth(
     enums: &mut IndexMap<EnumId, EnumVariants>,
     i: usize,
