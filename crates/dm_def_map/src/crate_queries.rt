@@ -22,7 +22,7 @@ impl DefMap {
         self.shared().features()
     }
 
-    /// Whether the crate counts as `core` for the coherence (orphan) rules.
+    /// Whether the crate counts as `core` for coherence, and so may have inherent `impl`s of builtin types.
     pub fn is_rustc_coherence_is_core(&self) -> bool
         ensures { result ≡ self.now.shared.coherence_is_core }
     {

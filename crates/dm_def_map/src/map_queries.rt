@@ -22,7 +22,7 @@ impl DefMap {
 
     /// The module that contains a module of this map, which has to lie in it: `has` tests it.
     ///
-    /// This is the parent, or for the root of a block's map the module that contains the block; none for a crate's root.
+    /// The parent, or for the root of a block's map the module that contains the block; none for a crate's root.
     pub fn containing_module(&self, m: ModuleId) -> Option<ModuleId>
         requires { IsSome (module_at self.now.modules m) }
         ensures { result ≡ containing_in self.now m }

@@ -152,7 +152,7 @@ impl CrateData {
         &self.features
     }
 
-    /// Whether the crate counts as `core` for the coherence (orphan) rules.
+    /// Whether the crate counts as `core` for coherence, and so may have inherent `impl`s of builtin types.
     pub fn coherence_is_core(&self) -> bool
         ensures { result ≡ self.now.coherence_is_core }
     {
