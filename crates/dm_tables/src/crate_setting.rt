@@ -9,7 +9,7 @@ pub enum CrateSetting {
     NoStd,
     /// `#![no_core]`.
     NoCore,
-    /// `#![rustc_coherence_is_core]`: the crate counts as `core` for coherence, as for inherent `impl`s of builtin types.
+    /// `#![rustc_coherence_is_core]`: the crate is `core` to coherence, as for inherent `impl`s of builtin types.
     CoherenceIsCore,
     /// `#![recursion_limit = "N"]`: how deep macros may expand.
     RecursionLimit(u32),
