@@ -19,7 +19,7 @@ is_of same d None = false
 is_of same d (Some x) = same x.def d
 
 module _ {D I : Type 0} where
-  -- a namespace without a binding, where it is of the definition: the others close up, and the records stay
+  -- a namespace without a binding, where it is of the definition: the order of the others stays, and the import records
   abbrev pub without_binding : (D → D → Bool) → Name → D → Bound D I → Bound D I
   without_binding same n d s = if is_of same d (find_name n s.items) then record s { items = remove_entry (same_name n) s.items } else s
 

@@ -1,4 +1,4 @@
--- What the iterators of a scope show.
+-- What the iterators of a scope yield.
 use Rattle.std.specs.Prelude.{Bool, List, Option, None, Some, if◌then◌else◌}
 use Rattle.std.specs.Borrow.{Bor}
 use Rattle.dm_ids.specs.declared.ids.ImplId.{ImplId}
