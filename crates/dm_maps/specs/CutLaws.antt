@@ -1,4 +1,5 @@
--- What a cut keeps: the setting, the maps without what scopes hold, and what is said of the names of the list.
+-- What a cut keeps: the name-independent part of the world, the maps without what scopes hold, and what the world says
+-- of the names of the list.
 use Rattle.std.proofs.Common.{◌≡◌, ℕ, Bool, true, false, cond, not, ◌||◌, List, [], ◌∷◌, Option, None, Some, refl, sym, ◌∙◌, ap, map, true≢false, eq-eqb}
 use Rattle.std.specs.Cmp.{nat_eq_equiv}
 use Rattle.std.specs.List.{cons_option}
@@ -230,7 +231,7 @@ styles-cut w N m = ap said (slice_get-map cut_macro w.macros (macro_number m)) �
     go None = refl
     go (Some e) = refl
 
--- of no name the cut says what the world says
+-- the cut has the name-independent part of the world
 pub setting-cut : (w : World) (N : List Name) → setting_of (cut w N) ≡ setting_of w
 unfolding setting_of
 setting-cut w N = λ i. record {
@@ -266,7 +267,7 @@ macro_uses-cut w N id = ap (λ o. option_map_or (λ m. m.macro_use) o []) (numbe
     go None = sym (kept-nothing N)
     go (Some m) = refl
 
--- and so it does of each name of the list
+-- and of each name of the list it says what the world says
 pub read-cut : (w : World) (L : LocalMap) (N : List Name) (n : Name) → among N n ≡ true → read (cut w N) (cut_local L N) n ≡ read w L n
 unfolding read
 read-cut w L N n h = λ i. record {
