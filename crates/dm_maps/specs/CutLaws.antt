@@ -197,7 +197,7 @@ numbered-outline-cut w N id = ap (option_map outline) (numbered-cut w N id) ∙ 
     go None = refl
     go (Some m) = ap (λ x. Some x) (outline-cut N m)
 
--- ---- the setting, and what is said of a name
+-- ---- the name-independent part, and what is said of a name
 
 -- what is read of a map, where the cut leaves it
 read-map : {A : Type 0} (N : List Name) (f : Map → A) (z : A) → ((m : Map) → f (cut_map N m) ≡ f m) → (o : Option Map) → option_map_or f (option_map (cut_map N) o) z ≡ option_map_or f o z

@@ -40,7 +40,7 @@ module _ {D I : Type 0} where
   abbrev pub change_all : (Item D I → Item D I) → Bound D I → Bound D I
   change_all f s = record s { items = map (λ e. (e.0, f e.1)) s.items }
 
--- an item that its crate alone sees
+-- an item restricted to its crate
 abbrev pub censored : {D I : Type 0} → Crate → Item D I → Item D I
 censored k x = record x { vis = PubCrate k }
 

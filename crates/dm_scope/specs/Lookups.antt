@@ -14,7 +14,7 @@ use Rattle.dm_scope.specs.Scope.{Scope}
 abbrev pub def_and_vis : {D I : Type 0} → Item D I → D × Visibility
 def_and_vis x = (x.def, x.vis)
 
--- a binding as what is said of its definition: the name, who sees it, and whether no import brought it
+-- a binding as what is said of its definition: the name, its visibility, and whether no import brought it
 abbrev pub shown_name : {D I : Type 0} → Name × Item D I → Name × Visibility × Bool
 shown_name e = (e.0, e.1.vis, is_none e.1.import)
 
@@ -58,7 +58,7 @@ pub MayAskNames-any : {F T : Type 0} (may : F → Bor Name → Visibility → Bo
 MayAskNames-any may step [] f any = tt
 MayAskNames-any may step (x ∷ xs) f any = (λ n is. any f n x.1 x.2, λ g asked. MayAskNames-any may step xs g any)
 
--- who sees an unnamed trait, by its first import
+-- the visibility of an unnamed trait, by its first import
 abbrev pub trait_vis : TraitId → List (TraitId × Visibility × Option ImportId) → Option Visibility
 trait_vis t [] = None
 trait_vis t (e ∷ es) = if nat_eq e.0.0 t.0 then Some e.1 else trait_vis t es

@@ -157,7 +157,8 @@ impl<D: Definition, I: ImportSource> Bindings<D, I> {
         Ok(effective)
     }
 
-    /// The push. A vacant name goes into the table itself, where the import is no glob and no flag stands.
+    /// The push, with a fast path: a vacant name is moved into the table, not copied, where the import is no glob and
+    /// no flag stands.
     fn push_named(
         &mut self,
         flags: &mut GlobFlags,
@@ -243,7 +244,8 @@ impl<D: Definition, I: ImportSource> Bindings<D, I> {
         self.records.len()
     }
 
-    /// The first step of a push: new keys go last. The second step cannot fail.
+    /// The first step of a push, which makes all its allocations: new keys go last. The second step cannot fail, so a
+    /// push is all or nothing.
     pub(crate) fn grow(
         &mut self,
         flags: &mut GlobFlags,
@@ -277,7 +279,7 @@ impl<D: Definition, I: ImportSource> Bindings<D, I> {
         }
     }
 
-    /// Takes the first step of a push back.
+    /// Undoes the first step of a push.
     pub(crate) fn undo(&mut self, flags: &mut GlobFlags, new: NewKeys, m: ModuleId, name: &Name)
         ensures bindings { self.new ≡ without_keys self.old new.item new.record_key }
         ensures flags { flags.new ≡ flags_undone flags.old m name.now new.flag }

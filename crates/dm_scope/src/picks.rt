@@ -52,7 +52,7 @@ impl Pick<(ImplId, bool)> for InherentImpl {
     }
 }
 
-/// Shows the module that a type is, and who sees it.
+/// Shows the module that a type is, with its visibility.
 #[derive(Clone, Copy)]
 pub struct ModuleType;
 

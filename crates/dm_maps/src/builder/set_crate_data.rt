@@ -89,9 +89,9 @@ impl WorldBuilder {
         self.set_one(krate, CrateSetting::ProcMacro(f, m))
     }
 
-    /// Sets many things for a crate: what stands, and what is refused, is as of the calls above, one for each in order.
+    /// Sets many things for a crate: the result and the errors are those of the calls above, one for each in order.
     ///
-    /// The crate's data is copied once, however many things are set. Where there are none, nothing is refused.
+    /// The crate's data is copied once, however many things are set. Where there are none, there is no error.
     pub fn set_crate_data(
         &mut self,
         krate: Crate,

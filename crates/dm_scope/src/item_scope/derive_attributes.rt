@@ -68,7 +68,7 @@ impl ItemScope {
     }
 
     /// Fills a slot of an item's derive attribute, in the first entry of that attribute; does nothing where there is
-    /// none. Takes no memory. `derive_slots` tells how many slots there are.
+    /// none. Takes no memory, since `init_derive_attribute` made the slots. `derive_slots` tells how many there are.
     pub fn set_derive_macro_invoc(
         &mut self,
         adt: AstId,

@@ -56,7 +56,8 @@ impl ItemScope {
         Ok(answer)
     }
 
-    /// The push. Where it has one item, the table of that namespace takes the name, and no step has to be taken back.
+    /// The push, with a fast path for one item: the name is moved into the table of its namespace, and there is no step
+    /// to undo.
     fn push_named(
         &mut self,
         globs: &mut PerNsGlobImports,
@@ -83,8 +84,8 @@ impl ItemScope {
         }
     }
 
-    /// The push, in all namespaces: the first step, then all that is below, then the second step, or all taken back.
-    // It stays a call, so that a push of one item need not read the others.
+    /// The push, in all namespaces: the first step, then all that is below, then the second step, or all undone.
+    // Not inlined, so that a push of one item need not read the others.
     #[inline(never)]
     fn push_from_types(
         &mut self,
