@@ -4,7 +4,7 @@ ghost use Rattle.std.specs.Prelude.{◌≡◌, ◌+◌, ◌-◌, ◌*◌, ◌^�
 use dm_base::imports::ImportId;
 
 /// An import that a walk has passed: the one that it came to after 1, 2, 4, .. steps, whichever was
-/// the last. In a cycle the walk meets it again, and stops long before it has counted down all records.
+/// the last. In a cycle the walk meets it again, so that it need not count down all records.
 #[derive(Clone, Copy)]
 pub(crate) struct Passed {
     pub(crate) import: Option<ImportId>,
