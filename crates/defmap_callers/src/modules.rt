@@ -1,5 +1,4 @@
-//! A world of scopes that is no checked one: what is generic over such worlds is proved and run at
-//! this type too.
+//! A mock of a checked world, of scopes alone: code that is generic over worlds is proved and run with this type too.
 ghost use Rattle.defmap_callers.specs.Modules.{tables_of};
 
 use bitflags::Flags;

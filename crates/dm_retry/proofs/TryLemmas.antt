@@ -50,7 +50,7 @@ found-some w p x is = by (is_none a.segment_index && not (is_empty a.resolved_de
         ap is_empty (sym same) ∙ (λ i. item-seen p.visibility y.types i && item-seen p.visibility y.values i && item-seen p.visibility y.macros i) ∙ not-true (is_empty y) ((and_parts _ _ some).1)
     by false none is = cc
 
--- ---- A try that changes no binding
+-- ---- A try that changes nothing
 
 pub idle-world : (w : World) (g : Globs) (p : Pending) → brings w g p ≡ false → world_after w g p (found w p) ≡ w
 idle-world w g p none = by (found w p) refl none

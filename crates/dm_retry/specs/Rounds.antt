@@ -73,7 +73,7 @@ abbrev pub answered : World → Globs → Pending → Option PerNs → Bool
 answered w g p None = false
 answered w g p (Some x) = push_answer (scope_of w p.origin) g p.origin p.name x (by_import p)
 
--- whether a try of the import pushes, and its push changes a binding
+-- whether a try of the import pushes, and its push changes the scope
 abbrev pub brings : World → Globs → Pending → Bool
 brings w g p = answered w g p (found w p)
 
@@ -94,7 +94,7 @@ awoken n p = marked (p.due || among p.path.segments n) p
 abbrev pub name_at : List Pending → ℕ → Name
 name_at ps i = option_map_or (λ p. p.name) (slice_get ps i) []
 
--- The imports after a try of the one at place i: it is no longer due; and where its push changed a binding, each import
+-- The imports after a try of the one at place i: it is no longer due; and where its push changed the scope, each import
 -- whose path has the pushed name as a segment is due.
 abbrev pub marked_after : List Pending → ℕ → Bool → List Pending
 marked_after ps i written = let rest = marked_at ps i false in if written then map (awoken (name_at ps i)) rest else rest

@@ -37,7 +37,7 @@ brings due = record {
   due = due;
 }
 
--- a push of the second that changes a binding makes the first due, and the second is no longer due
+-- a push of the second that changes the scope makes the first due, and the second is no longer due
 second_wakes_first : marked_after (needs false ∷ brings true ∷ []) 1 true ≡ needs true ∷ brings false ∷ []
 second_wakes_first = refl
 

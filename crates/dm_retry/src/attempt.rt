@@ -72,7 +72,7 @@ fn found(world: &World, pending: &Pending) -> Option<PerNs>
     }
 }
 
-/// Tries an import: pushes what it resolves to, if anything. Answers whether the push changed a binding. Where an
+/// Tries an import: pushes what it resolves to, if anything. Answers whether the push changed the scope. Where an
 /// allocation fails, nothing changes.
 pub(crate) fn attempt(
     world: &mut World,

@@ -75,7 +75,7 @@ impl Retry {
         }
     }
 
-    /// Tries each import once, in order, whether it is due or not. Answers whether a push changed a binding: a fixed
+    /// Tries each import once, in order, whether it is due or not. Answers whether a push changed the scope: a fixed
     /// point is reached where none did.
     ///
     /// Where an allocation fails, the tries before the failed one are kept, and its import is due.
