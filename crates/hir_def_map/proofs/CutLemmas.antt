@@ -1,4 +1,4 @@
--- An answer reads of a world only what stands under the path's segments.
+-- Path resolution reads of a world only what it says of the names in the path.
 use Rattle.std.proofs.Common.{◌≡◌, List, [], ◌∷◌, refl, sym, ◌∙◌, map}
 use Rattle.std.specs.List.{All, Contains}
 use Rattle.std.proofs.lemmas.List.Elements.{All-contains_itself, All-head, All-tail}

@@ -1,4 +1,4 @@
--- The modules and crates that written visibilities name are the world's.
+-- The modules and crates that raw visibilities resolve to are the world's.
 use Rattle.std.proofs.Common.{◌≡◌, ◌||◌, ℕ, Bool, true, false, cond, IsTrue, Option, Some, None, length, refl, subst}
 use Rattle.std.specs.Option.{ForSome, option_and_then, option_map}
 use Rattle.std.proofs.lemmas.Bool.{lt-ltb}

@@ -1,4 +1,4 @@
--- What visibilities mean that are written: `pub`, `pub(crate)`, `pub(self)`, `pub(in path)`.
+-- Resolution of raw visibilities: `pub`, `pub(crate)`, `pub(self)`, `pub(in path)`.
 use Rattle.std.specs.Prelude.{◌≡◌, ◌||◌, ℕ, Bool, true, false, IsSome, List, [], Option, Some, None, if◌then◌else◌, map}
 use Rattle.std.specs.Option.{option_map, option_map_or, option_and_then}
 use Rattle.dm_ids.specs.declared.ids.BlockId.{BlockId}

@@ -1,4 +1,4 @@
--- Worked rows: what visibilities mean that are written, as equations that compute.
+-- Examples: what raw visibilities resolve to, as equations that compute.
 use Rattle.std.specs.Prelude.{◌≡◌, [], ◌∷◌, Some, true, false, codes, refl}
 use Rattle.dm_base.specs.declared.mod_path.PathKind.TheVariants as kind
 use Rattle.dm_base.specs.declared.visibility.RawVisibility.TheVariants as raw

@@ -1,4 +1,4 @@
--- A walk along the segments of a path: the plain program of which the answer at the stop is the meaning.
+-- Path resolution as a walk along the segments: the plain program, which gives the answer at the stop (specs/Paths).
 use Rattle.std.specs.Prelude.{ℕ, ◌+◌, Bool, true, false, List, [], ◌∷◌, Option, Some, None, if◌then◌else◌}
 use Rattle.dm_ids.specs.declared.ids.ModuleId.{ModuleId}
 use Rattle.dm_ids.specs.declared.imports.ImportOrExternCrate.{ImportOrExternCrate}

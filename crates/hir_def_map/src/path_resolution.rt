@@ -1,4 +1,4 @@
-//! Paths, resolved over a checked world.
+//! Path resolution over a checked world.
 ghost use Rattle.std.specs.Prelude.{◌≡◌, None, Some, IsSome, IsTrue, length};
 ghost use Rattle.std.specs.Option.{ForSome};
 ghost use Rattle.dm_base.specs.Tree.{IsKnown};
@@ -30,7 +30,7 @@ use dm_maps::local_def_map::LocalDefMap;
 use dm_maps::modes::{BuiltinShadowMode, MacroSubNs};
 use dm_maps::world::World;
 
-/// What a map resolves. No call takes memory (docs/RULES.md, "Paths").
+/// What a map resolves. No call allocates (docs/RULES.md, "Paths").
 ///
 /// A question has an origin, the module that asks; the local map, which is the extern prelude, as `local_def_map` gives a crate's;
 /// a mode, of an import or not; `shadow`, whether builtin types may go before modules; and what kind of macro is expected. It has
@@ -331,7 +331,7 @@ impl ResolvePath for DefMap {
     }
 }
 
-/// A module of a map of the world is known, and so are the map's root and crate. It does nothing: what a question requires says it.
+/// A lemma, as a function without effect: a module of a map of the world is known, and so are the map's root and crate.
 fn origin_known(world: &World, map: &DefMap, m: ModuleId)
     requires map { numbered_map world.now map.now.id ≡ Some map.now }
     requires lies { IsSome (module_at map.now.modules m) }

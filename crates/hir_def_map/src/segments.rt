@@ -1,4 +1,4 @@
-//! The segments of a path after the first, one after another.
+//! Resolves the segments of a path after the first, one after another.
 ghost use Rattle.std.specs.Prelude.{◌≡◌, ◌≤◌, [], ◌∷◌, map};
 ghost use Rattle.std.specs.Option.{ForSome, option_copied};
 ghost use Rattle.dm_base.specs.PerNs.{keep, seen_by};

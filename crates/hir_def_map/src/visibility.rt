@@ -1,4 +1,5 @@
-//! Who sees an item, and what visibilities mean that are written (docs/RULES.md, "Visibilities as they are written").
+//! Resolves raw visibilities, and tells the visibility of fields and associated items (docs/RULES.md, "Visibilities as
+//! they are written").
 ghost use Rattle.std.specs.Prelude.{◌≡◌, IfOk};
 ghost use Rattle.std.specs.List.{AllByRecursion};
 ghost use Rattle.dm_ids.specs.declared.item_ids.AssocItemId.{AssocItemId};
@@ -56,12 +57,12 @@ pub(crate) fn restricted(world: &World, map: &DefMap, within_impl: bool, m: Modu
     }
 }
 
-/// What resolves visibilities: `Visibility` itself.
+/// Resolution of raw visibilities, as functions of `Visibility`.
 pub trait ResolveVisibility {
     /// What a visibility means that is written in a module of a map: public where its path leads to no module.
     ///
     /// The map has to be the world's of its id, the module one of it, and the world has to know local map and path
-    /// (`World::knows_local`, `World::knows_path`). Takes no memory.
+    /// (`World::knows_local`, `World::knows_path`). Allocates nothing.
     fn resolve(
         world: &World,
         map: &DefMap,
@@ -92,8 +93,8 @@ impl ResolveVisibility for Visibility {
 
 /// What a visibility means that is written in a module, by the module's own map and the extern prelude of its crate.
 ///
-/// The world has to know the path (`World::knows_path`). Of a module that it does not have, anything is public. Takes no
-/// memory.
+/// The world has to know the path (`World::knows_path`). In a module that it does not have, everything is public.
+/// Allocates nothing.
 pub fn visibility_from_raw(
     world: &World,
     m: ModuleId,
@@ -118,7 +119,7 @@ pub struct VariantFields;
 impl VariantFields {
     /// Who sees each field of a variant, a struct or a union of the world's, in order; none where no fields were set.
     ///
-    /// Refused is want of memory alone.
+    /// Fails only where an allocation fails.
     pub fn field_visibilities(
         alloc: Global,
         world: &World,
@@ -173,8 +174,8 @@ pub trait AssocVisibility {
     /// The item, as contracts see it.
     ghost item: { Self → AssocItemId };
 
-    /// Who sees an associated item of the world's: in a trait who sees the trait, else by its own visibility, which
-    /// in an `impl` may name a module of any block. Takes no memory.
+    /// The visibility of an associated item of the world's: in a trait that of the trait, else its own, which in an
+    /// `impl` may name a module of any block. Allocates nothing.
     fn assoc_visibility(self, world: &World) -> Visibility
         requires { KnowsAll world.now (def_holds (assoc_def (item self))) }
         ensures value { result ≡ assoc_visibility_of world.now (item self) }
