@@ -1,4 +1,4 @@
--- What the words of a script stand for. A word of another form stands for nothing.
+-- Grammar of the words of a script. A word of another form is parsed to none.
 use Rattle.std.specs.Prelude.{ℕ, ◌==◌, ◌&&◌, nat_lt, List, [], ◌∷◌, Option, Some, None, if◌then◌else◌, length, codes}
 use Rattle.std.specs.Char.{is_ascii_digit}
 use Rattle.std.specs.List.{list_all}

@@ -1,4 +1,4 @@
-//! One word of a script, as the value that it stands for. A word of another form stands for none.
+//! Parses one word of a script; none where it has another form.
 ghost use Rattle.std.specs.Prelude.{◌≡◌, drop};
 ghost use Rattle.std.specs.Char.{is_ascii_digit};
 ghost use Rattle.std.specs.List.{list_all};
