@@ -1,6 +1,7 @@
-//! Data of a crate, set by one call and by single calls, each made once more where memory is refused.
+//! Fault injection: data of a crate, set by one call and by single calls, each made again where an allocation fails.
 //!
-//! With ample memory none is. `tools/refusals` runs this test with each request for memory refused in turn.
+//! With enough memory none fails. `tools/refusals` injects faults: it runs this test with every allocation failing in
+//! turn.
 use crate::tests::gives;
 use crate::tests::worlds::{Building, map_at};
 use dm_base::ids::{Crate, FunctionId, ProcMacroId};
