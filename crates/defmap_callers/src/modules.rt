@@ -10,7 +10,7 @@ use dm_base::per_ns::Namespace;
 use dm_scope::item_scope::ItemScope;
 use dm_scope::scope_tables::ScopeTables;
 
-/// The scopes of modules, by number. Each use stands in the module of its number.
+/// The scopes of modules, by number. Each use is in the module of its number.
 #[derive(Drop)]
 pub struct Modules {
     pub scopes: Vec<ItemScope>,

@@ -189,7 +189,7 @@ fn push_within(
     Ok(Reply::Pushed(written))
 }
 
-/// What a path means in a world.
+/// What a path resolves to in a world.
 fn answer(world: &World, alloc: Global, question: Question<'_>) -> Result<Reply, Fault>
     ensures { Answers world.now (asking question.entry) result }
 {

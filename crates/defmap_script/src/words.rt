@@ -208,7 +208,7 @@ pub(crate) fn types_item(word: &str) -> Option<Option<TypesItem>>
     }))
 }
 
-/// As a types item, but no extern crate brings a value.
+/// As a types item, but no `extern crate` item imports a value.
 pub(crate) fn values_item(word: &str) -> Option<Option<ValuesItem>>
     ensures { result ≡ values_word word.now }
 {

@@ -37,8 +37,8 @@ first_double ps = double_from 0 ps
 abbrev pub first_unknown : World → List Pending → Option ℕ
 first_unknown w ps = position_from (λ p. not (is_known w p)) 0 ps
 
--- Why imports are not taken, and the place of the one that is meant: a double one before an unknown part; nothing where they
--- are taken.
+-- Why imports are not taken, and the place of the one that is meant: a duplicate before an unknown id; nothing where
+-- they are taken.
 abbrev pub refusal : World → List Pending → Option (RetryFault × ℕ)
 refusal w ps = option_or (option_map (λ i. (DoubleImport, i)) (first_double ps)) (option_map (λ i. (UnknownPart, i)) (first_unknown w ps))
 

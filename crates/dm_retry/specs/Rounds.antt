@@ -99,7 +99,7 @@ name_at ps i = option_map_or (λ p. p.name) (slice_get ps i) []
 abbrev pub marked_after : List Pending → ℕ → Bool → List Pending
 marked_after ps i written = let rest = marked_at ps i false in if written then map (awoken (name_at ps i)) rest else rest
 
--- a try of the import p, which stands at place i
+-- a try of the import p at place i
 abbrev pub tried : State → ℕ → Pending → State
 tried s i p = record {
   world = world_after s.world s.globs p (found s.world p);
@@ -110,7 +110,7 @@ tried s i p = record {
 abbrev pub try_at : State → ℕ → State
 try_at s i = option_map_or (tried s i) (slice_get s.pending i) s
 
--- whether the push of that try answers true, and whether its import is due
+-- whether the push of that try changes the scope, and whether its import is due
 abbrev pub brings_at : State → ℕ → Bool
 brings_at s i = option_map_or (brings s.world s.globs) (slice_get s.pending i) false
 
@@ -122,7 +122,7 @@ abbrev pub after : State → ℕ → State
 after s zero = s
 after s (suc n) = try_at (after s n) n
 
--- whether a push of those tries answers true
+-- whether a push of those tries changes a scope
 abbrev pub any_brings : State → ℕ → Bool
 any_brings s zero = false
 any_brings s (suc n) = any_brings s n || brings_at (after s n) n
@@ -132,7 +132,7 @@ abbrev pub due_turns : State → ℕ → ℕ
 due_turns s zero = 0
 due_turns s (suc n) = due_turns s n + (if is_due (after s n) n then 1 else 0)
 
--- A round: a try of each import in order, due or not; and whether a push of it answers true.
+-- A round: a try of each import in order, due or not; and whether a push of it changes a scope.
 abbrev pub round : State → State
 round s = after s (length s.pending)
 

@@ -60,11 +60,11 @@ next_module_in t f _ = None
 abbrev pub next_module : Tree → ModuleId → PerNs → Option ModuleId
 next_module t f x = option_and_then (λ i. next_module_in t f i.def) x.types
 
--- what stands after a module and a segment: what the module's scope binds under it, each item kept where f sees it
+-- what a segment after a module resolves to: what the module's scope binds under it, each item kept where f sees it
 abbrev pub seen_in : Tree → ModuleId → Reading → ModuleId → PerNs
 seen_in t f s m = seen_by (λ v. sees t v f) (s.bound m)
 
--- a station: what stands at a position, and the segments from there on
+-- a station: what the segments before a position resolve to, and the segments from there on
 pub record Station : Type 0 where
   pub position : ℕ
   pub here : PerNs
@@ -104,7 +104,7 @@ at_definition enter i j s rest (def.ModuleId m) = from_other_crate j (enter m (s
 at_definition enter i j s rest (def.AdtId a) = at_adt i j s (is_empty rest) a
 at_definition enter i j s rest _ = stopped i j
 
--- the answer at the stop: what stands there at the end, else by what stands there in types
+-- the answer at the stop: what is resolved there if it is the end, else by the type that is resolved there
 abbrev pub at_stop : Entering → Station → ResolvePathResult
 at_stop enter j = elim j.rest [
   | [] ↦ reached j.here

@@ -173,7 +173,7 @@ impl Waiting {
         Ok([self.round(all)?, self.round(all)?, self.round(all)?])
     }
 
-    /// What the first import stands for.
+    /// What the first import resolves to.
     fn first_import(&self) -> Option<PerNs> {
         let world = self.retry.world();
         let module = world.map_of(ROOT)?.get(ROOT)?;
@@ -181,7 +181,7 @@ impl Waiting {
     }
 }
 
-/// The three rounds of a kind, and what the first import stands for afterwards.
+/// The three rounds of a kind, and what the first import resolves to afterwards.
 fn rounds(alloc: Global, all: bool) -> Result<Option<([Row; 3], Option<PerNs>)>, BuildFault> {
     match taken(alloc, two_imports(alloc)?)? {
         Err(_) => Ok(None),
@@ -267,7 +267,7 @@ fn where_none_waits_a_round_brings_nothing(rt: HostRuntime) -> Result<(), Fail> 
     gives(&rt, idle(rt.alloc()), Some([(false, 0, None, None); 2]))
 }
 
-/// What the first import stands for after rounds of both kinds.
+/// What the first import resolves to after rounds of both kinds.
 fn mixed(alloc: Global) -> Result<Option<PerNs>, BuildFault> {
     match taken(alloc, two_imports(alloc)?)? {
         Err(_) => Ok(None),
@@ -284,7 +284,7 @@ fn rounds_of_both_kinds(rt: HostRuntime) -> Result<(), Fail> {
     gives(&rt, mixed(rt.alloc()), Some(the_struct()))
 }
 
-/// What an import is: where it stands, whether it binds `Y`, how many segments its path has, who sees it, and which it is.
+/// What an import is: its module, whether it binds `Y`, how many segments its path has, its visibility, and its id.
 type Read = (ModuleId, bool, usize, Visibility, ImportId);
 
 fn read(pending: &Pending) -> Read {

@@ -172,7 +172,7 @@ fn tell_extern(state: &mut DefaultHasher, world: &World, words: &Words) {
     }
 }
 
-/// What stands in the tables that belong to no map, each visibility by whether it is there.
+/// The tables that belong to no map, each visibility by whether it is there.
 fn tell_visibilities(state: &mut DefaultHasher, world: &World, words: &Words) {
     match world.raw_fields_of(VariantId::StructId(STRUCT)) {
         None => 0usize.hash(state),

@@ -94,7 +94,7 @@ fn told(map: &DefMap, feature: &Symbol) -> Told {
     )
 }
 
-/// Whether the two tools stand in order behind the five that every crate has.
+/// Whether the two tools follow, in order, the five that every crate has.
 fn has_tools(map: &DefMap) -> bool {
     let tools = map.registered_tools();
     match (tools.get(5), tools.get(6)) {

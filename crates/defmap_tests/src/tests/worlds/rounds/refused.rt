@@ -35,7 +35,7 @@ fn may_be(refusal: Refusal, all: bool) -> bool {
     refusal == FIRST || refusal == SECOND || (all && OF_ALL_ALONE.contains(&refusal))
 }
 
-/// What two names mean in the root, and what the first import stands for.
+/// What two names mean in the root, and what the first import resolves to.
 type End = ([PerNs; 2], Option<PerNs>);
 
 impl Waiting {
