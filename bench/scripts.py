@@ -1,9 +1,9 @@
 #!/usr/bin/env python3
-"""Scripts for `defmap_tool` (docs/SCRIPT.md): worlds of a shape and a size, with questions.
+"""Generates scripts for `defmap_tool` (docs/SCRIPT.md): worlds of a shape and a size, with questions.
 
 usage: bench/scripts.py SHAPE MODULES [--paths N] [--sees N] [--no-pushes]
 
-The same words give the same script: what is drawn comes from a generator of random numbers that starts alike each time.
+The same arguments give the same script: the random numbers come from a generator with a fixed seed.
 
 thin       a tree at most 20 deep, where each module declares five structs
 line       the same, where each module lies in the one before

@@ -1,4 +1,4 @@
-"""Wrong bodies, and harmless ones: how they are read, and which functions they turn."""
+"""Mutants ("wrong bodies"), and harmless (equivalent) ones: how they are read, and which functions they change."""
 import difflib
 import os
 import re
@@ -18,7 +18,7 @@ class Unappliable(Exception):
 
 @dataclass
 class Body:
-    """A wrong body: what it writes in place of which lines, and which functions it turns."""
+    """A mutant: which lines it replaces by what, and which functions it changes."""
 
     crate: str
     name: str
@@ -29,7 +29,7 @@ class Body:
     why: str = ""
 
     def meets(self, other):
-        """Whether both turn one function, or write over the same or neighbouring lines; a constant may be any function's."""
+        """Whether both change one function, or the same or neighbouring lines; a constant may belong to any function."""
         if self.functions & other.functions or not self.functions or not other.functions:
             return True
         return any(
@@ -68,7 +68,7 @@ def edited(folder, edit, parts):
 
 
 def changed_lines(before, after):
-    """The runs of lines that differ, each with what stands in its place."""
+    """The runs of lines that differ, each with what replaces it."""
     matcher = difflib.SequenceMatcher(None, before, after, autojunk=False)
     return [(i, j, after[k:l]) for tag, i, j, k, l in matcher.get_opcodes() if tag != "equal"]
 
@@ -102,7 +102,7 @@ def block_name(head, text):
 
 
 def function_at(path, lines, at):
-    """The function whose body the line stands in; none for a constant."""
+    """The function whose body contains the line; none for a constant."""
     module = re.sub(r"^src/|\.rt$", "", path).replace("/", "::").removesuffix("::mod")
     module = "" if module in ("lib", "main") else module
     for i in range(min(at, len(lines) - 1), -1, -1):
@@ -115,7 +115,7 @@ def function_at(path, lines, at):
             block = BLOCK.match(lines[j])
             if block:
                 head = " ".join(it.strip() for it in [block[2], *lines[j + 1 : j + 4]])
-                # what an impl of no trait has goes by its type alone, wherever it stands
+                # items of an inherent impl are named by their type alone, whatever the module of the impl
                 is_of_type = block[1] == "impl" and " for " not in head.split("{")[0]
                 return "" if is_of_type else module, block_name(block[1], head), found[2]
     return None
@@ -143,18 +143,18 @@ def files_of(folder):
 
 
 def bodies_of(crate):
-    """The wrong bodies of a crate."""
+    """The mutants of a crate."""
     folders = (f"{ROOT}/crates/{crate}/{part}" for part in ("must-fail", "wrong-bodies"))
     return [read_body(crate, path) for folder in folders for path in files_of(folder)]
 
 
 def partners_of(crate):
-    """The harmless bodies of a crate."""
+    """The harmless (equivalent) mutants of a crate."""
     return [read_body(crate, path, True) for path in files_of(f"{ROOT}/tools/harmless-bodies/{crate}")]
 
 
 def in_batches(bodies):
-    """The bodies in lists in which no two meet."""
+    """The mutants in lists in which no two meet."""
     batches = []
     for body in bodies:
         for batch in batches:

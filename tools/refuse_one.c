@@ -1,10 +1,10 @@
-/* Refuses one request for memory of the program that it is loaded into, for tools/refusals.
+/* Fault injection for tools/refusals: makes one allocation fail in the program that it is loaded into.
  *
- * It stands before the C library by LD_PRELOAD. REFUSED says which request is refused, counted from 1 since the program began,
- * and TOLD_TO is the number of an open file, to which it writes one byte when it refuses. Where REFUSED is 0 none is refused,
- * and it writes one byte for each request.
+ * It is loaded before the C library by LD_PRELOAD. REFUSED says which allocation fails, counted from 1 since the program
+ * began, and TOLD_TO is the number of an open file, to which it writes one byte when that happens. Where REFUSED is 0 none
+ * fails, and it writes one byte for each allocation.
  *
- * It needs glibc on x86-64: it hands requests on by names that glibc alone has, and is built for that machine.
+ * It needs glibc on x86-64: it forwards calls to functions that glibc alone has, and is built for that machine.
  */
 #ifndef __x86_64__
 #error "refuse_one.c needs glibc on x86-64"

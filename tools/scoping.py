@@ -1,4 +1,5 @@
-"""The rules of docs/RULES.md, computed over the lines of a script; each departure of the crate's own code is a switch.
+"""A reference model: the rules of docs/RULES.md, computed over the lines of a script; each departure of the crate's own
+code is a switch.
 
 A `World` takes the lines that build and push, and answers paths and imports. With no departure it answers by the rules, by
 version 1 of them. With all of DEPARTURES it answers as the crate's own code does. It reads lines that the program accepts, and
@@ -31,7 +32,7 @@ class Hang(Exception):
 
 @dataclass
 class Scope:
-    """What one module's scope holds: bindings and records of each namespace, and legacy macros by name."""
+    """An item scope: bindings and import records of each namespace, and legacy macros (textual scope) by name."""
 
     bound: tuple = field(default_factory=lambda: ({}, {}, {}))
     records: tuple = field(default_factory=lambda: ({}, {}, {}))
@@ -44,7 +45,7 @@ class Scope:
 
 @dataclass
 class Map:
-    """The map of a crate or of a block: its root, the module that contains it, and its preludes."""
+    """The def map of a crate or of a block: its root, the module that contains it, and its preludes."""
 
     id: str
     krate: int
@@ -286,7 +287,7 @@ class World:
         return self.scopes[m].get(name)
 
     def overlaid(self, *layers):
-        """Layers over one another; one that is behind a full answer is not asked."""
+        """Layers, each of which shadows the next; one below a complete answer is not asked."""
         items = NOTHING
         for layer in layers:
             if None not in items:
@@ -418,7 +419,7 @@ class World:
     # ---- Chains of imports
 
     def chain_end(self, m, asked, namespace):
-        """The last import of a chain, and what it stands for, or nothing."""
+        """The last import of a chain of re-exports, and what it resolves to, or nothing."""
         scope, at, seen = self.scopes[m], asked, set()
         while True:
             record = scope.records[namespace].get(at)

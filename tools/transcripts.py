@@ -1,5 +1,4 @@
-"""The transcripts that stand in the tests of crates/defmap_tests. A test reads no file, so they are texts in its source;
-this is what reads them for a program."""
+"""Reads the transcripts out of the tests of crates/defmap_tests. A test reads no file, so they are texts in its source."""
 import os
 import re
 

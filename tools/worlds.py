@@ -1,5 +1,5 @@
 #!/usr/bin/env python3
-"""Random worlds with questions, as scripts for `defmap_tool` (docs/SCRIPT.md), over the whole language but `rules`.
+"""Generates random worlds with questions, as scripts for `defmap_tool` (docs/SCRIPT.md), over the whole language but `rules`.
 
 usage: tools/worlds.py SEED
        tools/worlds.py --check [--bin FOLDER] [--count N]
@@ -357,7 +357,7 @@ def script_of(seed):
 
 
 def kinds_of_answer(printed):
-    """What kinds of answer stand in what was printed."""
+    """Which kinds of answer were printed."""
     for line in printed.splitlines():
         words = line.split()
         if line.startswith("refused "):

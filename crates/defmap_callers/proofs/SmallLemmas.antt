@@ -1,4 +1,4 @@
--- The small tree is a tree: its laws are tested at each of its modules.
+-- The small mock tree is a tree: the laws of trees are tested at each of its modules.
 use Rattle.std.proofs.Common.{◌≡◌, ◌<◌, Bool, true, false, ◌&&◌, Option, Some, is_some, nat_lt, refl, sym, ap, ◌∙◌}
 use Rattle.std.proofs.lemmas.Bool.{and_parts, ltb-true, agree_below_at}
 use Rattle.std.specs.Option.{option_map_or}

@@ -1,4 +1,4 @@
--- What is asked of the maps of a world.
+-- Queries on the def maps of a world.
 use Rattle.std.specs.Prelude.{Option, option_and_then}
 use Rattle.dm_ids.specs.declared.ids.ModuleId.{ModuleId}
 use Rattle.dm_ids.specs.Names.{Name, find_name}

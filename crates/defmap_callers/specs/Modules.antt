@@ -1,4 +1,4 @@
--- A world of scopes for tests: each use stands in the module of its number.
+-- A mock world of scopes for tests: each use is in the module of its number.
 use Rattle.std.specs.Prelude.{List, Option, None, Some, codes}
 use Rattle.dm_ids.specs.Names.{same_name}
 use Rattle.dm_ids.specs.Styles.{fn_like, derive}

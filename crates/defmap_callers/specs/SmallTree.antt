@@ -1,4 +1,4 @@
--- A tree of modules in two tables, and a small one.
+-- A mock module tree in two tables, and a small instance of it.
 use Rattle.std.specs.Prelude.{ℕ, List, [], ◌∷◌, Some, None, nat_lt, length, slice_get}
 use Rattle.std.specs.Option.{option_map_or, option_and_then}
 use Rattle.dm_ids.specs.declared.ids.ModuleId.{ModuleId}

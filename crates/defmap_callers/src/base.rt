@@ -1,4 +1,4 @@
-//! The callers that docs/USING.md shows.
+//! Example callers, shown in docs/USING.md: items per namespace, visibility and the module tree.
 ghost use Rattle.std.specs.Prelude.{◌≡◌, ◌↔◌, ◌&&◌, IsTrue, IfOk, None, map, true};
 ghost use Rattle.std.specs.Option.{ForSome};
 ghost use Rattle.dm_base.specs.PerNs.{items_of, over, seen_by, type_alone};
@@ -36,14 +36,14 @@ pub fn type_or(items: PerNs, def: ModuleDefId) -> PerNs
     )
 }
 
-/// Three layers as one, the first uppermost.
+/// Three layers as one: the first shadows the others.
 pub fn layered<T: Overlay>(upper: T, middle: T, lower: T) -> T
     ensures { result ≡ T.overlaid upper (T.overlaid middle lower) }
 {
     upper.over(middle).over(lower)
 }
 
-/// Whether two values are one.
+/// Whether two values are equal.
 pub fn are_one<T: ValueEq>(one: &T, two: &T) -> bool
     ensures { IsTrue result ↔ (one.now ≡ two.now) }
 {
@@ -76,7 +76,7 @@ pub fn seen_from<T: ModuleTree>(tree: &T, from: ModuleId, items: PerNs) -> PerNs
     items.filter_visibility(|vis| vis.is_visible_from(tree, from))
 }
 
-/// The first visibility, widened by the second where one of them is the most: whoever saw the item still does.
+/// The more permissive of two visibilities, or the first where neither is: whoever saw the item still does.
 pub fn widened_by<T: ModuleTree>(
     tree: &T,
     map: MapId,

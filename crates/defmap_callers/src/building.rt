@@ -1,4 +1,4 @@
-//! The callers that docs/USING.md shows: modules that are built in a loop, and what they bind.
+//! Example callers, shown in docs/USING.md: modules that are built in a loop, and what they bind.
 ghost use Rattle.std.specs.Prelude.{◌≡◌, ◌++◌, ◌∷◌, [], All, IfOk, IsTrue, OnErr, OnOk, length};
 ghost use Rattle.dm_ids.specs.declared.ids.ModuleId.{ModuleId};
 ghost use Rattle.dm_scope.specs.Scope.{no_scope};
@@ -55,9 +55,9 @@ fn list(modules: &mut Vec<ModuleId>, m: ModuleId) -> Result<(), AllocError>
 /// Why no world was made.
 #[derive(Drop, Debug)]
 pub enum NotMade {
-    /// The tables hold an id that is not their own.
+    /// The tables hold a dangling id.
     Dangling(WorldFault),
-    /// A declaration was refused.
+    /// A declaration failed.
     Undeclared(Refused),
 }
 

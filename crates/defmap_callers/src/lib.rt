@@ -1,5 +1,5 @@
-//! The callers that docs/USING.md shows, each proved by the contracts of what it calls alone, and two types that implement
-//! the traits of `dm_base` and `dm_scope` beside a checked world.
+//! Example callers, shown in docs/USING.md, each proved from the contracts of what it calls alone, and two types that
+//! implement the traits of `dm_base` and `dm_scope` besides a checked world.
 #![tactic(auto)]
 
 pub mod base;

@@ -1,4 +1,4 @@
-//! The callers that docs/USING.md shows.
+//! Example callers, shown in docs/USING.md: builders, checked worlds, and their def maps.
 ghost use Rattle.std.specs.Prelude.{◌≡◌, ◌∷◌, [], false, None, Some, IfOk, IfSome, IsSome, IsTrue, OnErr, OnOk, length, nat_lt, slice_get};
 ghost use Rattle.std.specs.List.{filter_map};
 ghost use Rattle.dm_ids.specs.declared.ids.ModuleId.{ModuleId};
@@ -53,7 +53,7 @@ pub fn rechecked(world: World) -> World
     }
 }
 
-/// The world of the same tables that answers by another version of the rules: they stay checked.
+/// The world of the same tables that answers by another version of the scoping rules: they stay checked.
 pub fn by_version(world: World, rules: Rules) -> World
     ensures { result ≡ with_rules world rules }
 {
@@ -95,7 +95,7 @@ pub fn enable_both(
     Ok(())
 }
 
-/// Why a declaration is refused.
+/// Why a declaration fails.
 #[derive(Clone, Copy, PartialEq, Eq, Debug)]
 pub enum Refused {
     /// The module or the definition is not the world's.
@@ -138,8 +138,8 @@ pub fn child_of<'a>(world: &'a World, m: ModuleId, name: &Name) -> Option<&'a Mo
     Some(map.module(child))
 }
 
-/// The first child of a name that a module has, or one of those that contain its block and so on outwards. Each map that is asked has
-/// the module that it is asked about, so the asker takes that without a test.
+/// The first child of a name that a module has, or one of those that contain its block and so on outwards. Each map
+/// that the closure is called with has the module that it is called with, so the closure need not test that.
 pub fn child_outwards(world: &World, m: ModuleId, name: &Name) -> Option<ModuleId>
     ensures { (map : Map) → map_of world.now m ≡ Some map → result ≡ slice_get (filter_map (child_in name.now) (maps_outwards world.now map m)) 0 }
 {

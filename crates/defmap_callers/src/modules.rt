@@ -1,5 +1,4 @@
-//! A world of scopes that is no checked one: what is generic over such worlds is proved and run at
-//! this type too.
+//! A mock of a checked world, of scopes alone: code that is generic over worlds is proved and run with this type too.
 ghost use Rattle.defmap_callers.specs.Modules.{tables_of};
 
 use bitflags::Flags;
@@ -11,7 +10,7 @@ use dm_base::per_ns::Namespace;
 use dm_scope::item_scope::ItemScope;
 use dm_scope::scope_tables::ScopeTables;
 
-/// The scopes of modules, by number. Each use stands in the module of its number.
+/// The scopes of modules, by number. Each use is in the module of its number.
 #[derive(Drop)]
 pub struct Modules {
     pub scopes: Vec<ItemScope>,

@@ -1,4 +1,4 @@
-//! The callers that docs/USING.md shows.
+//! Example callers, shown in docs/USING.md: path resolution.
 ghost use Rattle.std.specs.Prelude.{◌≡◌, false, IfOk, IsTrue, None, OnErr, Some, slice_get};
 ghost use Rattle.dm_ids.specs.declared.imports.ImportOrExternCrate.TheVariants.{Import};
 ghost use Rattle.dm_held.specs.declared.held.HeldId.TheVariants as held;

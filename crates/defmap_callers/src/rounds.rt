@@ -1,4 +1,4 @@
-//! The callers that docs/USING.md shows.
+//! Example callers, shown in docs/USING.md: import resolution to a fixed point.
 ghost use Rattle.std.specs.Prelude.{◌≡◌, ◌<◌, ℕ, IfOk, OnErr, length};
 ghost use Rattle.std.specs.Bool.{OnTrue};
 ghost use Rattle.std.specs.Option.{option_and_then};
@@ -13,9 +13,11 @@ use dm_retry::pending::Pending;
 use dm_retry::retry::Retry;
 use std::alloc::AllocError;
 
-/// Rounds of what changed, until one brings nothing or `most` are over. Answers whether one brought nothing.
+/// Rounds over the due (dirty) imports until a fixed point, `most` of them at most. Answers whether it was reached,
+/// that is, whether a round changed nothing.
 ///
-/// Where memory is short, the rounds before stand, and so do the tries before the refused one, whose import is due.
+/// Where an allocation fails, the earlier rounds are kept, and so are the tries before the failed one, whose import is
+/// due.
 pub fn resolve(retry: &mut Retry, most: u32) -> Result<bool, AllocError>
     ensures ok { IfOk result (λ ended. IsResolved retry.old.state most ended retry.new.state) }
     ensures err { OnErr result (IsStopped retry.old.state most retry.new) }
@@ -29,7 +31,7 @@ pub fn resolve(retry: &mut Retry, most: u32) -> Result<bool, AllocError>
     Ok(false)
 }
 
-/// Whether none of these imports, all that wait, is due: then a try of any of them would write nothing.
+/// Whether none of these imports, all that are unresolved, is due: then a try of any of them would change nothing.
 pub fn is_settled(retry: &Retry, count: usize) -> bool
     requires { count ≡ length retry.now.state.pending }
     ensures { OnTrue result ((i : ℕ) → i < count → RestsAt retry.now.state i) }
@@ -42,7 +44,7 @@ pub fn is_settled(retry: &Retry, count: usize) -> bool
     true
 }
 
-/// A round where none is due, which takes no memory and changes nothing.
+/// A round where none is due, which allocates nothing and changes nothing.
 pub fn rest(retry: &mut Retry)
     requires { NoneDue retry.old.state }
     ensures { retry.new.state ≡ retry.old.state }
@@ -50,7 +52,7 @@ pub fn rest(retry: &mut Retry)
     let _answer = retry.round_changed();
 }
 
-/// The import for which `Retry::new` refused what it handed back.
+/// The import for which `Retry::new` failed, and handed its parts back.
 pub fn refused_import(world: &World, pendings: &[Pending]) -> Option<ImportId>
     ensures { result ≡ option_and_then (λ r. import_at pendings.now r.1) (refusal world.now pendings.now) }
 {

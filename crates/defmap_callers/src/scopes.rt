@@ -1,4 +1,4 @@
-//! The callers that docs/USING.md shows.
+//! Example callers, shown in docs/USING.md: item scopes.
 ghost use Rattle.std.specs.Prelude.{◌≡◌, ◌↔◌, ◌<◌, ◌^◌, IsTrue, None, Some, List, length, option_map};
 ghost use Rattle.dm_ids.specs.declared.ids.ModuleId.{ModuleId};
 ghost use Rattle.dm_base.specs.PerNs.{type_alone};
@@ -42,7 +42,7 @@ pub fn bound_type(scope: &ItemScope, name: &Name) -> Option<(ModuleDefId, Visibi
     scope.type_(name)
 }
 
-/// The type that an import of a scope stands for, through whatever imports it goes.
+/// The type that an import of a scope resolves to in the end, through any chain of re-exports.
 pub fn imported_type<T: ScopeTables>(
     tables: &T,
     scope: &ItemScope,

@@ -1,4 +1,4 @@
-//! A tree of modules that is no world's: what is generic over trees is proved and run at this type too.
+//! A mock module tree, without a world: code that is generic over trees is proved and run with this type too.
 ghost use Rattle.std.specs.Prelude.{◌≡◌};
 ghost use Rattle.dm_base.specs.Tree.{IsTree};
 ghost use Rattle.defmap_callers.specs.SmallTree.{tree_by, small_places, small_blocks};

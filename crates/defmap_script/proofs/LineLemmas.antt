@@ -1,4 +1,4 @@
--- The words of a line, one by one.
+-- Splitting a line into words, and a text into lines.
 use Rattle.std.proofs.Common.{◌≡◌, ℕ, ◌<◌, Bool, true, false, not, List, [], ◌∷◌, Option, Some, None, length, arith, refl, ◌∙◌, ap, cond, eqb, filter, suc}
 use Rattle.std.proofs.lemmas.Option.{same_Some}
 use Rattle.std.specs.Option.{option_map}

@@ -1,4 +1,5 @@
--- What is refused for want of memory would be answered with more of it: from calls to steps, and from steps to lines.
+-- A line that fails with out of memory would be answered with more memory: from calls to steps, and from steps to
+-- lines.
 use Rattle.std.proofs.Common.{rules, ◌≡◌, ℕ, List, Option, Result, Ok, Err, refl, sym, ap, subst, inl, inr}
 use Rattle.std.specs.Result.{IsErr, IsErrAnd}
 use Rattle.dm_ids.specs.Names.{Name}
@@ -65,6 +66,6 @@ refused-sense t a f (inr (want, s, e)) = inr (want, (s.0, reply_text s.1), (Ok s
 pub refused-line : (t : Tool) (line : List ℕ) (a : Asked) (f : Fault) → said line ≡ Sense a → IsRefused (IsStep t a) f → IsRefused (IsLineStep t line) f
 refused-line t line a f is e = subst (λ s. IsRefused (IsSaidStep t s) f) (sym is) (refused-sense t a f e)
 
--- a step that was made, and memory for its text is missing
+-- a step that was made, and whose text cannot be allocated
 pub unprinted-line : (t : Tool) (line : List ℕ) (a : Asked) (s : Tool × Reply) → said line ≡ Sense a → IsStep t a (Ok s) → IsRefused (IsLineStep t line) OutOfMemory
 unprinted-line t line a s is e = refused-line t line a OutOfMemory is (inr (refl, s, e))

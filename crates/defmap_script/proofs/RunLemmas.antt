@@ -1,4 +1,4 @@
--- Runs of scripts, line by line.
+-- Runs of scripts by induction over their lines.
 use Rattle.std.proofs.Common.{◌≡◌, ◌⊎◌, ℕ, ◌+◌, ◌≤◌, List, [], ◌∷◌, ◌++◌, Ok, length, arith, refl, sym, ◌∙◌, ap, subst, inl, inr, append_assoc, append-nil, eqb}
 use Rattle.std.proofs.lemmas.List.Splits.{length-slice_split}
 use Rattle.std.proofs.lemmas.List.Sums.{count_by-le-length}

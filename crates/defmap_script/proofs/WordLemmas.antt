@@ -1,4 +1,4 @@
--- What the words of a script stand for.
+-- The parsers of words give what the specification says.
 use Rattle.std.proofs.Common.{◌≡◌, ◌≢◌, ℕ, ◌+◌, ◌<◌, ◌^◌, Bool, true, false, List, [], ◌∷◌, ◌++◌, Option, Some, None, Result, Ok, Err, length, get_or, arith, refl, sym, ◌∙◌, suc, ap, eqb, ◌&&◌, cond, take, drop}
 use Rattle.std.specs.Option.{option_map, MatchOption}
 use Rattle.std.specs.Result.{OkIff, result_ok}

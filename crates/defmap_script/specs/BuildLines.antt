@@ -1,4 +1,4 @@
--- The lines that add to a builder: what they ask for.
+-- Grammar of the lines that add to a builder.
 use Rattle.std.specs.Prelude.{ℕ, List, [], ◌∷◌, Option, Some, None, codes}
 use Rattle.std.specs.Option.{option_map, option_and_then}
 use Rattle.dm_ids.specs.Names.{Name, find_name}

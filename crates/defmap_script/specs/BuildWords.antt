@@ -1,4 +1,4 @@
--- What the words of the lines that build stand for. A word of another form stands for nothing.
+-- Grammar of the words of the lines that build. A word of another form is parsed to none.
 use Rattle.std.specs.Prelude.{ℕ, ◌==◌, nat_lt, List, [], ◌∷◌, Option, Some, None, if◌then◌else◌, codes}
 use Rattle.std.specs.Option.{option_map, option_map_or, option_and_then, option_or}
 use Rattle.dm_ids.specs.Names.{Name, same_name, find_name}

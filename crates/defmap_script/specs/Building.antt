@@ -1,4 +1,4 @@
--- What the lines that add leave of a builder.
+-- Semantics of the lines that add: the builder's tables after each.
 use Rattle.std.specs.Prelude.{◌≡◌, Option, Some, None, Result, Ok, Err, MatchResult, slice_get}
 use Rattle.std.specs.Option.{option_map_or}
 use Rattle.dm_ids.specs.Names.{Name, same_name}
@@ -38,7 +38,7 @@ use Rattle.defmap_script.specs.Faults.{build_fault, IsRefused}
 abbrev pub file_of : FileId → Edition → EditionedFileId
 file_of f e = record { file = f; edition = e }
 
--- the modules and blocks of a script are written out in file 0, of edition 2021
+-- the modules and blocks of a script are inline in file 0, of edition 2021
 abbrev pub own_file : HirFileId
 own_file = tree_file.File (file_of (record { 0 = 0 }) edition.Edition2021)
 
@@ -86,6 +86,6 @@ added_to w (NewLegacy m n l) = with_legacy w m n l (scope_if_known w m)
 added_to w (NewRaw n) = Ok (with_raw w n)
 added_to w (NewRules r) = Ok (with_rules w r)
 
--- a call that leaves what r has, or is refused: for its fault, or for want of memory where it has none
+-- a call that leaves what r has, or fails: with its fault, or out of memory where it has none
 abbrev pub Leaves : Result World Fault → Result (Unit {0}) Fault → World → Type 0
 Leaves r result new = MatchResult result (λ _. r ≡ Ok new) (IsRefused (λ s. r ≡ s))

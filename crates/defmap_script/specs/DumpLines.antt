@@ -1,4 +1,4 @@
--- The lines that ask for dumps: the words behind the first of each.
+-- Grammar of the lines that ask for dumps: the words after the first of each.
 use Rattle.std.specs.Prelude.{List, [], ◌∷◌, Option, None}
 use Rattle.std.specs.Option.{option_map}
 use Rattle.dm_ids.specs.Names.{Name}

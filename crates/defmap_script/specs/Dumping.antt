@@ -1,4 +1,4 @@
--- What the questions for dumps answer.
+-- Answers of the lines that ask for dumps.
 use Rattle.std.specs.Prelude.{◌≡◌, if◌then◌else◌, Option, Result, Ok, Err, MatchResult, slice_get}
 use Rattle.std.specs.Option.{option_map_or}
 use Rattle.dm_held.specs.declared.held.HeldId.TheVariants as held

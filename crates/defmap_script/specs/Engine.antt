@@ -1,4 +1,4 @@
--- What the tool holds, and what a line does to it.
+-- Semantics of the script language: the state of a run, and what a line does to it.
 use Rattle.std.specs.Prelude.{◌≡◌, ◌⊎◌, ℕ, List, [], ◌++◌, true, false, IsTrue, IsSome, Option, Some, None, Result, Ok, Err, MatchResult, MatchOption, slice_get, codes}
 use Rattle.std.specs.Borrow.{Bor}
 use Rattle.dm_ids.specs.Names.{Name}
@@ -35,7 +35,7 @@ use Rattle.defmap_script.specs.Lines.{Asked, Asking, Said, said, Adds, Pushes, C
 use Rattle.defmap_script.specs.Seeing.{sight}
 use Rattle.defmap_script.specs.Texts.{answer_text, items_text, visibility_text}
 
--- what the tool holds: the tables of a builder or of a checked world, and which names globs bound
+-- the state: the tables of a builder or of a checked world, and which names glob imports bound
 pub record Tool : Type 0 where
   pub stage : Stage
   pub globs : Globs

@@ -1,4 +1,4 @@
--- Why a line is refused, and the words that say so.
+-- Errors of a line, and the words in which they are printed.
 use Rattle.std.specs.Prelude.{◌≡◌, ◌⊎◌, ℕ, List, ◌++◌, Option, Some, None, Result, Ok, Err, codes}
 use Rattle.std.specs.Fmt.{decimal}
 use Rattle.dm_ids.specs.declared.ids.BlockId.{BlockId}
@@ -12,11 +12,12 @@ use Rattle.dm_held.specs.declared.fault.WorldFaultKind.TheVariants as kind
 use Rattle.defmap_script.specs.declared.fault.Fault.{Fault}
 use Rattle.defmap_script.specs.declared.fault.Fault.TheVariants.{BadLine, NeedsWorld, NeedsBuilder, Unknown, Build, World, OutOfMemory}
 
--- Want of memory comes last: a line with these outcomes is refused for its fault, or for want of memory where with more it would be answered.
+-- Out of memory comes last: a line with these outcomes fails with its fault, or out of memory where with more memory it
+-- would be answered.
 abbrev pub IsRefused : {A : Type 0} → (Result A Fault → Type 0) → Fault → Type 0
 IsRefused {A} outcome f = outcome (Err f) ⊎ ((f ≡ OutOfMemory) × (a : A) × outcome (Ok a))
 
--- a builder's want of memory is the run's
+-- where a builder is out of memory, the run is
 abbrev pub build_fault : BuildFault → Fault
 build_fault build.NoSuchCrate = Build build.NoSuchCrate
 build_fault build.NoSuchModule = Build build.NoSuchModule

@@ -1,4 +1,4 @@
--- What an import stands for in the end, asked of a world.
+-- Follows an import through its chain of re-exports, in a world.
 use Rattle.std.specs.Prelude.{◌≡◌, ◌⊎◌, ◌&&◌, Bool, true, false, Result, Ok, Err}
 use Rattle.dm_ids.specs.declared.ids.ModuleId.{ModuleId}
 use Rattle.dm_ids.specs.declared.imports.ImportId.{ImportId}
@@ -15,7 +15,7 @@ use Rattle.defmap_script.specs.declared.engine.Reply.TheVariants.{Ended}
 use Rattle.defmap_script.specs.declared.fault.Fault.{Fault}
 use Rattle.defmap_script.specs.declared.fault.Fault.TheVariants.{Unknown}
 
--- what an import stands for in each namespace, from the scope of module m
+-- what an import resolves to in each namespace, from the scope of module m
 pub record IsEnd (w : World) (m : ModuleId) (i : ImportId) (x : PerNs) : Type 0 where
   pub types : IsFound Types (scope_tables w) (scope_of w m, i) (λ d. d) x.types
   pub values : IsFound Values (scope_tables w) (scope_of w m, i) (λ d. d) x.values

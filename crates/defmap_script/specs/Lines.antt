@@ -1,4 +1,4 @@
--- The lines of a script: their words, and what they ask for.
+-- Grammar of the lines of a script: their words, and the commands that they are parsed to.
 use Rattle.std.specs.Prelude.{ℕ, ◌==◌, not, List, [], ◌∷◌, Option, Some, None, Result, Ok, Err, length, filter, codes, nat_eq, if◌then◌else◌}
 use Rattle.std.specs.List.{slice_split, starts_with}
 use Rattle.std.specs.Str.{is_utf8}

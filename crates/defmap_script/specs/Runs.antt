@@ -9,20 +9,20 @@ use Rattle.defmap_script.specs.declared.script.RunEnd.TheVariants as ends
 use Rattle.defmap_script.specs.Engine.{Tool, IsLineStep}
 use Rattle.defmap_script.specs.Faults.{refusal, IsRefused}
 
--- the lines of an input, which line feeds part
+-- the lines of an input, separated by line feeds
 abbrev pub lines : List ℕ → List (List ℕ)
 lines input = slice_split (λ b. b == 10) input
 
 abbrev pub lines_left : Lines → List (List ℕ)
 lines_left l = elim l.rest [ None ↦ [] | Some bytes ↦ lines bytes.now ]
 
--- want of memory is an end of its own
+-- out of memory is an end of its own
 abbrev pub end_of : Fault → RunEnd
 end_of OutOfMemory = ends.OutOfMemory
 end_of _ = ends.Refused
 
--- What the lines from number n on print from there, and how the run ends. Each line prints what it answers, whole. The first that is
--- refused ends the run with a line that names why; there may be no memory for that line.
+-- What the lines from number n on print from there, and how the run ends. Each line prints what it answers, whole. The
+-- first that is refused ends the run with a line that names why; that line is missing where it cannot be allocated.
 abbrev pub Runs : Tool → ℕ → List (List ℕ) → List ℕ → RunEnd → Type 0
 Runs t n [] printed end = (printed ≡ []) × (end ≡ ends.Done)
 Runs t n (l ∷ ls) printed end =

@@ -1,4 +1,4 @@
--- What the questions about visibilities answer.
+-- Answers of the queries on visibility.
 use Rattle.std.specs.Prelude.{◌&&◌, if◌then◌else◌, Bool, true, Option, Some, None, Result, Ok, Err, slice_get}
 use Rattle.std.specs.Option.{option_map, option_map_or}
 use Rattle.dm_ids.specs.declared.ids.MapId.{MapId}

@@ -1,4 +1,4 @@
--- The lines that ask who sees what: the words behind the first of each.
+-- Grammar of the lines that ask about visibility: the words after the first of each.
 use Rattle.std.specs.Prelude.{List, [], ◌∷◌, Option, None}
 use Rattle.std.specs.Option.{option_map, option_and_then}
 use Rattle.dm_ids.specs.Names.{Name}

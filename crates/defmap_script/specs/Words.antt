@@ -1,4 +1,4 @@
--- What the words of a script stand for. A word of another form stands for nothing.
+-- Grammar of the words of a script. A word of another form is parsed to none.
 use Rattle.std.specs.Prelude.{ℕ, ◌==◌, ◌&&◌, nat_lt, List, [], ◌∷◌, Option, Some, None, if◌then◌else◌, length, codes}
 use Rattle.std.specs.Char.{is_ascii_digit}
 use Rattle.std.specs.List.{list_all}
@@ -151,7 +151,7 @@ abbrev pub as_value : Option (Item ModuleDefId ImportOrExternCrate) → Option (
 as_value None = Some None
 as_value (Some i) = option_map (λ import. Some (record { def = i.def; vis = i.vis; import = import })) (value_import i.import)
 
--- as in types, but an extern crate brings no value
+-- as in types, but no `extern crate` item imports a value
 abbrev pub values_word : Name → Option (Option (Item ModuleDefId ImportOrGlob))
 values_word w = option_and_then as_value (types_word w)
 

@@ -1,4 +1,4 @@
-//! The lines that add to a builder, as what they ask for.
+//! Parses the lines that add to a builder.
 ghost use Rattle.std.specs.Prelude.{◌≡◌, ◌∷◌};
 ghost use Rattle.std.specs.Option.{option_map};
 ghost use Rattle.defmap_script.specs.BuildLines.{added, addition, crate_line, module_line, block_line, use_line, item_line, variant_line, macro_line, prelude_line, macro_use_line, extern_line, legacy_line, raw_line, rules_line};

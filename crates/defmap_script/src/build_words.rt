@@ -1,4 +1,4 @@
-//! The words of the lines that build, each as the value that it stands for.
+//! Parses the words of the lines that build.
 ghost use Rattle.std.specs.Prelude.{◌≡◌};
 ghost use Rattle.std.specs.Option.{option_map};
 ghost use Rattle.dm_ids.specs.Names.{find_name};

@@ -1,4 +1,4 @@
-//! What the lines that add do to a builder. Where one is refused, the run ends.
+//! Runs the lines that add to a builder. Where one fails, the run ends.
 ghost use Rattle.std.specs.Prelude.{◌≡◌};
 ghost use Rattle.std.specs.Option.{option_map_or};
 ghost use Rattle.defmap_script.specs.Faults.{build_fault};
@@ -24,7 +24,7 @@ use dm_maps::module_origin::ModuleOrigin;
 use dm_maps::rules::Rules;
 use std::alloc::Global;
 
-/// Why a line is refused whose name memory does not suffice for: that comes last.
+/// The fault of a line whose name cannot be allocated: out of memory is reported only where there is no other fault.
 fn refusal(fault: Option<BuildFault>) -> Fault
     ensures { result ≡ option_map_or build_fault fault OutOfMemory }
 {
@@ -34,7 +34,7 @@ fn refusal(fault: Option<BuildFault>) -> Fault
     }
 }
 
-/// Adds what a line adds. Want of memory is refused last.
+/// Adds what a line adds. Out of memory is reported only where there is no other fault.
 pub(crate) fn add(
     builder: &mut WorldBuilder,
     alloc: Global,
@@ -94,7 +94,7 @@ fn add_module(
     Ok(())
 }
 
-/// The file that the modules and blocks of a script lie in, of the newest edition that scripts knew first.
+/// The file that contains the modules and blocks of a script, of edition 2021.
 fn own_file() -> HirFileId
     ensures { result ≡ own_file }
 {
@@ -104,7 +104,7 @@ fn own_file() -> HirFileId
     })
 }
 
-/// Where the modules of a script come from: they are written out.
+/// The origin of a script's modules: they are inline.
 fn inline() -> ModuleOrigin
     ensures { result ≡ inline }
 {

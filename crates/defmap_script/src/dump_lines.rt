@@ -1,4 +1,4 @@
-//! The lines that ask for dumps.
+//! Parses the lines that ask for dumps.
 ghost use Rattle.std.specs.Prelude.{◌≡◌};
 ghost use Rattle.defmap_script.specs.DumpLines.{dump_line, dumpmap_line};
 ghost use Rattle.defmap_script.specs.Lines.{words_left};

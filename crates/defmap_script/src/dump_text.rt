@@ -1,4 +1,4 @@
-//! The text of a dump, which contracts see as its bytes.
+//! The text of a dump; contracts see it as its bytes.
 ghost use Rattle.std.specs.Prelude.{◌≡◌, string_bytes};
 
 use std::marker::Model;

@@ -1,4 +1,4 @@
-//! Dumps of what a world has.
+//! Dumps of the scopes and def maps of a world.
 ghost use Rattle.std.specs.Prelude.{◌≡◌, IfSome, Some};
 ghost use Rattle.std.specs.Option.{option_copied};
 ghost use Rattle.dm_maps.specs.World.{numbered_map};

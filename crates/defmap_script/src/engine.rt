@@ -1,4 +1,4 @@
-//! What the tool holds, and what a command does to it.
+//! The interpreter: the state of a run, and what a command does to it.
 ghost use Rattle.std.specs.Prelude.{◌≡◌, Some, IfOk};
 ghost use Rattle.defmap_script.specs.Engine.{fresh, Answers, Finds, PushesInto, PushesWithin, reply_text, Steps};
 ghost use Rattle.defmap_script.specs.Lines.{asked, asking, Checks, Reopens, words_left};
@@ -27,7 +27,7 @@ use std::alloc::{AllocError, Global};
 use std::marker::Model;
 use std::{fmt, mem};
 
-/// What the tool holds: tables that are filled, or a checked world.
+/// The state: a builder's tables, or a checked world.
 #[derive(Drop)]
 pub(crate) enum Stage {
     Building(WorldBuilder),
@@ -63,7 +63,7 @@ impl fmt::Display for Reply {
     }
 }
 
-/// The state of a run. A line that is refused ends the run, so it leaves no state that matters.
+/// The state of a run. A line that fails ends the run, so the state after it does not matter.
 #[derive(Drop)]
 pub(crate) struct Engine {
     stage: Stage,
@@ -80,7 +80,7 @@ impl Model for Engine {
 }
 
 impl Engine {
-    /// A tool that holds an empty builder, which takes its memory from `alloc`. It takes none yet.
+    /// A run that begins with an empty builder, which allocates from `alloc`. Nothing is allocated yet.
     pub(crate) fn new(alloc: Global) -> Engine
         ensures { result ≡ fresh }
     {
@@ -189,7 +189,7 @@ fn push_within(
     Ok(Reply::Pushed(written))
 }
 
-/// What a path means in a world.
+/// What a path resolves to in a world.
 fn answer(world: &World, alloc: Global, question: Question<'_>) -> Result<Reply, Fault>
     ensures { Answers world.now (asking question.entry) result }
 {

@@ -1,4 +1,4 @@
-//! Why a line is refused.
+//! Errors of a line: why it is refused, and how that is printed.
 ghost use Rattle.std.specs.Prelude.{◌≡◌, Some};
 ghost use Rattle.defmap_script.specs.Faults.{build_fault, fault_text, build_fault_text, world_fault_text, kind_text, holder_text, map_text};
 ghost use Rattle.defmap_script.specs.declared.fault.Fault.TheVariants as faults;

@@ -1,4 +1,4 @@
-//! What an import stands for in the end, asked of a world.
+//! Follows an import through its chain of re-exports, in a world.
 ghost use Rattle.defmap_script.specs.Following.{IsFollowed};
 
 use crate::engine::Reply;
@@ -8,7 +8,8 @@ use dm_base::imports::ImportId;
 use dm_maps::world::World;
 use dm_scope::scope_tables::ScopeTables;
 
-/// What an import stands for in each namespace, from the scope of a module, where the module and the use are the world's.
+/// What an import resolves to in each namespace, from the scope of a module, where the module and the use are the
+/// world's.
 pub(crate) fn follow(world: &World, m: ModuleId, import: ImportId) -> Result<Reply, Fault>
     ensures { IsFollowed world.now m import result }
 {

@@ -1,4 +1,4 @@
-//! The script language of the tool: its words and lines, what they do, and the texts of answers.
+//! The script language of the tool: its words and lines parsed, run, and their answers printed.
 #![tactic(auto)]
 
 mod build_lines;

@@ -1,4 +1,4 @@
-//! One line of a script, as what it asks for.
+//! Parses one line of a script into a command.
 ghost use Rattle.std.specs.Prelude.{◌≡◌, ◌≢◌, [], ◌∷◌, Some, None, MatchOption, if◌then◌else◌};
 ghost use Rattle.std.specs.Iterator.{YieldsFirstRef, item_count};
 ghost use Rattle.std.specs.Option.{option_map};
@@ -28,7 +28,7 @@ pub(crate) enum Command<'a> {
     Check,
     Build,
     Path(Question<'a>),
-    /// What an import stands for in the end, from the scope of a module.
+    /// What an import resolves to in the end, from the scope of a module.
     Import(ModuleId, ImportId),
     See(Sight),
     Dump(Dumping),
@@ -62,7 +62,7 @@ pub(crate) struct Question<'a> {
     pub(crate) segments: Words<'a>,
 }
 
-/// Words that one or more spaces part. Spaces before the first and behind the last say nothing.
+/// The words of a line, separated by one or more spaces. Spaces before the first and after the last are ignored.
 #[derive(Clone, Copy)]
 pub(crate) struct Words<'a> {
     text: &'a str,
@@ -75,7 +75,7 @@ impl<'a> Words<'a> {
         Words { text }
     }
 
-    /// Something where no word is left.
+    /// Some(()) where no word is left.
     pub(crate) fn end(mut self) -> Option<()>
         ensures { MatchOption result (words_left self.entry ≢ []) (λ _. words_left self.entry ≡ []) }
     {
@@ -113,7 +113,7 @@ fn cut_at_space(text: &str) -> Option<(&str, &str)>
     text.split_once(' ')
 }
 
-/// A line that asks for nothing that there is.
+/// A malformed line.
 #[derive(Clone, Copy)]
 pub(crate) struct BadLine;
 

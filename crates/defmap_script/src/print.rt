@@ -1,4 +1,4 @@
-//! The texts of answers.
+//! Prints answers.
 ghost use Rattle.std.specs.Prelude.{◌≡◌, Some, IfOk, string_bytes};
 ghost use Rattle.std.specs.Option.{option_map};
 ghost use Rattle.defmap_script.specs.Texts.{macro_text, adt_text, def_text, visibility_text, import_text, item_text, items_text, widened_value, widened_macro, status_text, index_text, flags_text, answer_text};
@@ -14,7 +14,7 @@ use std::fmt;
 /// The line of an answer, without its line feed: what it found among types, values and macros, its status, the index
 /// of the first segment that it leaves unresolved, and its flags.
 ///
-/// Fails where memory runs out.
+/// Fails where an allocation fails.
 pub fn answer_text(alloc: Global, answer: &ResolvePathResult) -> Result<String, AllocError>
     ensures { IfOk result (λ text. string_bytes text ≡ answer_text answer.now) }
 {

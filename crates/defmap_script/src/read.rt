@@ -1,4 +1,4 @@
-//! Reading a whole input.
+//! Reads a whole input.
 ghost use Rattle.std.specs.Prelude.{◌≡◌, ◌++◌, IfSome, OnOk, OnErr, take, length};
 
 use std::io::Read;
@@ -15,8 +15,8 @@ pub enum ReadFault {
 
 /// Reads to the end of the input, behind what is in `input` already.
 ///
-/// Fails where a read fails, where the input has not ended after 16,777,216 reads, and where memory runs out, and says which it
-/// was. What was read until then stays in `input`.
+/// Fails where a read fails, where the input has not ended after 16,777,216 reads, and where an allocation fails, and
+/// says which it was. What was read until then stays in `input`.
 pub fn read_all<R: Read>(reader: &mut R, input: &mut Vec<u8>) -> Result<(), ReadFault>
     ensures ok { OnOk result (IfSome (R.remaining reader.old) (λ bytes. input.new.items ≡ input.old.items ++ bytes)) }
     ensures err { OnErr result (take (length input.old.items) input.new.items ≡ input.old.items) }

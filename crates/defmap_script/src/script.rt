@@ -1,4 +1,4 @@
-//! Running a script.
+//! Runs a script line by line.
 ghost use Rattle.std.specs.Prelude.{ℕ, List, ◌≡◌, ◌==◌, ◌<◌, ◌++◌, ◌⊎◌, IfSome, length, position};
 ghost use Rattle.std.specs.Iterator.{YieldsFirstRef, item_count};
 ghost use Rattle.std.specs.Option.{option_map};
@@ -23,8 +23,8 @@ pub enum RunEnd {
 
 /// Runs a script, and appends what it prints (docs/SCRIPT.md).
 ///
-/// The first line that is refused ends the run with a line that names its fault; where there is no memory for that
-/// line either, it is missing. A line is appended whole or not at all. The output's allocator serves for everything.
+/// The first line that is refused ends the run with a line that names its fault; where that line cannot be allocated
+/// either, it is missing. A line is appended whole or not at all. All allocations use the output's allocator.
 pub fn run_script(input: &[u8], out: &mut Vec<u8>) -> RunEnd
     ensures { (printed : List ℕ) × (out.new.items ≡ out.old.items ++ printed) × Runs fresh 1 (lines input.now) printed result }
 {
@@ -71,7 +71,7 @@ fn refuse(number: usize, fault: Fault, out: &mut Vec<u8>) -> RunEnd
     }
 }
 
-/// The lines of an input, which line feeds part.
+/// The lines of an input, separated by line feeds.
 #[derive(Clone, Copy)]
 struct Lines<'a> {
     /// What is behind the last line feed that was met; none once the last line was given.

@@ -1,4 +1,4 @@
-//! Who sees what, asked of a world.
+//! Queries on visibility in a world.
 ghost use Rattle.std.specs.Prelude.{◌≡◌};
 ghost use Rattle.defmap_script.specs.Seeing.{knows_visibility, map_of_name, sight, compares};
 

@@ -1,4 +1,4 @@
-//! The lines that ask who sees what.
+//! Parses the lines that ask about visibility.
 ghost use Rattle.std.specs.Prelude.{◌≡◌};
 ghost use Rattle.defmap_script.specs.Lines.{words_left};
 ghost use Rattle.defmap_script.specs.SeeingLines.{max_line, min_line, sees_line, two, two_in_map};
@@ -12,11 +12,11 @@ use dm_base::visibility::Visibility;
 /// A question about visibilities.
 #[derive(Clone, Copy)]
 pub(crate) enum Sight {
-    /// Whether a module sees what is of that visibility.
+    /// Whether an item of that visibility is visible from a module.
     Sees(Visibility, ModuleId),
-    /// The most of two visibilities, of a map.
+    /// The most permissive of two visibilities, in a map.
     Max(MapName, Visibility, Visibility),
-    /// The least of two.
+    /// The least permissive of two.
     Min(MapName, Visibility, Visibility),
 }
 

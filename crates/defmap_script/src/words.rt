@@ -1,4 +1,4 @@
-//! One word of a script, as the value that it stands for. A word of another form stands for none.
+//! Parses one word of a script; none where it has another form.
 ghost use Rattle.std.specs.Prelude.{◌≡◌, drop};
 ghost use Rattle.std.specs.Char.{is_ascii_digit};
 ghost use Rattle.std.specs.List.{list_all};
@@ -208,7 +208,7 @@ pub(crate) fn types_item(word: &str) -> Option<Option<TypesItem>>
     }))
 }
 
-/// As a types item, but no extern crate brings a value.
+/// As a types item, but no `extern crate` item imports a value.
 pub(crate) fn values_item(word: &str) -> Option<Option<ValuesItem>>
     ensures { result ≡ values_word word.now }
 {

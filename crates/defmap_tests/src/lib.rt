@@ -1,4 +1,4 @@
-//! Tests: calls at concrete types with ample memory, and scripts with what they have to print.
+//! Tests: calls with concrete types, and scripts with the output that they have to print.
 #![tactic(auto)]
 
 #[cfg(test)]

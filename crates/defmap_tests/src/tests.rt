@@ -1,8 +1,8 @@
-//! What no contract says: worked rows, texts, and each call that takes memory, once.
+//! Tests of what no contract says: examples, printed texts, and each call that allocates, once.
 //!
 //! What a test compares is plain data, and only functions without clauses hold a scope, a builder or a world: each
 //! comparison made while one is held would take the prover seconds.
-/// What a call answers, which is made once more where it is refused.
+/// The result of a call, which is made again where it fails.
 macro_rules! again {
     ($call:expr) => {
         match $call {
@@ -21,12 +21,12 @@ use std::fmt::Debug;
 use std::process::Abort;
 use std::test::Fail;
 
-/// Stops a test where two values differ. The prover takes seconds for this, and would for each `assert_eq!` in a test.
+/// Fails a test where two values differ. The prover takes seconds for this, and would for each `assert_eq!` in a test.
 fn same<T: PartialEq + Debug>(rt: &impl Abort, found: &T, wanted: &T) {
     assert_eq!(rt; found, wanted);
 }
 
-/// Stops a test where a call is refused, and where it answers something else.
+/// Fails a test where a call fails, and where it answers something else.
 fn gives<T: Copy + PartialEq + Debug, E: Debug + Drop>(
     rt: &impl Abort,
     answer: Result<T, E>,

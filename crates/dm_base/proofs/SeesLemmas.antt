@@ -1,4 +1,4 @@
--- Who sees what, of modules of one map: what a module sees, each module of its map that contains it sees too.
+-- Which modules see a visibility, in one def map: what a module sees, each module of its map that contains it sees too.
 use Rattle.std.proofs.Common.{◌≡◌, ◌≤◌, ◌<◌, ℕ, zero, suc, Bool, true, false, ◌&&◌, ◌||◌, not, cond, [], List, Option, None, Some, find, unwrap_or, is_none, refl, sym, ap, ◌∙◌, arith, subst, true≢false, eq-eqb}
 use Rattle.std.proofs.lemmas.Bool.{and_parts, and_from, or_right, ne_eqb}
 use Rattle.std.specs.Option.{option_map_or, option_and_then, ForSome}
@@ -114,7 +114,7 @@ module _ (t : Tree) (tree : IsTree t) where
       by true is = let down = ancestor-smaller a b known_b is in let up = ancestor-smaller b a known_a e in absurd (omega arith)
       by false is = refl
 
-  -- of a module and one of its map that contains it, what the first is lifted to in a chain, the second is lifted to too
+  -- where b contains a in one map, b is lifted into the chain of f if a is
   among-lifted : (a b f : ModuleId) (map : MapId) → IsKnown t a → IsKnown t b → IsKnown t f → t.map_of a ≡ t.map_of b → is_among b (chain t a) ≡ true
       → is_among (lift_to t a map) (chain t f) ≡ true → is_among (lift_to t b map) (chain t f) ≡ true
   among-lifted a b f map known_a known_b known_f one inner outer = by (is_lifted t map a) refl
@@ -196,7 +196,7 @@ module _ (t : Tree) (tree : IsTree t) where
     min-straight : Some (Module a x) ≡ min_of_modules t map a x b y
     min-straight = third (same_module a b) (both_lie_in t map a b) (is_ancestor t b a) _ _ _ _ apart-straight lie above
 
-    -- the outer module's is the most, the inner one's the least, in either order
+    -- the outer module's is the most permissive, the inner one's the least, in either order
     pub with-outer : AreMostAndLeast t map (Module a x) (Module b y) (Some (Module b y, Module a x))
     with-outer = record {
       most = record { table = max-straight; either_order = max-turned; union = of-some (IsUnion t (Module a x) (Module b y)) _ union-with-outer };

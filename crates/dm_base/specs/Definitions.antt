@@ -1,4 +1,4 @@
--- Definitions of the namespaces, and how one is seen as another.
+-- Definitions of each namespace, and the conversions between them.
 use Rattle.std.specs.Prelude.{◌≡◌}
 use Rattle.dm_ids.specs.declared.item_ids.ModuleDefId.{ModuleDefId}
 use Rattle.dm_ids.specs.declared.item_ids.ModuleDefId.TheVariants as defs

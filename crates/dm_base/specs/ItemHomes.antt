@@ -1,4 +1,4 @@
--- Where items were declared.
+-- The modules and crates that declare items.
 use Rattle.std.specs.Prelude.{Option, Some, None}
 use Rattle.std.specs.Option.{option_and_then}
 use Rattle.dm_ids.specs.declared.ids.ModuleId.{ModuleId}

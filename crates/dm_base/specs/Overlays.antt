@@ -1,4 +1,4 @@
--- Values that are laid over one another, and the laws of that.
+-- Values of which one shadows another, part by part, and the laws of that: an idempotent monoid.
 use Rattle.std.specs.Prelude.{◌≡◌, ℕ, max, Option, Some, None, refl}
 use Rattle.std.specs.Option.{option_or}
 use Rattle.std.proofs.Common.{ap, arith}

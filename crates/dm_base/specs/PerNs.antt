@@ -1,5 +1,5 @@
--- What a name means in each namespace: how such a set of items is made, laid over another, read, asked about and listed, and when an item's
--- import now stands for something else.
+-- What a name resolves to in each namespace: how such a set of items is made, read, filtered and listed, how it shadows
+-- another, and when an item's import resolves to another definition.
 use Rattle.std.specs.Prelude.{◌≡◌, ℕ, ◌+◌, Bool, false, ◌&&◌, not, List, [], ◌∷◌, Option, Some, None, is_some, is_none, option_and_then, option_map, if◌then◌else◌}
 use Rattle.std.specs.Option.{option_or}
 use Rattle.dm_base.specs.declared.per_ns.Item.{Item}
@@ -58,7 +58,7 @@ type_and_value d v e w i = record {
   macros = None;
 }
 
--- a definition that is a type, and a value too where its constructor has a visibility
+-- a definition that is a type, and also a value where its constructor has a visibility
 abbrev pub constructed : ModuleDefId → Visibility → Option Visibility → Option ImportOrExternCrate → PerNs
 constructed d v None i = type_alone d v i
 constructed d v (Some w) i = type_and_value d v d w i
@@ -94,7 +94,7 @@ abbrev pub seen_as_item : {D I : Type 0} → Visibility → Option (Item D I) �
 seen_as_item v None = None
 seen_as_item v (Some i) = Some (record i { vis = v })
 
--- the same items, seen by v
+-- the same items, of visibility v
 abbrev pub seen_as : Visibility → PerNs → PerNs
 seen_as v n = record { types = seen_as_item v n.types; values = seen_as_item v n.values; macros = seen_as_item v n.macros }
 
@@ -102,23 +102,24 @@ seen_as v n = record { types = seen_as_item v n.types; values = seen_as_item v n
 abbrev pub availability : PerNs → ℕ
 availability n = (if is_some n.types then 1 else 0) + (if is_some n.values then 2 else 0) + (if is_some n.macros then 4 else 0)
 
--- one item is asked about, if there is one: `step` is one call of the asker, from its state f to g
+-- the closure is called for an item, if there is one: `step` is one call of it, from its state f to g
 abbrev pub AsksItem : {F D I : Type 0} → (F → Visibility → Bool → F → Type 0) → Option (Item D I) → F → Option (Item D I) → F → Type 0
 AsksItem step None f r g = (r ≡ None) × (g ≡ f)
 AsksItem step (Some x) f r g = (b : Bool) × step f x.vis b g × (r ≡ (if b then Some x else None))
 
--- the asker may be asked about an item, if there is one
+-- the closure may be called for an item, if there is one
 abbrev pub MayAskItem : {F D I : Type 0} → (F → Visibility → Type 0) → Option (Item D I) → F → Type 0
 MayAskItem may None f = Unit {0}
 MayAskItem may (Some x) f = may f x.vis
 
--- The asker f may be asked about the type, then about the value, then about the macro, each time in the state that its answers left.
+-- The closure f may be called for the type, then for the value, then for the macro, each time in the state that the
+-- calls before left it in.
 pub record MayAskInOrder {F : Type 0} (may : F → Visibility → Type 0) (step : F → Visibility → Bool → F → Type 0) (n : PerNs) (f : F) : Type 0 where
   pub of_type : MayAskItem may n.types f
   pub of_value : (t : Option (Item ModuleDefId ImportOrExternCrate)) (g : F) → AsksItem step n.types f t g → MayAskItem may n.values g
   pub of_macro : (t : Option (Item ModuleDefId ImportOrExternCrate)) (g : F) → AsksItem step n.types f t g → (v : Option (Item ModuleDefId ImportOrGlob)) (h : F) → AsksItem step n.values g v h → MayAskItem may n.macros h
 
--- the type, the value and the macro are asked about in that order, and those stay that pass
+-- the closure is called for the type, the value and the macro in that order, and those stay that pass
 abbrev pub AsksInOrder : {F : Type 0} → (F → Visibility → Bool → F → Type 0) → PerNs → F → PerNs → Type 0
 AsksInOrder {F} step n f r =
     (g : F) × (h : F) × (k : F) × AsksItem step n.types f r.types g × AsksItem step n.values g r.values h × AsksItem step n.macros h r.macros k
@@ -151,6 +152,6 @@ module _ {D I : Type 0} (same_import : I → I → Bool) (same_def : D → D →
   is_import_of (Some i) None = false
   is_import_of (Some i) (Some j) = same_import i j
 
-  -- the item's import is given again, with another definition
+  -- the item's import is given again, and resolves to another definition
   abbrev pub is_reresolved : Item D I → D → Option I → Bool
   is_reresolved item def import = is_import_of item.import import && not (same_def item.def def)

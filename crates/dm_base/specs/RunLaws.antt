@@ -1,4 +1,4 @@
--- What a run of an iterator gives that is seen as the list of what it has left.
+-- What an iterator yields, of one that contracts see as the list of what it has left.
 use Rattle.std.proofs.Common.{ap, length}
 use Rattle.std.proofs.iter.runs.Sources.{from_front}
 use Rattle.std.specs.Map.Iter.{TakesFirst, ShowsInOrder}

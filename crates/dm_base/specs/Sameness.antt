@@ -1,4 +1,4 @@
--- When two imports are one, two definitions, two items of the syntax, and two sets of items: as their `==` says.
+-- Equality of imports, definitions, AST items, and sets of items (`PerNs`) is structural.
 use Rattle.std.specs.Prelude.{◌≡◌, ◌&&◌, Bool, true, Option, Some, None, refl}
 use Rattle.std.specs.Option.{option_eq}
 use Rattle.std.proofs.Common.{ap}

@@ -1,4 +1,5 @@
--- Trees of modules: the chain of a module, lifting out of blocks, who sees what, and the nearest modules that are no block's root.
+-- Trees of modules: the chain of a module, lifting out of blocks, which modules see a visibility, and the nearest
+-- modules that are no block's root.
 use Rattle.std.specs.Prelude.{◌≡◌, ◌<◌, IsTrue, ℕ, zero, suc, ◌&&◌, ◌||◌, not, nat_eq, List, [], ◌∷◌, Option, Some, None, Bool, true, false, is_none, is_some, unwrap_or, find, filter, slice_get, if◌then◌else◌}
 use Rattle.std.specs.List.{list_any}
 use Rattle.std.specs.Option.{option_and_then, option_map_or, option_or}
@@ -13,7 +14,7 @@ use Rattle.dm_base.specs.declared.visibility.Visibility.TheVariants.{Module, Pub
 pub record Tree : Type 0 where
   -- its modules
   pub has : ModuleId → Bool
-  -- the map that a module lies in: that of a crate, or of a block of the crate
+  -- the def map that a module lies in: that of a crate, or of a block expression of the crate
   pub map_of : ModuleId → MapId
   -- a module's parent in that map; a map's root has none
   pub parent : ModuleId → Option ModuleId

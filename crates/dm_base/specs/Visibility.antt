@@ -1,4 +1,4 @@
--- Visibilities, alone and over a tree of modules: the most and the least of two, and what that says of who sees.
+-- Visibilities, alone and over a tree of modules: the most and the least permissive of two, and who sees those.
 use Rattle.std.specs.Prelude.{◌≡◌, ◌&&◌, ◌||◌, not, if◌then◌else◌, Bool, true, false, IsTrue, Option, Some, None, is_none}
 use Rattle.std.specs.Option.{ForSome, option_map}
 use Rattle.dm_ids.specs.declared.ids.ModuleId.{ModuleId}
@@ -29,7 +29,8 @@ either_explicit Implicit y = y
 abbrev pub both_lie_in : Tree → MapId → ModuleId → ModuleId → Bool
 both_lie_in t map a b = lies_in t map a && lies_in t map b
 
--- The most of what modules a and b see: of one module twice, that module; of two of the map's, the one that contains the other.
+-- The most permissive of visibilities in modules a and b: of one module twice, that module; of two modules of the map,
+-- the one that contains the other.
 abbrev pub max_of_modules : Tree → MapId → ModuleId → VisibilityExplicitness → ModuleId → VisibilityExplicitness → Option Visibility
 max_of_modules t map a x b y =
     if same_module a b then Some (Module a (either_explicit x y))
@@ -38,7 +39,7 @@ max_of_modules t map a x b y =
     else if is_ancestor t a b then Some (Module a x)
     else None
 
--- The most of two visibilities, where one of them is it; the map is that whose modules are compared.
+-- The most permissive of two visibilities, where one of them is it; modules are compared where they lie in the map.
 abbrev pub max_of : Tree → MapId → Visibility → Visibility → Option Visibility
 max_of t map Public v = Some Public
 max_of t map (PubCrate k) Public = Some Public
@@ -48,7 +49,8 @@ max_of t map (Module m e) Public = Some Public
 max_of t map (Module m e) (PubCrate k) = if same_crate (crate_of t m) k then Some (PubCrate k) else None
 max_of t map (Module a x) (Module b y) = max_of_modules t map a x b y
 
--- The least of what modules a and b see: of one module twice, that module; of two of the map's, the one that lies in the other.
+-- The least permissive of visibilities in modules a and b: of one module twice, that module; of two modules of the map,
+-- the one that lies in the other.
 abbrev pub min_of_modules : Tree → MapId → ModuleId → VisibilityExplicitness → ModuleId → VisibilityExplicitness → Option Visibility
 min_of_modules t map a x b y =
     if same_module a b then Some (Module a (either_explicit x y))
@@ -57,7 +59,7 @@ min_of_modules t map a x b y =
     else if is_ancestor t a b then Some (Module b y)
     else None
 
--- The least of two visibilities, where one of them is it.
+-- The least permissive of two visibilities, where one of them is it.
 abbrev pub min_of : Tree → MapId → Visibility → Visibility → Option Visibility
 min_of t map Public v = Some v
 min_of t map (PubCrate k) Public = Some (PubCrate k)
@@ -95,14 +97,14 @@ are_apart t Public v = false
 abbrev pub IsNoneWhereApart : Tree → MapId → Visibility → Visibility → Option Visibility → Type 0
 IsNoneWhereApart t map a b answer = IsTrue (are_of_map t map a b) → is_none answer ≡ are_apart t a b
 
--- What is said of the most of two visibilities, if there is one: which it is, also of them in the other order, and that
--- those who see either see it.
+-- The laws of the most permissive of two visibilities, if there is one: which it is, also of them in the other order,
+-- and that those who see either see it.
 pub record IsMost (t : Tree) (map : MapId) (a b : Visibility) (most : Option Visibility) : Type 0 where
   pub table : most ≡ max_of t map a b
   pub either_order : most ≡ max_of t map b a
   pub union : ForSome most (IsUnion t a b)
 
--- The same of the least, which those see who see both.
+-- The same of the least permissive, which those see who see both.
 pub record IsLeast (t : Tree) (map : MapId) (a b : Visibility) (least : Option Visibility) : Type 0 where
   pub table : least ≡ min_of t map a b
   pub either_order : least ≡ min_of t map b a

@@ -1,6 +1,6 @@
--- Who sees what, and the most and the least of two, in a small tree: equations that compute.
+-- Worked examples in a small tree: which modules see what, and the most and the least permissive of two visibilities.
 --
--- Crate 0 has the modules 0 (its root), 1 in 0, 2 in 1, 3 in 0 and 7 in 0, and the blocks 0 in module 1 and 1 in module 0.
+-- Crate 0 has the modules 0 (its root), 1 in 0, 2 in 1, 3 in 0 and 7 in 0; block 0 in module 1 and block 1 in module 0.
 -- Block 0 has the modules 5 (its root) and 6 in 5, block 1 has 8 alone. Crate 1 has its root, module 4.
 use Rattle.std.specs.Prelude.{◌≡◌, ℕ, Bool, true, false, Option, Some, None, List, [], ◌∷◌, nat_lt, slice_get, refl}
 use Rattle.std.specs.Option.{option_and_then, option_map_or}
@@ -43,14 +43,15 @@ tree = record {
   inside = λ n. slice_get blocks n.0;
 }
 
--- `in:N:implicit`, and the module that asks
+-- `in:N:implicit`, and the module from which the item is seen
 abbrev inside : ℕ → Visibility
 inside n = Module (m n) Implicit
 
 abbrev seen : Visibility → ℕ → Bool
 seen v f = sees tree v (m f)
 
--- a block's root is seen from the module that contains the block, and so is a module below that root; other modules do not see it
+-- a block's root is seen from the module that contains the block, and so is a module below that root; other modules do
+-- not see it
 root_from_outside : seen (inside 5) 1 ≡ true
 root_from_outside = refl
 

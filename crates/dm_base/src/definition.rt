@@ -1,4 +1,4 @@
-//! What a namespace's definitions are, for code that serves every namespace.
+//! `Definition`: the definitions of one namespace, for code that is generic over namespaces.
 ghost use Rattle.std.specs.Prelude.{◌≡◌};
 ghost use Rattle.dm_ids.specs.declared.item_ids.ModuleDefId.{ModuleDefId};
 ghost use Rattle.dm_base.specs.Definitions.{widened_macro, widened_macro_injective};

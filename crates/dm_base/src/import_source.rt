@@ -1,4 +1,4 @@
-//! What a namespace's imports are, for code that serves every namespace.
+//! `ImportSource`: the imports of one namespace, for code that is generic over namespaces.
 ghost use Rattle.std.specs.Prelude.{◌≡◌, Option, Bool, Some, true, refl};
 ghost use Rattle.std.proofs.Common.{rules};
 ghost use Rattle.dm_ids.specs.declared.imports.ImportOrExternCrate.{ImportOrExternCrate};
@@ -24,7 +24,7 @@ pub trait ImportSource: Copy + ValueEq + Hash {
     fn widen(self) -> ImportOrExternCrate
         ensures { result ≡ widened self };
 
-    /// Whether the import is a glob.
+    /// Whether the import is a glob, whose names any explicit name shadows.
     fn is_glob(self) -> bool
         ensures { result ≡ globs self };
 

@@ -1,4 +1,4 @@
-//! A definition in a namespace, and where it was declared.
+//! `ItemInNs`: a definition in a namespace, and the module that declares it.
 ghost use Rattle.std.specs.Prelude.{◌≡◌};
 ghost use Rattle.dm_base.specs.ItemHomes.{Homes, def_module, item_module, item_krate, module_def};
 
@@ -63,14 +63,14 @@ fn module_of<T: ItemModules>(def: ModuleDefId, items: &T) -> Option<ModuleId>
     }
 }
 
-/// Where items were declared, whoever keeps that.
+/// Where items were declared, as a trait of whatever stores it.
 pub trait ItemModules {
     /// What is known, for contracts.
     ghost homes: { Self → Homes };
 
     /// The module of a function, struct, union, enum, const, static, trait or type alias, if that item is known.
     ///
-    /// It is asked of these alone.
+    /// It is called with these alone.
     fn item_module(&self, item: ModuleDefId) -> Option<ModuleId>
         ensures { result ≡ (homes self.now).item item };
 

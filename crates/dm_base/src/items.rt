@@ -1,4 +1,4 @@
-//! The items of all namespaces in a row.
+//! The iterator over the items of a `PerNs`, namespace by namespace.
 ghost use Rattle.std.specs.Prelude.{length};
 ghost use Rattle.std.specs.Iterator.{at_most};
 ghost use Rattle.std.specs.Map.Iter.{TakesFirst};

@@ -1,5 +1,5 @@
-//! What the def-map layer speaks of: numbers of things, names, paths, builtin types, imports, items per
-//! namespace, visibility, and trees of modules.
+//! The vocabulary of the def-map layer: ids, names, paths, builtin types, imports, items per namespace, visibility,
+//! and trees of modules.
 #![tactic(auto)]
 
 pub mod definition;

@@ -1,4 +1,4 @@
-//! A path: its kind and its segments.
+//! `ModPath`: a path, which is a kind and segments.
 ghost use Rattle.std.specs.Prelude.{◌≡◌};
 ghost use Rattle.std.specs.Cmp.{partial_equiv_from_equiv};
 ghost use Rattle.dm_base.specs.Path.{same_path, same_path_equivalence};
@@ -38,7 +38,7 @@ impl Model for ModPath {
 }
 
 impl ModPath {
-    /// The path of these segments, without memory.
+    /// The path of these segments. Does not allocate.
     pub fn from_segments(kind: PathKind, segments: Vec<Name>) -> ModPath
         ensures { result ≡ record { kind = kind; segments = segments.items } }
     {

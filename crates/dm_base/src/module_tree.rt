@@ -1,4 +1,4 @@
-//! Trees of modules, whoever keeps them.
+//! `ModuleTree`: the tree of modules, as a trait of whatever stores it.
 ghost use Rattle.std.specs.Prelude.{◌≡◌, ◌↔◌, ◌<◌, ◌-◌, IsTrue, Bool, true, false, is_some, slice_get};
 ghost use Rattle.std.specs.Option.{option_map_or, ForSome, ForNone};
 ghost use Rattle.dm_ids.specs.declared.ids.ModuleId.{ModuleId};
@@ -6,10 +6,10 @@ ghost use Rattle.dm_base.specs.Tree.{Tree, IsKnown, IsTree, crate_of, block_of, 
 
 use dm_ids::ids::{BlockId, Crate, ModuleId};
 
-/// A tree of modules: each has a map and a containing module of smaller number, or none.
+/// A tree of modules: each has a def map and a containing module of smaller number, or none.
 ///
-/// The containing module is the parent, or for a block's root the module that contains the block. That the tree is
-/// lawful holds of the values of the type alone, so it is a clause of the calls that climb, and no law over every value.
+/// The containing module is the parent, or for a block's root the module that contains the block. Only the values of
+/// the type are known to be lawful, so that is a clause of the calls that climb, and no law over every value.
 pub trait ModuleTree {
     /// What the tree is, for contracts.
     ghost tree: { Self → Tree };
@@ -86,7 +86,7 @@ pub trait ModuleTree {
         nearest
     }
 
-    /// Member `k`, from 0, of the chain of `m` without the roots of blocks. No tree has another body for it.
+    /// Member `k`, from 0, of the chain of `m` without the roots of blocks. No tree overrides it.
     final fn outer_member(&self, m: ModuleId, k: u8) -> Option<ModuleId>
         requires { IsKnown (tree self.now) m }
         ensures value { result ≡ slice_get (outer (tree self.now) m) k }

@@ -1,4 +1,4 @@
-//! Values that are laid over one another.
+//! `Overlay`: values of which one shadows another, part by part.
 ghost use Rattle.std.specs.Prelude.{◌≡◌, refl, None};
 ghost use Rattle.std.specs.Option.{option_or};
 ghost use Rattle.dm_base.specs.PerNs.{nothing, over};
@@ -6,9 +6,9 @@ ghost use Rattle.dm_base.specs.Overlays.{option_or_associative, option_or_none, 
 
 use crate::per_ns::{Item, PerNs};
 
-/// Values that can be laid over one another, part by part: what the upper one lacks shows through from the lower one.
+/// Values that shadow one another, part by part: what the upper one lacks shows through from the lower one.
 ///
-/// Layers can be put together in any grouping, and an empty layer or a second copy of one changes nothing.
+/// They are an idempotent monoid: `over` is associative, and an empty layer, or the same layer twice, changes nothing.
 pub trait Overlay: Copy {
     ghost nothing: { Self };
 

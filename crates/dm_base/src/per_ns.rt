@@ -1,4 +1,4 @@
-//! What a name means: one item in each namespace at most.
+//! `PerNs`: what a name resolves to, at most one item in each namespace.
 ghost use Rattle.std.specs.Prelude.{◌≡◌, ⊤, [], ◌∷◌, codes, true, false};
 ghost use Rattle.std.specs.Map.Iter.{ShowsInOrder};
 ghost use Rattle.dm_base.specs.PerNs.{nothing, over, Listed, items_of, is_reresolved, type_alone, value_alone, macro_alone, type_and_value, of_def, is_empty, is_full, definition, seen_as, availability, AsksItem, AsksInOrder, MayAskItem, MayAskInOrder};
@@ -9,7 +9,7 @@ use bitflags::{Flag, Flags};
 use dm_ids::imports::{ImportId, ImportOrExternCrate, ImportOrGlob};
 use dm_ids::item_ids::{AdtId, MacroId, ModuleDefId};
 
-/// The namespaces, which hold one item each under one name.
+/// The namespaces. A name means at most one item in each.
 #[derive(Clone, Copy, PartialEq, Eq, Hash, Debug)]
 pub enum Namespace {
     Types,
@@ -17,7 +17,7 @@ pub enum Namespace {
     Macros,
 }
 
-/// In which namespaces there is an item, as the bits of a set.
+/// In which namespaces there is an item, as bit flags.
 #[derive(Clone, Copy, PartialEq, Eq, Debug)]
 pub struct NsAvailability(pub u32);
 
@@ -69,7 +69,7 @@ impl Flags for NsAvailability {
     }
 }
 
-/// A definition, who sees it, and the import that brought it.
+/// A definition, its visibility, and the import that brought it.
 #[derive(Clone, Copy, PartialEq, Eq, Hash, Debug)]
 pub struct Item<Def, Import = ImportId> {
     pub def: Def,
@@ -78,7 +78,7 @@ pub struct Item<Def, Import = ImportId> {
 }
 
 impl<Def: PartialEq, Import: Copy + PartialEq> Item<Def, Import> {
-    /// Whether `import` is an import, the one that brought this item, and stands for another definition now.
+    /// Whether `import` is the import that brought this item, and resolves to another definition than the item's.
     pub fn is_reresolved_by(&self, def: &Def, import: Option<Import>) -> bool
         ensures { result ≡ is_reresolved Import.eq Def.eq self.now def.now import }
     {
@@ -86,16 +86,16 @@ impl<Def: PartialEq, Import: Copy + PartialEq> Item<Def, Import> {
     }
 }
 
-/// A type; an extern crate may have brought it.
+/// A type. An `extern crate` may have brought it.
 pub type TypesItem = Item<ModuleDefId, ImportOrExternCrate>;
 
-/// A value, which no extern crate brings.
+/// A value, which no `extern crate` brings.
 pub type ValuesItem = Item<ModuleDefId, ImportOrGlob>;
 
-/// A macro; an extern crate may have brought it.
+/// A macro. An `extern crate` may have brought it.
 pub type MacrosItem = Item<MacroId, ImportOrExternCrate>;
 
-/// What a name means in each namespace.
+/// What a name resolves to in each namespace.
 #[derive(Clone, Copy, PartialEq, Eq, Hash, Debug)]
 pub struct PerNs {
     pub types: Option<TypesItem>,
@@ -135,7 +135,7 @@ impl PerNs {
         }
     }
 
-    /// A type and a value, both seen alike. An extern crate brings the type alone: the value is then without import.
+    /// A type and a value of one visibility. An `extern crate` brings the type alone: the value then has no import.
     pub fn both(
         types: ModuleDefId,
         values: ModuleDefId,
@@ -164,8 +164,8 @@ impl PerNs {
         }
     }
 
-    /// The items of a definition: one in the namespace that it belongs to, and for a struct or a variant whose constructor
-    /// has a visibility one in types and one in values.
+    /// The items of a definition: one in its namespace; a struct or a variant whose constructor has a visibility
+    /// is a type and a value.
     pub fn from_def(
         def: ModuleDefId,
         vis: Visibility,
@@ -230,7 +230,7 @@ impl PerNs {
         self.types.map(|item| item.def)
     }
 
-    /// The type, with who sees it and its import.
+    /// The type, with its visibility and its import.
     pub fn take_types_full(self) -> Option<TypesItem>
         ensures { result ≡ self.types }
     {
@@ -244,7 +244,7 @@ impl PerNs {
         self.values.map(|item| item.def)
     }
 
-    /// The value, with who sees it and its import.
+    /// The value, with its visibility and its import.
     pub fn take_values_full(self) -> Option<ValuesItem>
         ensures { result ≡ self.values }
     {
@@ -258,7 +258,7 @@ impl PerNs {
         self.macros.map(|item| item.def)
     }
 
-    /// The macro, with who sees it and its import.
+    /// The macro, with its visibility and its import.
     pub fn take_macros_full(self) -> Option<MacrosItem>
         ensures { result ≡ self.macros }
     {
@@ -267,8 +267,8 @@ impl PerNs {
 
     /// The items whose visibility passes.
     ///
-    /// `f` is asked about the type, the value and the macro in that order, once about each that is there; no more than that has to be
-    /// askable.
+    /// The closure `f` is called for the type, the value and the macro in that order, once for each that is there. The
+    /// caller has to meet the `requires` of `f` for these calls alone.
     pub fn filter_visibility<F: FnMut(Visibility) -> bool + Drop>(self, mut f: F) -> PerNs
         requires { MayAskInOrder F.pre F.step self f }
         ensures { AsksInOrder F.step self f result }
@@ -283,7 +283,7 @@ impl PerNs {
         }
     }
 
-    /// The same items, each seen by `vis`.
+    /// The same items, each with the visibility `vis`.
     pub fn with_visibility(self, vis: Visibility) -> PerNs
         ensures { result ≡ seen_as vis self }
     {
@@ -294,7 +294,7 @@ impl PerNs {
         }
     }
 
-    /// In each namespace this item, else the other's.
+    /// In each namespace this item, else the other's: items of `self` shadow those of `other`.
     pub fn or(self, other: PerNs) -> PerNs
         ensures { result ≡ over self other }
     {
@@ -305,9 +305,9 @@ impl PerNs {
         }
     }
 
-    /// In each namespace this item, else that of the answer of `f`.
+    /// In each namespace this item, else that of the result of `f`.
     ///
-    /// `f` is asked once where an item is missing, and never where none is.
+    /// `f` is called once where an item is missing, and never where none is.
     pub fn or_else<F: FnOnce() -> PerNs>(self, f: F) -> PerNs
         requires { is_full self ≡ false → F.pre f }
         ensures full { is_full self ≡ true → result ≡ self }

@@ -1,4 +1,4 @@
-//! Who sees an item.
+//! Visibility: which modules see an item, and the most and the least permissive of two visibilities.
 ghost use Rattle.std.specs.Prelude.{◌≡◌};
 ghost use Rattle.dm_base.specs.declared.visibility.Visibility.TheVariants.{Module};
 ghost use Rattle.dm_base.specs.declared.visibility.VisibilityExplicitness.TheVariants as explicitness;
@@ -9,7 +9,7 @@ use crate::mod_path::ModPath;
 use crate::module_tree::ModuleTree;
 use dm_ids::ids::{Crate, MapId, ModuleId};
 
-/// Whether a visibility was written, or follows from where the item stands.
+/// Whether a visibility is explicit (written), or implicit (it follows from where the item stands).
 #[derive(Clone, Copy, PartialEq, Eq, Hash, Debug)]
 pub enum VisibilityExplicitness {
     Explicit,
@@ -52,7 +52,7 @@ impl Visibility {
 
     /// Whether the module `from` sees an item of this visibility (docs/RULES.md, "Who sees what").
     ///
-    /// The tree has to have `from`, and the module that the visibility names. Takes no memory.
+    /// The tree has to have `from`, and the module that the visibility names. Does not allocate.
     pub fn is_visible_from<T: ModuleTree>(self, tree: &T, from: ModuleId) -> bool
         requires named { NamesKnown (T.tree tree.now) self }
         requires known { IsKnown (T.tree tree.now) from }
@@ -87,10 +87,11 @@ impl Visibility {
         }
     }
 
-    /// The most of two visibilities: one of them, seen by all who see either. `None` where the table of docs/RULES.md has none.
+    /// The most permissive of two visibilities: one of them, seen by all who see either. `None` where the table of
+    /// docs/RULES.md has none.
     ///
-    /// Two different modules are compared where both lie in `map`. One module twice is explicit if either is. The tree has to have
-    /// the modules that the two name. Takes no memory.
+    /// Two different modules are compared where both lie in `map`. One module twice is explicit if either is. The tree
+    /// has to have the modules that the two name. Does not allocate.
     pub fn max<T: ModuleTree>(self, tree: &T, other: Visibility, map: MapId) -> Option<Visibility>
         requires one { NamesKnown (T.tree tree.now) self }
         requires two { NamesKnown (T.tree tree.now) other }
@@ -101,10 +102,11 @@ impl Visibility {
         Some(most)
     }
 
-    /// The least of two visibilities: one of them, seen by those who see both. `None` where the table of docs/RULES.md has none.
+    /// The least permissive of two visibilities: one of them, seen by those who see both. `None` where the table of
+    /// docs/RULES.md has none.
     ///
-    /// Two different modules are compared where both lie in `map`. One module twice is explicit if either is. The tree has to have
-    /// the modules that the two name. Takes no memory.
+    /// Two different modules are compared where both lie in `map`. One module twice is explicit if either is. The tree
+    /// has to have the modules that the two name. Does not allocate.
     pub fn min<T: ModuleTree>(self, tree: &T, other: Visibility, map: MapId) -> Option<Visibility>
         requires one { NamesKnown (T.tree tree.now) self }
         requires two { NamesKnown (T.tree tree.now) other }
@@ -116,7 +118,7 @@ impl Visibility {
     }
 }
 
-/// The most and the least of two visibilities, where there is one: the two of them, in order.
+/// The most and the least permissive of two visibilities, in that order, where they can be compared.
 fn most_and_least<T: ModuleTree>(
     tree: &T,
     map: MapId,
@@ -154,7 +156,7 @@ fn most_and_least<T: ModuleTree>(
     }
 }
 
-/// The most and the least of what two modules see: what the one that contains the other sees, and what that one does.
+/// The most and the least permissive of visibilities in two modules: those of the outer and of the inner one.
 fn most_and_least_of_modules<T: ModuleTree>(
     tree: &T,
     map: MapId,

@@ -1,4 +1,4 @@
--- What is set in one map.
+-- Changes of a def map, outside its modules.
 use Rattle.std.specs.Prelude.{[], ◌∷◌, ◌++◌, Bool, true, false}
 use Rattle.indexmap.specs.IndexMap.{insert_entry}
 use Rattle.dm_ids.specs.Names.{same_name}
@@ -16,7 +16,7 @@ changed (MacroDef a d) m = record m { macro_defs = insert_entry same_ast m.macro
 changed (Helper a h) m = record m { derive_helpers = helpers_with m.derive_helpers a h }
 changed (Diagnostic d) m = record m { diagnostics = m.diagnostics ++ d ∷ [] }
 
--- whether it takes memory
+-- whether the change may allocate
 abbrev pub grows : MapChange → Bool
 grows (Prelude p) = false
 grows (MacroUse n e) = true

@@ -1,4 +1,4 @@
-//! For the crates of this repository which build maps: how a map begins, grows, is changed, and is read whole.
+//! Building a def map, for the crates of this repository that do: how one begins, grows, is changed, and is read whole.
 ghost use Rattle.std.specs.Prelude.{◌≡◌, false, None, IsOk, IfOk, OnOk, OnErr};
 ghost use Rattle.std.specs.Option.{option_copied, option_copied_mut};
 ghost use Rattle.std.specs.Borrow.{sem};
@@ -22,7 +22,7 @@ use indexmap::IndexMap;
 use std::alloc::{AllocError, Global};
 use std::rc::Rc;
 
-/// A new map, with its root alone, and what all maps of its crate share.
+/// A new def map, with its root alone, and the data that all def maps of its crate share.
 pub fn with_root(
     id: MapId,
     edition: Edition,
@@ -50,7 +50,7 @@ pub fn with_root(
     })
 }
 
-/// Adds a module, as a child of the one at place `i`.
+/// Adds a module, as a child of the one at index `i`.
 pub fn add_child(
     map: &mut DefMap,
     i: usize,
@@ -90,35 +90,35 @@ pub fn change(map: &mut DefMap, change: MapChange, alloc: Global) -> Result<(), 
     Ok(())
 }
 
-/// The module at place `i`, counted from the root.
+/// The module at index `i`, counted from the root.
 pub fn nth(map: &DefMap, i: usize) -> Option<&ModuleData>
     ensures { option_copied result ≡ nth_module map.now.modules i }
 {
     map.modules.nth(i)
 }
 
-/// The macro that each item of the syntax defines.
+/// The macro that each AST item defines.
 pub fn macro_defs(map: &DefMap) -> &IndexMap<AstId, MacroId>
     ensures { result.now.entries ≡ map.now.macro_defs }
 {
     &map.macro_defs
 }
 
-/// The derive helpers of each item of the syntax.
+/// The derive helpers on each AST item.
 pub fn derive_helpers(map: &DefMap) -> &IndexMap<AstId, DeriveHelpers>
     ensures { result.now.entries ≡ map.now.derive_helpers }
 {
     &map.derive_helpers
 }
 
-/// The macros that `#[macro_use]` brings.
+/// The `#[macro_use]` prelude.
 pub fn macro_uses(map: &DefMap) -> &IndexMap<Name, (MacroId, Option<ExternCrateId>)>
     ensures { result.now.entries ≡ map.now.macro_use }
 {
     &map.macro_use_prelude
 }
 
-/// What the module at place `i` binds, to be changed.
+/// The scope of the module at index `i`, to be changed.
 pub fn scope_mut(map: &mut DefMap, i: usize) -> Option<&mut ItemScope>
     ensures* writes_back { sem 𝓛 (LendsMapScope map.entry i result) }
     ensures value { option_copied_mut result ≡ nth_scope map.old.modules i }
@@ -126,14 +126,14 @@ pub fn scope_mut(map: &mut DefMap, i: usize) -> Option<&mut ItemScope>
     building::scope_mut(&mut map.modules, i)
 }
 
-/// What all maps of the crate share.
+/// The data that all def maps of the crate share.
 pub fn shared(map: &DefMap) -> &Rc<CrateData>
     ensures { result.now.value ≡ map.now.shared }
 {
     map.shared()
 }
 
-/// Shares other data.
+/// Replaces the shared data.
 pub fn set_shared(map: &mut DefMap, shared: Rc<CrateData>)
     ensures { map.new ≡ record map.old { shared = shared.value } }
 {

@@ -1,4 +1,4 @@
-//! What a map answers of its crate's data: each map of a crate answers the same. None of these calls takes memory.
+//! Queries of a def map about its crate, the same for each map of the crate. None of these calls allocates.
 ghost use Rattle.std.specs.Prelude.{◌≡◌};
 ghost use Rattle.dm_tables.specs.CrateData.{limit_of, goes_without_std, macro_of, fn_of};
 
@@ -8,35 +8,35 @@ use dm_base::symbol::Symbol;
 use dm_tables::unstable_features::UnstableFeatures;
 
 impl DefMap {
-    /// The tools whose attributes the crate may have: those that every crate has, then those that were added, in order.
+    /// The tools whose attributes the crate may have: those of every crate, then those that it registers, in order.
     pub fn registered_tools(&self) -> &[Symbol]
         ensures { result.now ≡ self.now.shared.tools }
     {
         self.shared().tools()
     }
 
-    /// The unstable features that the crate asks for.
+    /// The unstable features that the crate enables.
     pub fn features(&self) -> &UnstableFeatures
         ensures { result.now ≡ self.now.shared.features }
     {
         self.shared().features()
     }
 
-    /// Whether the crate counts as `core` where traits are implemented.
+    /// Whether the crate counts as `core` for coherence, and so may have inherent `impl`s of builtin types.
     pub fn is_rustc_coherence_is_core(&self) -> bool
         ensures { result ≡ self.now.shared.coherence_is_core }
     {
         self.shared().coherence_is_core()
     }
 
-    /// Whether the crate goes without `std`: it does where it goes without `core`.
+    /// Whether the crate is `no_std`: it is where it is `no_core`.
     pub fn is_no_std(&self) -> bool
         ensures { result ≡ goes_without_std self.now.shared }
     {
         self.shared().goes_without_std()
     }
 
-    /// Whether the crate goes without `core`.
+    /// Whether the crate is `no_core`.
     pub fn is_no_core(&self) -> bool
         ensures { result ≡ self.now.shared.no_core }
     {
@@ -57,7 +57,7 @@ impl DefMap {
         self.shared().fn_of_macro().get(&id).copied()
     }
 
-    /// How deep macros of the crate may expand: 128 where it sets nothing.
+    /// The recursion limit of macro expansion: 128 where the crate sets none.
     pub fn recursion_limit(&self) -> u32
         ensures { result ≡ limit_of self.now.shared }
     {

@@ -1,4 +1,4 @@
-//! The map of a crate or of a block.
+//! `DefMap`: the def map of a crate or of a block expression.
 ghost use Rattle.std.specs.Prelude.{◌≡◌, ◌↔◌, IsTrue, IsSome};
 ghost use Rattle.std.specs.Option.{option_copied};
 ghost use Rattle.std.specs.Map.{lookup};
@@ -20,7 +20,7 @@ use indexmap::IndexMap;
 use std::marker::Model;
 use std::rc::Rc;
 
-/// The modules of a crate, or of a block in it.
+/// The def map of a crate, or of a block expression in it: its modules, and the tables that it has of its own.
 pub struct DefMap {
     pub(crate) id: MapId,
     pub(crate) edition: Edition,
@@ -35,7 +35,7 @@ pub struct DefMap {
     pub(crate) shared: Rc<CrateData>,
 }
 
-/// Written out, so that what lets one go has one call to prove.
+/// A hand-written `Drop`, to keep proofs small: code that drops a value has one call to prove.
 impl Drop for DefMap {
     fn drop(self) {
         let DefMap {
@@ -77,7 +77,7 @@ impl DefMap {
         self.id.krate
     }
 
-    /// The block whose map it is; none for a crate's.
+    /// The block expression whose map it is; none for a crate's.
     pub fn block_id(&self) -> Option<BlockId>
         ensures { result ≡ self.now.id.block }
     {
@@ -127,42 +127,43 @@ impl DefMap {
         self.modules.get(m)
     }
 
-    /// The prelude module, with the use that named it.
+    /// The prelude module, with the `use` that named it.
     pub fn prelude(&self) -> Option<(ModuleId, Option<UseId>)>
         ensures { result ≡ self.now.prelude }
     {
         self.prelude
     }
 
-    /// The macro that `#[macro_use]` brings under a name, with the item that brought it. Takes no memory.
+    /// The macro of that name in the `#[macro_use]` prelude, with the `extern crate` that brought it, if one did.
+    /// Does not allocate.
     pub fn macro_use_prelude(&self, name: &Name) -> Option<(MacroId, Option<ExternCrateId>)>
         ensures { result ≡ find_name name.now self.now.macro_use }
     {
         self.macro_use_prelude.get(name).copied()
     }
 
-    /// What went wrong while the map was made, in order. Takes no memory.
+    /// The diagnostics of the map, in order. Does not allocate.
     pub fn diagnostics(&self) -> &[DefDiagnostic]
         ensures { result.now ≡ self.now.diagnostics }
     {
         self.diagnostics.as_slice()
     }
 
-    /// The helper attributes of derives at an item of the syntax, in order; none where it has none. Takes no memory.
+    /// The helper attributes of the derives on an AST item, in order; none where it has none. Does not allocate.
     pub fn derive_helpers_in_scope(&self, id: AstId) -> Option<&[DeriveHelper]>
         ensures { option_copied result ≡ lookup (same_ast id) self.now.derive_helpers }
     {
         helpers_of(&self.derive_helpers, id)
     }
 
-    /// The macro that an item of the syntax defines. Takes no memory.
+    /// The macro that an AST item defines. Does not allocate.
     pub fn macro_def_to_macro_id(&self, id: AstId) -> Option<MacroId>
         ensures { result ≡ lookup (same_ast id) self.now.macro_defs }
     {
         macro_def_of(&self.macro_defs, id)
     }
 
-    /// What all maps of the crate share.
+    /// The data that all def maps of the crate share.
     pub(crate) fn shared(&self) -> &Rc<CrateData>
         ensures { result.now.value ≡ self.now.shared }
     {

@@ -1,4 +1,4 @@
-//! The map of a crate or of a block: its modules, and what it answers of them and of its crate.
+//! The def map of a crate or of a block expression, its queries, and how it is built.
 #![tactic(auto)]
 
 pub mod building;

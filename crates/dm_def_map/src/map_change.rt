@@ -1,4 +1,4 @@
-//! What is set in one map.
+//! `MapChange`: one change of a def map, outside its modules.
 use dm_base::ids::{ExternCrateId, ModuleId, UseId};
 use dm_base::item_ids::MacroId;
 use dm_base::name::Name;
@@ -6,17 +6,17 @@ use dm_base::source::AstId;
 use dm_scope::diagnostics::DefDiagnostic;
 use dm_tables::derive_helpers::DeriveHelper;
 
-/// What is set in one map.
+/// One change of a def map, outside its modules.
 #[derive(Drop)]
 pub enum MapChange {
-    /// The prelude module, with the use that named it.
+    /// The prelude module, with the `use` that named it.
     Prelude(Option<(ModuleId, Option<UseId>)>),
-    /// A macro that `#[macro_use]` brings, with the item that brought it.
+    /// A macro of the `#[macro_use]` prelude, with the `extern crate` that brought it.
     MacroUse(Name, (MacroId, Option<ExternCrateId>)),
-    /// The macro that an item of the syntax defines.
+    /// The macro that an AST item defines.
     MacroDef(AstId, MacroId),
-    /// A helper attribute of a derive at an item, the last.
+    /// A helper attribute of a derive on an item; it goes last.
     Helper(AstId, DeriveHelper),
-    /// What went wrong while the map was made, the last.
+    /// A diagnostic; it goes last.
     Diagnostic(DefDiagnostic),
 }

@@ -1,4 +1,4 @@
-//! What a map says of its modules. None of these calls takes memory.
+//! Queries of a def map about its modules. None of these calls allocates.
 ghost use Rattle.std.specs.Prelude.{◌≡◌, IsSome, Some};
 ghost use Rattle.std.specs.Map.Iter.{ShowsInOrder};
 ghost use Rattle.dm_ids.specs.declared.ids.ModuleId.{ModuleId};
@@ -22,7 +22,7 @@ impl DefMap {
 
     /// The module that contains a module of this map, which has to lie in it: `has` tests it.
     ///
-    /// That is its parent, or for the root of a block's map the module that contains the block. None for a crate's root.
+    /// The parent, or for the root of a block's map the module that contains the block; none for a crate's root.
     pub fn containing_module(&self, m: ModuleId) -> Option<ModuleId>
         requires { IsSome (module_at self.now.modules m) }
         ensures { result ≡ containing_in self.now m }
@@ -41,7 +41,7 @@ impl DefMap {
         filling(self.modules(), file)
     }
 
-    /// The modules of this map that are written out in what the macro call expands to, in order of number.
+    /// The inline modules of this map in the expansion of the macro call, in order of number.
     pub fn inline_modules_for_macro_file(&self, call: MacroCallId) -> InlineModules<'_>
         ensures rest { result ≡ modules_with (is_inline_in call) self.now.modules }
         ensures runs { ShowsInOrder (λ (m : ModuleId). m) }

@@ -1,4 +1,4 @@
--- When two diagnostics say the same: as their `==` says. Of their texts the bytes count, and not the room that these have.
+-- When two diagnostics have the same content, as their `==` says. Of their texts the bytes count, and not the capacity.
 use Rattle.std.specs.Prelude.{◌≡◌, true, List, [], ◌∷◌, map, string_bytes, refl}
 use Rattle.std.specs.Cmp.Lexicographic.{pointwise, bytes_decides}
 use Rattle.std.specs.String.{string_eq}

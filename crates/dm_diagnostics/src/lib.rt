@@ -1,4 +1,4 @@
-//! What went wrong while a map was made.
+//! Diagnostics of a def map: what went wrong while it was built.
 #![tactic(auto)]
 
 ghost use Rattle.std.specs.Prelude.{◌≡◌, IfOk, true};
@@ -18,7 +18,7 @@ use std::marker::Model;
 use std::rc::Rc;
 use std::slice;
 
-/// What went wrong, and where in the syntax.
+/// The kind of a diagnostic, and the AST item that it is reported at.
 #[derive(PartialEq, Eq, Drop, Debug)]
 pub enum DefDiagnosticKind {
     /// No file is there for a module; the candidates are the paths that were tried.
@@ -30,23 +30,23 @@ pub enum DefDiagnosticKind {
     UnresolvedExternCrate {
         ast: AstId,
     },
-    /// A path among those of a use.
+    /// A path of a `use` tree resolves to nothing.
     UnresolvedImport {
         id: AstId,
         index: UseTreeIdx,
     },
-    /// An item is left out, since its condition does not hold under the options.
+    /// An item is left out, since its `cfg` condition does not hold under the options.
     UnconfiguredCode {
         ast_id: AstId,
         cfg: CfgExpr,
         opts: CfgOptions,
     },
-    /// The path of a macro call leads to no macro.
+    /// The path of a macro call resolves to no macro.
     UnresolvedMacroCall {
         ast: MacroCallKind,
         path: ModPath,
     },
-    /// A macro of the compiler's own that is not implemented.
+    /// A builtin macro that is not implemented.
     UnimplementedBuiltinMacro {
         ast: AstId,
     },
@@ -60,7 +60,7 @@ pub enum DefDiagnosticKind {
         ast: AstId,
         id: AttrId,
     },
-    /// A macro's definition is wrong. No call makes one: it is written as it stands.
+    /// A macro's definition is malformed. There is no constructor function: callers write the variant out.
     MacroDefError {
         ast: AstId,
         message: String,
@@ -73,7 +73,7 @@ pub enum DefDiagnosticKind {
     },
 }
 
-/// What went wrong in a module.
+/// A diagnostic, with the module that it is in.
 #[derive(PartialEq, Eq, Drop, Debug)]
 pub struct DefDiagnostic {
     pub in_module: ModuleId,
@@ -108,7 +108,7 @@ impl DefDiagnostic {
         }
     }
 
-    /// A path of a use resolves to nothing.
+    /// A path of a `use` tree resolves to nothing.
     pub fn unresolved_import(container: ModuleId, id: AstId, index: UseTreeIdx) -> DefDiagnostic
         ensures { result ≡ record { in_module = container; kind = DefDiagnosticKind.UnresolvedImport id index } }
     {
@@ -118,7 +118,7 @@ impl DefDiagnostic {
         }
     }
 
-    /// A macro was found, and its expansion went wrong.
+    /// A macro call resolves to a macro, whose expansion fails.
     pub fn macro_error(
         container: ModuleId,
         ast: AstId,
@@ -133,7 +133,7 @@ impl DefDiagnostic {
         }
     }
 
-    /// An item is left out, since its condition does not hold.
+    /// An item is left out, since its `cfg` condition does not hold.
     pub fn unconfigured_code(
         container: ModuleId,
         ast_id: AstId,
@@ -162,7 +162,7 @@ impl DefDiagnostic {
         }
     }
 
-    /// A macro is declared as a builtin one that is not known.
+    /// A macro is declared as a builtin one (`#[rustc_builtin_macro]`), but no such builtin macro is known.
     pub fn unimplemented_builtin_macro(container: ModuleId, ast: AstId) -> DefDiagnostic
         ensures { result ≡ record { in_module = container; kind = DefDiagnosticKind.UnimplementedBuiltinMacro ast } }
     {
@@ -193,7 +193,7 @@ impl DefDiagnostic {
     }
 }
 
-/// What is equal exactly where it says the same: of texts the bytes count, and not the room that these have.
+/// Values that are equal exactly where their contents are: of texts the bytes count, and not the capacity.
 pub trait SaidEq: Eq {
     ghost SaySame: { Self → Self → Type 0 };
 
@@ -218,7 +218,7 @@ impl SaidEq for DefDiagnostic {
     ghost told = { diagnostics_told };
 }
 
-/// The diagnostics of a map, which contracts see as their list. Clones share it.
+/// The diagnostics of a def map, which contracts see as a list. Clones share it.
 #[derive(Drop, Debug)]
 pub struct DefDiagnostics {
     shared: Rc<Vec<DefDiagnostic>>,
@@ -234,7 +234,7 @@ impl Model for DefDiagnostics {
 }
 
 impl DefDiagnostics {
-    /// These diagnostics, in order. Where memory is short, they are dropped.
+    /// These diagnostics, in order. Where the allocation fails, they are dropped.
     pub fn new(alloc: Global, diagnostics: Vec<DefDiagnostic>) -> Result<DefDiagnostics, AllocError>
         ensures { IfOk result (λ d. d ≡ diagnostics.items) }
     {
@@ -242,7 +242,7 @@ impl DefDiagnostics {
         Ok(DefDiagnostics { shared })
     }
 
-    /// The diagnostics, in order. Takes no memory.
+    /// The diagnostics, in order. Does not allocate.
     pub fn iter(&self) -> slice::Iter<'_, DefDiagnostic>
         ensures { iter_rest result ≡ self.now }
     {
@@ -275,7 +275,7 @@ impl SaidEq for DefDiagnostics {
 impl Clone for DefDiagnostics {
     ghost is_clone = { λ d copy. copy ≡ d };
 
-    /// The same list, shared. Refused where it has no room for one owner more.
+    /// The same list, shared. Fails where the reference count cannot grow.
     fn clone(&self) -> Result<DefDiagnostics, AllocError> {
         let shared = self.shared.clone()?;
         Ok(DefDiagnostics { shared })

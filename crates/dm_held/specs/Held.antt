@@ -1,4 +1,4 @@
--- What of a holder's ids is wrong first: the least kind, and of it the least id.
+-- The first dangling id of a holder: that of the least kind of fault, and of this kind the least id.
 use Rattle.std.specs.Prelude.{◌≡◌, ℕ, Bool, true, false, ◌&&◌, ◌||◌, Option, Some, None, List, ◌++◌, nat_eq, nat_lt, if◌then◌else◌, MatchOption, Contains, IsTrue, ◌⊎◌}
 use Rattle.std.specs.List.{AllByRecursion}
 use Rattle.dm_held.specs.declared.fault.WorldFaultKind.{WorldFaultKind}

@@ -1,5 +1,5 @@
--- Which ids preludes and scopes hold. Impl blocks, extern blocks, extern crates, builtin derives, macro calls and places in
--- source text are opaque: they hold none.
+-- Which ids preludes and scopes hold. Impl blocks, extern blocks, extern crates, builtin derives, macro calls and
+-- places in source text are opaque: they hold none.
 use Rattle.std.specs.Prelude.{List, [], ◌∷◌, ◌++◌, Option, map}
 use Rattle.std.specs.List.{flat_map}
 use Rattle.std.specs.Option.{option_map_or}

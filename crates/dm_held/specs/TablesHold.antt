@@ -1,4 +1,4 @@
--- Which ids hold the tables of a crate, of the syntax, and of items.
+-- Which ids the tables of a crate, of the AST, and of items hold.
 use Rattle.std.specs.Prelude.{List, [], ◌∷◌, ◌++◌, map}
 use Rattle.std.specs.List.{flat_map}
 use Rattle.dm_ids.specs.declared.ids.FunctionId.{FunctionId}
@@ -26,7 +26,7 @@ use Rattle.dm_tables.specs.Helpers.{Helper}
 use Rattle.dm_tables.specs.ItemTables.{ItemTables}
 use Rattle.dm_held.specs.Holding.{path_holds}
 
--- the items of the syntax that define macros hold those
+-- the AST items that define macros hold those
 abbrev pub macro_defs_hold : List (AstId × MacroId) → List HeldId
 macro_defs_hold es = map held.Macro (map (λ e. e.1) es)
 

@@ -1,4 +1,4 @@
-//! What a check of a world can find.
+//! `WorldFault`: a dangling id, which is what the check of a world can find.
 use dm_base::ids::{MapId, ModuleId};
 
 /// What is wrong with an id that something holds, with the number by which faults of one holder are told in order.
@@ -22,7 +22,7 @@ pub enum Holder {
     Tables,
 }
 
-/// An id that is not the world's, with what holds it.
+/// A dangling id, which is one that is not the world's, with what holds it.
 #[derive(Clone, Copy, PartialEq, Eq, Debug)]
 pub struct WorldFault {
     pub kind: WorldFaultKind,

@@ -1,4 +1,4 @@
-//! The ids that a world's tables hold.
+//! `HeldId`: an id that a world's tables hold.
 use crate::fault::WorldFaultKind;
 use dm_base::ids::{Crate, EnumVariantId, ModuleId, UseId};
 use dm_base::item_ids::{ItemKind, MacroId};

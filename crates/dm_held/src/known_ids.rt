@@ -1,10 +1,10 @@
-//! Who has ids.
+//! `KnownIds`: which ids exist.
 ghost use Rattle.std.specs.Prelude.{◌≡◌, Bool};
 ghost use Rattle.dm_held.specs.declared.held.HeldId.{HeldId};
 
 use crate::held::HeldId;
 
-/// Who has ids, each with the kind of what stands under it.
+/// Implemented by what has ids, each with the kind of what stands under it.
 pub trait KnownIds {
     /// Which ids it has, for contracts.
     ghost known: { Self → HeldId → Bool };

@@ -1,4 +1,4 @@
-//! Which ids the tables of a world hold, and the least of them that nobody has.
+//! The check for dangling ids: which ids the tables of a world hold, and the least one that dangles.
 #![tactic(auto)]
 
 pub mod fault;

@@ -10,7 +10,7 @@ use crate::note_tables::note_path;
 use crate::notes::note;
 use dm_scope::diagnostics::{DefDiagnostic, DefDiagnosticKind};
 
-/// With the crate of the `$crate` of the path that a diagnostic is about.
+/// Folds in the crate of the `$crate` of the path that a diagnostic is about.
 fn note_kind<T: KnownIds>(
     world: &T,
     least: Option<HeldFault>,
@@ -25,7 +25,7 @@ fn note_kind<T: KnownIds>(
     }
 }
 
-/// With the module of a diagnostic, and what its kind holds.
+/// Folds in the module of a diagnostic, and what its kind holds.
 #[tactic(auto, using(crate::proofs::Sets::parts))]
 fn note_diagnostic<T: KnownIds>(
     world: &T,

@@ -33,7 +33,7 @@ pub fn note_push<T: KnownIds>(
     }
 }
 
-/// With what a set of items holds.
+/// Folds in what a set of items holds.
 #[tactic(auto, using(crate::proofs::Sets::parts))]
 fn note_res<T: KnownIds>(world: &T, least: Option<HeldFault>, res: &PerNs) -> Option<HeldFault>
     ensures { result ≡ fold (noted (T.known world.now)) least (res_holds res.now) }

@@ -12,7 +12,7 @@ use dm_base::imports::ImportOrDef;
 use dm_base::per_ns::Namespace;
 use dm_scope::item_scope::ItemScope;
 
-/// With the use or the definition that an import stands for.
+/// Folds in the use or the definition that an import stands for.
 fn note_step<T: KnownIds>(
     world: &T,
     least: Option<HeldFault>,
@@ -28,7 +28,7 @@ fn note_step<T: KnownIds>(
     }
 }
 
-/// With the keys and values of the records of a namespace.
+/// Folds in the keys and values of the records of a namespace.
 #[tactic(auto, using(crate::proofs::Sets::parts))]
 fn note_records_in<T: KnownIds>(
     world: &T,
@@ -46,7 +46,7 @@ fn note_records_in<T: KnownIds>(
     least
 }
 
-/// With the keys and values of a scope's records.
+/// Folds in the keys and values of a scope's records.
 #[tactic(auto, using(crate::proofs::RecordLemmas::records))]
 pub(crate) fn note_records<T: KnownIds>(
     world: &T,

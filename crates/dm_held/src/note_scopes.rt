@@ -17,7 +17,7 @@ use dm_base::per_ns::Item;
 use dm_base::visibility::Visibility;
 use dm_scope::item_scope::ItemScope;
 
-/// With what a type holds.
+/// Folds in what a type holds.
 #[tactic(auto, using(crate::proofs::Sets::parts))]
 pub(crate) fn note_type<T: KnownIds>(
     world: &T,
@@ -34,7 +34,7 @@ pub(crate) fn note_type<T: KnownIds>(
     }
 }
 
-/// With what a value holds.
+/// Folds in what a value holds.
 #[tactic(auto, using(crate::proofs::Sets::parts))]
 pub(crate) fn note_value<T: KnownIds>(
     world: &T,
@@ -51,7 +51,7 @@ pub(crate) fn note_value<T: KnownIds>(
     }
 }
 
-/// With what a macro that is bound holds.
+/// Folds in what a bound macro holds.
 #[tactic(auto, using(crate::proofs::Sets::parts))]
 pub(crate) fn note_macro<T: KnownIds>(
     world: &T,
@@ -68,7 +68,7 @@ pub(crate) fn note_macro<T: KnownIds>(
     }
 }
 
-/// With what a scope's bindings hold.
+/// Folds in what a scope's bindings hold.
 #[tactic(auto, using(crate::proofs::Sets::parts))]
 fn note_bindings<T: KnownIds>(
     world: &T,
@@ -121,7 +121,7 @@ fn note_macros<T: KnownIds>(
         .fold(least, |least, entry| note_macro(world, least, entry.1))
 }
 
-/// With what legacy macros hold.
+/// Folds in what legacy macros hold: those in textual scope.
 #[tactic(auto, using(crate::proofs::Sets::parts))]
 fn note_legacies<T: KnownIds>(
     world: &T,
@@ -150,7 +150,7 @@ fn note_all_macros<T: KnownIds>(
         .fold(least, |least, m| note(world, least, HeldId::Macro(*m)))
 }
 
-/// With what a trait that was imported without a name holds.
+/// Folds in what a trait that was imported without a name holds.
 #[tactic(auto, using(crate::proofs::Sets::parts))]
 fn note_unnamed_trait<T: KnownIds>(
     world: &T,
@@ -167,7 +167,7 @@ fn note_unnamed_trait<T: KnownIds>(
     }
 }
 
-/// With what a scope declares.
+/// Folds in what a scope declares.
 #[tactic(auto, using(crate::proofs::Sets::parts))]
 fn note_declarations<T: KnownIds>(
     world: &T,
@@ -183,7 +183,7 @@ fn note_declarations<T: KnownIds>(
     least
 }
 
-/// With the traits that a scope imports without a name.
+/// Folds in the traits that a scope imports without a name.
 #[tactic(auto, using(crate::proofs::Sets::parts))]
 fn note_unnamed_traits<T: KnownIds>(
     world: &T,
@@ -199,7 +199,7 @@ fn note_unnamed_traits<T: KnownIds>(
     least
 }
 
-/// With the constants that a scope declares without a name.
+/// Folds in the constants that a scope declares without a name.
 #[tactic(auto, using(crate::proofs::Sets::parts))]
 fn note_unnamed_consts<T: KnownIds>(
     world: &T,
@@ -215,7 +215,7 @@ fn note_unnamed_consts<T: KnownIds>(
     least
 }
 
-/// With what a scope's lists hold.
+/// Folds in what a scope's lists hold.
 #[tactic(auto, using(crate::proofs::Sets::parts))]
 fn note_lists<T: KnownIds>(
     world: &T,

@@ -1,4 +1,4 @@
-//! The ids that the tables of crates, of the syntax and of items hold.
+//! The ids that the tables of crates, of the AST and of items hold.
 ghost use Rattle.std.specs.Prelude.{◌≡◌, None, map};
 ghost use Rattle.std.specs.List.{fold, flat_map};
 ghost use Rattle.dm_held.specs.Held.{noted, IsLeastFault};
@@ -19,7 +19,7 @@ use dm_tables::field_list::FieldList;
 use dm_tables::item_tables::ItemTables;
 use indexmap::IndexMap;
 
-/// The least fault of the macros that items of the syntax define.
+/// The least fault of the macros that AST items define.
 #[tactic(auto, using(crate::proofs::Sets::parts))]
 pub fn note_macro_defs<T: KnownIds>(
     world: &T,
@@ -101,7 +101,7 @@ fn note_fn_of_macro<T: KnownIds>(
     least
 }
 
-/// With the crate of the `$crate` of a visibility's path.
+/// Folds in the crate of the `$crate` of a visibility's path.
 fn note_raw<T: KnownIds>(
     world: &T,
     least: Option<HeldFault>,
@@ -117,7 +117,7 @@ fn note_raw<T: KnownIds>(
     }
 }
 
-/// With the crate of a path's `$crate`.
+/// Folds in the crate of a path's `$crate`.
 pub(crate) fn note_path<T: KnownIds>(
     world: &T,
     least: Option<HeldFault>,
@@ -166,7 +166,7 @@ fn assoc_held(id: AssocItemId) -> HeldId
     }
 }
 
-/// With the module or trait that an associated item lies in.
+/// Folds in the module or trait that an associated item lies in.
 fn note_container<T: KnownIds>(
     world: &T,
     least: Option<HeldFault>,

@@ -1,4 +1,4 @@
-//! The ids that a holder has, looked at one by one: which are not the world's, and which of those comes first.
+//! Folds over the ids that a holder has, which find the least dangling one: an id that is not the world's.
 ghost use Rattle.std.specs.Prelude.{◌≡◌};
 ghost use Rattle.std.specs.List.{fold};
 ghost use Rattle.dm_ids.specs.declared.item_ids.ModuleDefId.TheVariants as def;
@@ -47,7 +47,7 @@ fn comes_before(a: HeldFault, b: HeldFault) -> bool
     x < y || x == y && a.id < b.id
 }
 
-/// Of the least faults of two lists of ids that of both lists.
+/// The lesser of two faults: of the least faults of two lists of ids, the one of both lists.
 pub fn lesser(one: Option<HeldFault>, other: Option<HeldFault>) -> Option<HeldFault>
     ensures value { result ≡ lesser one other }
     ensures joined { IsJoined one other result }
@@ -63,7 +63,7 @@ pub fn lesser(one: Option<HeldFault>, other: Option<HeldFault>) -> Option<HeldFa
     }
 }
 
-/// The least fault so far, with one more id looked at.
+/// One step of the folds: the least fault so far, with one more id looked at.
 pub(crate) fn note<T: KnownIds>(
     world: &T,
     least: Option<HeldFault>,
@@ -77,7 +77,7 @@ pub(crate) fn note<T: KnownIds>(
     lesser(least, Some(fault_at(held)))
 }
 
-/// With the ids that a visibility holds.
+/// Folds in the ids that a visibility holds.
 pub(crate) fn note_vis<T: KnownIds>(
     world: &T,
     least: Option<HeldFault>,
@@ -106,7 +106,7 @@ pub fn def_fault<T: KnownIds>(world: &T, def: ModuleDefId) -> Option<HeldFault>
     note_def(world, None, def)
 }
 
-/// With the ids that a definition holds: itself, but for a builtin type.
+/// Folds in the ids that a definition holds: itself, but for a builtin type.
 pub(crate) fn note_def<T: KnownIds>(
     world: &T,
     least: Option<HeldFault>,
@@ -138,7 +138,7 @@ fn note_adt<T: KnownIds>(world: &T, least: Option<HeldFault>, adt: AdtId) -> Opt
     }
 }
 
-/// With the use of an import; an extern crate has none.
+/// Folds in the use of an import; an extern crate has none.
 pub(crate) fn note_import<T: KnownIds>(
     world: &T,
     least: Option<HeldFault>,
@@ -153,7 +153,7 @@ pub(crate) fn note_import<T: KnownIds>(
     }
 }
 
-/// With the use of an import that can bring a value.
+/// Folds in the use of an import that can bring a value.
 pub(crate) fn note_value_import<T: KnownIds>(
     world: &T,
     least: Option<HeldFault>,

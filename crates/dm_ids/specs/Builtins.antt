@@ -1,4 +1,4 @@
--- The builtin types and their words.
+-- The builtin types and their names.
 use Rattle.std.specs.Prelude.{◌≡◌, List, [], ◌∷◌, None, codes, refl}
 use Rattle.dm_ids.specs.Names.{Name, find_name}
 use Rattle.dm_ids.specs.declared.builtin_type.BuiltinInt.{BuiltinInt}
@@ -27,7 +27,7 @@ abbrev pub float_words : List (Name × BuiltinFloat)
 float_words =
     (codes "f16", float.F16) ∷ (codes "f32", float.F32) ∷ (codes "f64", float.F64) ∷ (codes "f128", float.F128) ∷ []
 
--- the builtin types in order, each under its word
+-- the builtin types in order, each under its name
 abbrev pub builtin_words : List (Name × BuiltinType)
 builtin_words =
     (codes "char", builtin.Char) ∷ (codes "bool", builtin.Bool) ∷ (codes "str", builtin.Str)
@@ -60,7 +60,7 @@ float_word float.F32 = codes "f32"
 float_word float.F64 = codes "f64"
 float_word float.F128 = codes "f128"
 
--- the word of a builtin type
+-- the name of a builtin type
 abbrev pub builtin_word : BuiltinType → Name
 builtin_word builtin.Char = codes "char"
 builtin_word builtin.Bool = codes "bool"

@@ -1,4 +1,4 @@
--- Files and expansions.
+-- Files and macro expansions.
 use Rattle.std.specs.Prelude.{Option, Some, None}
 use Rattle.dm_ids.specs.declared.ids.MacroCallId.{MacroCallId}
 use Rattle.dm_ids.specs.declared.source.HirFileId.{HirFileId}

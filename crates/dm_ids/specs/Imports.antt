@@ -1,4 +1,4 @@
--- Imports of the namespaces, and how one is seen as another.
+-- Imports of each namespace, and the conversions between them.
 use Rattle.std.specs.Prelude.{◌≡◌, Bool, true, false, Option, None, Some, refl}
 use Rattle.std.specs.Cmp.{IsTotalOrder, then_total, on_total, nat_cmp_total}
 use Rattle.std.specs.Ordering.{then_cmp, on, nat_cmp}
@@ -71,28 +71,28 @@ use_of (wide.Glob i) = Some i.use_
 use_of (wide.Import i) = Some i.use_
 use_of (wide.ExternCrate k) = None
 
--- imports stand in order of their uses, and in one use in order of their places
+-- imports are ordered by `use` item, and in one `use` by index
 abbrev pub import_cmp : ImportId → ImportId → Ordering
 import_cmp = then_cmp (on (λ i. i.use_.0) nat_cmp) (on (λ i. i.idx.0) nat_cmp)
 
 pub import_cmp_total : IsTotalOrder import_cmp
 import_cmp_total = then_total (on_total (λ i. i.use_.0) nat_cmp_total) (on_total (λ i. i.idx.0) nat_cmp_total)
 
--- so do globs
+-- so are globs
 abbrev pub glob_cmp : GlobId → GlobId → Ordering
 glob_cmp = then_cmp (on (λ g. g.use_.0) nat_cmp) (on (λ g. g.idx.0) nat_cmp)
 
 pub glob_cmp_total : IsTotalOrder glob_cmp
 glob_cmp_total = then_total (on_total (λ g. g.use_.0) nat_cmp_total) (on_total (λ g. g.idx.0) nat_cmp_total)
 
--- place 5 of use 0 stands before place 0 of use 1, and after place 0 of its own
+-- index 5 of `use` 0 stands before index 0 of `use` 1, and after index 0 of its own
 earlier_use_first : import_cmp (record { use_ = record { 0 = 0 }; idx = record { 0 = 5 } }) (record { use_ = record { 0 = 1 }; idx = record { 0 = 0 } }) ≡ Less
 earlier_use_first = refl
 
 later_place_last : import_cmp (record { use_ = record { 0 = 0 }; idx = record { 0 = 5 } }) (record { use_ = record { 0 = 0 }; idx = record { 0 = 0 } }) ≡ Greater
 later_place_last = refl
 
--- an import as what another import stands for
+-- an import as what another import resolves to
 abbrev pub target_of : ImportOrExternCrate → ImportOrDef
 target_of (wide.Glob i) = target.Glob i
 target_of (wide.Import i) = target.Import i

@@ -1,9 +1,9 @@
--- Kinds of fields.
+-- Shapes of fields, and which of them have a constructor.
 use Rattle.std.specs.Prelude.{Bool, true, false}
 use Rattle.dm_ids.specs.declared.fields_shape.FieldsShape.{FieldsShape}
 use Rattle.dm_ids.specs.declared.fields_shape.FieldsShape.TheVariants.{Record, Tuple, Unit}
 
--- a struct or variant is also a value but where its fields have names
+-- a struct or variant has a constructor in the value namespace unless it is a record
 abbrev pub has_constructor : FieldsShape → Bool
 has_constructor Record = false
 has_constructor Tuple = true

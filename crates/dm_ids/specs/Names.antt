@@ -10,6 +10,6 @@ Name = List ℕ
 abbrev pub same_name : Name → Name → Bool
 same_name = bytes_eq
 
--- what stands under a name in a list of entries
+-- the entry under a name in a list of entries
 abbrev pub find_name : {A : Type 0} → Name → List (Name × A) → Option A
 find_name n es = lookup (same_name n) es

@@ -1,4 +1,4 @@
--- Macro styles: the ways in which a macro may be called, as a set of bits.
+-- Macro call styles, as bit flags.
 use Rattle.std.specs.Prelude.{Bool, ◌==◌}
 use Rattle.std.specs.Int.RustNames.{bit_and}
 use Rattle.dm_ids.specs.declared.macros.MacroCallStyles.{MacroCallStyles}

@@ -1,4 +1,4 @@
-//! The builtin types, which each program has under fixed names.
+//! The builtin types, such as `u8` and `str`, whose names each program has.
 ghost use Rattle.std.specs.Prelude.{◌≡◌, IfOk, Some};
 ghost use Rattle.dm_ids.specs.Names.{find_name};
 ghost use Rattle.dm_ids.specs.Builtins.{builtin_words, int_words, uint_words, float_words, builtin_word, int_word, uint_word, float_word};
@@ -75,14 +75,14 @@ impl BuiltinType {
 
     /// The builtin types in order, each under its name.
     ///
-    /// Fails where memory runs out, and then changes nothing.
+    /// Fails where an allocation fails, and then changes nothing.
     pub fn all_builtin_types(alloc: Global) -> Result<[(Name, BuiltinType); 19], AllocError>
         ensures { IfOk result (λ all. all ≡ builtin_words) }
     {
         BuiltinType::ALL.try_map(|builtin: BuiltinType| named(alloc, builtin))
     }
 
-    /// The builtin type that a name means where nothing shadows it. Takes no memory.
+    /// The builtin type that a name means where nothing shadows it. Does not allocate.
     pub fn by_name(name: &Name) -> Option<BuiltinType>
         ensures { result ≡ find_name name.now builtin_words }
     {
@@ -110,7 +110,7 @@ impl BuiltinType {
         }
     }
 
-    /// The word of a builtin type, which its name is and a program writes.
+    /// The name of a builtin type, as programs write it.
     pub fn as_str(self) -> &'static str
         ensures word { result.now ≡ builtin_word self }
         ensures found { find_name result.now builtin_words ≡ Some self }
@@ -142,7 +142,7 @@ impl AsName for BuiltinType {
 }
 
 impl BuiltinInt {
-    /// The signed integer that a literal's suffix names. Takes no memory.
+    /// The signed integer that a literal's suffix names. Does not allocate.
     pub fn from_suffix(suffix: &str) -> Option<BuiltinInt>
         ensures { result ≡ find_name suffix.now int_words }
     {
@@ -157,14 +157,14 @@ impl BuiltinInt {
         }
     }
 
-    /// The signed integer that a literal's suffix names, as a symbol. Takes no memory.
+    /// The signed integer that a literal's suffix names, as a symbol. Does not allocate.
     pub fn from_suffix_sym(suffix: &Symbol) -> Option<BuiltinInt>
         ensures { result ≡ find_name suffix.now int_words }
     {
         BuiltinInt::from_suffix(suffix.as_str())
     }
 
-    /// The word of a signed integer type.
+    /// The name of a signed integer type.
     pub fn as_str(self) -> &'static str
         ensures word { result.now ≡ int_word self }
         ensures found { find_name result.now int_words ≡ Some self }
@@ -181,7 +181,7 @@ impl BuiltinInt {
 }
 
 impl BuiltinUint {
-    /// The unsigned integer that a literal's suffix names. Takes no memory.
+    /// The unsigned integer that a literal's suffix names. Does not allocate.
     pub fn from_suffix(suffix: &str) -> Option<BuiltinUint>
         ensures { result ≡ find_name suffix.now uint_words }
     {
@@ -196,14 +196,14 @@ impl BuiltinUint {
         }
     }
 
-    /// The unsigned integer that a literal's suffix names, as a symbol. Takes no memory.
+    /// The unsigned integer that a literal's suffix names, as a symbol. Does not allocate.
     pub fn from_suffix_sym(suffix: &Symbol) -> Option<BuiltinUint>
         ensures { result ≡ find_name suffix.now uint_words }
     {
         BuiltinUint::from_suffix(suffix.as_str())
     }
 
-    /// The word of an unsigned integer type.
+    /// The name of an unsigned integer type.
     pub fn as_str(self) -> &'static str
         ensures word { result.now ≡ uint_word self }
         ensures found { find_name result.now uint_words ≡ Some self }
@@ -220,7 +220,7 @@ impl BuiltinUint {
 }
 
 impl BuiltinFloat {
-    /// The float that a literal's suffix names. Takes no memory.
+    /// The float that a literal's suffix names. Does not allocate.
     pub fn from_suffix(suffix: &str) -> Option<BuiltinFloat>
         ensures { result ≡ find_name suffix.now float_words }
     {
@@ -233,7 +233,7 @@ impl BuiltinFloat {
         }
     }
 
-    /// The word of a float type.
+    /// The name of a float type.
     pub fn as_str(self) -> &'static str
         ensures word { result.now ≡ float_word self }
         ensures found { find_name result.now float_words ≡ Some self }

@@ -1,8 +1,8 @@
-//! What the fields of a struct, union or variant look like.
+//! The shape of a struct, union or variant: record, tuple or unit.
 ghost use Rattle.std.specs.Prelude.{◌≡◌};
 ghost use Rattle.dm_ids.specs.Kinds.{has_constructor};
 
-/// The shape of fields: with names, in parentheses, or none at all.
+/// The shape of fields: named (record), in parentheses (tuple), or none at all (unit).
 #[derive(Clone, Copy, PartialEq, Eq, Hash, Debug)]
 pub enum FieldsShape {
     Record,
@@ -11,7 +11,7 @@ pub enum FieldsShape {
 }
 
 impl FieldsShape {
-    /// Whether a struct or variant with these fields is also a value under its name.
+    /// Whether a struct or variant of this shape has a constructor in the value namespace, under its own name.
     pub fn has_value_ns_ctor(self) -> bool
         ensures { result ≡ has_constructor self }
     {

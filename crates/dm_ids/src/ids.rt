@@ -1,4 +1,4 @@
-//! The numbers of things. A number says nothing by itself: the world that gave it knows what it stands for.
+//! Ids, which are plain numbers. An id means nothing by itself: only the world that gave it out can look it up.
 
 /// A crate.
 #[derive(Clone, Copy, PartialEq, Eq, PartialOrd, Ord, Hash, Debug)]
@@ -8,7 +8,7 @@ pub struct Crate(pub u32);
 #[derive(Clone, Copy, PartialEq, Eq, PartialOrd, Ord, Hash, Debug)]
 pub struct ModuleId(pub u32);
 
-/// A block expression with a map of its own.
+/// A block expression with a def map of its own.
 #[derive(Clone, Copy, PartialEq, Eq, PartialOrd, Ord, Hash, Debug)]
 pub struct BlockId(pub u32);
 
@@ -64,15 +64,15 @@ pub struct ImplId(pub u32);
 #[derive(Clone, Copy, PartialEq, Eq, PartialOrd, Ord, Hash, Debug)]
 pub struct ExternBlockId(pub u32);
 
-/// An `impl` that a builtin derive writes.
+/// An `impl` that a builtin derive generates.
 #[derive(Clone, Copy, PartialEq, Eq, PartialOrd, Ord, Hash, Debug)]
 pub struct BuiltinDeriveImplId(pub u32);
 
-/// A macro by `macro`.
+/// A macro 2.0, which `macro` declares.
 #[derive(Clone, Copy, PartialEq, Eq, PartialOrd, Ord, Hash, Debug)]
 pub struct Macro2Id(pub u32);
 
-/// A macro by `macro_rules!`.
+/// A `macro_rules!` macro. Its scope is textual: it is visible in the text after it.
 #[derive(Clone, Copy, PartialEq, Eq, PartialOrd, Ord, Hash, Debug)]
 pub struct MacroRulesId(pub u32);
 
@@ -80,7 +80,7 @@ pub struct MacroRulesId(pub u32);
 #[derive(Clone, Copy, PartialEq, Eq, PartialOrd, Ord, Hash, Debug)]
 pub struct ProcMacroId(pub u32);
 
-/// A call of a macro.
+/// A macro call.
 #[derive(Clone, Copy, PartialEq, Eq, PartialOrd, Ord, Hash, Debug)]
 pub struct MacroCallId(pub u32);
 
@@ -92,11 +92,11 @@ pub struct AttrId(pub u32);
 #[derive(Clone, Copy, PartialEq, Eq, PartialOrd, Ord, Hash, Debug)]
 pub struct FileId(pub u32);
 
-/// An item in the syntax of a file.
+/// An AST item, by its place in the syntax of its file.
 #[derive(Clone, Copy, PartialEq, Eq, PartialOrd, Ord, Hash, Debug)]
 pub struct FileAstId(pub u32);
 
-/// The place of an import in its `use` tree.
+/// The index of an import in its `use` tree.
 #[derive(Clone, Copy, PartialEq, Eq, PartialOrd, Ord, Hash, Debug)]
 pub struct UseTreeIdx(pub u32);
 
@@ -116,7 +116,7 @@ pub struct MacroCallKind(pub u32);
 #[derive(Clone, Copy, PartialEq, Eq, PartialOrd, Ord, Hash, Debug)]
 pub struct ExpandErrorKind(pub u32);
 
-/// The map of a crate, or of a block in it.
+/// The def map of a crate, or of a block expression in it.
 #[derive(Clone, Copy, PartialEq, Eq, PartialOrd, Ord, Hash, Debug)]
 pub struct MapId {
     pub krate: Crate,

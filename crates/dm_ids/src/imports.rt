@@ -1,4 +1,4 @@
-//! What brings a name into a scope.
+//! Imports, which bring names into a scope: named imports, glob imports and `extern crate`s.
 ghost use Rattle.std.specs.Prelude.{◌≡◌, refl};
 ghost use Rattle.std.specs.Cmp.Rules.{comparing};
 ghost use Rattle.std.specs.Ordering.{as_partial_cmp};
@@ -26,7 +26,7 @@ impl PartialOrd for ImportId {
     }
 }
 
-/// By use, then by place in it.
+/// By `use` item, then by index in it.
 impl Ord for ImportId {
     ghost cmp = { import_cmp };
 
@@ -41,7 +41,7 @@ impl Ord for ImportId {
     }
 }
 
-/// A glob import: a `*` of a `use` tree.
+/// A glob import: a `*` of a `use` tree. Explicit names shadow the names that it brings.
 #[derive(Clone, Copy, PartialEq, Eq, Hash, Debug)]
 pub struct GlobId {
     pub use_: UseId,
@@ -58,7 +58,7 @@ impl PartialOrd for GlobId {
     }
 }
 
-/// By use, then by place in it.
+/// By `use` item, then by index in it.
 impl Ord for GlobId {
     ghost cmp = { glob_cmp };
 
@@ -73,7 +73,7 @@ impl Ord for GlobId {
     }
 }
 
-/// What brings a type or a macro.
+/// The import of a type or a macro.
 #[derive(Clone, Copy, PartialEq, Eq, Hash, Debug)]
 pub enum ImportOrExternCrate {
     Glob(GlobId),
@@ -125,7 +125,7 @@ impl ImportOrExternCrate {
     }
 }
 
-/// What brings a value.
+/// The import of a value, which is never an `extern crate`.
 #[derive(Clone, Copy, PartialEq, Eq, Hash, Debug)]
 pub enum ImportOrGlob {
     Glob(GlobId),
@@ -155,7 +155,7 @@ impl From<ImportOrGlob> for ImportOrExternCrate {
     }
 }
 
-/// What an import stands for: a further import, or a definition.
+/// What an import resolves to: a further import (of a re-export), or a definition.
 #[derive(Clone, Copy, PartialEq, Eq, Hash, Debug)]
 pub enum ImportOrDef {
     Import(ImportId),

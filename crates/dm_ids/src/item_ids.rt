@@ -1,4 +1,4 @@
-//! The kinds of definitions, by their numbers.
+//! Ids that stand for one of several kinds of definition, such as `ModuleDefId`.
 ghost use Rattle.std.specs.Prelude.{◌≡◌};
 ghost use Rattle.dm_ids.specs.declared.item_ids.AdtId.TheVariants as adts;
 ghost use Rattle.dm_ids.specs.declared.item_ids.MacroId.TheVariants as macros;
@@ -55,7 +55,7 @@ pub enum MacroId {
     ProcMacroId(ProcMacroId),
 }
 
-/// The blank that an unused inline place of a list of macros holds.
+/// The filler of the unused inline slots of a `SmallVec` of macros.
 impl MadeWith<Global> for MacroId {
     fn made_with(_alloc: Global) -> MacroId {
         MacroId::Macro2Id(Macro2Id(0))
@@ -86,7 +86,7 @@ impl From<ProcMacroId> for MacroId {
     }
 }
 
-/// What a name in a module can stand for.
+/// A definition that a name in a module can resolve to.
 #[derive(Clone, Copy, PartialEq, Eq, Hash, Debug)]
 pub enum ModuleDefId {
     ModuleId(ModuleId),

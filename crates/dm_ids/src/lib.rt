@@ -1,4 +1,4 @@
-//! What things are known by: numbers, names, and the kinds of definitions, imports, macros and files.
+//! Ids and names: of crates, modules, definitions, imports, macros and files.
 #![tactic(auto)]
 
 pub mod builtin_type;

@@ -1,21 +1,21 @@
-//! Macros: what they are, and how they may be called.
+//! Kinds of macros: declarative, builtin and procedural ones, and the styles in which they may be called.
 ghost use Rattle.std.specs.Prelude.{⊤, ◌≡◌, [], ◌∷◌, codes};
 ghost use Rattle.dm_ids.specs.Styles.{styles_of, expander_styles, proc_styles};
 
 use bitflags::{Flag, Flags};
 
-/// The ways in which a macro may be called, as the bits of a set.
+/// The styles in which a macro may be called, as bit flags.
 #[derive(Clone, Copy, PartialEq, Eq, Hash, Debug)]
 pub struct MacroCallStyles(pub u8);
 
 impl MacroCallStyles {
-    /// Called as `name!(..)`.
+    /// Called as `name!(..)`: a function-like, or bang, macro.
     pub const FN_LIKE: MacroCallStyles = MacroCallStyles(1);
 
-    /// Called as an attribute.
+    /// Called as an attribute, `#[name]`.
     pub const ATTR: MacroCallStyles = MacroCallStyles(2);
 
-    /// Called in a `derive`.
+    /// Called in a `#[derive(..)]`.
     pub const DERIVE: MacroCallStyles = MacroCallStyles(4);
 
     const FLAGS: &'static [Flag<MacroCallStyles>] = &[
@@ -56,7 +56,7 @@ impl Flags for MacroCallStyles {
     }
 }
 
-/// How a macro by `macro` or `macro_rules!` is expanded.
+/// The expander of a macro that `macro` or `macro_rules!` declares: its rules, or the compiler for a builtin macro.
 #[derive(Clone, Copy, PartialEq, Eq, Hash, Debug)]
 pub enum MacroExpander {
     Declarative { styles: MacroCallStyles },
@@ -68,7 +68,7 @@ pub enum MacroExpander {
 }
 
 impl MacroExpander {
-    /// How a macro of this expander may be called.
+    /// The styles in which a macro of this expander may be called.
     pub fn styles(self) -> MacroCallStyles
         ensures { result ≡ expander_styles self }
     {
@@ -93,7 +93,7 @@ pub enum ProcMacroKind {
 }
 
 impl ProcMacroKind {
-    /// How a procedural macro of this kind may be called.
+    /// The styles in which a procedural macro of this kind may be called.
     pub fn styles(self) -> MacroCallStyles
         ensures { result ≡ proc_styles self }
     {
@@ -114,7 +114,7 @@ pub enum MacroLoc {
 }
 
 impl MacroLoc {
-    /// How the macro may be called.
+    /// The styles in which the macro may be called.
     pub fn styles(self) -> MacroCallStyles
         ensures { result ≡ styles_of self }
     {

@@ -1,4 +1,4 @@
-//! Where things stand in source text.
+//! Files, macro expansions, item trees and AST items: the ids of places in source code.
 ghost use Rattle.std.specs.Prelude.{◌≡◌};
 ghost use Rattle.dm_ids.specs.Files.{macro_file};
 
@@ -30,7 +30,7 @@ impl EditionedFileId {
     }
 }
 
-/// A file, or what a macro call expands to.
+/// A file, or the expansion of a macro call.
 #[derive(Clone, Copy, PartialEq, Eq, PartialOrd, Ord, Hash, Debug)]
 pub enum HirFileId {
     File(EditionedFileId),
@@ -66,12 +66,12 @@ impl TreeId {
     }
 }
 
-/// An item in the syntax of a file.
+/// An AST item: an item by its place in the syntax of a file or an expansion.
 #[derive(Clone, Copy, PartialEq, Eq, PartialOrd, Ord, Hash, Debug)]
 pub struct AstId {
     pub file_id: HirFileId,
     pub value: FileAstId,
 }
 
-/// An item in the syntax of a file, of whatever kind.
+/// An AST item of whatever kind, its node type erased.
 pub type ErasedAstId = AstId;

@@ -1,4 +1,4 @@
-//! Texts that are no names: features, tools, and suffixes of literals.
+//! Symbols: texts other than names, such as features, tools, and suffixes of literals.
 ghost use Rattle.std.specs.Prelude.{◌≡◌, IfOk, Some};
 
 use crate::text::Text;
@@ -6,7 +6,7 @@ use std::alloc::{AllocError, Global};
 use std::fmt;
 use std::marker::Model;
 
-/// A text that is no name, which a contract sees as its bytes.
+/// A symbol, a text that is no name. Contracts see it as its bytes.
 #[derive(PartialEq, Eq, PartialOrd, Ord, Hash, Drop)]
 pub struct Symbol {
     text: Text,
@@ -25,7 +25,7 @@ impl Model for Symbol {
 impl Symbol {
     /// A symbol of this text, which may be any text.
     ///
-    /// Fails where memory runs out, and then changes nothing.
+    /// Fails where an allocation fails, and then changes nothing.
     pub fn new(alloc: Global, text: &str) -> Result<Symbol, AllocError>
         ensures { IfOk result (λ symbol. symbol ≡ text.now) }
     {
@@ -43,7 +43,7 @@ impl Symbol {
 
     /// A second symbol of the same text.
     ///
-    /// Fails where memory runs out, and then changes nothing.
+    /// Fails where an allocation fails, and then changes nothing.
     pub fn copy(&self, alloc: Global) -> Result<Symbol, AllocError>
         ensures { IfOk result (λ symbol. symbol ≡ self.now) }
     {

@@ -30,7 +30,7 @@ impl Model for Text {
 impl Text {
     /// A copy of a text.
     ///
-    /// Fails where memory runs out, and then changes nothing.
+    /// Fails where an allocation fails, and then changes nothing.
     pub fn new(alloc: Global, text: &str) -> Result<Text, AllocError>
         ensures { IfOk result (λ copy. copy ≡ text.now) }
     {

@@ -1,4 +1,4 @@
-//! Types whose `==` holds of the same value alone.
+//! `ValueEq`: types whose `==` is structural, so that equal values are the same value.
 ghost use Rattle.std.specs.Prelude.{◌≡◌, true};
 ghost use Rattle.std.proofs.Common.{rules};
 

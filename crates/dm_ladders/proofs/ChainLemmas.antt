@@ -1,4 +1,4 @@
--- Moves along the chains of a lawful tree.
+-- Hops along the chains of a lawful tree.
 use Rattle.std.proofs.Common.{◌≡◌, ◌≤◌, ◌<◌, ◌+◌, ◌-◌, ℕ, zero, suc, Bool, true, false, ◌||◌, List, [], ◌∷◌, Option, None, Some, refl, sym, ap, ◌∙◌, subst, arith, true≢false, length, count_ones, unwrap_or, min, slice_index_or}
 use Rattle.std.proofs.lemmas.Bool.{ne_eqb}
 use Rattle.std.proofs.lemmas.List.{get_or_default}
@@ -48,7 +48,7 @@ module _ (t : Tree) (tree : IsTree t) where
   pub depth-alone : (m : ModuleId) → IsKnown t m → containing t m ≡ None → depth t m ≡ 0
   depth-alone m known e = ap (λ (l : List ModuleId). length l - 1) (chain-alone t tree m known e)
 
-  -- ---- Moves.
+  -- ---- Hops.
 
   pub climb-alone : (n : ℕ) (m : ModuleId) → containing t m ≡ None → climb t n m ≡ m
   climb-alone zero m e = refl
@@ -164,7 +164,7 @@ module _ (t : Tree) (tree : IsTree t) where
           ∙ rest c (tree.containing_known m c known e)
           ∙ ap (λ o. climb t n (unwrap_or o m)) (sym e)
 
-  -- two moves along a chain are one of their sum
+  -- two hops along a chain are one of their sum
   pub member-add : (i j : ℕ) (m : ModuleId) → IsKnown t m → member t (i + j) m ≡ member t j (member t i m)
   member-add i j m known =
       member-climb (i + j) m known

@@ -1,4 +1,4 @@
--- The ladder of a module, as it is filled.
+-- The jump pointers (ladder) of a module, as they are filled in.
 use Rattle.std.proofs.Common.{◌≡◌, ◌≤◌, ◌<◌, ℕ, suc, List, length, replicate, slice_index, refl, sym, ap, ◌∙◌, subst, arith}
 use Rattle.std.proofs.lemmas.List.{get_or-replicate}
 use Rattle.dm_ladders.specs.Ladders.{depth_at, entry_at, IsLadder}

@@ -1,4 +1,4 @@
--- The moves of a climb by the binary digits of its length.
+-- The hops of a climb, one for each set bit of its length.
 use Rattle.std.proofs.Common.{◌≡◌, ◌≢◌, ◌<◌, ◌≤◌, ◌+◌, ◌-◌, ◌*◌, ◌^◌, ◌/◌, ◌%◌, length, count_ones, nat_eq, false, ℕ, List, sym, ap, ◌∙◌, arith, add-one}
 use Rattle.std.proofs.Math.Nat.{pow-succ'}
 use Rattle.std.specs.Int.Count.{ones_step}
@@ -24,7 +24,7 @@ halves-even rest k even =
     let r : rest ≡ 2 * (rest / 2) = omega arith in
     ap (λ n. n * 2 ^ k) r ∙ (let q : 2 * (rest / 2) * 2 ^ k ≡ rest / 2 * (2 * 2 ^ k) = omega arith in q) ∙ ap (λ n. rest / 2 * n) (sym p)
 
--- where a step of the climb stands: what is left of it leads on to the same module, in as many moves as it has ones
+-- the loop invariant of a climb: what is left of it leads on to the same module, in as many hops as it has set bits
 pub record IsOnTheWay (ls : List Ladder) (m deeper at rest count k : ℕ) : Type 0 where
   pub known : at < length ls
   pub same : (climb (tree_of ls) (rest * 2 ^ k) (record { 0 = at })).0 ≡ (climb (tree_of ls) deeper (record { 0 = m })).0

@@ -1,4 +1,4 @@
--- What ladders say of the tree of their modules.
+-- What jump pointers (ladders) say of the tree of their modules.
 use Rattle.std.proofs.Common.{◌≡◌, ◌≢◌, ◌≤◌, ◌<◌, ◌+◌, ◌^◌, ℕ, zero, suc, List, [], ◌∷◌, Option, None, Some, refl, sym, ap, ◌∙◌, subst, arith, length, map, slice_get, slice_index, unwrap_or, nat_eq, if◌then◌else◌, ◌⊎◌, inl, inr}
 use Rattle.std.specs.Option.{option_map, option_map_or, option_and_then, option_or}
 use Rattle.std.proofs.lemmas.Bool.{ne_eqb, lt-ltb, ltb-true}
@@ -49,7 +49,7 @@ module _ (ls : List Ladder) where
   known-within m known = let same = length-map ls above in let less = ltb-true m.0 (length (map above ls)) known in omega arith
 
 module _ (ls : List Ladder) (are : AreLadders ls) where
-  -- the containing module is the one that the ladder knows of
+  -- the containing module is entry 0 of the ladder
   containing-above : (m : ModuleId) (l : Ladder) → slice_get ls m.0 ≡ Some l → containing (tree_of ls) m ≡ above l
   containing-above m l e = ap (λ o. option_or (option_and_then (λ c. c) o) None) (slice_get-map above ls m.0 ∙ ap (option_map above) e) ∙ or-none (above l)
 

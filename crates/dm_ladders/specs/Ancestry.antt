@@ -1,4 +1,4 @@
--- How deep modules lie, and how few moves lead from one to a module that contains it.
+-- The depth of modules, and how few hops lead from one to a module that contains it (binary lifting).
 use Rattle.std.specs.Prelude.{ℕ, ◌-◌, min, length, slice_index_or, count_ones}
 use Rattle.dm_ids.specs.declared.ids.ModuleId.{ModuleId}
 use Rattle.dm_base.specs.Tree.{Tree, chain}
@@ -11,7 +11,7 @@ depth t m = length (chain t m) - 1
 abbrev pub member : Tree → ℕ → ModuleId → ModuleId
 member t n m = slice_index_or (chain t m) (min n (depth t m)) m
 
--- The number of moves from m out to the depth of a, each of them to member 2 ^ k of a chain: the ones in the binary form of how
--- much deeper m is, and none where it is not deeper.
+-- The number of hops from m out to the depth of a, each of them to member 2 ^ k of a chain: the set bits of how much
+-- deeper m is, and none where it is not deeper.
 abbrev pub moves : Tree → ModuleId → ModuleId → ℕ
 moves t a m = count_ones (depth t m - depth t a)

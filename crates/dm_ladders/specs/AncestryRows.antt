@@ -1,4 +1,4 @@
--- Worked rows of ancestry, which hold by computation.
+-- Worked examples of depths and hops, which hold by computation.
 use Rattle.std.specs.Prelude.{◌≡◌, ℕ, [], ◌∷◌, Option, None, Some, true, false, refl}
 use Rattle.std.specs.Int.Count.{ones, ones_in}
 use Rattle.dm_ids.specs.declared.ids.ModuleId.{ModuleId}

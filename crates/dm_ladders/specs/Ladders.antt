@@ -1,4 +1,4 @@
--- What ladders of modules are.
+-- The jump pointers of modules (binary lifting), which are their ladders.
 use Rattle.std.specs.Prelude.{◌≡◌, ◌≢◌, ◌<◌, ◌≤◌, ℕ, zero, suc, List, Option, None, Some, length, map, slice_get, slice_index, nat_eq, nat_lt, unwrap_or, if◌then◌else◌}
 use Rattle.std.specs.Option.{option_and_then, option_map_or}
 use Rattle.dm_ids.specs.declared.ids.ModuleId.{ModuleId}
@@ -23,7 +23,7 @@ tree_above ups = record {
   inside = λ b. None;
 }
 
--- the containing module that a ladder knows of: its first entry, where the module is not outmost
+-- the containing module by a ladder: its first entry, unless the module is outmost
 abbrev pub above : Ladder → Option ModuleId
 above l = if nat_eq l.depth 0 then None else Some (record { 0 = slice_index l.entries 0 })
 

@@ -1,4 +1,5 @@
-//! A table of ladders: for each module its depth, and the members of its chain that lie a power of two behind it.
+//! The table of jump pointers (binary lifting): for each module its depth, and its ladder, which is the members of its
+//! chain that lie a power of two behind it.
 ghost use Rattle.std.specs.Prelude.{◌≡◌, ◌<◌, ◌≤◌, ◌-◌, ◌++◌, ◌∷◌, [], Some, IfSome, OnOk, OnErr, length, take, count_ones};
 ghost use Rattle.dm_base.specs.Tree.{chain, is_among};
 ghost use Rattle.dm_ladders.specs.Ancestry.{moves};
@@ -8,14 +9,14 @@ use dm_base::ids::ModuleId;
 use std::alloc::{AllocError, Global};
 use std::marker::Model;
 
-/// A module's depth, and its ladder: entry `k` is member `2^k` of its chain, or the chain's last member where it is shorter.
+/// A module's depth and jump pointers: entry `k` is member `2^k` of its chain, or the last member of a shorter chain.
 #[derive(Clone, Copy)]
 struct Ladder {
     depth: u32,
     entries: [u32; 32],
 }
 
-/// The ladders of modules, in order of number. Contracts see the module that contains each.
+/// The ladders of all modules, in order of number. Contracts see the module that contains each.
 #[derive(Drop)]
 pub struct Ladders {
     ladders: Vec<Ladder>,
@@ -34,7 +35,7 @@ impl Model for Ladders {
 }
 
 impl Ladders {
-    /// No ladders.
+    /// An empty table.
     pub fn new(alloc: Global) -> Ladders
         ensures { result ≡ [] }
     {
@@ -43,7 +44,7 @@ impl Ladders {
         }
     }
 
-    /// Adds the ladder of the next module, which lies in `containing`. Refused is want of memory; the table is then as it was.
+    /// Adds the ladder of the next module, which lies in `containing`. Where an allocation fails, nothing changes.
     pub fn push(&mut self, containing: Option<ModuleId>) -> Result<(), AllocError>
         requires room { length self.old < 4294967295 }
         requires known { IfSome containing (λ c. c.0 < length self.old) }
@@ -55,15 +56,15 @@ impl Ladders {
         Ok(())
     }
 
-    /// Takes the last ladder away.
+    /// Removes the last ladder.
     pub fn pop(&mut self)
         ensures { self.new ≡ take (length self.old - 1) self.old }
     {
         self.ladders.pop();
     }
 
-    /// Whether `a` is `m` or contains it, however far out; and in how many moves that was found, each of which goes to a
-    /// member `2^k` of a chain. Takes no memory.
+    /// Whether `a` is `m` or contains it, however far out; and after how many hops that was found, each of them along
+    /// one jump pointer, to member `2^k` of a chain. Does not allocate.
     pub fn contains_counted(&self, a: ModuleId, m: ModuleId) -> (bool, u32)
         requires ancestor { a.0 < length self.now }
         requires module { m.0 < length self.now }
@@ -81,7 +82,7 @@ impl Ladders {
     }
 }
 
-/// Where `deeper` steps lead from a module, and in how many moves: one for each one in the binary form of `deeper`.
+/// Where `deeper` steps lead from a module, and in how many hops: one for each set bit of `deeper`.
 fn moved(ladders: &[Ladder], m: u32, deeper: u32) -> (u32, u32)
     requires lawful { AreLadders ladders.now }
     requires known { m < length ladders.now }

@@ -1,4 +1,4 @@
-//! Laws of chains, for proofs above.
+//! Laws of chains of containing modules, for proofs of the crates above.
 ghost use Rattle.std.specs.Prelude.{◌≡◌, ◌+◌, ◌^◌, ℕ};
 ghost use Rattle.dm_base.specs.Tree.{IsKnown, IsTree};
 ghost use Rattle.dm_ladders.specs.Ancestry.{member};
@@ -6,7 +6,7 @@ ghost use Rattle.dm_ladders.specs.Ancestry.{member};
 use dm_base::ids::ModuleId;
 use dm_base::module_tree::ModuleTree;
 
-/// Two moves along a chain are one of their sum, in every lawful tree: to member `2^j`, and from there to member `2^k`.
+/// Two hops along a chain are one of their sum, in every lawful tree: to member `2^j`, and from there to member `2^k`.
 /// It does nothing: a proof that needs it calls it.
 pub fn moves_add<T: ModuleTree>(_tree: &T, _m: ModuleId)
     requires known { IsKnown (T.tree _tree.now) _m }

@@ -1,4 +1,5 @@
-//! Ladders of modules, by which a few moves lead far out along a chain.
+//! Jump pointers over the module tree (binary lifting): a few hops lead far out along a module's chain of containing
+//! modules. The jump pointers of one module are its ladder.
 #![tactic(auto)]
 
 pub mod ladders;

@@ -1,4 +1,4 @@
--- What holds of every world still holds with a block more.
+-- Invariants of every world still hold with a block more.
 use Rattle.std.proofs.Common.{◌≡◌, ◌<◌, ◌≤◌, ◌+◌, ℕ, List, [], ◌∷◌, ◌++◌, Option, Some, length, slice_get, inl, inr, sym, ap, ◌∙◌, refl, subst, arith, length-append}
 use Rattle.std.specs.Option.{option_and_then, option_map_or}
 use Rattle.std.proofs.lemmas.Option.{slice_get_within}

@@ -1,4 +1,4 @@
--- What holds of every world still holds with a crate more.
+-- Invariants of every world still hold with a crate more.
 use Rattle.std.proofs.Common.{◌≡◌, ◌<◌, ◌≤◌, ◌+◌, ℕ, zero, suc, List, [], ◌∷◌, ◌++◌, Option, Some, None, length, slice_get, inl, inr, sym, ap, ◌∙◌, refl, subst, arith, length-append}
 use Rattle.std.proofs.lemmas.Option.{slice_get_within}
 use Rattle.dm_ids.specs.declared.ids.ModuleId.{ModuleId}

@@ -1,4 +1,4 @@
--- A push under a name outside a list leaves what is cut by it.
+-- A push under a name outside a list leaves the world restricted to that list.
 use Rattle.std.proofs.Common.{◌≡◌, ℕ, zero, suc, Bool, true, false, cond, List, [], ◌∷◌, Option, None, Some, refl, sym, ◌∙◌, ap, map}
 use Rattle.std.specs.Cmp.Lexicographic.{nat_list_eq_equiv}
 use Rattle.std.specs.List.{cons_option}

@@ -1,4 +1,4 @@
--- An entry of a list, changed by a call that may be refused.
+-- An entry of a list, changed by a call that may fail.
 use Rattle.std.proofs.Common.{◌≡◌, ◌∙◌, ap, sym, false, length, ℕ, List, Option, Some, slice_get, set, Result, nat_lt}
 use Rattle.std.specs.Option.{option_map_or}
 use Rattle.std.specs.Result.{OnOk}
@@ -19,6 +19,6 @@ module _ {X : Type 0} (xs : List X) (k : ℕ) (f : X → X) where
   pub entry-set : (x y : X) → slice_get xs k ≡ Some x → y ≡ f x → set xs k y ≡ entry_with (slice_get xs k)
   entry-set x y there same = ap (set xs k) same ∙ sym (ap entry_with there)
 
-  -- the same, of a call that may be refused
+  -- the same, of a call that may fail
   pub entry-changed : {T E : Type 0} (r : Result T E) (x y : X) → slice_get xs k ≡ Some x → OnOk r (y ≡ f x) → OnOk r (set xs k y ≡ entry_with (slice_get xs k))
   entry-changed r x y there h = on_ok_weaker r (entry-set x y there) h

@@ -1,4 +1,4 @@
--- What holds of every world still holds with a module more, and with a crate more.
+-- Invariants of every world still hold with a module more, and with a crate more.
 use Rattle.std.proofs.Common.{◌≡◌, ◌<◌, ◌≤◌, ◌+◌, ℕ, zero, suc, List, [], ◌∷◌, ◌++◌, Option, Some, None, length, map, set, slice_get, inl, inr, sym, ap, ◌∙◌, refl, subst, arith, length-append}
 use Rattle.std.proofs.Math.ListN.{length-set}
 use Rattle.std.specs.Option.{option_map, option_map_or}

@@ -1,4 +1,4 @@
--- Steps from a map outwards.
+-- Walks from a def map outwards.
 use Rattle.std.proofs.Common.{◌≡◌, ◌<◌, ◌≤◌, ℕ, zero, suc, List, [], ◌∷◌, Option, Some, None, Bor, length, refl, sym, ap, subst, ◌∙◌, arith, IsSome}
 use Rattle.std.specs.Option.{option_map, option_map_or, option_and_then}
 use Rattle.std.proofs.lemmas.Bool.{ltb-true}
@@ -23,11 +23,11 @@ outwards-first w M m = by (length w.places)
     by zero = ([], refl)
     by (suc n) = (option_map_or (λ x. outwards_within n w x.0 x.1) (next_outwards w M) [], refl)
 
--- an asker answers about the first
+-- a callback answers about the first
 pub asks-answered : {F T : Type 0} (w : World) (step : F → Bor Map → ModuleId → Option T → F → Type 0) (M : Bor Map) (m : ModuleId) (f g : F) (y : T) → step f M m (Some y) g → AsksMaps step (maps_outwards w M.now m) f (Some y) g
 asks-answered w step M m f g y s = subst (λ xs. AsksMaps step xs f (Some y) g) (sym (outwards-first w M.now m).1) (Some y, g, (M, refl, s), (refl, refl))
 
--- it may be asked about the first
+-- it may be called with the first
 pub may-first : {F T : Type 0} (w : World) (may : F → Bor Map → ModuleId → Type 0) (step : F → Bor Map → ModuleId → Option T → F → Type 0) (M : Bor Map) (m : ModuleId) (f : F) → MayAskMaps w may step (maps_outwards w M.now m) f → may f M m
 may-first w may step M m f h = (subst (λ xs. MayAskMaps w may step xs f) (outwards-first w M.now m).1 h).0 M refl
 
@@ -107,7 +107,7 @@ module _ (w : World) (is : IsWorld w) where
         let all = outwards-step M.now m ∙ ap (λ o. (M.now, m) ∷ option_map_or (λ (x : Map × ModuleId). maps_outwards w x.0 x.1) o []) (sym e) in
         subst (λ xs. AsksMaps step xs f r g) (sym all) (None, h, (M, refl, s), rest)
 
-    -- it does not, and may be asked about the next ones
+    -- it does not, and may be called with the next ones
     pub may-on : (may : F → Bor Map → ModuleId → Type 0) (M : Bor Map) (P : Map) (m p : ModuleId) (f h : F) → Some (P, p) ≡ next_outwards w M.now → IsHandedOut w (P, p) → step f M m None h
         → MayAskMaps w may step (maps_outwards w M.now m) f → MayAskMaps w may step (maps_outwards w P p) h
     may-on may M P m p f h e out s all_may =

@@ -130,7 +130,8 @@ module _ (ns : Namespace) (w : World) (is : IsWorld w) (m : ModuleId) (s : Scope
   new_is : (k : ModuleId) (p : Place) → slice_get w.places k.0 ≡ Some p → scope_of v k ≡ scope_at_place v p
   new_is k p e = ap (λ ps. scope_by v (slice_get ps k.0)) kept ∙ ap (scope_by v) e
 
-  -- The records of all scopes, with those that the module's scope had, are as many as those of before, with those that it has.
+  -- The records of all scopes, with those that the module's scope had, are as many as those of before, with those that
+  -- it has.
   pub records-scoped : length (all_records ns (scope_tables (with_scope w m s))) + length (records_in ns (scope_of w m)) ≡ length (all_records ns (scope_tables w)) + length (records_in ns s)
   records-scoped = by (slice_get w.places m.0) refl there
     where

@@ -1,11 +1,11 @@
--- What holds after a refusal.
+-- What holds where a builder call fails.
 use Rattle.std.proofs.Common.{◌≡◌, Result, Ok, Err, Option, None, Some}
 use Rattle.std.specs.Result.{IsErrAnd}
 use Rattle.dm_maps.specs.declared.build_fault.BuildFault.{BuildFault}
 use Rattle.dm_maps.specs.declared.build_fault.BuildFault.TheVariants.{OutOfMemory}
 use Rattle.dm_maps.specs.Faults.{Answers}
 
--- want of memory, where there is no other fault
+-- out of memory, where there is no other fault
 pub out_of_memory : {A B : Type 0} (fault : Option BuildFault) (x : A) (r : Result B BuildFault) → Answers fault (Ok x) → IsErrAnd r (λ f. f ≡ OutOfMemory) → Answers fault r
 out_of_memory None x (Ok y) known e = tt
 out_of_memory None x (Err f) known e = e

@@ -1,4 +1,4 @@
--- What the look-ups of a checked world give is the world's.
+-- Look-ups of a checked world give ids of the world: none dangles.
 use Rattle.std.proofs.Common.{◌≡◌, ◌+◌, ℕ, zero, suc, Bool, true, false, cond, List, [], ◌∷◌, ◌++◌, Option, Some, None, length, map, slice_get, refl, sym, ap, ◌∙◌, subst, arith, nat_eq, true≢false, zero-add, IsTrue, IsSome}
 use Rattle.std.specs.List.{AllByRecursion, flat_map}
 use Rattle.std.specs.Option.{ForSome, option_map, option_map_or, option_and_then}

@@ -1,4 +1,4 @@
--- A push leaves what is known, and what is said of no name.
+-- A push leaves what is known, and the name-independent part of a world.
 use Rattle.std.proofs.Common.{◌≡◌, [], Option, None, Some, length, refl, sym, ◌∙◌, ap, IsTrue}
 use Rattle.std.specs.Option.{option_map}
 use Rattle.std.proofs.lemmas.List.{length-map}
@@ -23,7 +23,7 @@ use Rattle.dm_maps.proofs.AllLemmas.{all-weaker}
 use Rattle.dm_maps.proofs.CutPush.{push-cut}
 use Rattle.dm_maps.proofs.ScopeWrites.{knows-scoped}
 
--- what the cut by no name says is said of no name
+-- the cut by no name has the name-independent part of a world
 same-cut : (w v : World) → cut v [] ≡ cut w [] → v.local_maps ≡ w.local_maps → ((h : HeldId) → knows v h ≡ knows w h) → StaysKnown w v
 same-cut w v same locals ids = record {
   id = ids;

@@ -1,4 +1,4 @@
--- Where a variant is not refused.
+-- Where adding a variant finds no fault.
 use Rattle.std.proofs.Common.{◌≡◌, ◌<◌, Bool, not, true, false, true≢false, is_some, Option, Some, None, length, refl}
 use Rattle.dm_ids.specs.declared.ids.EnumId.{EnumId}
 use Rattle.dm_ids.specs.Names.{Name, find_name}
@@ -21,7 +21,7 @@ lacks-none : (b : Bool) → not b ≡ false → b ≡ true
 lacks-none true h = refl
 lacks-none false h = absurd (true≢false h)
 
--- where a variant is not refused, its enum is one, its name is free there, and there is a number for it
+-- where adding a variant finds no fault, its enum is one, its name is free there, and there is a number for it
 pub variant_fault-none : (w : World) (e : EnumId) (n : Name) → variant_fault w e n ≡ None → (find_name n (variants_of w e) ≡ None) × (length w.variants < 4294967295) × IsEnum w.items e
 unfolding variant_fault
 variant_fault-none w e n h =

@@ -23,8 +23,8 @@ next_block w = record { 0 = length w.block_maps }
 abbrev pub crate_in : World → ModuleId → Crate
 crate_in w m = (map_id_in w.places m).krate
 
--- the map of a block in module m, of the edition of the crate's map c, with which it shares the crate's data: its root is
--- what the block is, and is seen in m
+-- the map of a block in module m, of the edition of the crate's map c, with which it shares the crate's data: its root
+-- is what the block is, and is seen in m
 abbrev pub fresh_block : Map → Crate → BlockId → ModuleId → AstId → ModuleId → Map
 fresh_block c k b m a root = record (fresh_map (record { krate = k; block = Some b }) c.edition (Some m) root (fresh_module (BlockExpr b a) (Module m Implicit) None)) { shared = c.shared }
 

@@ -1,4 +1,4 @@
--- What is set for all maps of a crate.
+-- Setters for crate data, which all def maps of a crate share.
 use Rattle.std.specs.Prelude.{◌≡◌, nat_eq, List, [], ◌∷◌, Option, None, map, if◌then◌else◌}
 use Rattle.std.specs.List.{fold}
 use Rattle.std.specs.Option.{option_map_or, option_or}

@@ -1,4 +1,4 @@
--- What is set in the maps of a builder, and in its extern preludes.
+-- Setters for the def maps of a builder, and for its extern preludes.
 use Rattle.std.specs.Prelude.{◌≡◌, ℕ, Bool, not, true, nat_eq, List, [], ◌∷◌, ◌++◌, Option, Some, None, Result, Err, IsOk, slice_get, slice_set}
 use Rattle.std.specs.Option.{option_map_or}
 use Rattle.indexmap.specs.IndexMap.{insert_entry}
@@ -31,15 +31,15 @@ with_map w id f = with_maps w (maps_with (maps_of w) id f)
 abbrev pub with_prelude : World → MapId → Option (ModuleId × Option UseId) → World
 with_prelude w id p = with_map w id (λ m. record m { prelude = p })
 
--- with a macro that `#[macro_use]` brings: a name that is there keeps its place and takes the new macro
+-- with a macro in the `macro_use` prelude: a name that is there keeps its place and takes the new macro
 abbrev pub with_macro_use : World → MapId → Name → MacroId → Option ExternCrateId → World
 with_macro_use w id n m x = with_map w id (λ map. record map { macro_use = insert_entry same_name map.macro_use n (m, x) })
 
--- with the macro that an item of the syntax defines: what is there keeps its place and is replaced
+-- with the macro that an AST item defines: what is there keeps its place and is replaced
 abbrev pub with_macro_def : World → MapId → AstId → MacroId → World
 with_macro_def w id a m = with_map w id (λ map. record map { macro_defs = insert_entry same_ast map.macro_defs a m })
 
--- with a derive helper at an item of the syntax, the last of that item
+-- with a derive helper at an AST item, the last of that item
 abbrev pub with_helper : World → MapId → AstId → Helper → World
 with_helper w id a h = with_map w id (λ map. record map { derive_helpers = helpers_with map.derive_helpers a h })
 

@@ -1,4 +1,4 @@
--- What is set in the tables that belong to no map and no module.
+-- Setters for the tables that belong to no map and no module.
 use Rattle.std.specs.Prelude.{List}
 use Rattle.dm_ids.specs.declared.ids.TraitId.{TraitId}
 use Rattle.dm_ids.specs.declared.item_ids.AssocItemId.{AssocItemId}

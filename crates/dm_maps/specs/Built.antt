@@ -1,4 +1,4 @@
--- What holds of the tables of every builder, checked or not.
+-- Invariants of the tables of every builder, checked or not.
 use Rattle.dm_maps.specs.World.{World}
 use Rattle.dm_maps.specs.Trees.{IsWorld}
 use Rattle.dm_maps.specs.Family.{IsFamily}

@@ -1,4 +1,5 @@
--- What a cut keeps: the setting, the maps without what scopes hold, and what is said of the names of the list.
+-- What a cut keeps: the name-independent part of the world, the maps without what scopes hold, and what the world says
+-- of the names of the list.
 use Rattle.std.proofs.Common.{◌≡◌, ℕ, Bool, true, false, cond, not, ◌||◌, List, [], ◌∷◌, Option, None, Some, refl, sym, ◌∙◌, ap, map, true≢false, eq-eqb}
 use Rattle.std.specs.Cmp.{nat_eq_equiv}
 use Rattle.std.specs.List.{cons_option}
@@ -196,7 +197,7 @@ numbered-outline-cut w N id = ap (option_map outline) (numbered-cut w N id) ∙ 
     go None = refl
     go (Some m) = ap (λ x. Some x) (outline-cut N m)
 
--- ---- the setting, and what is said of a name
+-- ---- the name-independent part, and what is said of a name
 
 -- what is read of a map, where the cut leaves it
 read-map : {A : Type 0} (N : List Name) (f : Map → A) (z : A) → ((m : Map) → f (cut_map N m) ≡ f m) → (o : Option Map) → option_map_or f (option_map (cut_map N) o) z ≡ option_map_or f o z
@@ -230,7 +231,7 @@ styles-cut w N m = ap said (slice_get-map cut_macro w.macros (macro_number m)) �
     go None = refl
     go (Some e) = refl
 
--- of no name the cut says what the world says
+-- the cut has the name-independent part of the world
 pub setting-cut : (w : World) (N : List Name) → setting_of (cut w N) ≡ setting_of w
 unfolding setting_of
 setting-cut w N = λ i. record {
@@ -266,7 +267,7 @@ macro_uses-cut w N id = ap (λ o. option_map_or (λ m. m.macro_use) o []) (numbe
     go None = sym (kept-nothing N)
     go (Some m) = refl
 
--- and so it does of each name of the list
+-- and of each name of the list it says what the world says
 pub read-cut : (w : World) (L : LocalMap) (N : List Name) (n : Name) → among N n ≡ true → read (cut w N) (cut_local L N) n ≡ read w L n
 unfolding read
 read-cut w L N n h = λ i. record {

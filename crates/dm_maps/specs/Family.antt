@@ -1,4 +1,4 @@
--- What holds in the family of a crate's maps, its own and those of its blocks.
+-- Invariants of the family of a crate's maps: its own and those of its blocks.
 use Rattle.std.specs.Prelude.{◌≡◌, List, None, Some, map, slice_get}
 use Rattle.std.specs.List.{AllByRecursion}
 use Rattle.dm_ids.specs.declared.ids.ModuleId.{ModuleId}
@@ -20,8 +20,8 @@ AreParents ps m = AllByRecursion (IsParent ps) m.modules
 abbrev pub common : Map → Edition × CrateData
 common m = (m.edition, m.shared)
 
--- Of the maps of crates, and of blocks: their modules are the parents of the children that they list, no module contains
--- a crate, and a block's map shares what its crate's map has.
+-- Of the maps of crates, and of blocks: their modules are the parents of the children that they list, no module
+-- contains a crate, and a block's map shares what its crate's map has.
 pub record HaveFamilies (ps : List Place) (cs bs : List Map) : Type 0 where
   pub of_crates : AllByRecursion (AreParents ps) cs
   pub of_blocks : AllByRecursion (AreParents ps) bs

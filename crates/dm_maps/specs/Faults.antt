@@ -1,4 +1,4 @@
--- What builder calls answer.
+-- The errors of builder calls.
 use Rattle.std.specs.Prelude.{◌≡◌, Bool, false, not, nat_lt, List, [], ◌∷◌, Option, Some, None, Result, Err, length, if◌then◌else◌, is_some, IfErr}
 use Rattle.std.specs.Option.{option_map_or}
 use Rattle.dm_ids.specs.declared.ids.ModuleId.{ModuleId}
@@ -7,12 +7,12 @@ use Rattle.dm_maps.specs.declared.build_fault.BuildFault.{BuildFault}
 use Rattle.dm_maps.specs.declared.build_fault.BuildFault.TheVariants.{NoSuchCrate, NoSuchModule, NoSuchEnum, TakenChild, TakenVariant, OutOfNumbers, OutOfMemory}
 use Rattle.dm_maps.specs.World.{World, module_of}
 
--- the fault that there is; where there is none, a value or want of memory
+-- the fault that there is; where there is none, a value or an allocation failure
 abbrev pub Answers : {A : Type 0} → Option BuildFault → Result A BuildFault → Type 0
 Answers None r = IfErr r (λ fault. fault ≡ OutOfMemory)
 Answers (Some fault) r = r ≡ Err fault
 
--- which faults a call finds, but for want of memory
+-- which faults a call finds, allocation failure aside
 pub record Found : Type 0 where
   pub no_crate : Bool
   pub no_module : Bool

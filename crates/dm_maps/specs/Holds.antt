@@ -11,7 +11,7 @@ use Rattle.dm_modules.specs.Maps.{Map, Module}
 abbrev pub preludes_hold : Map → List HeldId
 preludes_hold m = option_map_or prelude_holds m.prelude [] ++ macro_uses_hold m.macro_use
 
--- and the macros of its definitions in syntax and of its derive helpers, and what its diagnostics hold
+-- and the macros of its definitions in the AST and of its derive helpers, and what its diagnostics hold
 abbrev pub map_holds : Map → List HeldId
 map_holds m = preludes_hold m ++ (macro_defs_hold m.macro_defs ++ (helpers_hold m.derive_helpers ++ diagnostics_hold m.diagnostics))
 

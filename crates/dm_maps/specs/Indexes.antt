@@ -1,4 +1,4 @@
--- What a builder keeps beside its tables, to find things fast.
+-- Indexes of a builder: what it keeps beside its tables for fast look-ups.
 use Rattle.std.specs.Prelude.{List, Option, length}
 use Rattle.dm_ids.specs.declared.ids.BlockId.{BlockId}
 use Rattle.dm_ids.specs.declared.ids.ModuleId.{ModuleId}

@@ -1,4 +1,4 @@
--- Why uses, macros and variants are refused.
+-- The errors of adding uses, macros and variants.
 use Rattle.std.specs.Prelude.{Bool, not, Option, is_some}
 use Rattle.dm_ids.specs.declared.ids.ModuleId.{ModuleId}
 use Rattle.dm_ids.specs.declared.ids.EnumId.{EnumId}

@@ -1,4 +1,4 @@
--- Which ids are a world's, with their kinds.
+-- Which ids are a world's, with their kinds; others dangle.
 use Rattle.std.specs.Prelude.{nat_lt, Bool, false, IsTrue, List, length, slice_get}
 use Rattle.std.specs.Option.{option_map_or}
 use Rattle.std.specs.List.{AllByRecursion}

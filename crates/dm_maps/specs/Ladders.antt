@@ -1,4 +1,4 @@
--- What contains each module of a world, as the world's table of ladders has it.
+-- The module around each module of a world, as the table of ladders (jump pointers) has it.
 use Rattle.std.specs.Prelude.{◌≡◌, List, Option, map}
 use Rattle.std.specs.Option.{option_or}
 use Rattle.dm_ids.specs.declared.ids.ModuleId.{ModuleId}

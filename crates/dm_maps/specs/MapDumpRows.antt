@@ -1,4 +1,4 @@
--- Dumps of maps: equations that compute.
+-- Examples of dumps of def maps: equations that compute.
 use Rattle.std.specs.Prelude.{◌≡◌, ℕ, Some, None, codes, refl, slice_get}
 use Rattle.std.specs.Option.{option_map}
 use Rattle.dm_ids.specs.declared.ids.ModuleId.{ModuleId}

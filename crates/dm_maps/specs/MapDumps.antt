@@ -49,7 +49,8 @@ tree_within zero t ms path m = []
 tree_within (suc n) t ms path m =
     option_map_or (λ d. module_text t path d ++ of_children (λ name c. codes "\n" ++ tree_within n t ms (path_and t path name) c) d) (module_at ms m) []
 
--- The tree of a module of a map. A child has a greater number than its parent, so there are no more levels than modules.
+-- The tree of a module of a map. A child has a greater number than its parent, so there are no more levels than
+-- modules.
 abbrev pub tree : World → Map → Text → ModuleId → Text
 tree w M path m = tree_within (length w.places) (scope_tables w) M.modules path m
 

@@ -1,4 +1,4 @@
--- What holds of each map of a world, and of the modules that it lists.
+-- Invariants of each map of a world, and of the modules that it lists.
 use Rattle.std.specs.Prelude.{◌≡◌, ◌↔◌, ◌<◌, ℕ, All, IsSome, IsTrue, None, Some, slice_get}
 use Rattle.std.specs.Option.{ForSome, option_and_then, option_map}
 use Rattle.dm_ids.specs.declared.ids.BlockId.{BlockId}
@@ -19,7 +19,8 @@ pub record IsChild (map : Map) (m c : ModuleId) : Type 0 where
   pub parent : option_and_then (λ d. d.parent) (module_at map.modules c) ≡ Some m
   pub greater : m.0 < c.0
 
--- the block of a map that m lies in is contained in a module of smaller number than m, which lies in a map of the same crate
+-- the block of a map that m lies in is contained in a module of smaller number than m, which lies in a map of the same
+-- crate
 pub record HasContainer (w : World) (m : ModuleId) (map : Map) : Type 0 where
   pub container : ModuleId
   pub is : map.parent ≡ Some container

@@ -1,4 +1,4 @@
--- Who may be asked from a map outwards, and what is answered.
+-- Which callbacks may be called on the maps from one outwards, and what is answered.
 use Rattle.std.proofs.Common.{◌≡◌, ◌∙◌, ℕ, zero, suc, List, [], ◌∷◌, Option, Some, None, length, slice_get, ap, subst, sym}
 use Rattle.std.specs.Borrow.{Bor}
 use Rattle.std.specs.List.{filter_map, cons_option}
@@ -17,7 +17,8 @@ module _ {F T : Type 0} (w : World) (may : F → Bor Map → ModuleId → Type 0
     next-own [] f = tt
     next-own (x ∷ xs) f = (is_own x f, λ g asked. next-own xs g)
 
-    -- who may be asked about each map of the world with a module that lies in it may be asked from such a map outwards
+    -- a callback that may be called with each map of the world and a module in it may be called from such a map
+    -- outwards
     pub MayAskMaps-own : (M : Map) (m : ModuleId) (f : F) → IsHandedOut w (M, m) → MayAskMaps w may step (maps_outwards w M m) f
     MayAskMaps-own M m f out = by (length w.places)
       where
@@ -30,17 +31,17 @@ module _ {F T : Type 0} (w : World) (may : F → Bor Map → ModuleId → Type 0
     next-kept [] f h = tt
     next-kept (x ∷ xs) f h = (λ out M is. asks f M x.1 h, λ g asked. next-kept xs g (keeps f g asked.0 x.1 None h asked.2))
 
-    -- who may be asked about any map as long as something holds of it that each answer keeps, as that it is always callable
+    -- so may one that may be called with any map as long as something holds of it that each answer keeps
     pub MayAskMaps-kept : (xs : List (Map × ModuleId)) (f : F) → holds f → MayAskMaps w may step xs f
     MayAskMaps-kept [] f h = tt
     MayAskMaps-kept (x ∷ xs) f h = (λ M is. asks f M x.1 h, λ g asked. next-kept xs g (keeps f g asked.0 x.1 None h asked.2))
 
-  -- who may be asked about any map, whatever its state
+  -- so may one that may be called with any map, whatever its state
   pub MayAskMaps-any : ((g : F) (M : Bor Map) (m : ModuleId) → may g M m) → (xs : List (Map × ModuleId)) (f : F) → MayAskMaps w may step xs f
   MayAskMaps-any any xs f = MayAskMaps-kept (λ _. Unit {0}) (λ g M m h. any g M m) (λ g h M m a k s. tt) xs f tt
 
--- where an asker answers of each map with a module what `answer` says of them, as long as something holds of it that each answer keeps, what is
--- answered is the first such answer
+-- where a callback answers of each map with a module what `answer` says of them, as long as something holds of it that
+-- each answer keeps, what is answered is the first such answer
 pub AsksMaps-first : {F T : Type 0} (step : F → Bor Map → ModuleId → Option T → F → Type 0) (xs : List (Map × ModuleId)) (f : F) (r : Option T) (last : F) → AsksMaps step xs f r last
     → (answer : Map × ModuleId → Option T) (holds : F → Type 0) → ((g h : F) (M : Bor Map) (m : ModuleId) (a : Option T) → holds g → step g M m a h → (a ≡ answer (M.now, m)) × holds h)
     → holds f → r ≡ slice_get (filter_map answer xs) 0

@@ -1,4 +1,4 @@
--- What a world's tables say of visibilities as they are written. What was not set is not there.
+-- `RawVisibility` in a world's tables: visibilities as they are written. What was not set is not there.
 use Rattle.std.specs.Prelude.{List, Option}
 use Rattle.std.specs.Map.{lookup}
 use Rattle.dm_ids.specs.declared.ids.TraitId.{TraitId}

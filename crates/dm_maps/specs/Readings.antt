@@ -1,4 +1,4 @@
--- What a world says of no name, and of one name.
+-- All that path resolution reads: the name-independent part of a world, and what a world says of one name.
 use Rattle.std.specs.Prelude.{Bool, true, false, List, [], Option, slice_get}
 use Rattle.std.specs.Option.{option_map, option_map_or, option_and_then}
 use Rattle.std.specs.Map.{lookup}
@@ -32,7 +32,7 @@ use Rattle.dm_maps.specs.World.{World, crate_map, numbered_map, scope_of}
 use Rattle.dm_maps.specs.Trees.{tree_of}
 use Rattle.dm_held.specs.Kinds.{macro_number}
 
--- What paths read of a world beside its tree, and of no name.
+-- The name-independent part of a world, as far as path resolution reads it: the module tree, and the tables by id.
 pub record Setting : Type 0 where
   pub tree : Tree
   -- the root of each crate, and whether its edition is 2015
@@ -51,11 +51,11 @@ pub record Setting : Type 0 where
 pub record Reading : Type 0 where
   -- what each module's scope binds under it
   pub bound : ModuleId → PerNs
-  -- the last legacy macro of each module
+  -- the last legacy macro of each module, which in textual scope shadows those before it
   pub legacy : ModuleId → Option MacroId
   -- the variant of each enum
   pub variant : EnumId → Option (EnumVariantId × FieldsShape)
-  -- the macro that each map's macro_use prelude has
+  -- the macro that each map's `macro_use` prelude has
   pub macro_use : MapId → Option (MacroId × Option ExternCrateId)
   -- the module that the local map has, and the builtin type of that name
   pub extern : Option (ModuleId × Option ExternCrateId)

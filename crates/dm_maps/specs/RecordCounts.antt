@@ -1,4 +1,4 @@
--- How many records a world keeps in mind that its scopes have.
+-- The number of import records in all scopes, as a world caches it.
 use Rattle.std.specs.Prelude.{◌≡◌, ℕ}
 use Rattle.dm_base.specs.declared.per_ns.Namespace.{Namespace}
 use Rattle.dm_base.specs.declared.per_ns.Namespace.TheVariants.{Types, Values, Macros}

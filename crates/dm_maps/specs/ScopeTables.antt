@@ -1,4 +1,4 @@
--- What chains of imports and dumps read of a world.
+-- What import chains and dumps read of a world.
 use Rattle.std.specs.Prelude.{Some, map, slice_get}
 use Rattle.std.specs.List.{list_any}
 use Rattle.std.specs.Option.{option_map_or}

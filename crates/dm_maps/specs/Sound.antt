@@ -1,4 +1,4 @@
--- What a checked world's look-ups give: ids of the world.
+-- Look-ups of a checked world give ids of the world: none dangles.
 use Rattle.std.specs.Prelude.{◌≡◌, IsSome, IsTrue, Some, slice_get}
 use Rattle.std.specs.Option.{ForSome, option_map}
 use Rattle.dm_ids.specs.declared.ids.ModuleId.{ModuleId}

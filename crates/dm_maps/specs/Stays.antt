@@ -1,4 +1,4 @@
--- What a push leaves of a world: which ids are known, and what is said of no name.
+-- What a push leaves of a world: which ids are known, and the name-independent part.
 use Rattle.std.specs.Prelude.{◌≡◌, List, length}
 use Rattle.std.specs.Option.{option_map}
 use Rattle.dm_ids.specs.declared.ids.MapId.{MapId}
@@ -8,7 +8,7 @@ use Rattle.dm_maps.specs.Readings.{setting_of}
 use Rattle.dm_maps.specs.Trees.{outline}
 use Rattle.dm_maps.specs.World.{World, numbered_map}
 
--- What w knows, v knows, and of no name v says anything else.
+-- What w knows, v knows, and their name-independent parts are the same.
 pub record StaysKnown (w v : World) : Type 0 where
   -- each id is known if it was, and so is what holds ids: a path, a local map, a set of items, a push
   pub id : (h : HeldId) → knows v h ≡ knows w h

@@ -1,4 +1,4 @@
--- The tree of a world's modules, and what holds of every world.
+-- The tree of a world's modules, and the invariants of every world.
 use Rattle.std.specs.Prelude.{◌≡◌, ◌<◌, ◌≤◌, ℕ, List, Option, Some, None, length, map, slice_get, nat_lt}
 use Rattle.std.specs.Option.{option_map_or, option_and_then}
 use Rattle.dm_ids.specs.declared.ids.ModuleId.{ModuleId}
@@ -93,8 +93,9 @@ is_block_id b id = id.block ≡ Some (record { 0 = b })
 abbrev pub AreMaps : (ℕ → MapId → Type 0) → List Place → List Outline → Type 0
 AreMaps own ps os = (k : ℕ) (o : Outline) → slice_get os k ≡ Some o → own k o.id × IsMap ps o
 
--- What holds of every world, whatever its scopes bind: its modules make a tree, each stands at its place in a map of one of
--- the crates, the maps have no others, each crate has an extern prelude, there are no more maps than modules, and each module has a number.
+-- What holds of every world, whatever its scopes bind: its modules make a tree, each stands at its place in a map of
+-- one of the crates, the maps have no others, each crate has an extern prelude, there are no more maps than modules,
+-- and each module has a number.
 pub record IsWorldOf (ps : List Place) (cs bs : List Outline) (inside : List (Option ModuleId)) (locals : ℕ) : Type 0 where
   pub tree : IsTree (tree_by ps inside)
   pub placed : (m : ModuleId) (p : Place) → slice_get ps m.0 ≡ Some p → IsPlaced ps inside m.0 p

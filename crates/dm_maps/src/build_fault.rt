@@ -1,10 +1,10 @@
-//! Why a builder refuses.
+//! `BuildFault`: why a builder call fails.
 ghost use Rattle.std.specs.Prelude.{◌≡◌};
 ghost use Rattle.dm_maps.specs.declared.build_fault.BuildFault.TheVariants.{OutOfMemory};
 
 use std::alloc::AllocError;
 
-/// Why a builder refuses, by the numbers in whose order the reasons are tested. The builder is then as it was.
+/// Why a builder call fails, by the numbers in whose order the reasons are tested. The builder is then as it was.
 #[derive(Clone, Copy, PartialEq, Eq, Debug)]
 pub enum BuildFault {
     /// The crate, or the crate or block of the map, is not the builder's.

@@ -1,4 +1,4 @@
-//! A world that is being built.
+//! `WorldBuilder`: a world that is being built.
 ghost use Rattle.std.specs.Prelude.{◌≡◌};
 ghost use Rattle.dm_maps.specs.Build.{no_world, with_rules};
 ghost use Rattle.dm_maps.specs.First.{IsChecked};
@@ -47,14 +47,14 @@ pub struct WorldBuilder {
     pub(crate) macros: Vec<(ModuleId, MacroLoc)>,
     pub(crate) item_tables: ItemTables,
     pub(crate) rules: Rules,
-    /// The ladder of each module.
+    /// The ladder of each module: its jump pointers to the modules around it, at distances of powers of two.
     pub(crate) ladders: Ladders,
     /// The blocks of each crate.
     pub(crate) block_lists: Vec<BlockList>,
     pub(crate) alloc: Global,
 }
 
-/// Written out, so that what lets one go has one call to prove.
+/// Hand-written `Drop`, to keep proofs small: dropping one is then a single call.
 impl Drop for WorldBuilder {
     fn drop(self) {
         let WorldBuilder {

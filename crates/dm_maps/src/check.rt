@@ -1,4 +1,4 @@
-//! From a builder to a checked world, and back.
+//! From a builder to a checked world, without dangling ids, and back.
 ghost use Rattle.std.specs.Prelude.{◌≡◌, ◌↔◌, IsOk, IfOk, IfErr};
 ghost use Rattle.dm_maps.specs.First.{holders, IsChecked, IsFirstFault};
 
@@ -13,8 +13,8 @@ use dm_held::fault::WorldFault;
 impl WorldBuilder {
     /// The world of the builder's tables, if each id that they hold is one of their own, with its kind.
     ///
-    /// Else the first holder with a fault, in the order of crates' maps, blocks' maps, modules and tables, each by number:
-    /// there the least kind of fault, and of it the least id; with the builder as it was. Takes no memory.
+    /// Else the first holder with a fault, in the order of crates' maps, blocks' maps, modules and tables, each by
+    /// number: there the least kind of fault, and of it the least id; with the builder as it was. Takes no memory.
     pub fn check(self) -> Result<World, (WorldBuilder, WorldFault)>
         ensures ok { IsOk result ↔ IsChecked self }
         ensures same { IfOk result (λ world. world ≡ self) }

@@ -1,4 +1,5 @@
-//! Laws of dumps and of what a builder is told, for proofs above. A law does nothing: what has to be proved by it calls it.
+//! Lemmas on dumps and on builder calls, for proofs of the crates above. They are functions that do nothing: a function
+//! whose proof needs one calls it.
 ghost use Rattle.std.specs.Prelude.{◌≡◌, List};
 ghost use Rattle.dm_ids.specs.declared.ids.Crate.{Crate};
 ghost use Rattle.dm_ids.specs.declared.ids.MapId.{MapId};
@@ -21,8 +22,8 @@ pub fn scope_is_dumped()
     ensures { (t : Tables) (s : Scope) → IsDump t s (scope_text t s) }
 {}
 
-/// What is set in maps, in the data of a crate, in extern preludes, in tables that belong to no map, and of the version of the
-/// rules leaves what was known, and each scope.
+/// Setters for maps, for the data of a crate, for extern preludes, for tables that belong to no map, and for the
+/// version of the rules leave what was known, and each scope.
 pub fn settings_keep_scopes()
     ensures maps { (w : worlds.World) (id : MapId) (f : Map → Map) → ((m : Map) → (f m).modules ≡ m.modules) → IsGrown w (with_map w id f) }
     ensures crate_data { (w : worlds.World) (k : Crate) (d : CrateData) → IsGrown w (sharing w k d) }

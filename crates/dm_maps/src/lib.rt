@@ -1,4 +1,4 @@
-//! The maps of crates and blocks, and checked worlds of them.
+//! The def maps of crates and blocks, and checked worlds of them: all def maps together, without dangling ids.
 #![tactic(auto)]
 
 pub mod build_fault;

@@ -24,7 +24,7 @@ pub(crate) struct Maps {
     blocks: Vec<DefMap>,
 }
 
-/// Written out, so that what lets one go has one call to prove.
+/// Hand-written `Drop`, to keep proofs small: dropping one is then a single call.
 impl Drop for Maps {
     fn drop(self) {
         let Maps {

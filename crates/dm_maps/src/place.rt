@@ -1,4 +1,4 @@
-//! Where the modules of a world stand.
+//! Where each module of a world is: its def map, its index there, and its parent.
 use dm_base::ids::{MapId, ModuleId};
 
 /// Where a module stands: its map, its place among the map's modules, and its parent there.

@@ -38,11 +38,11 @@ use std::marker::Model;
 /// A checked world: every id that one of its tables holds is one of its own, with its kind.
 pub struct World {
     pub(crate) tables: WorldBuilder,
-    /// How many records its scopes have.
+    /// How many import records its scopes have.
     records: RecordCounts,
 }
 
-/// Written out, so that what lets one go has one call to prove.
+/// Hand-written `Drop`, to keep proofs small: dropping one is then a single call.
 impl Drop for World {
     fn drop(self) {
         let World {

@@ -1,4 +1,4 @@
--- A module lends its scope.
+-- A mutable borrow of a module's scope.
 use Rattle.std.specs.Borrow.{Lends, MutBor, Fml}
 use Rattle.dm_scope.specs.Scope.{Scope}
 use Rattle.dm_scope.specs.contracts.item_scope.ItemScope.{the_row as scope_row}

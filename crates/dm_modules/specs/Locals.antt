@@ -1,4 +1,4 @@
--- Extern preludes: what a new entry makes of one.
+-- Insertion into an extern prelude.
 use Rattle.std.specs.Prelude.{Option}
 use Rattle.indexmap.specs.IndexMap.{insert_entry}
 use Rattle.dm_ids.specs.declared.ids.ExternCrateId.{ExternCrateId}

@@ -1,4 +1,4 @@
--- Modules and maps, as contracts see them.
+-- Modules and def maps, as contracts see them.
 use Rattle.std.specs.Prelude.{ℕ, List, [], ◌∷◌, ◌++◌, Option, Some, None, map, slice_get}
 use Rattle.std.specs.Option.{option_map}
 use Rattle.std.specs.Map.{lookup}
@@ -19,7 +19,7 @@ use Rattle.dm_modules.specs.declared.module_origin.ModuleOrigin.{ModuleOrigin}
 use Rattle.dm_tables.specs.CrateData.{CrateData, fresh_data}
 use Rattle.dm_tables.specs.Helpers.{Helper}
 
--- a module: where it comes from, who sees it, its parent in its map, its children by name, its scope
+-- a module: its origin, its visibility, its parent in its map, its children by name, its scope
 pub record Module : Type 0 where
   pub origin : ModuleOrigin
   pub visibility : Visibility
@@ -35,9 +35,9 @@ LocalMap = List (Name × (ModuleId × Option ExternCrateId))
 abbrev pub Modules : Type 0
 Modules = List (ModuleId × Module)
 
--- The map of a crate or of a block: its root, the module that contains its block, its modules, its prelude module, the
--- macros that `#[macro_use]` brings, the macro that each item of the syntax defines, the derive helpers of each, what went
--- wrong while the map was made, and what all maps of the crate share.
+-- The def map of a crate or of a block expression: its root, the module that contains its block, its modules, its
+-- prelude module, the `#[macro_use]` prelude, the macro that each AST item defines, the derive helpers on each, its
+-- diagnostics, and the data that all def maps of the crate share.
 pub record Map : Type 0 where
   pub id : MapId
   pub edition : Edition
@@ -55,7 +55,7 @@ pub record Map : Type 0 where
 abbrev pub module_at : Modules → ModuleId → Option Module
 module_at es m = lookup (same_module m) es
 
--- the module at place i
+-- the module at index i
 abbrev pub nth_module : Modules → ℕ → Option Module
 nth_module es i = slice_get (map (λ e. e.1) es) i
 
@@ -67,11 +67,11 @@ abbrev pub put_scope : Modules → ℕ → Option Module → Scope → Modules
 put_scope es i None s = es
 put_scope es i (Some d) s = set_value_at es i (record d { scope = s })
 
--- the modules with s as the scope of the module at place i
+-- the modules with s as the scope of the module at index i
 abbrev pub with_scope_at : Modules → ℕ → Scope → Modules
 with_scope_at es i s = put_scope es i (nth_module es i) s
 
--- the map with s as the scope of the module at place i
+-- the map with s as the scope of the module at index i
 abbrev pub map_with_scope : Map → ℕ → Scope → Map
 map_with_scope m i s = record m { modules = with_scope_at m.modules i s }
 
@@ -87,15 +87,15 @@ abbrev pub put_child : Modules → ℕ → Option Module → Name → ModuleId �
 put_child es i None n m = es
 put_child es i (Some d) n m = set_value_at es i (with_child d n m)
 
--- the modules with m as a child of the module at place i
+-- the modules with m as a child of the module at index i
 abbrev pub with_child_at : Modules → ℕ → Name → ModuleId → Modules
 with_child_at es i n m = put_child es i (nth_module es i) n m
 
--- the modules with one more, of number m, that is a child of the module at place i
+-- the modules with one more, of number m, that is a child of the module at index i
 abbrev pub with_new_child : Modules → ℕ → Name → ModuleId → Module → Modules
 with_new_child es i n m d = with_child_at (es ++ (m, d) ∷ []) i n m
 
--- the map with one more module, of number m, that is a child of the module at place i
+-- the map with one more module, of number m, that is a child of the module at index i
 abbrev pub map_with_child : Map → ℕ → Name → ModuleId → Module → Map
 map_with_child map i n m d = record map { modules = with_new_child map.modules i n m d }
 

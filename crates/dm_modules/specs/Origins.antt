@@ -1,4 +1,4 @@
--- Where modules come from.
+-- Module origins: a crate root, a file, an inline module, or a block expression.
 use Rattle.std.specs.Prelude.{Bool, true, false, Option, Some, None}
 use Rattle.dm_ids.specs.declared.source.AstId.{AstId}
 use Rattle.dm_ids.specs.declared.source.EditionedFileId.{EditionedFileId}
@@ -7,7 +7,7 @@ use Rattle.dm_ids.specs.declared.source.HirFileId.TheVariants as file
 use Rattle.dm_modules.specs.declared.module_origin.ModuleOrigin.{ModuleOrigin}
 use Rattle.dm_modules.specs.declared.module_origin.ModuleOrigin.TheVariants.{CrateRoot, File, Inline, BlockExpr}
 
--- a module below another, in a file of its own or written out there
+-- a module below another, in a file of its own or inline
 abbrev pub is_child : ModuleOrigin → Bool
 is_child (CrateRoot definition) = false
 is_child (File is_mod_rs declaration tree definition) = true
@@ -28,7 +28,7 @@ own_file (File is_mod_rs declared tree definition) = Some definition
 own_file (Inline tree definition) = None
 own_file (BlockExpr id block) = None
 
--- a module that fills no file: it is written out between the items of another, or in a block
+-- a module that fills no file: an inline module, or a block's root
 abbrev pub is_inline : ModuleOrigin → Bool
 is_inline (CrateRoot definition) = false
 is_inline (File is_mod_rs declared tree definition) = false

@@ -1,4 +1,4 @@
--- What maps answer of their modules.
+-- Queries of def maps about their modules.
 use Rattle.std.specs.Prelude.{Bool, false, nat_eq, List, Option, Some, None, if◌then◌else◌}
 use Rattle.std.specs.Borrow.{Bor}
 use Rattle.std.specs.List.{filter_map}
@@ -20,7 +20,7 @@ containing_in map m = option_or (option_and_then (λ d. d.parent) (module_at map
 abbrev pub fills : FileId → ModuleOrigin → Bool
 fills f o = option_map_or (λ own. nat_eq f.0 own.file.0) (own_file o) false
 
--- whether a module is written out in what the macro call expands to
+-- whether a module is an inline module in the expansion of the macro call
 abbrev pub is_inline_in : MacroCallId → ModuleOrigin → Bool
 is_inline_in c (CrateRoot definition) = false
 is_inline_in c (File is_mod_rs declared tree definition) = false

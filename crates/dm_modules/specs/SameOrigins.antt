@@ -1,4 +1,4 @@
--- Equal origins of modules are one.
+-- Equality of module origins is structural.
 use Rattle.std.specs.Prelude.{◌≡◌, true}
 use Rattle.std.proofs.Common.{rules}
 use Rattle.std.specs.Cmp.{booleans_Decides}

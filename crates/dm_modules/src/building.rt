@@ -1,4 +1,4 @@
-//! For the crates of this repository which build maps: how the modules of a map begin, grow, and are changed.
+//! Building the modules of a def map, for the crates of this repository that build def maps.
 ghost use Rattle.std.specs.Prelude.{◌≡◌, [], ◌∷◌, None, IfOk, OnOk, OnErr};
 ghost use Rattle.std.specs.Option.{option_copied_mut};
 ghost use Rattle.std.specs.Borrow.{sem};
@@ -24,7 +24,7 @@ pub fn with_root(m: ModuleId, added: ModuleData, alloc: Global) -> Result<Module
     Ok(ModulesMap { entries })
 }
 
-/// Adds a module, as a child of the one at place `i`.
+/// Adds a module, as a child of the one at index `i`.
 pub fn add_child(
     modules: &mut ModulesMap,
     i: usize,
@@ -46,7 +46,7 @@ pub fn add_child(
     }
 }
 
-/// What the module at place `i` binds, to be changed.
+/// The scope of the module at index `i`, to be changed.
 pub fn scope_mut(modules: &mut ModulesMap, i: usize) -> Option<&mut ItemScope>
     ensures* writes_back { sem 𝓛 (LendsNthScope modules.entry i result) }
     ensures value { option_copied_mut result ≡ nth_scope modules.old i }

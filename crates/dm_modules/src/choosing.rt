@@ -1,4 +1,4 @@
-//! For the map of a crate or a block: the modules that it chooses by where they come from.
+//! The modules of a def map that fill a file, and the inline modules of a macro expansion.
 ghost use Rattle.std.specs.Prelude.{◌≡◌};
 ghost use Rattle.std.specs.Map.Iter.{ShowsInOrder};
 ghost use Rattle.dm_ids.specs.declared.ids.ModuleId.{ModuleId};
@@ -9,7 +9,7 @@ use crate::modules_map::ModulesMap;
 use crate::origins::{FilledBy, InlineIn};
 use dm_base::ids::{FileId, MacroCallId};
 
-/// The modules that fill the file, under whatever edition, in order of number. Takes no memory.
+/// The modules that fill the file, under whatever edition, in order of number. Does not allocate.
 pub fn filling(modules: &ModulesMap, file: FileId) -> ModulesForFile<'_>
     ensures rest { result ≡ modules_with (fills file) modules.now }
     ensures runs { ShowsInOrder (λ (m : ModuleId). m) }
@@ -17,7 +17,7 @@ pub fn filling(modules: &ModulesMap, file: FileId) -> ModulesForFile<'_>
     ModulesWith::new(modules, FilledBy(file))
 }
 
-/// The modules that are written out in what the macro call expands to, in order of number. Takes no memory.
+/// The inline modules in the expansion of the macro call, in order of number. Does not allocate.
 pub fn inline_in(modules: &ModulesMap, call: MacroCallId) -> InlineModules<'_>
     ensures rest { result ≡ modules_with (is_inline_in call) modules.now }
     ensures runs { ShowsInOrder (λ (m : ModuleId). m) }

@@ -1,4 +1,4 @@
-//! Growth of tables, all or nothing.
+//! Insertion of a child module: where an allocation fails, nothing changes.
 ghost use Rattle.std.specs.Prelude.{◌≡◌, ◌-◌, ◌++◌, ◌∷◌, [], None, OnOk, OnErr, take, length};
 ghost use Rattle.indexmap.specs.IndexMap.{get, insert_entry};
 ghost use Rattle.dm_modules.specs.Maps.{with_child_at};
@@ -10,14 +10,14 @@ use indexmap::IndexMap;
 use std::alloc::AllocError;
 use std::hash::Hash;
 
-/// Takes the last key off again.
+/// Removes the last key.
 pub(crate) fn drop_last<K: Eq + Hash + Drop, V: Drop>(map: &mut IndexMap<K, V>)
     ensures { map.new.entries ≡ take (length map.old.entries - 1) map.old.entries }
 {
     map.pop();
 }
 
-/// Lists `m` among the children of the module at place `i`.
+/// Adds `m` to the children of the module at index `i`.
 pub(crate) fn list_child(
     modules: &mut IndexMap<ModuleId, ModuleData>,
     i: usize,

@@ -1,4 +1,4 @@
-//! The modules of a map, the extern prelude of a crate, and what crates and items have beside them.
+//! The modules of a def map, and the extern prelude of a crate.
 #![tactic(auto)]
 
 pub mod building;

@@ -1,4 +1,4 @@
-//! The extern prelude of a crate.
+//! `LocalDefMap`: the extern prelude of a crate.
 ghost use Rattle.std.specs.Prelude.{◌≡◌, [], Some, IfSome, length, OnOk, OnErr};
 ghost use Rattle.std.specs.Iterator.{at_most, UpTo};
 ghost use Rattle.std.specs.Iterator.SizeHint.{IsWithinCount};
@@ -13,12 +13,13 @@ use indexmap::{IndexMap, map};
 use std::alloc::{AllocError, Global};
 use std::marker::Model;
 
-/// The roots of other crates that paths of a crate can begin with, by name, each with the item that named it.
+/// The extern prelude of a crate: the roots of other crates, by the names that paths can begin with, each with the item
+/// that named it.
 pub struct LocalDefMap {
     extern_prelude: IndexMap<Name, (ModuleId, Option<ExternCrateId>)>,
 }
 
-/// Written out, so that what lets one go has one call to prove.
+/// A hand-written `Drop`, to keep proofs small: code that drops a value has one call to prove.
 impl Drop for LocalDefMap {
     fn drop(self) {
         let LocalDefMap {
@@ -72,7 +73,7 @@ impl<'a> Iterator for ExternPrelude<'a> {
 }
 
 impl LocalDefMap {
-    /// An extern prelude with no entry, which takes its memory from `alloc`. It takes none yet.
+    /// An extern prelude with no entry. Later insertions allocate from `alloc`; this call does not allocate.
     pub fn new(alloc: Global) -> LocalDefMap
         ensures { result ≡ [] }
     {
@@ -81,14 +82,14 @@ impl LocalDefMap {
         }
     }
 
-    /// An extern prelude with no entry, for questions that have none. It takes no memory.
+    /// An extern prelude with no entry, for look-ups where there is none. It does not allocate.
     pub fn empty(alloc: Global) -> LocalDefMap
         ensures { result ≡ [] }
     {
         LocalDefMap::new(alloc)
     }
 
-    /// The entries, in order of insertion. Takes no memory.
+    /// The entries, in order of insertion. Does not allocate.
     pub fn extern_prelude(&self) -> ExternPrelude<'_>
         ensures rest { result ≡ self.now }
         ensures runs { ShowsInOrder deref_extern }
@@ -98,7 +99,7 @@ impl LocalDefMap {
         }
     }
 
-    /// The module of that name, with the item that named it. Takes no memory.
+    /// The module of that name, with the item that named it. Does not allocate.
     pub fn get(&self, name: &Name) -> Option<(ModuleId, Option<ExternCrateId>)>
         ensures { result ≡ find_name name.now self.now }
     {
@@ -107,7 +108,7 @@ impl LocalDefMap {
 
     /// Puts a module under a name, with the item that names it.
     ///
-    /// A name that is there keeps its place and takes the new entry. Where memory is short, nothing changes.
+    /// A name that is there keeps its place and takes the new entry. Where an allocation fails, nothing changes.
     pub fn insert(
         &mut self,
         name: Name,

@@ -1,23 +1,23 @@
-//! What a question prefers and expects.
+//! Modes of path resolution: how builtin types and modules shadow one another, and which kind of macro is expected.
 ghost use Rattle.std.proofs.Common.{rules};
 
 use dm_base::value_eq::ValueEq;
 
-/// Whether a builtin type may be shadowed by a module of its name.
+/// Whether a module of its name shadows a builtin type.
 #[derive(Clone, Copy, PartialEq, Eq, Debug)]
 pub enum BuiltinShadowMode {
-    /// Modules, and other types, go before builtin types.
+    /// Modules, like all types in scope, shadow builtin types.
     Module,
-    /// Builtin types go before modules, but not before other types.
+    /// Builtin types go before modules of their name, but other types shadow them.
     Other,
 }
 
-/// What kind of macro a name is expected to be.
+/// The sub-namespaces of macros: a path to a macro is resolved in the one that fits how it is called.
 #[derive(Clone, Copy, PartialEq, Eq)]
 pub enum MacroSubNs {
-    /// One that is called as `name!(..)`.
+    /// Function-like (bang) macros, `name!(..)`.
     Bang,
-    /// An attribute or a derive.
+    /// Attributes and derives.
     Attr,
 }
 

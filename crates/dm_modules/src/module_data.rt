@@ -1,4 +1,4 @@
-//! A module of a map.
+//! `ModuleData`: a module of a def map.
 ghost use Rattle.std.specs.Prelude.{◌≡◌, OnOk, OnErr, is_some};
 ghost use Rattle.std.specs.Borrow.{sem};
 ghost use Rattle.dm_ids.specs.Names.{find_name};
@@ -17,7 +17,7 @@ use indexmap::IndexMap;
 use std::alloc::{AllocError, Global};
 use std::marker::Model;
 
-/// A module of a map.
+/// A module of a def map.
 pub struct ModuleData {
     origin: ModuleOrigin,
     visibility: Visibility,
@@ -26,7 +26,7 @@ pub struct ModuleData {
     scope: ItemScope,
 }
 
-/// Written out, so that what lets one go has one call to prove.
+/// A hand-written `Drop`, to keep proofs small: code that drops a value has one call to prove.
 impl Drop for ModuleData {
     fn drop(self) {
         let ModuleData {
@@ -101,7 +101,7 @@ impl ModuleData {
         self.origin.source_file()
     }
 
-    /// What the module binds.
+    /// The scope of the module: the names that it binds.
     pub fn scope(&self) -> &ItemScope
         ensures { result.now ≡ self.now.scope }
     {
@@ -115,8 +115,8 @@ impl ModuleData {
         self.children.get(name).copied()
     }
 
-    /// Whether there is a child of the name of that text. It compares with each name: where the name is at hand, `child` looks
-    /// it up. Takes no memory.
+    /// Whether there is a child of that name. It compares with each name: with a `Name` at hand, `child` looks it up.
+    /// Does not allocate.
     pub fn has_child(&self, text: &str) -> bool
         ensures { result ≡ is_some (find_name text.now self.now.children) }
     {
@@ -132,7 +132,7 @@ impl ModuleData {
         Ok(())
     }
 
-    /// What the module binds, to be changed.
+    /// The scope of the module, to be changed.
     pub(crate) fn scope_mut(&mut self) -> &mut ItemScope
         ensures* writes_back { sem 𝓛 (LendsModuleScope self.entry result) }
         ensures value { result.now ≡ self.old.scope }

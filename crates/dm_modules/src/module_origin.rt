@@ -1,4 +1,4 @@
-//! Where modules come from.
+//! `ModuleOrigin`: a crate root, a file, an inline module, or a block expression.
 ghost use Rattle.std.specs.Prelude.{◌≡◌};
 ghost use Rattle.dm_modules.specs.SameOrigins.{origins_same};
 ghost use Rattle.dm_modules.specs.Origins.{is_child, declaration, own_file, is_inline, source_file};
@@ -21,7 +21,7 @@ pub enum ModuleOrigin {
         declaration_tree_id: TreeId,
         definition: EditionedFileId,
     },
-    /// A module written out where it is declared.
+    /// An inline module, `mod name { .. }`.
     Inline {
         definition_tree_id: TreeId,
         definition: FileAstId,
@@ -58,7 +58,7 @@ impl ModuleOrigin {
         }
     }
 
-    /// The file that the module fills; none for a module that is written out in a file, or in a block.
+    /// The file that the module fills; none for an inline module or a block's root.
     pub fn file_id(&self) -> Option<EditionedFileId>
         ensures { result ≡ own_file self.now }
     {
@@ -70,7 +70,7 @@ impl ModuleOrigin {
         }
     }
 
-    /// Whether the module is written out in a file, or in a block, and fills none.
+    /// Whether the module is inline or a block's root, and so fills no file.
     pub fn is_inline(&self) -> bool
         ensures { result ≡ is_inline self.now }
     {

@@ -1,4 +1,4 @@
-//! Iterators over the modules of a map. Each is seen as the list of what it has left.
+//! Iterators over the modules of a def map. Contracts see each as the list of what it has left.
 ghost use Rattle.std.specs.Prelude.{◌≡◌, Some, IfSome, length};
 ghost use Rattle.std.specs.Iterator.{at_most, UpTo};
 ghost use Rattle.std.specs.Iterator.SizeHint.{IsWithinCount};
@@ -50,7 +50,7 @@ impl<'a> Iterator for Iter<'a> {
 }
 
 impl ModulesMap {
-    /// The modules, in order of number. Takes no memory.
+    /// The modules, in order of number. Does not allocate.
     pub fn iter(&self) -> Iter<'_>
         ensures rest { result ≡ self.now }
         ensures runs { ShowsInOrder deref_module }
@@ -68,7 +68,7 @@ impl<'a> IntoIterator for &'a ModulesMap {
 
     ghost into_iter_gives = { λ m r. (r ≡ m.now) × ShowsInOrder deref_module };
 
-    /// The modules, in order of number. Takes no memory.
+    /// The modules, in order of number. Does not allocate.
     fn into_iter(self) -> Iter<'a> {
         self.iter()
     }
@@ -92,7 +92,7 @@ impl<'a, P: Origins> Model for ModulesWith<'a, P> {
 }
 
 impl<'a, P: Origins> ModulesWith<'a, P> {
-    /// The modules whose origins pass, in order of number. Takes no memory.
+    /// The modules whose origins pass, in order of number. Does not allocate.
     pub(crate) fn new(modules: &'a ModulesMap, origins: P) -> Self
         ensures rest { result ≡ modules_with (P.passes origins) modules.now }
         ensures runs { ShowsInOrder (λ (m : ModuleId). m) }
@@ -107,7 +107,7 @@ impl<'a, P: Origins> ModulesWith<'a, P> {
 /// The modules of a map that fill a file, in order of number.
 pub type ModulesForFile<'a> = ModulesWith<'a, FilledBy>;
 
-/// The modules of a map that are written out in what a macro call expands to, in order of number.
+/// The inline modules (`mod name { .. }`) of a map in the expansion of a macro call, in order of number.
 pub type InlineModules<'a> = ModulesWith<'a, InlineIn>;
 
 /// The next module whose origin passes.

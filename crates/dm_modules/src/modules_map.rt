@@ -1,4 +1,4 @@
-//! The modules of a map, by number.
+//! `ModulesMap`: the modules of a def map, by number.
 ghost use Rattle.std.specs.Prelude.{◌≡◌, ◌↔◌, [], IsTrue, length};
 ghost use Rattle.std.specs.Option.{option_copied};
 ghost use Rattle.dm_modules.specs.Maps.{module_at, nth_module};
@@ -51,7 +51,7 @@ impl ModulesMap {
         &self.entries
     }
 
-    /// The module at place `i`, counted from the root.
+    /// The module at index `i`, counted from the root.
     pub fn nth(&self, i: usize) -> Option<&ModuleData>
         ensures { option_copied result ≡ nth_module self.now i }
     {

@@ -1,4 +1,4 @@
-//! What the iterators over modules choose by.
+//! `Origins`: the filters of the iterators over modules, by module origin.
 ghost use Rattle.std.specs.Prelude.{◌≡◌, Bool};
 ghost use Rattle.dm_modules.specs.declared.module_origin.ModuleOrigin.{ModuleOrigin};
 ghost use Rattle.dm_modules.specs.Queries.{fills, is_inline_in};
@@ -6,7 +6,7 @@ ghost use Rattle.dm_modules.specs.Queries.{fills, is_inline_in};
 use crate::module_origin::ModuleOrigin;
 use dm_base::ids::{FileId, MacroCallId};
 
-/// A choice of modules by where they come from.
+/// A filter of modules by their origin.
 pub trait Origins: Copy {
     ghost passes: { Self → ModuleOrigin → Bool };
 
@@ -29,7 +29,7 @@ impl Origins for FilledBy {
     }
 }
 
-/// The modules that are written out in what a macro call expands to.
+/// The inline modules in the expansion of a macro call.
 #[derive(Clone, Copy)]
 pub struct InlineIn(pub MacroCallId);
 

@@ -1,4 +1,4 @@
--- What is known of what an import brings.
+-- What an import resolves to is known to the world.
 use Rattle.std.proofs.Common.{◌≡◌, ◌<◌, ◌&&◌, ℕ, zero, suc, Bool, true, false, cond, not, List, [], ◌∷◌, ◌++◌, Option, None, Some, IsSome, IsTrue, ap, refl, arith, is_none, is_some, length, slice_get}
 use Rattle.std.specs.Option.{option_map, option_map_or}
 use Rattle.std.proofs.lemmas.Bool.{ltb-true}

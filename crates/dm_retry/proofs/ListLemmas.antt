@@ -3,7 +3,7 @@ use Rattle.std.proofs.Common.{◌≡◌, ◌≤◌, ◌++◌, ◌⊎◌, inl, in
 use Rattle.std.proofs.lemmas.List.{take_all, drop_all}
 use Rattle.std.specs.Option.{option_map_or}
 
--- what stands in a list in which y was put at place i: y there, and what stood elsewhere
+-- the elements of a list in which y was put at place i: y there, and the old ones elsewhere
 pub get-put : {X : Type 0} (xs : List X) (i j : ℕ) (y z : X) → slice_get (slice_set xs i y) j ≡ Some z → ((j ≡ i) × (z ≡ y)) ⊎ (slice_get xs j ≡ Some z)
 get-put [] i j y z is = inr is
 get-put (x ∷ xs) zero zero y z is = let same : y ≡ z = cc in inl (refl, sym same)

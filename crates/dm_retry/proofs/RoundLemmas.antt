@@ -1,4 +1,4 @@
--- How many imports wait does not change.
+-- The number of unresolved imports does not change.
 use Rattle.std.proofs.Common.{◌≡◌, ◌∙◌, ℕ, zero, suc, Bool, true, false, List, Option, None, Some, refl, slice_get, length, set}
 use Rattle.std.proofs.lemmas.List.{length-map, length-set}
 use Rattle.std.specs.Option.{option_map_or}

@@ -1,5 +1,5 @@
--- A push of items that are there which answers false leaves the scope and the glob table: so a try that brings nothing leaves
--- its state, whether or not it is made.
+-- A push of found items that answers false changes neither the scope nor the glob table: so a try that changes nothing
+-- may be left out.
 use Rattle.std.proofs.Common.{◌≡◌, false, Option, None, Some, refl}
 use Rattle.std.proofs.lemmas.Bool.{cond-false, or_parts}
 use Rattle.indexmap.specs.IndexSet.{insert_key}

@@ -1,4 +1,4 @@
--- What a try leaves of imports that wait: each that is not due would still write nothing.
+-- What a try leaves of unresolved imports: a try of one that is not due would still change nothing.
 use Rattle.std.proofs.Common.{◌≡◌, ◌∙◌, ◌⊎◌, inl, inr, rules, ℕ, Bool, true, false, List, [], Option, None, Some, ap, sym, refl, subst, slice_get, slice_set, map}
 use Rattle.std.specs.Option.{option_map, option_map_or}
 use Rattle.std.proofs.lemmas.Bool.{false≢true, true≢false, or_parts}
@@ -64,8 +64,9 @@ module _ (ps : List Pending) (i : ℕ) (p : Pending) (at : slice_get ps i ≡ So
   comes true j r is = woken j r is
   comes false j r is = kept j r is
 
--- A try keeps what holds of imports that wait, where what was known is known, the push of the tried import leaves each other
--- import that has no segment of its name, and itself, writing nothing, and a push that answers false leaves all.
+-- A try keeps the invariant of unresolved imports, where what was known is known, the push of the tried import leaves
+-- each other import that has no segment of its name, and itself, without effect, and a push that answers false changes
+-- nothing.
 pub settles : (s : State) (i : ℕ) (p : Pending) → IsSettled s → slice_get s.pending i ≡ Some p → (v : World) (h : Globs) (b : Bool) → b ≡ brings s.world s.globs p
     → ((q : Pending) → KnowsAll s.world (parts q) → KnowsAll v (parts q))
     → ((q : Pending) → same_import q.import p.import ≡ false → among q.path.segments p.name ≡ false → brings s.world s.globs q ≡ false → brings v h q ≡ false)

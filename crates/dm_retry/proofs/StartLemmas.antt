@@ -1,4 +1,4 @@
--- Imports that are taken: none stands twice, and what they hold is the world's.
+-- Imports that `Retry::new` takes: none is listed twice, and the ids that they hold are the world's.
 use Rattle.std.proofs.Common.{◌≡◌, ◌∙◌, ℕ, zero, suc, ◌+◌, Bool, true, false, cond, not, List, [], ◌∷◌, Option, None, Some, ap, sym, refl, subst, slice_get, map, rules, true≢false}
 use Rattle.std.specs.List.{list_any, list_all, position_from}
 use Rattle.std.specs.Option.{option_map, option_or}
@@ -63,7 +63,7 @@ due-at ps i r is = by (slice_get ps i) refl (sym (slice_get-map (marked true) ps
     by None at e = cc
     by (Some q) at e = let same : marked true q ≡ r = cc in (q, at, sym same)
 
--- where nothing is refused, no import stands twice, and none holds what the world lacks
+-- where no import is rejected, none is listed twice, and none holds an id the world does not have
 fine-is : (d u : Option ℕ) → option_map (λ (r : RetryFault × ℕ). r.0) (option_or (option_map (λ i. (DoubleImport, i)) d) (option_map (λ i. (UnknownPart, i)) u)) ≡ None → (d ≡ None) × (u ≡ None)
 fine-is None None fine = (refl, refl)
 fine-is None (Some i) fine = cc

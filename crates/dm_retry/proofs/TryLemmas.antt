@@ -1,4 +1,5 @@
--- Tries of imports: one that brings nothing changes nothing, and what a push of one import leaves of the others.
+-- Tries of imports: one that resolves to nothing new changes nothing, and what a push of one import leaves of the
+-- others.
 use Rattle.std.proofs.Common.{◌≡◌, ◌∙◌, ◌&&◌, Bool, true, false, cond, not, List, [], Option, None, Some, ap, sym, refl, subst, slice_get, is_none}
 use Rattle.std.specs.Option.{option_map, option_map_or, option_and_then}
 use Rattle.std.proofs.lemmas.Bool.{and_parts, not-true}
@@ -49,7 +50,7 @@ found-some w p x is = by (is_none a.segment_index && not (is_empty a.resolved_de
         ap is_empty (sym same) ∙ (λ i. item-seen p.visibility y.types i && item-seen p.visibility y.values i && item-seen p.visibility y.macros i) ∙ not-true (is_empty y) ((and_parts _ _ some).1)
     by false none is = cc
 
--- ---- A try that brings nothing
+-- ---- A try that changes nothing
 
 pub idle-world : (w : World) (g : Globs) (p : Pending) → brings w g p ≡ false → world_after w g p (found w p) ≡ w
 idle-world w g p none = by (found w p) refl none
@@ -114,7 +115,7 @@ module _ (w v : World) (g h : Globs) (p : Pending) (x : PerNs) (push : IsPushed 
       ap (λ a. option_map (seen_as q.visibility) (brought a))
       (push.alike w v (local_of w q.origin) (local_of v q.origin) q.origin q.path.kind S (push.cuts S other) (ap (λ L. cut_local L S) (local-stays q.origin)))
 
-  -- another import that would write nothing, and has no segment of the pushed name, writes nothing
+  -- another import that would bind nothing, and has no segment of the pushed name, binds nothing
   pub others-rest : (q : Pending) → same_import q.import p.import ≡ false → among q.path.segments p.name ≡ false → brings w g q ≡ false → brings v h q ≡ false
   others-rest q differ other none = ap (answered v h q) (found-stays q other) ∙ by (found w q) none
     where

@@ -24,21 +24,21 @@ is_known w p = list_all (knows w) (parts p)
 abbrev pub same_import : ImportId → ImportId → Bool
 same_import = import_eq.ghosts.eq
 
--- the place of the first import that stands once more behind it, where the first of these stands at place i
+-- the place of the first import that is listed again behind it, where the first of these is at place i
 abbrev pub double_from : ℕ → List Pending → Option ℕ
 double_from i [] = None
 double_from i (p ∷ ps) = if list_any (λ q. same_import p.import q.import) ps then Some i else double_from (i + 1) ps
 
--- the place of the first import that stands twice
+-- the place of the first import that is listed twice
 abbrev pub first_double : List Pending → Option ℕ
 first_double ps = double_from 0 ps
 
--- the place of the first import that holds what the world lacks
+-- the place of the first import that holds an id the world does not have
 abbrev pub first_unknown : World → List Pending → Option ℕ
 first_unknown w ps = position_from (λ p. not (is_known w p)) 0 ps
 
--- Why imports are not taken, and the place of the one that is meant: a double one before an unknown part; nothing where they
--- are taken.
+-- Why imports are not taken, and the place of the one that is meant: a duplicate before an unknown id; nothing where
+-- they are taken.
 abbrev pub refusal : World → List Pending → Option (RetryFault × ℕ)
 refusal w ps = option_or (option_map (λ i. (DoubleImport, i)) (first_double ps)) (option_map (λ i. (UnknownPart, i)) (first_unknown w ps))
 

@@ -1,4 +1,4 @@
--- Two imports, the first of which needs the second, and what rounds make of them: equations that compute.
+-- Two imports, the first of which needs the second, and what rounds of resolution make of them: equations that compute.
 use Rattle.std.specs.Prelude.{◌≡◌, true, false, [], ◌∷◌, Some, None, codes, refl}
 use Rattle.dm_ids.specs.declared.item_ids.ItemKind.TheVariants as item
 use Rattle.dm_ids.specs.declared.source.Edition.TheVariants.{Edition2021}
@@ -50,7 +50,7 @@ brings = record {
 abbrev start : State
 start = record { world = world_c; globs = no_globs; pending = needs ∷ brings ∷ [] }
 
--- the first round binds Y, the second X, and the third brings nothing
+-- the first round binds Y, the second X, and the third changes nothing: the fixed point
 first_answer : round_answer start ≡ true
 unfolding answer found homes_of
 first_answer = refl

@@ -1,4 +1,4 @@
--- Imports that wait, and what a round of tries makes of a world and its glob table.
+-- Unresolved imports, and what a round of resolution makes of a world and its glob table.
 use Rattle.std.specs.Prelude.{ℕ, zero, suc, ◌+◌, ◌&&◌, ◌||◌, Bool, true, false, not, List, [], Option, Some, None, if◌then◌else◌, is_none, length, map, slice_get, slice_set}
 use Rattle.std.specs.Option.{option_map, option_map_or, option_and_then}
 use Rattle.dm_ids.specs.declared.ids.ModuleId.{ModuleId}
@@ -22,8 +22,8 @@ use Rattle.hir_def_map.specs.declared.result.ResolveMode.TheVariants as mode
 use Rattle.hir_def_map.specs.declared.result.ResolvePathResult.{ResolvePathResult}
 use Rattle.hir_def_map.specs.Paths.{answer, asked}
 
--- An import that waits: the module that it stands in, the name that it binds there, its path, who sees what it binds,
--- and whether it is due.
+-- An unresolved import: the module that contains it, the name that it binds there, its path, the visibility of what it
+-- binds, and whether it is due (dirty).
 pub record Pending : Type 0 where
   pub origin : ModuleId
   pub name : Name
@@ -32,13 +32,13 @@ pub record Pending : Type 0 where
   pub import : ImportId
   pub due : Bool
 
--- A world, a glob table, and the imports that wait, in order, of which some are due.
+-- A world, a glob table, and the unresolved imports, in order, of which some are due.
 pub record State : Type 0 where
   pub world : World
   pub globs : Globs
   pub pending : List Pending
 
--- ---- What an import brings
+-- ---- What an import resolves to
 
 -- the extern prelude of a module's crate
 abbrev pub local_of : World → ModuleId → LocalMap
@@ -52,7 +52,7 @@ meaning w p = answer w (local_of w p.origin) (asked p.origin mode.Import shadow.
 abbrev pub brought : ResolvePathResult → Option PerNs
 brought a = if is_none a.segment_index && not (is_empty a.resolved_def) then Some a.resolved_def else None
 
--- what a try pushes, if it pushes: what the path means, seen by those whom the import lets see it
+-- what a try pushes, if it pushes: what the path means, with the visibility of the import
 unfoldable pub found : World → Pending → Option PerNs
 found w p = option_map (seen_as p.visibility) (brought (meaning w p))
 
@@ -73,7 +73,7 @@ abbrev pub answered : World → Globs → Pending → Option PerNs → Bool
 answered w g p None = false
 answered w g p (Some x) = push_answer (scope_of w p.origin) g p.origin p.name x (by_import p)
 
--- whether a try of the import pushes, and its push answers true
+-- whether a try of the import pushes, and its push changes the scope
 abbrev pub brings : World → Globs → Pending → Bool
 brings w g p = answered w g p (found w p)
 
@@ -94,12 +94,12 @@ awoken n p = marked (p.due || among p.path.segments n) p
 abbrev pub name_at : List Pending → ℕ → Name
 name_at ps i = option_map_or (λ p. p.name) (slice_get ps i) []
 
--- The imports after a try of the one at place i: it is due no more; and where its push answered true, each import whose
--- path has the pushed name as a segment is due.
+-- The imports after a try of the one at place i: it is no longer due; and where its push changed the scope, each import
+-- whose path has the pushed name as a segment is due.
 abbrev pub marked_after : List Pending → ℕ → Bool → List Pending
 marked_after ps i written = let rest = marked_at ps i false in if written then map (awoken (name_at ps i)) rest else rest
 
--- a try of the import p, which stands at place i
+-- a try of the import p at place i
 abbrev pub tried : State → ℕ → Pending → State
 tried s i p = record {
   world = world_after s.world s.globs p (found s.world p);
@@ -110,7 +110,7 @@ tried s i p = record {
 abbrev pub try_at : State → ℕ → State
 try_at s i = option_map_or (tried s i) (slice_get s.pending i) s
 
--- whether the push of that try answers true, and whether its import is due
+-- whether the push of that try changes the scope, and whether its import is due
 abbrev pub brings_at : State → ℕ → Bool
 brings_at s i = option_map_or (brings s.world s.globs) (slice_get s.pending i) false
 
@@ -122,7 +122,7 @@ abbrev pub after : State → ℕ → State
 after s zero = s
 after s (suc n) = try_at (after s n) n
 
--- whether a push of those tries answers true
+-- whether a push of those tries changes a scope
 abbrev pub any_brings : State → ℕ → Bool
 any_brings s zero = false
 any_brings s (suc n) = any_brings s n || brings_at (after s n) n
@@ -132,7 +132,7 @@ abbrev pub due_turns : State → ℕ → ℕ
 due_turns s zero = 0
 due_turns s (suc n) = due_turns s n + (if is_due (after s n) n then 1 else 0)
 
--- A round: a try of each import in order, due or not; and whether a push of it answers true.
+-- A round: a try of each import in order, due or not; and whether a push of it changes a scope.
 abbrev pub round : State → State
 round s = after s (length s.pending)
 
@@ -144,6 +144,6 @@ abbrev pub rounds : ℕ → State → State
 rounds zero s = s
 rounds (suc n) s = round (rounds n s)
 
--- What want of memory at the try of the import at place i leaves: the tries before it stand, and the import is due.
+-- What an allocation failure at the try of the import at place i leaves: the tries before it are kept, and it is due.
 abbrev pub refused_at : State → ℕ → State
 refused_at s i = record s { pending = marked_at s.pending i true }

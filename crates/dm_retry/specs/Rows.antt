@@ -1,4 +1,4 @@
--- Worked rows: which imports are due after a push.
+-- Examples: which imports are due (dirty) after a push.
 use Rattle.std.specs.Prelude.{◌≡◌, Bool, true, false, None, Some, [], ◌∷◌, refl}
 use Rattle.dm_base.specs.declared.mod_path.PathKind.TheVariants.{Plain, Crate}
 use Rattle.dm_base.specs.declared.visibility.Visibility.TheVariants.{Public}
@@ -37,11 +37,11 @@ brings due = record {
   due = due;
 }
 
--- a push of the second that answers true makes the first due, and the second is due no more
+-- a push of the second that changes the scope makes the first due, and the second is no longer due
 second_wakes_first : marked_after (needs false ∷ brings true ∷ []) 1 true ≡ needs true ∷ brings false ∷ []
 second_wakes_first = refl
 
--- one that answers false makes none due
+-- one that changes nothing makes none due
 idle_wakes_none : marked_after (needs false ∷ brings true ∷ []) 1 false ≡ needs false ∷ brings false ∷ []
 idle_wakes_none = refl
 

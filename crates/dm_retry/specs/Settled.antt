@@ -1,5 +1,5 @@
--- What holds of the imports that wait: what they hold is the world's, none stands twice, and each that is not due would
--- write nothing.
+-- The invariant of unresolved imports: the ids that they hold are the world's, none is listed twice, and a try of one
+-- that is not due would change nothing.
 use Rattle.std.specs.Prelude.{◌≡◌, ℕ, false, Some, slice_get}
 use Rattle.dm_maps.specs.Known.{KnowsAll}
 use Rattle.dm_retry.specs.Known.{parts}

@@ -1,4 +1,4 @@
-//! One try of an import: what it brings, and its push.
+//! One try of an import: its path is resolved, and what it resolves to is pushed.
 ghost use Rattle.std.specs.Prelude.{◌≡◌, false, IfOk, IfSome, IsTrue, OnErr, OnOk};
 ghost use Rattle.dm_held.specs.declared.held.HeldId.TheVariants as held;
 ghost use Rattle.dm_held.specs.Holding.{local_holds, res_holds};
@@ -34,7 +34,7 @@ fn local_of(world: &World, m: ModuleId) -> &LocalDefMap
     local_def_map(world, krate)
 }
 
-/// What the path of an import means, as the world stands.
+/// What the path of an import resolves to in the current state of the world.
 fn meaning(world: &World, pending: &Pending) -> ResolvePathResult
     requires known { KnowsAll world.now (parts pending.now) }
     ensures value { result ≡ meaning world.now pending.now }
@@ -59,7 +59,7 @@ fn brought(answer: &ResolvePathResult) -> Option<PerNs>
     }
 }
 
-/// What an import brings, as the world stands.
+/// What an import resolves to in the current state of the world.
 fn found(world: &World, pending: &Pending) -> Option<PerNs>
     requires known { KnowsAll world.now (parts pending.now) }
     ensures value { result ≡ found world.now pending.now }
@@ -72,8 +72,8 @@ fn found(world: &World, pending: &Pending) -> Option<PerNs>
     }
 }
 
-/// Tries an import: pushes what it brings, if it brings anything. Answers whether the push answered true. Where memory is
-/// short, nothing changes.
+/// Tries an import: pushes what it resolves to, if anything. Answers whether the push changed the scope. Where an
+/// allocation fails, nothing changes.
 pub(crate) fn attempt(
     world: &mut World,
     globs: &mut PerNsGlobImports,
@@ -90,10 +90,10 @@ pub(crate) fn attempt(
     // What was known is known.
     ensures known { (q : rounds.Pending) → KnowsAll world.old (parts q) → KnowsAll world.new (parts q) }
 
-    // An import that would write nothing, and has no segment of the pushed name, would still write nothing.
+    // An import whose retry would change nothing, and whose path has no segment of the pushed name, stays such.
     ensures others { OnOk result ((q : rounds.Pending) → same_import q.import pending.now.import ≡ false → among q.path.segments pending.now.name ≡ false → brings world.old globs.old q ≡ false → brings world.new globs.new q ≡ false) }
 
-    // Nor would this one again, if the name is none of its own segments.
+    // So does this import, if the name is none of its own segments.
     ensures own { OnOk result (among pending.now.path.segments pending.now.name ≡ false → brings world.new globs.new pending.now ≡ false) }
 {
     answers_alike();

@@ -1,4 +1,4 @@
-//! A world, a glob table and the imports that wait.
+//! A world, a glob table and its unresolved imports.
 ghost use Rattle.std.specs.Prelude.{◌≡◌, ◌<◌, None, false, true, IfOk, OnErr, OnOk, length, map, slice_get};
 ghost use Rattle.std.specs.Option.{option_map};
 ghost use Rattle.dm_retry.specs.Rounds.{awoken, brings_at, is_due, marked_after, marked_at, marked, name_at, refused_at, try_at};
@@ -13,7 +13,7 @@ use dm_scope::glob_imports::PerNsGlobImports;
 use std::alloc::AllocError;
 use std::marker::Model;
 
-/// A world, a glob table and the imports that wait: each that is not due would write nothing.
+/// A world, a glob table and its unresolved imports: a try of one that is not due would change nothing.
 pub(crate) struct Imports {
     world: World,
     globs: PerNsGlobImports,
@@ -31,7 +31,7 @@ impl Model for Imports {
     ghost invariant = { λ s. IsSettled (record { world = s.world; globs = s.globs; pending = s.pendings.items }) };
 }
 
-/// Written out, so that what lets one go has one call to prove.
+/// A hand-written `Drop`, to keep proofs small: what drops one has one call to prove.
 impl Drop for Imports {
     fn drop(self) {
         let Imports {
@@ -57,7 +57,7 @@ impl Imports {
         }
     }
 
-    /// How many imports wait.
+    /// How many unresolved imports there are.
     pub(crate) fn len(&self) -> usize
         ensures { result ≡ length self.now.pending }
     {
@@ -82,7 +82,8 @@ impl Imports {
         mark_of(&self.pendings, i)
     }
 
-    /// A try of an import that is not due changes nothing. It does nothing: a proof that needs it calls it.
+    /// A lemma, as a function without effect that code calls for its proof: a try of an import that is not due changes
+    /// nothing.
     pub(crate) fn rests(&self, i: usize)
         requires { is_due self.now i ≡ false }
         ensures { RestsAt self.now i }
@@ -90,7 +91,7 @@ impl Imports {
         let _pendings = &self.pendings;
     }
 
-    /// Tries the import at place i. Where memory is short, it is due, and all else as before.
+    /// Tries the import at place i. Where an allocation fails, it is due, and nothing else changes.
     pub(crate) fn try_at(&mut self, i: usize) -> Result<bool, AllocError>
         requires { i < length self.old.pending }
         ensures state { OnOk result (self.new ≡ try_at self.old i) }
@@ -140,7 +141,7 @@ fn mark_of(pendings: &[Pending], i: usize) -> Option<bool>
     pendings.get(i).map(|pending| pending.is_due())
 }
 
-/// Says whether the import at place i is due.
+/// Sets or clears the mark that the import at place i is due.
 fn mark_at(pendings: &mut Vec<Pending>, i: usize, due: bool)
     requires { i < length pendings.old.items }
     ensures { pendings.new.items ≡ marked_at pendings.old.items i due }

@@ -1,4 +1,4 @@
-//! Imports that wait: rounds that try them again, all of them or those alone that are due.
+//! The fixed point over unresolved imports: rounds that resolve them again, all of them or the due (dirty) ones alone.
 #![tactic(auto)]
 
 mod attempt;

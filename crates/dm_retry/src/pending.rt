@@ -1,4 +1,4 @@
-//! Imports that wait.
+//! Unresolved imports.
 ghost use Rattle.std.specs.Prelude.{◌≡◌, ◌↔◌, false, true, map, IsTrue};
 ghost use Rattle.std.specs.List.{list_any};
 ghost use Rattle.dm_held.specs.Holding.{vis_holds};
@@ -16,7 +16,7 @@ use dm_base::visibility::Visibility;
 use dm_maps::world::World;
 use std::marker::Model;
 
-/// An import that waits, and whether it is due.
+/// An unresolved import, and whether it is due (dirty): it was not tried yet, or a name on its path was bound since.
 #[derive(Drop)]
 pub struct Pending {
     origin: ModuleId,
@@ -36,7 +36,7 @@ impl Model for Pending {
 }
 
 impl Pending {
-    /// The import of a name into a module, by a path, seen by `visibility`. It is due once it waits in a `Retry`.
+    /// The import of a name into a module, by a path, with `visibility`. It is due from `Retry::new` on.
     pub fn new(
         origin: ModuleId,
         name: Name,
@@ -56,7 +56,7 @@ impl Pending {
         }
     }
 
-    /// The module that the import stands in.
+    /// The module that contains the import.
     pub fn origin(&self) -> ModuleId
         ensures { result ≡ self.now.origin }
     {
@@ -98,7 +98,7 @@ impl Pending {
         self.due
     }
 
-    /// Says whether it is due.
+    /// Sets or clears the mark that it is due.
     pub(crate) fn mark(&mut self, due: bool)
         ensures { self.new ≡ marked due self.old }
     {
@@ -128,7 +128,7 @@ fn knows_visibility(world: &World, visibility: Visibility) -> bool
     }
 }
 
-/// The place of the first import that stands twice. Takes no memory.
+/// The index of the first import that is listed twice. Allocates nothing.
 pub(crate) fn first_double(pendings: &[Pending]) -> Option<usize>
     ensures { result ≡ first_double pendings.now }
 {
@@ -151,7 +151,7 @@ fn has_import(pendings: &[Pending], import: ImportId) -> bool
     pendings.iter().any(|q| import == q.import())
 }
 
-/// The place of the first import that holds what the world lacks.
+/// The index of the first import that holds an id the world does not have.
 pub(crate) fn first_unknown(world: &World, pendings: &[Pending]) -> Option<usize>
     ensures { result ≡ first_unknown world.now pendings.now }
 {

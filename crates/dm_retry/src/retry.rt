@@ -1,4 +1,4 @@
-//! Imports that wait in a world.
+//! The unresolved imports of a world, resolved round by round until a fixed point.
 ghost use Rattle.std.specs.Prelude.{◌≡◌, false, IfErr, IfOk, None, OnErr, OnOk, Some, length, map, slice_get, true};
 ghost use Rattle.std.specs.Option.{option_map};
 ghost use Rattle.dm_retry.specs.Known.{fault_of, refusal};
@@ -14,7 +14,7 @@ use dm_scope::glob_imports::PerNsGlobImports;
 use std::alloc::AllocError;
 use std::marker::Model;
 
-/// A world, a glob table, and imports that wait there (docs/RULES.md, "Rounds").
+/// A world, a glob table, and its unresolved imports (docs/RULES.md, "Rounds").
 pub struct Retry {
     imports: Imports,
     last_tries: usize,
@@ -28,7 +28,7 @@ impl Model for Retry {
     ghost view = { λ r. record { state = r.imports; last_tries = r.last_tries } };
 }
 
-/// Written out, so that what lets one go has one call to prove.
+/// A hand-written `Drop`, to keep proofs small: what drops one has one call to prove.
 impl Drop for Retry {
     fn drop(self) {
         let Retry {
@@ -39,10 +39,11 @@ impl Drop for Retry {
 }
 
 impl Retry {
-    /// Imports that wait, all of them due. Takes no memory; rounds take theirs from the allocator of the list of imports.
+    /// Unresolved imports, all of them due. Allocates nothing; rounds use the allocator of the list of imports.
     ///
-    /// Refuses where an import stands twice, and then where the module of one, its use, the `$crate` of its path or what its
-    /// visibility names is not the world's; and hands all parts back as they were. `refusal` tells which import is meant.
+    /// Fails where an import is listed twice, and then where the module of one, its use, the `$crate` of its path or
+    /// what its visibility names is not the world's; it hands all parts back unchanged. `refusal` tells which import is
+    /// meant.
     pub fn new(
         world: World,
         globs: PerNsGlobImports,
@@ -62,8 +63,9 @@ impl Retry {
         }
     }
 
-    /// Why `new` refuses these imports in that world, and the place of the one that is meant: of the first that stands twice,
-    /// or, where none does, of the first that holds what the world lacks. None where it takes them. Takes no memory.
+    /// Why `new` fails on these imports in that world, and the index of the one that is meant: of the first that is
+    /// listed twice, or else of the first that holds an id the world does not have. None where it takes them. Allocates
+    /// nothing.
     pub fn refusal(world: &World, pendings: &[Pending]) -> Option<(RetryFault, usize)>
         ensures { result ≡ refusal world.now pendings.now }
     {
@@ -73,9 +75,10 @@ impl Retry {
         }
     }
 
-    /// Tries each import once, in order, whether it is due or not. Answers whether a push answered true.
+    /// Tries each import once, in order, whether it is due or not. Answers whether a push changed the scope: a fixed
+    /// point is reached where none did.
     ///
-    /// Where memory is short, the tries before the refused one stand, and its import is due.
+    /// Where an allocation fails, the tries before the failed one are kept, and its import is due.
     pub fn round_all(&mut self) -> Result<bool, AllocError>
         ensures state { OnOk result (self.new.state ≡ round self.old.state) }
         ensures answer { IfOk result (λ answer. answer ≡ round_answer self.old.state) }
@@ -86,9 +89,11 @@ impl Retry {
         Ok(answer)
     }
 
-    /// Tries each import that is due when its turn comes, in order: that leaves what `round_all` leaves, and answers the same.
+    /// Tries each import that is due (dirty) when its turn comes, in order, as a worklist does: that leaves what
+    /// `round_all` leaves, and answers the same.
     ///
-    /// Where memory is short, which is met at due imports alone, the tries before the refused one stand, and its import is due.
+    /// Where an allocation fails, which only a due import can meet, the tries before the failed one are kept, and its
+    /// import is due.
     pub fn round_changed(&mut self) -> Result<bool, AllocError>
         ensures state { OnOk result (self.new.state ≡ round self.old.state) }
         ensures answer { IfOk result (λ answer. answer ≡ round_answer self.old.state) }
@@ -96,7 +101,7 @@ impl Retry {
         ensures idle { IfOk result (λ answer. self.new.last_tries ≡ 0 → answer ≡ false) }
         ensures err { OnErr result (StopsAtDue self.old.state self.new) }
 
-        // Where none is due nothing is tried, and no memory taken.
+        // Where none is due nothing is tried, and nothing allocated.
         ensures none { NoneDue self.old.state → result ≡ Ok false }
         ensures rests { NoneDue self.old.state → self.new ≡ record self.old { last_tries = 0 } }
     {
@@ -104,7 +109,8 @@ impl Retry {
         Ok(answer)
     }
 
-    /// Whether the import at a place is due; none past the last. A try of one that is not due would write nothing.
+    /// Whether the import at an index is due (dirty); none past the last. A try of one that is not due would change
+    /// nothing.
     pub fn due(&self, i: usize) -> Option<bool>
         ensures value { result ≡ option_map (λ p. p.due) (slice_get self.now.state.pending i) }
         ensures rests { result ≡ Some false → RestsAt self.now.state i }
@@ -112,21 +118,21 @@ impl Retry {
         self.imports.due(i)
     }
 
-    /// How many tries the last round began, a refused one included; 0 before any round.
+    /// How many tries the last round began, a failed one included; 0 before any round.
     pub fn last_tries(&self) -> usize
         ensures { result ≡ self.now.last_tries }
     {
         self.last_tries
     }
 
-    /// The world as it stands.
+    /// The world in its current state.
     pub fn world(&self) -> &World
         ensures { result.now ≡ self.now.state.world }
     {
         self.imports.world()
     }
 
-    /// The world, the glob table and the imports as they stand.
+    /// The world, the glob table and the imports in their current state.
     pub fn into_parts(self) -> (World, PerNsGlobImports, Vec<Pending>)
         ensures world { result.0 ≡ self.state.world }
         ensures globs { result.1 ≡ self.state.globs }

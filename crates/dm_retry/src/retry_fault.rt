@@ -1,9 +1,9 @@
-//! Why imports are not taken.
+//! Errors of `Retry::new`: why imports are not taken.
 
 /// Why imports are not taken, by the numbers in whose order the reasons are tested.
 #[derive(Clone, Copy, PartialEq, Eq, Debug)]
 pub enum RetryFault {
-    /// An import stands twice.
+    /// An import is listed twice.
     DoubleImport = 1,
     /// The module of an import, its use, the `$crate` of its path or what its visibility names is not the world's.
     UnknownPart,

@@ -11,14 +11,14 @@ use std::alloc::AllocError;
 pub enum RoundKind {
     /// Each of them.
     All,
-    /// Those that are due when their turn comes.
+    /// Those that are due (dirty) when their turn comes.
     Changed,
 }
 
 impl Retry {
     /// Rounds of these kinds, one after another: what they leave is said by how many they are.
     ///
-    /// Where memory is short, the rounds before stand, and the tries before the refused one.
+    /// Where an allocation fails, the earlier rounds are kept, and so are the tries before the failed one.
     pub fn rounds(&mut self, kinds: &[RoundKind]) -> Result<(), AllocError>
         ensures state { OnOk result (self.new.state ≡ rounds (length kinds.now) self.old.state) }
         ensures err { OnErr result (StopsIn self.old.state (length kinds.now) self.new.state) }

@@ -1,4 +1,4 @@
-//! The rounds.
+//! One round over the unresolved imports, of all or of the due (dirty) ones alone.
 ghost use Rattle.std.specs.Prelude.{◌≡◌, false, IfOk, OnErr, OnOk, length};
 ghost use Rattle.dm_retry.specs.Retries.{NoneDue, StopsAt, StopsAtDue};
 ghost use Rattle.dm_retry.specs.Rounds.{due_turns, round, round_answer};
@@ -23,7 +23,7 @@ pub(crate) fn try_all(imports: &mut Imports, tries: &mut usize) -> Result<bool, 
     Ok(written)
 }
 
-/// Tries each import that is due at its turn, and counts the tries.
+/// Tries each import that is due (dirty) at its turn, and counts the tries.
 pub(crate) fn try_due(imports: &mut Imports, tries: &mut usize) -> Result<bool, AllocError>
     ensures state { OnOk result (imports.new ≡ round imports.old) }
     ensures answer { IfOk result (λ answer. answer ≡ round_answer imports.old) }

@@ -1,4 +1,4 @@
-//! Which imports a push makes due.
+//! Invalidation: which imports a push makes due (dirty), those whose path has the pushed name as a segment.
 ghost use Rattle.std.specs.Prelude.{◌≡◌, ◌<◌, ◌||◌, Some, length, map, slice_get};
 ghost use Rattle.dm_maps.specs.Cut.{among};
 ghost use Rattle.dm_retry.specs.Rounds as rounds;

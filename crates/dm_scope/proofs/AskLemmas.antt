@@ -1,4 +1,4 @@
--- An asker asked about the names of a definition.
+-- A callback called with the names of a definition.
 use Rattle.std.proofs.Common.{◌≡◌, Bool, true, false, not, cond, List, ◌∷◌, Option, Some, None, Bor, refl, subst, sym}
 use Rattle.std.specs.Option.{is_none, is_some}
 use Rattle.dm_base.specs.declared.per_ns.Item.{Item}
@@ -28,7 +28,7 @@ pub AsksNames-same : {F T : Type 0} (step : F → Bor Name → Visibility → Bo
     → xs ≡ ys → (last : F) × AsksNames step xs f r last → (last : F) × AsksNames step ys f r last
 AsksNames-same {F} step xs ys f r same asked = subst (λ l. (last : F) × AsksNames step l f r last) same asked
 
--- and may be asked about them
+-- and may be called with them
 pub MayAskNames-same : {F T : Type 0} (may : F → Bor Name → Visibility → Bool → Type 0) (step : F → Bor Name → Visibility → Bool → Option T → F → Type 0) (xs ys : List (Name × Visibility × Bool)) (f : F)
     → xs ≡ ys → MayAskNames may step xs f → MayAskNames may step ys f
 MayAskNames-same may step xs ys f same asked = subst (λ l. MayAskNames may step l f) same asked

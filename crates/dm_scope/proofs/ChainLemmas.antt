@@ -1,4 +1,4 @@
--- A chain that ends has no pair twice, so a walk as long as there are records finds its end.
+-- An import chain that ends has no pair twice, so a walk as long as there are records finds its end.
 use Rattle.std.proofs.Common.{◌≡◌, ℕ, zero, suc, ◌<◌, ◌≤◌, Bool, true, false, List, [], ◌∷◌, length, map, ◌++◌, ◌+◌, Option, None, Some, refl, sym, ap, subst, ◌∙◌, true≢false, arith, ◌||◌}
 use Rattle.std.specs.List.{AllByRecursion, IsDistinct}
 use Rattle.std.specs.Set.{is_member}
@@ -54,7 +54,7 @@ module _ {X D : Type 0} (leads : X → Option X) (ends : X → Option D) where
   last_append x y [] zs = refl
   last_append x y (w ∷ ws) zs = last_append w y ws zs
 
-  -- from a pair of a circle nothing is found
+  -- from a pair of a cycle nothing is found
   pub found_within-round : ((x y : X) (d : D) → leads x ≡ Some y → ends x ≡ Some d → ⊥)
       → (x : X) (ys : List X) → IsChain leads x ys → leads (last_from x ys) ≡ Some x → (n : ℕ) → found_within leads ends n x ≡ None
   found_within-round apart x ys c to n = by (found_within leads ends n x) refl

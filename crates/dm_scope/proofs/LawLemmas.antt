@@ -1,4 +1,4 @@
--- What one push of a scope leaves of the others.
+-- What one push of a scope leaves of the others, as a worklist of imports needs it.
 use Rattle.std.proofs.Common.{◌≡◌, ◌∙◌, Bool, true, false, cond, not, ◌&&◌, ◌||◌, ◌++◌, ◌∷◌, [], List, Option, None, Some, refl, sym, ap, true≢false}
 use Rattle.std.specs.List.{list_any}
 use Rattle.std.proofs.lemmas.Bool.{or_parts, or_from}

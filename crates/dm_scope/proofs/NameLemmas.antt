@@ -1,4 +1,4 @@
--- What a list binds to a name rests on the pushes of that name alone, and beside an explicit one globs count for nothing.
+-- What a list binds to a name depends only on the pushes of that name, and explicit names shadow globs.
 use Rattle.std.proofs.Common.{◌≡◌, ℕ, ◌+◌, Bool, true, false, cond, ◌&&◌, ◌||◌, List, [], ◌∷◌, filter, slice_get, Option, None, Some, refl, sym, ap, ◌∙◌, true≢false}
 use Rattle.std.specs.Prelude.{map}
 use Rattle.std.specs.Option.{option_map}

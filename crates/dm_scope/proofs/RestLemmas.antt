@@ -1,5 +1,5 @@
--- Pushes into one namespace: one that writes nothing changes nothing, none writes twice, and what a named import would not
--- write it would not write after another push.
+-- Pushes into one namespace: one that writes nothing changes nothing, none writes twice, and what a named import would
+-- not write it would not write after another push.
 use Rattle.std.proofs.Common.{◌≡◌, ◌∙◌, Bool, true, false, cond, not, ◌&&◌, ◌||◌, Option, None, Some, refl, sym, ap, true≢false}
 use Rattle.std.proofs.lemmas.Bool.{cond-false, and_right}
 use Rattle.std.proofs.lemmas.Slice.Eq.{bytes_eq-Decides}
@@ -36,7 +36,8 @@ module _ {D I : Type 0} (r : Reading D I) where
     found : (s : Bound D I) (n name : Name) (item : Item D I) (j : Option I) → find_name n (bound r s name item j).items ≡ cond (same_name n name) (Some (stored r item j)) (find_name n s.items)
     found s n name item j = lookup-insert_entry same_name (λ x y. (bytes_eq-Decides x y).0) name n (stored r item j) s.items
 
-    -- what a push has just bound it does not write again: a glob writes nothing that is bound, and another push clears the flag
+    -- what a push has just bound it does not write again: a glob writes nothing that is bound, and another push clears
+    -- the flag
     again-own : (item : Item D I) (j : Option I) → writes r (Some (stored r item j)) (is_glob r j) item j ≡ false
     again-own item j = by (is_glob r j)
       where
@@ -74,7 +75,8 @@ module _ {D I : Type 0} (r : Reading D I) where
     other-kept : (item other : Item D I) (j k : Option I) → is_same r j k ≡ false → writes r (Some (stored r other k)) false item j ≡ false
     other-kept item other j k differ = ap (λ b. not (is_glob r j) && (b && not (r.same_def other.def item.def))) (is_same-turned r law j k differ) ∙ and_right (not (is_glob r j)) false refl
 
-    -- the flags of a bound name that had none, after an effective push: a glob's is not of that name, since it writes no bound one
+    -- the flags of a bound name that had none, after an effective push: a glob's is not of that name, since it writes
+    -- no bound one
     unset-after : (f : Flags) (m h : ModuleId) (n name : Name) (k : Option I) → has_flag f m n ≡ false → (same_name name n ≡ true → is_glob r k ≡ false) → has_flag (flagged r f h name k) m n ≡ false
     unset-after f m h n name k unset other = has_flag-with f h name (is_glob r k) m n ∙ at (same_module h m) (same_name name n) refl
       where
@@ -103,7 +105,8 @@ module _ {D I : Type 0} (r : Reading D I) where
         here false = ap (λ o. writes r o false item j) old.is ∙ old.kept
     rests-with s f m h n name item other j k differ old false e = (λ i. writes r (old.is i) (old.unset i) item j) ∙ old.kept
 
-    -- What a push by no glob would not write, it would not write after a push that came by another import, by a glob or by none.
+    -- What a push by no glob would not write, it would not write after a push that came by another import, by a glob or
+    -- by none.
     pub writes-rests : (s : Bound D I) (f : Flags) (m h : ModuleId) (n name : Name) (x y : Option (Item D I)) (by to : Option ImportOrExternCrate)
         → is_glob r (import_of r by) ≡ false → is_same r (import_of r by) (import_of r to) ≡ false → is_effective_at r s f m n x by ≡ false
         → is_effective_at r (bound_after r s f h name y to) (flags_after r s f h name y to) m n x by ≡ false

@@ -1,4 +1,4 @@
--- The bindings of one namespace, and what a push does to them.
+-- The bindings of one namespace, and what a push does to them: shadowing of globs by explicit names.
 use Rattle.std.specs.Prelude.{◌&&◌, ◌||◌, Bool, true, false, not, List, Option, None, Some, if◌then◌else◌}
 use Rattle.std.specs.Option.{option_and_then}
 use Rattle.indexmap.specs.IndexMap.{insert_entry}
@@ -13,12 +13,12 @@ use Rattle.dm_ids.specs.declared.imports.ImportOrExternCrate.{ImportOrExternCrat
 use Rattle.dm_ids.specs.declared.item_ids.ModuleDefId.{ModuleDefId}
 use Rattle.dm_scope.specs.Flags.{Flags, has_flag, with_flag}
 
--- one namespace of a scope: its bindings in order of first binding, and what each import that brought one stands for
+-- one namespace of a scope: its bindings in order of first binding, and what each import that brought one resolved to
 pub record Bound (D I : Type 0) : Type 0 where
   pub items : List (Name × Item D I)
   pub records : List (I × ImportOrDef)
 
--- How a namespace compares and reads its imports and definitions.
+-- How a namespace compares and converts its imports and definitions.
 pub record Reading (D I : Type 0) : Type 0 where
   pub same_import : I → I → Bool
   pub same_def : D → D → Bool
@@ -50,8 +50,9 @@ module _ {D I : Type 0} (r : Reading D I) where
   is_same (Some i) (Some j) = r.same_import i j
 
   -- Whether a push is effective, from what is bound under its name and whether the glob flag stands. A vacant name is
-  -- bound. Where the name is bound a glob push does nothing. Any other push replaces the binding if the glob flag stood,
-  -- or if it resolves the stored import anew, to another definition.
+  -- bound. Where the name is bound a glob push does nothing, since globs shadow nothing. Any other push replaces the
+  -- binding if the glob flag stood, since explicit names shadow globs, or if it resolves the stored import anew, to
+  -- another definition: an import may resolve to another one after more names were bound.
   abbrev pub writes : Option (Item D I) → Bool → Item D I → Option I → Bool
   writes None flag item import = true
   writes (Some old) flag item import =

@@ -1,4 +1,4 @@
--- Chains of imports over the records of three modules: equations that compute.
+-- Examples of import chains over the records of three modules: equations that compute.
 use Rattle.std.specs.Prelude.{◌≡◌, ℕ, false, [], ◌∷◌, None, Some, refl, slice_get}
 use Rattle.dm_ids.specs.declared.imports.ImportId.{ImportId}
 use Rattle.dm_ids.specs.declared.imports.ImportOrDef.TheVariants as target
@@ -45,7 +45,7 @@ tables = record {
   prints_raw = λ n. false;
 }
 
--- a circle in types, which no chain leaves
+-- a cycle in types, which no chain leaves
 goes_round : leads Types tables (first, at 0 0) ≡ Some (second, at 1 0)
 goes_round = refl
 

@@ -1,4 +1,4 @@
--- What a walk along a chain finds.
+-- What a walk along an import chain finds, in a bounded number of steps.
 use Rattle.std.specs.Prelude.{◌≡◌, ℕ, List, zero, suc, ◌^◌, ◌-◌, length, min, Option, None, Some}
 use Rattle.std.specs.Option.{option_and_then, option_or}
 use Rattle.dm_ids.specs.declared.imports.ImportId.{ImportId}

@@ -1,4 +1,4 @@
--- Chains of imports: what an import stands for in the end.
+-- Chains of imports: the definition that an import finally resolves to, through re-exports.
 use Rattle.std.specs.Prelude.{◌≡◌, ◌<◌, ◌^◌, ⊤, length, List, [], ◌∷◌, Option, None, Some, IfSome, slice_get}
 use Rattle.std.specs.Map.{lookup}
 use Rattle.std.specs.Option.{option_map, option_and_then}

@@ -19,7 +19,7 @@ is_of same d None = false
 is_of same d (Some x) = same x.def d
 
 module _ {D I : Type 0} where
-  -- a namespace without a binding, where it is of the definition: the others close up, and the records stay
+  -- a namespace without a binding, where it is of the definition: the order of the others stays, and the import records
   abbrev pub without_binding : (D → D → Bool) → Name → D → Bound D I → Bound D I
   without_binding same n d s = if is_of same d (find_name n s.items) then record s { items = remove_entry (same_name n) s.items } else s
 
@@ -40,7 +40,7 @@ module _ {D I : Type 0} where
   abbrev pub change_all : (Item D I → Item D I) → Bound D I → Bound D I
   change_all f s = record s { items = map (λ e. (e.0, f e.1)) s.items }
 
--- an item that its crate alone sees
+-- an item restricted to its crate
 abbrev pub censored : {D I : Type 0} → Crate → Item D I → Item D I
 censored k x = record x { vis = PubCrate k }
 

@@ -33,7 +33,7 @@ has_id id d = nat_eq d.attr_id.0 id.0
 abbrev pub derives_of : List (AstId × SmallVec DeriveMacroInvocation) → List (AstId × List Derive)
 derives_of es = map (λ e. (e.0, map derive_of e.1)) (lists_of es)
 
--- a fresh attribute, whose slots are still empty
+-- a fresh attribute, whose slots are empty until the macro calls are known
 abbrev pub fresh_derive : AttrId → MacroCallId → ℕ → Derive
 fresh_derive id call n = record { attr_id = id; attr_call_id = call; slots = replicate n None }
 

@@ -1,4 +1,4 @@
--- Lines of dumps: equations that compute.
+-- Examples of dump lines: equations that compute.
 use Rattle.std.specs.Prelude.{◌≡◌, [], ◌∷◌, Option, None, Some, refl, codes}
 use Rattle.dm_ids.specs.Names.{same_name}
 use Rattle.dm_ids.specs.Styles.{fn_like, attr, derive}

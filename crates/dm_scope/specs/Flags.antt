@@ -1,4 +1,4 @@
--- The glob flags of a namespace: which names of which modules a glob bound.
+-- The glob flags of a namespace: which names of which modules a glob bound, and explicit names may therefore replace.
 use Rattle.std.specs.Prelude.{◌∷◌, Bool, true, false, not, List, [], Option, None, Some, is_some, if◌then◌else◌}
 use Rattle.std.specs.List.{list_any}
 use Rattle.std.specs.HashSet.{HashSet}
@@ -14,8 +14,8 @@ use Rattle.dm_base.specs.Tree.{same_module}
 abbrev pub flag_cmp : ModuleId × Name → ModuleId × Name → Ordering
 flag_cmp = on (λ f. f.0.0 ∷ f.1) (slice_cmp nat_cmp)
 
--- The flags of one namespace: those that stand, in order, with nothing at each. Two that say the same of each name of each
--- module are equal, so nothing but what they say can be read. (A function has no code, so it is no model's value.)
+-- The flags of one namespace: those that stand, in order, with nothing at each. Two that say the same of each name of
+-- each module are equal, so nothing but what they say can be read. (A function has no code, so it is no model's value.)
 abbrev pub Flags : Type 0
 Flags = List ((ModuleId × Name) × Unit {0})
 

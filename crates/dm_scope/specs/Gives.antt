@@ -1,4 +1,4 @@
--- What a push gives: its answer, and what it leaves. Where memory is short all is as it was.
+-- The result and the effect of a push. Where an allocation fails, nothing changes.
 use Rattle.std.specs.Prelude.{◌≡◌, Bool, Option, Some, Result, IfOk, OnOk, OnErr}
 use Rattle.dm_ids.specs.Names.{Name}
 use Rattle.dm_ids.specs.declared.ids.ModuleId.{ModuleId}

@@ -1,4 +1,4 @@
--- What the iterators of a scope show.
+-- What the iterators of a scope yield.
 use Rattle.std.specs.Prelude.{Bool, List, Option, None, Some, if◌then◌else◌}
 use Rattle.std.specs.Borrow.{Bor}
 use Rattle.dm_ids.specs.declared.ids.ImplId.{ImplId}
@@ -16,7 +16,7 @@ use Rattle.dm_ids.specs.Names.{Name}
 abbrev pub deref_name : {X : Type 0} → Bor Name × X → Name × X
 deref_name p = (p.0.now, p.1)
 
--- the module that a type is, with who sees it
+-- the module that a type is, with its visibility
 abbrev pub seen_module : ModuleDefId → Visibility → Option (ModuleId × Visibility)
 seen_module (def.ModuleId m) v = Some (m, v)
 seen_module d v = None

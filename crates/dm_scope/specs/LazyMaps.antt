@@ -1,4 +1,4 @@
--- Maps that are made when something is first put into them.
+-- Lazily allocated maps.
 use Rattle.std.specs.Prelude.{List, [], Option, None, Some}
 use Rattle.indexmap.specs.IndexMap.{IndexMap}
 

@@ -1,4 +1,5 @@
--- The two steps of a push into a namespace: new keys go in last, or are taken off again, and then the values are written.
+-- The two steps of a push into a namespace, all or nothing: the first one allocates new keys, and can be undone; the
+-- second one writes the values, and cannot fail.
 use Rattle.std.specs.Prelude.{Bool, false, List, Option, None, Some, if◌then◌else◌}
 use Rattle.std.specs.Map.{set_value}
 use Rattle.dm_ids.specs.Names.{Name, same_name}

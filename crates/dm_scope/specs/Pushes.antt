@@ -36,8 +36,8 @@ module _ {D I : Type 0} (r : Reading D I) where
   last_run [] = None
   last_run (p ∷ ps) = if list_all (λ q. has_same_def p.1 q.1) ps then Some p else last_run ps
 
-  -- Of the explicit pushes, of which e is the first: e itself if it has no import, else, among those by the import of e,
-  -- the first push of the last run.
+  -- Of the explicit pushes, of which e is the first: e itself if it has no import, else, among those by the import of
+  -- e, the first push of the last run.
   abbrev pub named_explicit : ℕ × Push D I → Option I → List (ℕ × Push D I) → Option (ℕ × Push D I)
   named_explicit e None explicit = Some e
   named_explicit e (Some i) explicit = last_run (filter (λ p. is_by i p.1) explicit)
@@ -101,8 +101,8 @@ module _ {D I : Type 0} (r : Reading D I) where
   abbrev pub PushAnswersIn : {E : Type 0} → Bound D I → (Name → Bool) → Push D I → Result Bool E → Type 0
   PushAnswersIn s flag p result = (ps : List (Push D I)) → ShowsIn s flag ps → IfOk result (λ effective. effective ≡ is_effective ps p)
 
-  -- What a list binds to a name rests on the pushes of that name alone. With an explicit one among them those by globs
-  -- count for nothing: definition, visibility and import are the same without them.
+  -- What a list binds to a name depends only on the pushes of that name. With an explicit one among them those by globs
+  -- are shadowed: definition, visibility and import are the same without them.
   pub record IsByName (n : Name) : Type 0 where
     pub own : (ps qs : List (Push D I)) → of_name n ps ≡ of_name n qs → binding ps n ≡ binding qs n
     pub without_globs : (ps : List (Push D I)) → list_any is_explicit (of_name n ps) ≡ true → binding (filter is_explicit ps) n ≡ binding ps n

@@ -1,4 +1,4 @@
--- The tables of a scope that most modules have nothing in.
+-- The tables of a scope that are empty in most modules.
 use Rattle.std.specs.Prelude.{Bool, List, [], Option, Some, None}
 use Rattle.dm_ids.specs.declared.ids.ImplId.{ImplId}
 use Rattle.dm_ids.specs.declared.ids.BuiltinDeriveImplId.{BuiltinDeriveImplId}

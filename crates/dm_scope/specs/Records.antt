@@ -1,4 +1,4 @@
--- The records of a scope: what each import that brought a binding stands for.
+-- Import records of a scope: what each import that brought a binding resolved to.
 use Rattle.std.specs.Prelude.{List, map}
 use Rattle.dm_ids.specs.declared.imports.ImportOrDef.{ImportOrDef}
 use Rattle.dm_ids.specs.declared.imports.ImportOrExternCrate.{ImportOrExternCrate}

@@ -1,4 +1,4 @@
--- Lists of pushes, and what they bind, record and answer: equations that compute.
+-- Examples of pushes, and what they bind, record and answer: equations that compute.
 use Rattle.std.specs.Prelude.{◌≡◌, ℕ, Bool, true, false, List, [], ◌∷◌, ◌++◌, Option, None, Some, refl}
 use Rattle.dm_ids.specs.Names.{Name}
 use Rattle.dm_base.specs.declared.per_ns.Item.{Item}
@@ -75,7 +75,7 @@ value_of ps = binding values_reading (pushes_in values_reading (λ x. x.values) 
 abbrev type_record_of : List ScopePush → ImportOrExternCrate → Option ImportOrDef
 type_record_of ps i = record_of types_reading (pushes_in types_reading (λ x. x.types) ps) i
 
--- a named import takes the place of a glob's binding
+-- a named import shadows, and so replaces, a glob's binding
 abbrev glob_then_import : List ScopePush
 glob_then_import = of_type (struct 0) Public (Some (glob 0)) ∷ of_type (struct 1) Public (Some (import 1)) ∷ []
 
@@ -231,7 +231,8 @@ second_clears = refl
 first_keeps : push_answer by_glob (globs_after no_scope glob_stands m0 A (value (function 1)) (Some (import 1))) m0 A (value (function 2)) (Some (import 2)) ≡ false
 first_keeps = refl
 
--- flags that say the same are the same, in whatever order they were set; and one that was set and cleared leaves no trace
+-- flags that say the same are the same, in whatever order they were set; and one that was set and cleared leaves no
+-- trace
 abbrev B : Name
 B = 66 ∷ []
 

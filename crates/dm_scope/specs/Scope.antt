@@ -1,4 +1,4 @@
--- Scopes, as contracts see them.
+-- `ItemScope`, as contracts see it.
 use Rattle.std.specs.Prelude.{Bool, List, [], ◌∷◌, Option, Some, None}
 use Rattle.dm_ids.specs.declared.ids.ImplId.{ImplId}
 use Rattle.dm_ids.specs.declared.ids.BuiltinDeriveImplId.{BuiltinDeriveImplId}
@@ -19,8 +19,8 @@ use Rattle.dm_ids.specs.Names.{Name, find_name}
 use Rattle.dm_scope.specs.Bindings.{Bound}
 use Rattle.dm_scope.specs.Derives.{Derive}
 
--- A scope: what it binds in each namespace, the names that no import could resolve, its legacy macros by name, and the
--- lists of what is defined in it.
+-- A scope: what it binds in each namespace, the names that no import could resolve, its legacy macros (those in textual
+-- scope) by name, and the lists of what is defined in it.
 pub record Scope : Type 0 where
   pub types : Bound ModuleDefId ImportOrExternCrate
   pub values : Bound ModuleDefId ImportOrGlob

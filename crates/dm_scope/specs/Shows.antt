@@ -46,8 +46,8 @@ is_answered before p =
     || (is_effective_in macros_reading (λ x. x.macros) before p
     || (is_empty p.res && not (has_empty_push before p.name))))
 
--- A scope, with the flags of a table under a module, shows a list of pushes: each namespace shows those that have an item
--- in it, and the unresolved names are those of the empty ones.
+-- A scope, with the flags of a table under a module, shows a list of pushes: each namespace shows those that have an
+-- item in it, and the unresolved names are those of the empty ones.
 pub record Shows (s : Scope) (g : Globs) (m : ModuleId) (ps : List ScopePush) : Type 0 where
   pub types : ShowsIn types_reading s.types (has_flag g.types m) (pushes_in types_reading (λ x. x.types) ps)
   pub values : ShowsIn values_reading s.values (has_flag g.values m) (pushes_in values_reading (λ x. x.values) ps)
@@ -65,7 +65,7 @@ PushShows s g t h m p r = (ps : List ScopePush) → Shows s g m ps → OnOk r (S
 abbrev pub PushAnswers : {E : Type 0} → Scope → Globs → ModuleId → ScopePush → Result Bool E → Type 0
 PushAnswers s g m p r = (ps : List ScopePush) → Shows s g m ps → IfOk r (λ answer. answer ≡ is_answered ps p)
 
--- One that is refused leaves what was shown.
+-- One whose allocation failed leaves what was shown.
 abbrev pub StillShows : {E : Type 0} → Scope → Globs → Scope → Globs → ModuleId → Result Bool E → Type 0
 StillShows s g t h k r = (ps : List ScopePush) → Shows s g k ps → OnErr r (Shows t h k ps)
 
@@ -73,8 +73,8 @@ StillShows s g t h k r = (ps : List ScopePush) → Shows s g k ps → OnErr r (S
 abbrev pub ShowsElsewhere : Globs → Globs → ModuleId → Type 0
 ShowsElsewhere g h m = (other : Scope) (k : ModuleId) (ps : List ScopePush) → same_module m k ≡ false → Shows other g k ps → Shows other h k ps
 
--- What any list of pushes binds to a name in a namespace rests on the pushes of that name that have an item there, and with
--- an explicit one among them not on those by globs.
+-- What any list of pushes binds to a name in a namespace depends only on the pushes of that name that have an item
+-- there, and with an explicit one among them not on those by globs: explicit names shadow globs.
 pub record IsByNameInEach (n : Name) : Type 0 where
   pub types : IsByName types_reading n
   pub values : IsByName values_reading n

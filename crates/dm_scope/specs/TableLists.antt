@@ -1,4 +1,4 @@
--- Tables of lists.
+-- Maps from keys to lists.
 use Rattle.std.specs.Prelude.{Bool, List, [], ◌∷◌, ◌++◌, map, if◌then◌else◌}
 use Rattle.smallvec.specs.SmallVec.{SmallVec}
 

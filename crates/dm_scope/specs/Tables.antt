@@ -1,4 +1,4 @@
--- What chains of imports and dumps read beside a scope.
+-- What import chains and dumps read beside a scope: the scopes of all modules, and tables by id.
 use Rattle.std.specs.Prelude.{Bool, List, Option}
 use Rattle.std.specs.List.{flat_map}
 use Rattle.dm_ids.specs.declared.ids.ModuleId.{ModuleId}

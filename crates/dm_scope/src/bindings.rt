@@ -1,4 +1,4 @@
-//! The bindings of one namespace.
+//! The bindings of one namespace of a scope, with shadowing: an explicit name replaces a glob's.
 ghost use Rattle.std.specs.Prelude.{◌≡◌, IsTrue, map, List, [], ◌∷◌, ◌++◌, length, true, false, None, Some, OnErr, OnOk, IfOk, IfSome};
 ghost use Rattle.std.specs.Option.{option_copied, option_and_then};
 ghost use Rattle.std.specs.Iterator.{at_most, UpTo};
@@ -122,16 +122,18 @@ impl<D: Definition, I: ImportSource> Bindings<D, I> {
         }
     }
 
-    /// What an import that brought a binding stands for. Takes no memory: one look-up.
+    /// What an import that brought a binding resolved to. Takes no memory: one look-up.
     pub fn record_of(&self, import: &I) -> Option<ImportOrDef>
         ensures { result ≡ lookup (I.eq import.now) self.now.records }
     {
         self.records.get(import).copied()
     }
 
-    /// One push of a name of a module, with the glob flags of its namespace (docs/RULES.md, "Pushes").
+    /// One push of a name of a module, with the glob flags of its namespace (docs/RULES.md, "Pushes"). Explicit names
+    /// shadow globs: a glob binds vacant names only, and what it bound is replaced by any push that is no glob's.
     ///
-    /// Answers whether the push is effective. Where memory is short, bindings and flags are as they were.
+    /// Answers whether the push is effective, that is, whether it writes. Where an allocation fails, bindings and flags
+    /// are as they were.
     pub fn push(
         &mut self,
         flags: &mut GlobFlags,
@@ -145,7 +147,8 @@ impl<D: Definition, I: ImportSource> Bindings<D, I> {
         ensures shown { PushShowsIn ⟦<D as Reads<I>>⟧.reading self.old (has_flag flags.old lookup.0) self.new (has_flag flags.new lookup.0) (one_push ⟦<D as Reads<I>>⟧.reading lookup.1 item import) result }
         ensures shown_answer { PushAnswersIn ⟦<D as Reads<I>>⟧.reading self.old (has_flag flags.old lookup.0) (one_push ⟦<D as Reads<I>>⟧.reading lookup.1 item import) result }
 
-        // What any list of pushes binds to a name rests on the pushes of that name, and not on globs beside an explicit one.
+        // What any list of pushes binds to a name depends only on the pushes of that name, and not on globs where one
+        // of these is explicit.
         ensures by_name { (n : Name) → IsByName ⟦<D as Reads<I>>⟧.reading n }
         ensures elsewhere { (k : ModuleId) (n : Name) → same_module lookup.0 k ≡ false → has_flag flags.new k n ≡ has_flag flags.old k n }
     {
@@ -154,7 +157,8 @@ impl<D: Definition, I: ImportSource> Bindings<D, I> {
         Ok(effective)
     }
 
-    /// The push. A vacant name goes into the table itself, where the import is no glob and no flag stands.
+    /// The push, with a fast path: a vacant name is moved into the table, not copied, where the import is no glob and
+    /// no flag stands.
     fn push_named(
         &mut self,
         flags: &mut GlobFlags,
@@ -226,7 +230,7 @@ impl<D: Definition, I: ImportSource> Bindings<D, I> {
         self.records.as_slice().keys().as_slice()
     }
 
-    /// What each import that brought a binding stands for, each import seen as any import.
+    /// What each import that brought a binding resolved to, each import seen as any import.
     pub(crate) fn records(&self) -> Records<'_, I>
         ensures { result ≡ map (λ e. (I.widened e.0, e.1)) self.now.records }
     {
@@ -240,7 +244,8 @@ impl<D: Definition, I: ImportSource> Bindings<D, I> {
         self.records.len()
     }
 
-    /// The first step of a push: new keys go last. The second step cannot fail.
+    /// The first step of a push, which makes all its allocations: new keys go last. The second step cannot fail, so a
+    /// push is all or nothing.
     pub(crate) fn grow(
         &mut self,
         flags: &mut GlobFlags,
@@ -274,7 +279,7 @@ impl<D: Definition, I: ImportSource> Bindings<D, I> {
         }
     }
 
-    /// Takes the first step of a push back.
+    /// Undoes the first step of a push.
     pub(crate) fn undo(&mut self, flags: &mut GlobFlags, new: NewKeys, m: ModuleId, name: &Name)
         ensures bindings { self.new ≡ without_keys self.old new.item new.record_key }
         ensures flags { flags.new ≡ flags_undone flags.old m name.now new.flag }
@@ -316,7 +321,7 @@ impl<D: Definition, I: ImportSource> Bindings<D, I> {
         !is_glob(import) && (flag || old.is_reresolved_by(&item.def, import))
     }
 
-    /// Puts the new keys of a push that writes last, with their values. Where memory is short, nothing changes.
+    /// Puts the new keys of a push that writes last, with their values. Where an allocation fails, nothing changes.
     fn add_keys(
         &mut self,
         name: &Name,

@@ -1,10 +1,10 @@
-//! How a walk tells that it goes round.
+//! Cycle detection in chains of imports, by Brent's algorithm.
 ghost use Rattle.std.specs.Prelude.{◌≡◌, ◌+◌, ◌-◌, ◌*◌, ◌^◌, None, Some, min, nat_eq, if◌then◌else◌};
 
 use dm_base::imports::ImportId;
 
 /// An import that a walk has passed: the one that it came to after 1, 2, 4, .. steps, whichever was
-/// the last. A walk that goes round meets it again, so that it need not count down all records.
+/// the last. In a cycle the walk meets it again, so that it need not count down all records.
 #[derive(Clone, Copy)]
 pub(crate) struct Passed {
     pub(crate) import: Option<ImportId>,

@@ -5,13 +5,14 @@ use smallvec::SmallVec;
 use std::alloc::Global;
 use std::default::MadeWith;
 
-/// A derive attribute, with the calls of the derives that it names.
+/// A derive attribute, with the macro calls of the derives that it names.
 #[derive(Drop)]
 pub struct DeriveMacroInvocation {
     pub attr_id: AttrId,
     /// The call of the attribute itself.
     pub attr_call_id: MacroCallId,
-    /// A slot for each derive, filled once its call is known.
+    /// A slot for each derive, made with the attribute, so that the macro call id can be filled in later without
+    /// allocating.
     pub derive_call_ids: SmallVec<Option<Either<MacroCallId, BuiltinDeriveImplId>>, 4>,
 }
 

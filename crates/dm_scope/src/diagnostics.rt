@@ -1,2 +1,2 @@
-//! What went wrong while a map was made.
+//! `DefDiagnostic`: what went wrong while a def map was made.
 pub use dm_diagnostics::{DefDiagnostic, DefDiagnosticKind, DefDiagnostics, SaidEq};

@@ -1,4 +1,4 @@
-//! Which names a glob import bound.
+//! `PerNsGlobImports`: which names a glob import bound, so that explicit names can shadow them.
 ghost use Rattle.std.specs.Prelude.{◌≡◌, [], None, true, false, cond, OnOk, OnErr, IfOk};
 ghost use Rattle.std.specs.Map.{lookup};
 ghost use Rattle.std.specs.List.{list_any};
@@ -15,8 +15,9 @@ use indexmap::{IndexMap, IndexSet};
 use std::alloc::{AllocError, Global};
 use std::marker::Model;
 
-/// The glob flags of one namespace: for each module, the names that a glob bound. Their order is not kept, and contracts see
-/// what they say of a name of a module alone.
+/// The glob flags of one namespace: for each module, the names that a glob bound. An explicit name shadows a glob's, so
+/// a later named import or declaration may replace these bindings, and no others. Their order is not kept: contracts
+/// only see whether a name of a module has a flag.
 #[derive(Drop)]
 pub struct GlobFlags {
     names: IndexMap<ModuleId, IndexSet<Name>>,
@@ -52,8 +53,8 @@ impl GlobFlags {
         }
     }
 
-    /// The first step of a push that writes: a glob's flag is set. Answers whether it is new. Where memory is short, nothing
-    /// changes.
+    /// The first step of a push that writes: a glob's flag is set. Answers whether it is new. Where an allocation
+    /// fails, nothing changes.
     pub(crate) fn grow(&mut self, m: ModuleId, name: &Name, glob: bool) -> Result<bool, AllocError>
         ensures ok { OnOk result (self.new ≡ flags_grown self.old m name.now glob) }
         ensures undo { IfOk result (λ new. flags_undone self.new m name.now new ≡ self.old) }
@@ -102,7 +103,7 @@ impl GlobFlags {
         }
     }
 
-    /// Clears the flag of a name. Takes no memory, and goes by key: no other flag is passed.
+    /// Clears the flag of a name. Takes no memory: one look-up.
     fn clear(&mut self, m: ModuleId, name: &Name)
         ensures { self.new ≡ with_flag self.old m name.now false }
     {
@@ -145,7 +146,7 @@ fn take_name(names: &mut IndexSet<Name>, name: &Name)
     names.swap_remove(name);
 }
 
-/// The names that globs bound, in each namespace.
+/// The names that globs bound, in each namespace. Explicit names shadow them.
 #[derive(Drop)]
 pub struct PerNsGlobImports {
     pub(crate) types: GlobFlags,

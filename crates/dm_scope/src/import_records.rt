@@ -1,4 +1,4 @@
-//! The records of a scope: what each import that brought a binding stands for.
+//! Import records of a scope: what each import that brought a binding resolved to.
 ghost use Rattle.std.specs.Prelude.{◌≡◌, length, map};
 ghost use Rattle.std.specs.Iterator.{at_most};
 ghost use Rattle.dm_ids.specs.declared.imports.ImportOrDef.{ImportOrDef};

@@ -1,4 +1,4 @@
-//! The scope of a module.
+//! `ItemScope`, the scope of a module: what its names are bound to, its legacy macros, and the lists of its items.
 ghost use Rattle.std.specs.Prelude.{◌≡◌, []};
 ghost use Rattle.dm_ids.specs.declared.ids.ModuleId.{ModuleId};
 ghost use Rattle.dm_scope.specs.Flags.{no_globs};
@@ -26,7 +26,7 @@ use dm_base::per_ns::PerNs;
 use std::alloc::Global;
 use std::marker::Model;
 
-/// A scope, which contracts see as the record of its tables and lists.
+/// The scope of a module. Contracts see it as the record of its tables and lists.
 pub struct ItemScope {
     types: Bindings<ModuleDefId, ImportOrExternCrate>,
     values: Bindings<ModuleDefId, ImportOrGlob>,
@@ -36,7 +36,7 @@ pub struct ItemScope {
     alloc: Global,
 }
 
-/// Written out, so that what lets one go has one call to prove.
+/// Hand-written `Drop`, to keep proofs small: dropping one is then a single call.
 impl Drop for ItemScope {
     fn drop(self) {
         let ItemScope {

@@ -1,4 +1,4 @@
-//! The iterators of a scope. Each is seen as the list of what it has left.
+//! The iterators of a scope. Contracts see each as the list of what it has still to yield.
 ghost use Rattle.std.specs.Prelude.{◌≡◌, ◌++◌, Some, IfSome, length, map};
 ghost use Rattle.std.specs.Iterator.{at_most, UpTo};
 ghost use Rattle.std.specs.Iterator.SizeHint.{IsWithinCount};
@@ -132,7 +132,7 @@ impl<'a> Iterator for Traits<'a> {
     }
 }
 
-/// The legacy macros of each name of a scope.
+/// The legacy macros of each name of a scope: those in textual scope.
 #[derive(Drop)]
 pub struct LegacyMacros<'a> {
     rest: map::Iter<'a, Name, SmallVec<MacroId, 1>>,

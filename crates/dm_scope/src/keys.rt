@@ -1,4 +1,4 @@
-//! New keys of a map, put last.
+//! Reserving keys of an `IndexMap`: new ones go last, and can be taken off again.
 ghost use Rattle.std.specs.Prelude.{◌≡◌, None, true, OnErr, IfOk, OnOk};
 ghost use Rattle.std.specs.Map.{lookup};
 ghost use Rattle.indexmap.specs.IndexMap.{insert_entry};

@@ -1,4 +1,4 @@
-//! A map that takes no room until something is put into it.
+//! A lazily allocated `IndexMap`.
 ghost use Rattle.std.specs.Prelude.{◌≡◌, [], length, is_some, IfOk, OnOk, OnErr};
 ghost use Rattle.std.specs.Option.{option_copied};
 ghost use Rattle.std.specs.Map.{lookup, set_value, remove_entry};
@@ -12,8 +12,8 @@ use std::alloc::{AllocError, Global};
 use std::hash::Hash;
 use std::marker::Model;
 
-/// A map in order of insertion, behind a handle. It is made when something is first put into it: until then it has but the
-/// room of the handle. Contracts see its entries, and a map that was not made as one that has none.
+/// A map in order of insertion, behind a handle. It is allocated when something is first put into it: until then there
+/// is only the handle. Contracts see its entries, and a map that was not made as an empty one.
 #[derive(Drop)]
 pub(crate) struct LazyMap<K: Eq + Hash, V> {
     pub(crate) map: Option<Box<IndexMap<K, V>>>,
@@ -86,8 +86,8 @@ impl<K: Eq + Hash + Drop, V: Drop> LazyMap<K, V> {
         }
     }
 
-    /// Puts a value at a key: a key that is there keeps its place, and a new one goes last. Where memory is short, nothing
-    /// changes.
+    /// Puts a value at a key: a key that is there keeps its place, and a new one goes last. Where an allocation fails,
+    /// nothing changes.
     pub(crate) fn insert(&mut self, key: K, value: V) -> Result<(), AllocError>
         ensures ok { OnOk result (self.new ≡ insert_entry K.eq self.old key value) }
         ensures err { OnErr result (self.new ≡ self.old) }
@@ -135,7 +135,8 @@ impl<K: Eq + Hash + Drop, V: Drop> LazyMap<K, V> {
         }
     }
 
-    /// The map, taken out to be changed and put back, and made if it was not. Where memory is short, nothing changes.
+    /// The map, taken out to be changed and put back, and made if it was not. Where an allocation fails, nothing
+    /// changes.
     fn taken(&mut self) -> Result<Box<IndexMap<K, V>>, AllocError>
         ensures ok { IfOk result (λ b. b.value.entries ≡ self.old) }
         ensures err { OnErr result (self.new ≡ self.old) }

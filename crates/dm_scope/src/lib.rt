@@ -1,4 +1,4 @@
-//! Scopes: what a module binds under each name, and how pushes fill it.
+//! `ItemScope`: what a module binds under each name, and how pushes (`push_res_with_import`) fill it.
 #![tactic(auto)]
 
 pub mod bindings;

@@ -1,4 +1,4 @@
-//! Iterators over what some elements of a list show.
+//! A `filter_map` over a list, whose closure is a named type.
 ghost use Rattle.std.specs.Prelude.{◌≡◌, Bool, Option, length};
 ghost use Rattle.std.specs.Iterator.{at_most};
 ghost use Rattle.std.specs.List.{filter_map};
@@ -8,7 +8,7 @@ ghost use Rattle.std.specs.Slice.Iter.{iter_rest};
 use std::marker::Model;
 use std::slice;
 
-/// What an element shows, if it shows anything.
+/// The closure of the `filter_map`: what an element shows, if it shows anything.
 pub trait Pick<T>: Copy {
     type Shown;
 

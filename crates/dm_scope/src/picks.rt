@@ -1,4 +1,4 @@
-//! What the iterators of a scope choose: each names what an element shows.
+//! The `filter_map` closures of the iterators of a scope, as named types.
 ghost use Rattle.dm_scope.specs.Iterators.{any_impl, trait_impl, inherent_impl, item_module, trait_of};
 ghost use Rattle.dm_scope.specs.MacroCalls.{call_in};
 
@@ -52,7 +52,7 @@ impl Pick<(ImplId, bool)> for InherentImpl {
     }
 }
 
-/// Shows the module that a type is, and who sees it.
+/// Shows the module that a type is, with its visibility.
 #[derive(Clone, Copy)]
 pub struct ModuleType;
 

@@ -1,4 +1,4 @@
-//! The tables of a scope that most modules have nothing in, behind one handle.
+//! The tables of a scope that are empty in most modules, allocated together on first use.
 ghost use Rattle.std.specs.Prelude.{◌≡◌, IfOk, OnErr};
 ghost use Rattle.std.specs.Option.{option_copied};
 ghost use Rattle.dm_scope.specs.Rare.{no_rare, rare_in, rare_of};
@@ -36,7 +36,7 @@ pub(crate) struct RareTables {
     pub(crate) derive_macros: IndexMap<AstId, SmallVec<DeriveMacroInvocation, 1>>,
 }
 
-/// Written out, so that what lets one go has one call to prove.
+/// Hand-written `Drop`, to keep proofs small: dropping one is then a single call.
 impl Drop for RareTables {
     fn drop(self) {
         let RareTables {
@@ -75,8 +75,8 @@ impl RareTables {
     }
 }
 
-/// The handle of the rare tables of a scope. They are made when something is first put into one of them: until then a
-/// scope has but the room of the handle. Contracts see tables that have nothing in them as those that were not made.
+/// The handle of the rare tables of a scope. They are allocated when something is first put into one of them: until
+/// then a scope only has the handle. Contracts see tables that have nothing in them as those that were not made.
 #[derive(Drop)]
 pub(crate) struct Rare {
     tables: Option<Box<RareTables>>,
@@ -114,7 +114,7 @@ impl Rare {
         }
     }
 
-    /// The tables, taken out to be changed and put back, and made if they were not. Where memory is short, nothing
+    /// The tables, taken out to be changed and put back, and made if they were not. Where an allocation fails, nothing
     /// changes.
     pub(crate) fn taken(&mut self) -> Result<Box<RareTables>, AllocError>
         ensures ok { IfOk result (λ b. rare_in b.value ≡ self.old) }

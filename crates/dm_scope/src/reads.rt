@@ -1,4 +1,4 @@
-//! How a namespace compares and reads its imports and definitions, under one name.
+//! How a namespace compares and converts its imports and definitions, as one trait.
 ghost use Rattle.dm_scope.specs.Bindings.{Reading, reading};
 
 use dm_base::definition::Definition;

@@ -1,4 +1,4 @@
-//! What chains of imports and dumps ask of a world of scopes.
+//! The trait by which import chains and dumps read the scopes of all modules.
 ghost use Rattle.std.specs.Prelude.{◌≡◌, unwrap_or, slice_get, option_copied};
 ghost use Rattle.dm_scope.specs.ChainSteps.{record_count};
 ghost use Rattle.dm_scope.specs.Tables.{Tables, no_style};
@@ -10,7 +10,7 @@ use dm_base::macros::MacroCallStyles;
 use dm_base::name::Name;
 use dm_base::per_ns::Namespace;
 
-/// Whoever has the scopes of modules, with what stands beside them. Modules are numbered from 0, without gaps.
+/// Implemented by what owns the scopes of all modules. Modules are numbered from 0, without gaps.
 pub trait ScopeTables {
     /// What the tables are, for contracts.
     ghost tables: { Self → Tables };

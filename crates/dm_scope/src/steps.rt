@@ -1,4 +1,4 @@
-//! What the first step of a push put into a scope and its glob table.
+//! The undo record of a push: what its first step put into a scope and its glob table.
 ghost use Rattle.std.specs.Prelude.{◌≡◌, false};
 
 /// What it put into a namespace and its flags, and whether the second step is to write.

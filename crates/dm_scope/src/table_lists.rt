@@ -1,4 +1,4 @@
-//! Tables of lists.
+//! Maps from keys to lists.
 ghost use Rattle.std.specs.Prelude.{◌≡◌, ◌++◌, ◌∷◌, [], None, OnErr, OnOk};
 ghost use Rattle.std.specs.Map.{lookup};
 ghost use Rattle.dm_scope.specs.TableLists.{lists_of, add_to_list};
@@ -9,8 +9,8 @@ use std::alloc::{AllocError, Global};
 use std::default::MadeWith;
 use std::hash::Hash;
 
-/// Puts an element at the end of a key's list, or of a new list of a key that is not there yet. Where memory is short,
-/// nothing changes.
+/// Puts an element at the end of a key's list, or of a new list of a key that is not there yet. Where an allocation
+/// fails, nothing changes.
 pub(crate) fn add_to_list<K: Eq + Hash + Drop, X: MadeWith<Global> + Drop, const N: usize>(
     table: &mut IndexMap<K, SmallVec<X, N>>,
     key: K,

@@ -1,4 +1,4 @@
--- What all maps of a crate share.
+-- The data of a crate that its def map and the def maps of its blocks share.
 use Rattle.std.specs.Prelude.{ℕ, Bool, true, false, ◌||◌, nat_eq, List, [], ◌∷◌, ◌++◌, Option, None, Some, codes}
 use Rattle.std.specs.List.{fold, list_any}
 use Rattle.std.specs.Map.{lookup}
@@ -16,19 +16,19 @@ abbrev pub Symbol : Type 0
 Symbol = List ℕ
 
 pub record CrateData : Type 0 where
-  -- whether the crate goes without `std`, and without `core`
+  -- whether the crate is `no_std`, and `no_core`
   pub no_std : Bool
   pub no_core : Bool
   pub coherence_is_core : Bool
   pub recursion_limit : Option ℕ
-  -- the tools whose attributes it may have, and the unstable features that it asks for
+  -- the registered tools, whose attributes it may have, and the unstable features that it enables
   pub tools : List Symbol
   pub features : List Symbol
   -- the procedural macro that each function defines, and the function of each
   pub macro_of_fn : List (FunctionId × ProcMacroId)
   pub fn_of_macro : List (ProcMacroId × FunctionId)
 
--- of a new crate
+-- the data of a new crate
 abbrev pub fresh_data : CrateData
 fresh_data = record {
   no_std = false;
@@ -58,7 +58,7 @@ with_proc_macro d f m = record d {
   fn_of_macro = insert_entry same_proc_macro d.fn_of_macro m f;
 }
 
--- with one thing that is set
+-- with one attribute set
 abbrev pub with_setting : CrateData → CrateSetting → CrateData
 with_setting d NoStd = record d { no_std = true }
 with_setting d NoCore = record d { no_core = true }
@@ -68,15 +68,15 @@ with_setting d (Tool tool) = record d { tools = d.tools ++ tool ∷ [] }
 with_setting d (Feature feature) = with_feature d feature
 with_setting d (ProcMacro f m) = with_proc_macro d f m
 
--- with all that is set, in order
+-- with these attributes set, in order
 abbrev pub with_settings : CrateData → List CrateSetting → CrateData
 with_settings d settings = fold with_setting d settings
 
--- how deep macros may expand: 128 where the crate sets nothing
+-- the recursion limit of macro expansion: 128 where the crate sets none
 abbrev pub limit_of : CrateData → ℕ
 limit_of d = option_map_or (λ limit. limit) d.recursion_limit 128
 
--- whether the crate goes without `std`: it does where it goes without `core`
+-- whether the crate is `no_std`: it is where it is `no_core`
 abbrev pub goes_without_std : CrateData → Bool
 goes_without_std d = d.no_std || d.no_core
 

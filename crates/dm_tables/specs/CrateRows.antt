@@ -1,4 +1,4 @@
--- Data of a crate, fresh and after three settings, as equations that compute.
+-- Crate data, fresh and with three attributes set, as equations that compute.
 use Rattle.std.specs.Prelude.{◌≡◌, true, false, Some, [], ◌∷◌, codes, refl}
 use Rattle.dm_tables.specs.CrateData.{CrateData, Symbol, fresh_data, with_feature, limit_of, goes_without_std, enables}
 

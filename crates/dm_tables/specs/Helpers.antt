@@ -1,4 +1,4 @@
--- The helper attributes of derives, by the items that the derives stand at.
+-- Derive helpers: the helper attributes of derives, by the items that the derives stand on.
 use Rattle.std.specs.Prelude.{List}
 use Rattle.either.specs.declared.Either.{Either}
 use Rattle.dm_ids.specs.declared.ids.BuiltinDeriveImplId.{BuiltinDeriveImplId}
@@ -7,7 +7,7 @@ use Rattle.dm_ids.specs.declared.item_ids.MacroId.{MacroId}
 use Rattle.dm_ids.specs.declared.source.AstId.{AstId}
 use Rattle.dm_ids.specs.Names.{Name}
 
--- a helper attribute: its name, the macro of the derive, and the call of the derive, or what a builtin derive writes
+-- a helper attribute: its name, the derive's macro, and the macro call, or the `impl` that a builtin derive generates
 abbrev pub Helper : Type 0
 Helper = Name × MacroId × Either MacroCallId BuiltinDeriveImplId
 

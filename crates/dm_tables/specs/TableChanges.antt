@@ -1,4 +1,4 @@
--- What is set in the tables that belong to no map and no module: what is there keeps its place and is replaced.
+-- What the setters of item tables do: the entry of a key that is there keeps its place and is replaced.
 use Rattle.std.specs.Prelude.{List}
 use Rattle.indexmap.specs.IndexMap.{insert_entry}
 use Rattle.dm_ids.specs.declared.ids.TraitId.{TraitId}
@@ -13,7 +13,7 @@ use Rattle.dm_tables.specs.Keys.{same_variant, same_assoc, same_trait}
 abbrev pub with_field_list : ItemTables → VariantId → List RawVisibility → ItemTables
 with_field_list t v vs = record t { fields = insert_entry same_variant t.fields v vs }
 
--- with what an associated item lies in, and its visibility
+-- with the container of an associated item, and its visibility
 abbrev pub with_assoc : ItemTables → AssocItemId → ItemContainerId → RawVisibility → ItemTables
 with_assoc t a c v = record t { assocs = insert_entry same_assoc t.assocs a (c, v) }
 

@@ -25,10 +25,10 @@ variants_in es e = option_map_or (λ vs. vs) (lookup (same_enum e) es) []
 abbrev pub enums_with_variant : Enums → EnumId → Name → EnumVariantId × FieldsShape → Enums
 enums_with_variant es e n v = insert_entry same_enum es e (variants_in es e ++ (n, v) ∷ [])
 
--- the variants of the enum at place i have none of that name
+-- the variants of the enum at index i have none of that name
 abbrev pub IsFreeAt : Enums → ℕ → Name → Type 0
 IsFreeAt es i n = IfSome (slice_get (map (λ e. e.1) es) i) (λ vs. find_name n vs ≡ None)
 
--- with one more, the last of the enum at place i
+-- with one more, the last of the enum at index i
 abbrev pub enums_with_variant_at : Enums → ℕ → Name → EnumVariantId × FieldsShape → Enums
 enums_with_variant_at es i n v = option_map_or (λ vs. set_value_at es i (vs ++ (n, v) ∷ [])) (slice_get (map (λ e. e.1) es) i) es

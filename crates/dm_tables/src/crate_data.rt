@@ -1,4 +1,4 @@
-//! What all maps of a crate share.
+//! The data of a crate that its def map and the def maps of its blocks share.
 ghost use Rattle.std.specs.Prelude.{◌≡◌, IfOk, OnOk};
 ghost use Rattle.dm_tables.specs.CrateData.{fresh_data, limit_of, goes_without_std, with_proc_macro, with_setting, with_settings};
 
@@ -12,7 +12,7 @@ use std::alloc::{AllocError, Global};
 use std::hash::Hash;
 use std::marker::Model;
 
-/// What all maps of a crate share.
+/// The data that all def maps of a crate share.
 pub struct CrateData {
     no_std: bool,
     no_core: bool,
@@ -24,7 +24,7 @@ pub struct CrateData {
     fn_of_macro: IndexMap<ProcMacroId, FunctionId>,
 }
 
-/// Written out, so that what lets one go has one call to prove.
+/// A hand-written `Drop`, to keep proofs small: code that drops a value has one call to prove.
 impl Drop for CrateData {
     fn drop(self) {
         let CrateData {
@@ -49,7 +49,7 @@ impl Model for CrateData {
 }
 
 impl CrateData {
-    /// Of a new crate, which has the tools that every crate has.
+    /// The data of a new crate, which has the tools that every crate has.
     pub fn fresh(alloc: Global) -> Result<CrateData, AllocError>
         ensures { IfOk result (λ d. d ≡ fresh_data) }
     {
@@ -71,7 +71,7 @@ impl CrateData {
         })
     }
 
-    /// The same, to be changed.
+    /// A copy, to be changed.
     pub fn copy(&self, alloc: Global) -> Result<CrateData, AllocError>
         ensures { IfOk result (λ d. d ≡ self.now) }
     {
@@ -91,9 +91,9 @@ impl CrateData {
         })
     }
 
-    /// The same data with what is set.
+    /// The same data with one attribute set.
     ///
-    /// Fails where memory runs out, and the data is then dropped.
+    /// Fails where an allocation fails, and the data is then dropped.
     pub fn with_setting(mut self, setting: CrateSetting) -> Result<CrateData, AllocError>
         ensures { IfOk result (λ d. d ≡ with_setting self setting) }
     {
@@ -101,9 +101,9 @@ impl CrateData {
         Ok(self)
     }
 
-    /// The same data with all that is set, in order.
+    /// The same data with these attributes set, in order.
     ///
-    /// Fails where memory runs out, and the data is then dropped.
+    /// Fails where an allocation fails, and the data is then dropped.
     pub fn with_settings(mut self, settings: Vec<CrateSetting>) -> Result<CrateData, AllocError>
         ensures { IfOk result (λ d. d ≡ with_settings self settings.items) }
     {
@@ -113,7 +113,7 @@ impl CrateData {
         Ok(self)
     }
 
-    /// Sets one thing. Where memory is short, one of two tables may have it.
+    /// Sets one attribute. Where an allocation fails, one of two tables may have it.
     fn set(&mut self, setting: CrateSetting) -> Result<(), AllocError>
         ensures { OnOk result (self.new ≡ with_setting self.old setting) }
     {
@@ -129,7 +129,7 @@ impl CrateData {
         Ok(())
     }
 
-    /// Adds a procedural macro that a function defines. Where memory is short, one table may have it.
+    /// Adds a procedural macro that a function defines. Where an allocation fails, one of the two tables may have it.
     fn add_proc_macro(&mut self, f: FunctionId, m: ProcMacroId) -> Result<(), AllocError>
         ensures { OnOk result (self.new ≡ with_proc_macro self.old f m) }
     {
@@ -138,42 +138,42 @@ impl CrateData {
         Ok(())
     }
 
-    /// The tools whose attributes the crate may have, in order.
+    /// The registered tools, whose attributes the crate may have (as `#[rustfmt::skip]`), in order.
     pub fn tools(&self) -> &[Symbol]
         ensures { result.now ≡ self.now.tools }
     {
         self.tools.as_slice()
     }
 
-    /// The unstable features that the crate asks for.
+    /// The unstable features that the crate enables.
     pub fn features(&self) -> &UnstableFeatures
         ensures { result.now ≡ self.now.features }
     {
         &self.features
     }
 
-    /// Whether the crate counts as `core` where traits are implemented.
+    /// Whether the crate counts as `core` for coherence, and so may have inherent `impl`s of builtin types.
     pub fn coherence_is_core(&self) -> bool
         ensures { result ≡ self.now.coherence_is_core }
     {
         self.coherence_is_core
     }
 
-    /// Whether the crate goes without `std`: it does where it goes without `core`.
+    /// Whether the crate is `no_std`: it is where it is `no_core`.
     pub fn goes_without_std(&self) -> bool
         ensures { result ≡ goes_without_std self.now }
     {
         self.no_std || self.no_core
     }
 
-    /// Whether the crate goes without `core`.
+    /// Whether the crate is `no_core`.
     pub fn goes_without_core(&self) -> bool
         ensures { result ≡ self.now.no_core }
     {
         self.no_core
     }
 
-    /// How deep macros of the crate may expand: 128 where it sets nothing.
+    /// The recursion limit of macro expansion: 128 where the crate sets none.
     pub fn recursion_limit(&self) -> u32
         ensures { result ≡ limit_of self.now }
     {
@@ -206,7 +206,7 @@ fn copy_symbols(symbols: &[Symbol], alloc: Global) -> Result<Vec<Symbol>, AllocE
     Ok(copies)
 }
 
-/// A second table of the same entries, where clones are what they are clones of.
+/// A copy of a table, where clones equal what they are clones of.
 fn copy_table<K: Eq + Hash + Clone, V: Clone>(
     table: &IndexMap<K, V>,
 ) -> Result<IndexMap<K, V>, AllocError>

@@ -1,21 +1,21 @@
-//! What is set for all maps of a crate, one thing at a time.
+//! Attributes of a crate as a whole, which all its def maps share.
 use dm_base::ids::{FunctionId, ProcMacroId};
 use dm_base::symbol::Symbol;
 
-/// One thing that is set for a crate, as by an attribute of its root.
+/// One attribute of a crate, as `#![no_std]` in its root sets it.
 #[derive(Drop)]
 pub enum CrateSetting {
-    /// The crate goes without `std`.
+    /// `#![no_std]`.
     NoStd,
-    /// The crate goes without `core`.
+    /// `#![no_core]`.
     NoCore,
-    /// The crate counts as `core` where traits are implemented.
+    /// `#![rustc_coherence_is_core]`: the crate is `core` to coherence, as for inherent `impl`s of builtin types.
     CoherenceIsCore,
-    /// How deep macros of the crate may expand.
+    /// `#![recursion_limit = "N"]`: how deep macros may expand.
     RecursionLimit(u32),
-    /// A tool whose attributes the crate may have, the last.
+    /// A registered tool, whose attributes the crate may have; it goes last.
     Tool(Symbol),
-    /// An unstable feature that the crate asks for. One that is there stays at its place.
+    /// An unstable feature that the crate enables. One that is there stays at its place.
     Feature(Symbol),
     /// The procedural macro that a function of the crate defines, in a table each way. What is there is replaced.
     ProcMacro(FunctionId, ProcMacroId),

@@ -1,4 +1,4 @@
-//! The helper attributes of derives, by the items that the derives stand at.
+//! Derive helpers: the helper attributes of derives, by the items that the derives stand on.
 ghost use Rattle.std.specs.Prelude.{◌≡◌, ◌++◌, ◌∷◌, [], OnOk, OnErr};
 ghost use Rattle.dm_tables.specs.HelperChanges.{helpers_with, helpers_with_at};
 
@@ -12,10 +12,10 @@ use indexmap::IndexMap;
 use std::alloc::{AllocError, Global};
 use std::marker::Model;
 
-/// A helper attribute: its name, the macro of the derive, and the call of the derive, or what a builtin derive writes.
+/// A helper attribute: its name, the derive's macro, and the macro call, or the `impl` that a builtin derive generates.
 pub type DeriveHelper = (Name, MacroId, Either<MacroCallId, BuiltinDeriveImplId>);
 
-/// The helper attributes at an item, in order.
+/// The helper attributes on an item, in order.
 #[derive(Drop)]
 pub struct DeriveHelpers {
     helpers: Vec<DeriveHelper>,
@@ -56,7 +56,7 @@ impl DeriveHelpers {
     }
 }
 
-/// Adds a helper to those at an item, the last.
+/// Adds a helper to those on an item, the last.
 pub fn add_helper(
     table: &mut IndexMap<AstId, DeriveHelpers>,
     ast: AstId,
@@ -76,7 +76,7 @@ pub fn add_helper(
     }
 }
 
-/// Adds a helper to those of the item at place `i`, the last.
+/// Adds a helper to those of the item at index `i`, the last.
 fn add_helper_at(
     table: &mut IndexMap<AstId, DeriveHelpers>,
     i: usize,

@@ -1,4 +1,4 @@
-//! Growth of tables, all or nothing.
+//! Insertion into tables: where an allocation fails, nothing changes.
 ghost use Rattle.std.specs.Prelude.{◌≡◌, ◌++◌, ◌∷◌, [], None, OnOk, OnErr};
 ghost use Rattle.indexmap.specs.IndexMap.{get, insert_entry};
 

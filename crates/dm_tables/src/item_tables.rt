@@ -1,4 +1,4 @@
-//! The tables that belong to no map and no module.
+//! Tables of items, outside all def maps: visibilities of fields and traits, containers of associated items, raw names.
 ghost use Rattle.std.specs.Prelude.{◌≡◌, [], OnOk, OnErr};
 ghost use Rattle.std.specs.List.{list_any};
 ghost use Rattle.dm_ids.specs.Names.{same_name};
@@ -16,7 +16,8 @@ use indexmap::{IndexMap, IndexSet};
 use std::alloc::{AllocError, Global};
 use std::marker::Model;
 
-/// What is said of fields, associated items and traits; and the names that are printed as raw.
+/// The visibilities of fields and traits, the container and visibility of each associated item, and the names that are
+/// printed as raw identifiers (`r#name`).
 pub struct ItemTables {
     fields: IndexMap<VariantId, FieldList>,
     assocs: IndexMap<AssocItemId, (ItemContainerId, RawVisibility)>,
@@ -24,7 +25,7 @@ pub struct ItemTables {
     raw_names: IndexSet<Name>,
 }
 
-/// Written out, so that what lets one go has one call to prove.
+/// A hand-written `Drop`, to keep proofs small: code that drops a value has one call to prove.
 impl Drop for ItemTables {
     fn drop(self) {
         let ItemTables {
@@ -57,7 +58,7 @@ impl ItemTables {
         }
     }
 
-    /// Adds a name that is printed as raw. One that is there stays at its place.
+    /// Adds a name that is printed as a raw identifier. One that is there stays at its place.
     pub fn add_raw_name(&mut self, name: Name) -> Result<(), AllocError>
         ensures ok { OnOk result (self.new ≡ with_raw_name self.old name) }
         ensures err { OnErr result (self.new ≡ self.old) }
@@ -66,7 +67,7 @@ impl ItemTables {
         Ok(())
     }
 
-    /// Whether a name is printed as raw. Takes no memory: one look-up.
+    /// Whether a name is printed as a raw identifier. One look-up, which does not allocate.
     pub fn has_raw_name(&self, name: &Name) -> bool
         ensures { result ≡ list_any (same_name name.now) self.now.raw_names }
     {
@@ -82,7 +83,7 @@ impl ItemTables {
         Ok(())
     }
 
-    /// Sets what an associated item lies in, and its visibility.
+    /// Sets the container of an associated item, and its visibility.
     pub fn set_assoc(
         &mut self,
         id: AssocItemId,
@@ -112,7 +113,7 @@ impl ItemTables {
         &self.fields
     }
 
-    /// What associated items lie in, and their visibilities.
+    /// The containers of associated items, and their visibilities.
     pub fn assocs(&self) -> &IndexMap<AssocItemId, (ItemContainerId, RawVisibility)>
         ensures { result.now.entries ≡ self.now.assocs }
     {

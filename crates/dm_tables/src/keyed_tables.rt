@@ -1,4 +1,4 @@
-//! Tables by item, set entry by entry. Where memory is short, nothing changes.
+//! Tables keyed by item ids, set entry by entry. Where an allocation fails, nothing changes.
 ghost use Rattle.std.specs.Prelude.{◌≡◌, OnOk, OnErr, IfSome, slice_get, position, map};
 ghost use Rattle.std.specs.Map.{lookup, keys_of};
 ghost use Rattle.std.specs.Option.{option_copied};
@@ -28,7 +28,7 @@ pub(crate) fn put_fields(
     Ok(())
 }
 
-/// Sets what an associated item lies in, and its visibility.
+/// Sets the container of an associated item, and its visibility.
 pub(crate) fn put_assoc(
     table: &mut IndexMap<AssocItemId, (ItemContainerId, RawVisibility)>,
     id: AssocItemId,
@@ -41,7 +41,7 @@ pub(crate) fn put_assoc(
     Ok(())
 }
 
-/// Sets the macro that an item of the syntax defines.
+/// Sets the macro that an AST item defines.
 pub fn put_macro_def(
     table: &mut IndexMap<AstId, MacroId>,
     ast: AstId,
@@ -85,7 +85,7 @@ pub fn helpers_of(table: &IndexMap<AstId, DeriveHelpers>, ast: AstId) -> Option<
     }
 }
 
-/// The macro that an item of the syntax defines.
+/// The macro that an AST item defines.
 pub fn macro_def_of(table: &IndexMap<AstId, MacroId>, ast: AstId) -> Option<MacroId>
     ensures { result ≡ lookup (same_ast ast) table.now.entries }
 {

@@ -1,4 +1,4 @@
-//! What a crate has beside its modules: its data, and the tables of its syntax and its items.
+//! Tables of a crate other than its modules: crate data, derive helpers, enum variants, and tables of items.
 #![tactic(auto)]
 
 pub mod crate_data;

@@ -1,4 +1,4 @@
-//! Tables by names, asked by a text where no name is at hand.
+//! Look-ups by `&str` in tables whose keys are names.
 ghost use Rattle.std.specs.Prelude.{◌≡◌, is_some};
 ghost use Rattle.std.specs.List.{list_any};
 ghost use Rattle.dm_ids.specs.Names.{find_name, same_name};
@@ -6,7 +6,7 @@ ghost use Rattle.dm_ids.specs.Names.{find_name, same_name};
 use dm_base::name::Name;
 use indexmap::IndexMap;
 
-/// Whether a table has an entry under the name of that text. It compares with each name, and takes no memory.
+/// Whether a table has an entry under the name of that text. It compares with each name, and does not allocate.
 pub fn has_text<V>(table: &IndexMap<Name, V>, text: &str) -> bool
     ensures { result ≡ is_some (find_name text.now table.now.entries) }
 {

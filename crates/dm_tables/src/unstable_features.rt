@@ -24,7 +24,7 @@ impl Model for UnstableFeatures {
 }
 
 impl UnstableFeatures {
-    /// No feature; what is enabled takes its memory from `alloc`. It takes none yet.
+    /// No feature. Features that are enabled later allocate from `alloc`; this call does not allocate.
     pub(crate) fn new(alloc: Global) -> UnstableFeatures
         ensures { result ≡ [] }
     {
@@ -33,14 +33,14 @@ impl UnstableFeatures {
         }
     }
 
-    /// Whether a feature is enabled. Takes no memory.
+    /// Whether a feature is enabled. Does not allocate.
     pub fn is_enabled(&self, feature: &Symbol) -> bool
         ensures { result ≡ enables self.now feature.now }
     {
         self.enabled.contains(feature)
     }
 
-    /// Enables a feature. Where memory is short, nothing changes.
+    /// Enables a feature. Where an allocation fails, nothing changes.
     pub(crate) fn enable(&mut self, feature: Symbol) -> Result<(), AllocError>
         ensures ok { OnOk result (self.new ≡ insert_key same_name self.old feature) }
         ensures err { OnErr result (self.new ≡ self.old) }
@@ -49,7 +49,7 @@ impl UnstableFeatures {
         Ok(())
     }
 
-    /// The same features, to be added to.
+    /// A copy, to be added to.
     pub(crate) fn copy(&self, alloc: Global) -> Result<UnstableFeatures, AllocError>
         ensures { IfOk result (λ features. features ≡ self.now) }
     {

@@ -61,8 +61,8 @@ impl EnumVariants {
         self.variants.get(name).copied()
     }
 
-    /// Whether there is a variant of the name of that text. It compares with each name: where the name is at hand, `get` looks
-    /// it up. Takes no memory.
+    /// Whether there is a variant of that name. It compares with each name: with a `Name` at hand, `get` looks it up.
+    /// Does not allocate.
     pub fn contains(&self, text: &str) -> bool
         ensures { result ≡ is_some (find_name text.now self.now) }
     {
@@ -92,7 +92,7 @@ pub fn add_to_enum(
     }
 }
 
-/// Adds a variant to the enum at place `i`, which has none yet of that name.
+/// Adds a variant to the enum at index `i`, which has none yet of that name.
 fn add_to_nth(
     enums: &mut IndexMap<EnumId, EnumVariants>,
     i: usize,

@@ -1,4 +1,5 @@
--- The status of every answer is no only where it is nothing, and leaves no segment but one of the path's, and never the first.
+-- Every result of path resolution: its status is no only where nothing was found, and a segment that it leaves
+-- unresolved is one of the path's, and never the first.
 use Rattle.std.proofs.Common.{◌≡◌, ◌≤◌, ◌<◌, ◌+◌, ℕ, suc, max, Bool, true, false, List, [], ◌∷◌, length, map, slice_get, cond, Option, Some, None, refl, sym, subst, arith}
 use Rattle.std.specs.Option.{ForSome, option_map_or}
 use Rattle.std.proofs.lemmas.List.{length-map}

@@ -1,4 +1,4 @@
--- An answer reads of a world only what stands under the path's segments.
+-- Path resolution reads of a world only what it says of the names in the path.
 use Rattle.std.proofs.Common.{◌≡◌, List, [], ◌∷◌, refl, sym, ◌∙◌, map}
 use Rattle.std.specs.List.{All, Contains}
 use Rattle.std.proofs.lemmas.List.Elements.{All-contains_itself, All-head, All-tail}
@@ -34,6 +34,6 @@ pub preludes-cut : (w : World) (L : LocalMap) (id : MapId) (q : Ask) (S : List N
 unfolding prelude_answer
 preludes-cut w L id q S = λ i. single (setting-cut w S i) q (reads-cut w L S S (All-contains_itself S) i) (Preludes id q.origin)
 
--- where what stands under the segments is the same, so is the answer
+-- where two worlds agree on the names in the path, so do their answers
 pub answers-alike : (w v : World) (L K : LocalMap) (q : Ask) (S : List Name) → cut v S ≡ cut w S → cut_local K S ≡ cut_local L S → answer v K q S ≡ answer w L q S
 answers-alike w v L K q S worlds locals = sym (answer-cut v K q S) ∙ (λ i. answer (worlds i) (locals i) q S) ∙ answer-cut w L q S

@@ -1,4 +1,4 @@
--- What is known of the parts of known items.
+-- The ids in parts of known items are known to the world.
 use Rattle.std.proofs.Common.{◌≡◌, Bool, true, false, cond, List, [], ◌∷◌, ◌++◌, Option, Some, None, ap, subst}
 use Rattle.std.specs.Option.{option_map_or, option_or}
 use Rattle.dm_ids.specs.declared.imports.ImportOrExternCrate.{ImportOrExternCrate}

@@ -1,4 +1,4 @@
--- Which layers a question has.
+-- Which layers a first segment is looked up in.
 use Rattle.std.proofs.Common.{◌≡◌, Bool, cond, List, ◌∷◌, ap, sym, ◌∙◌, map, nat_eq, length}
 use Rattle.dm_base.specs.declared.mod_path.PathKind.{PathKind}
 use Rattle.dm_base.specs.declared.mod_path.PathKind.TheVariants as kind

@@ -1,4 +1,4 @@
--- The places of a question, one after another.
+-- The places where a path's first segment is looked up, one after another.
 use Rattle.std.proofs.Common.{◌≡◌, ◌++◌, List, [], ◌∷◌, map}
 use Rattle.dm_ids.specs.declared.ids.ModuleId.{ModuleId}
 use Rattle.dm_base.specs.Tree.{Tree, home, homeward}
@@ -7,7 +7,7 @@ use Rattle.hir_def_map.specs.Paths.{prelude_place}
 use Rattle.hir_def_map.specs.declared.place.Place.{Place}
 use Rattle.hir_def_map.specs.declared.place.Place.TheVariants.{In}
 
--- the places that a question from m asks, by the tree of the setting
+-- the places that a path resolution from m asks, by the tree of the setting
 abbrev pub places_in : Tree → Setting → ModuleId → List Place
 places_in t w m = map In (homeward t m) ++ prelude_place w (home t m)
 

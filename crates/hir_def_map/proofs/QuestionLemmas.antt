@@ -1,4 +1,4 @@
--- A question stays known where ids and maps do.
+-- A world that has grown still knows the path resolutions that it knew: their ids and maps stay known.
 use Rattle.std.proofs.Common.{◌≡◌, ◌∙◌, Option, None, Some, ap, sym, subst, refl, is_some}
 use Rattle.std.specs.Map.{lookup}
 use Rattle.std.specs.Option.{option_map}
@@ -28,7 +28,7 @@ has-outlined m M = ap is_some (lookup-map_values (λ (d : Module). d.parent) (sa
 has-same : (m : ModuleId) (M N : Map) → outline N ≡ outline M → is_some (module_at N.modules m) ≡ is_some (module_at M.modules m)
 has-same m M N same = sym (has-outlined m N) ∙ ap (λ (o : Outline). is_some (lookup (same_module m) o.modules)) same ∙ has-outlined m M
 
--- of the tree a setting says all
+-- the setting (the name-independent part of a world) determines the module tree
 trees-same : (w v : World) → StaysKnown w v → tree_of v ≡ tree_of w
 unfolding setting_of
 trees-same w v stays = ap (λ (s : Setting). s.tree) stays.setting

@@ -1,4 +1,4 @@
--- The steps of a path, and that a bound on the crates that it enters does not matter.
+-- The segments of a path, step by step, and that the bound on the crates that it enters does not matter.
 use Rattle.std.proofs.Common.{◌≡◌, ℕ, zero, suc, ◌+◌, ◌≤◌, ◌<◌, Bool, true, false, cond, List, [], ◌∷◌, length, find, is_none, Option, None, Some, refl, sym, ◌∙◌, ap, arith}
 use Rattle.std.specs.Option.{option_map_or}
 use Rattle.std.proofs.lemmas.Bool.{cond-true, eq-eqb}

@@ -1,4 +1,4 @@
--- The modules and crates that written visibilities name are the world's.
+-- The modules and crates that raw visibilities resolve to are the world's.
 use Rattle.std.proofs.Common.{◌≡◌, ◌||◌, ℕ, Bool, true, false, cond, IsTrue, Option, Some, None, length, refl, subst}
 use Rattle.std.specs.Option.{ForSome, option_and_then, option_map}
 use Rattle.std.proofs.lemmas.Bool.{lt-ltb}
@@ -44,7 +44,7 @@ reached-known w x None m k e = by x.types refl e
     by None is h = cc
     by (Some i) is h = type_module-known w x k i m is (is_module i.def h)
 
--- so is the one that stands for it in a map whose root is known
+-- so is the one that replaces it in a map whose root is known
 pub restricted-known : (w : World) (M : Map) (within : Bool) (t : ModuleId) → IsKnown (tree_of w) t → IsKnown (tree_of w) M.root → IsKnown (tree_of w) (restricted w M within t)
 restricted-known w M within t known root = by (within || same_block (block_in w t) M.id.block)
   where

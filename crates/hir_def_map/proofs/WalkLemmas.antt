@@ -1,4 +1,4 @@
--- The walk gives the answer at the stop.
+-- The walk along the segments gives the answer at the stop: the program is what the definition says.
 use Rattle.std.proofs.Common.{◌≡◌, ℕ, suc, ◌+◌, ◌<◌, Bool, true, false, cond, List, [], ◌∷◌, length, Option, None, Some, refl, sym, ◌∙◌, ap, arith, nat_eq, map, inl, inr}
 use Rattle.std.specs.Option.{option_map}
 use Rattle.std.proofs.lemmas.Bool.{cond-true, cond-false}
@@ -134,9 +134,9 @@ pub empty-map : {A B : Type 0} (f : A → B) (xs : List A) → is_empty (map f x
 empty-map f [] = refl
 empty-map f (x ∷ xs) = elim (eqb_tells (suc (length xs)) 0) [ inl h ↦ (let e : suc (length xs) ≡ 0 = h.1 in absurd (omega arith)) | inr h ↦ sym h.0 ]
 
--- A walk along names, by the type that stands where it is.
+-- A walk along names, by the type that it has reached.
 module _ (w : World) (L : LocalMap) (d : Bool) (f : ModuleId) (o : Option (Item ModuleDefId ImportOrExternCrate)) (pos : ℕ) (s : Name) (rest : List Name) where
-  -- the walk, where this type stands
+  -- the walk, where this type is reached
   abbrev at_type : Option (Item ModuleDefId ImportOrExternCrate) → ResolvePathResult
   at_type x = walk (tree_of w) (standing d f x) pos (map (read w L) (s ∷ rest))
 

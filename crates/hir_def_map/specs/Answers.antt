@@ -1,4 +1,4 @@
--- Answers of paths, and overlays of them.
+-- Results of path resolution, and how they are merged.
 use Rattle.std.specs.Prelude.{ℕ, ◌+◌, ◌||◌, if◌then◌else◌, Bool, true, false, List, [], ◌∷◌, Some, None}
 use Rattle.std.specs.Option.{option_map}
 use Rattle.dm_ids.specs.declared.fields_shape.FieldsShape.{FieldsShape}

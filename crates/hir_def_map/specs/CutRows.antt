@@ -1,4 +1,4 @@
--- What cuts of a worked world are, as equations that compute.
+-- Examples of cuts (a world restricted to some names), as equations that compute.
 use Rattle.std.specs.Prelude.{◌≡◌, ℕ, [], ◌∷◌, Some, None, codes, refl}
 use Rattle.dm_ids.specs.declared.fields_shape.FieldsShape.TheVariants.{Unit}
 use Rattle.dm_ids.specs.declared.macros.MacroExpander.TheVariants.{BuiltIn}

@@ -1,4 +1,4 @@
--- What holds of every answer.
+-- An invariant of every result of path resolution.
 use Rattle.std.specs.Prelude.{◌≡◌, ◌≤◌, ◌<◌, ℕ, Option}
 use Rattle.std.specs.Option.{ForSome}
 use Rattle.hir_def_map.specs.declared.result.ReachedFixedPoint.TheVariants.{No}

@@ -1,4 +1,5 @@
--- Answers of what a world has under the names of a path alone: where two worlds have the same there, they answer alike.
+-- Path resolution is local: it reads of a world only what the world says of the names in the path. Where two worlds
+-- agree there, they answer alike.
 use Rattle.std.specs.Prelude.{List}
 use Rattle.dm_ids.specs.Names.{Name}
 use Rattle.dm_maps.specs.Cut.{cut, cut_local}

@@ -1,4 +1,4 @@
--- Answers are laid over one another, part by part, and the laws of that.
+-- Merging answers, part by part, and the laws of that.
 use Rattle.std.specs.Prelude.{◌≡◌, ◌||◌, Bool, true, false, refl}
 use Rattle.std.proofs.Math.Bool.{or_assoc, or-false}
 use Rattle.dm_base.specs.Overlays.{greatest_associative, greatest_none, greatest_same, over_associative, over_nothing, over_same}

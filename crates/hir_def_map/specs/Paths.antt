@@ -1,4 +1,4 @@
--- What a path means.
+-- What a path resolves to: the definition of path resolution.
 use Rattle.std.specs.Prelude.{ℕ, zero, suc, ◌+◌, ◌&&◌, ◌||◌, not, List, [], ◌∷◌, ◌++◌, Option, Some, None, Bool, true, false, if◌then◌else◌, length, map, find, is_none, slice_get}
 use Rattle.std.specs.Option.{option_map, option_map_or, option_and_then}
 use Rattle.dm_ids.specs.declared.ids.ModuleId.{ModuleId}
@@ -46,7 +46,7 @@ use Rattle.hir_def_map.specs.Answers.{reached, nothing_yes, nothing_no, stopped,
 abbrev pub Entering : Type 0
 Entering = ModuleId → List Reading → ResolvePathResult
 
--- a question but for its segments
+-- the parameters of a path resolution except the segments
 abbrev pub asked : ModuleId → ResolveMode → BuiltinShadowMode → Option MacroSubNs → PathKind → Ask
 asked m by s e k = record { origin = m; mode = by; shadow = s; expected = e; kind = k }
 
@@ -60,11 +60,11 @@ next_module_in t f _ = None
 abbrev pub next_module : Tree → ModuleId → PerNs → Option ModuleId
 next_module t f x = option_and_then (λ i. next_module_in t f i.def) x.types
 
--- what stands after a module and a segment: what the module's scope binds under it, each item kept where f sees it
+-- what a segment after a module resolves to: what the module's scope binds under it, each item kept where f sees it
 abbrev pub seen_in : Tree → ModuleId → Reading → ModuleId → PerNs
 seen_in t f s m = seen_by (λ v. sees t v f) (s.bound m)
 
--- a station: what stands at a position, and the segments from there on
+-- a station: what the segments before a position resolve to, and the segments from there on
 pub record Station : Type 0 where
   pub position : ℕ
   pub here : PerNs
@@ -104,7 +104,7 @@ at_definition enter i j s rest (def.ModuleId m) = from_other_crate j (enter m (s
 at_definition enter i j s rest (def.AdtId a) = at_adt i j s (is_empty rest) a
 at_definition enter i j s rest _ = stopped i j
 
--- the answer at the stop: what stands there at the end, else by what stands there in types
+-- the answer at the stop: what is resolved there if it is the end, else by the type that is resolved there
 abbrev pub at_stop : Entering → Station → ResolvePathResult
 at_stop enter j = elim j.rest [
   | [] ↦ reached j.here
@@ -161,7 +161,7 @@ of_prelude w e x = elim w.rules [ V1 ↦ x | V2 ↦ fitting w e x ]
 abbrev pub by_crate : Option ExternCrateId → Option ImportOrExternCrate
 by_crate e = option_map import.ExternCrate e
 
--- the last legacy macro of the name, if it fits
+-- textual scope: the last legacy macro of the name, if it fits; it shadows those before it
 abbrev pub legacy : Setting → Option MacroSubNs → ModuleId → Reading → PerNs
 legacy w e m s = option_map_or (λ l. if fits w e l then macro_alone l Public None else nothing) (s.legacy m) nothing
 
@@ -196,7 +196,7 @@ is_module x = option_map_or (λ i. is_module_def i.def) x false
 abbrev pub builtins_of : Setting → ModuleId → Reading → PerNs
 builtins_of w m s = if in_block_map w.tree m then nothing else builtin s
 
--- whether builtin types go before the scope: for a name alone, where asked so, and the scope's type is a module
+-- whether builtin types shadow the scope: for a path of one name, where asked so, and the scope's type is a module
 abbrev pub are_builtins_first : Ask → PerNs → Bool → Bool
 are_builtins_first q own is_last = elim q.shadow [ shadow.Other ↦ true | shadow.Module ↦ false ] && is_last && is_module own.types
 
@@ -211,9 +211,10 @@ unless_block_root w m x = if is_block_root w.tree m then nothing else x
 abbrev pub root_scope : Setting → ModuleId → Reading → PerNs
 root_scope w m s = option_map_or s.bound (w.root_of (crate_of w.tree m)) nothing
 
--- What a first segment selects, layer by layer. By the 2015 rule: the scope of the crate's root, the extern prelude. After `::`: the
--- extern prelude. Else: legacy macros, the scope and the builtin types, the extern prelude, the macro_use prelude, the prelude module;
--- of the last two what the version of the rules leaves.
+-- What a first segment selects, layer by layer: each shadows the next. By the 2015 rule: the scope of the crate's root,
+-- the extern prelude. After `::`: the extern prelude. Else: legacy macros (textual scope), the scope and the builtin
+-- types, the extern prelude, the macro_use prelude, the prelude module; of the last two what the version of the rules
+-- leaves.
 abbrev pub layers_by_2015_rule : Setting → Place → Reading → List PerNs
 layers_by_2015_rule w (In m) s = root_scope w m s ∷ unless_block_root w m (extern_prelude s) ∷ []
 layers_by_2015_rule w (Preludes id f) s = extern_prelude s ∷ []
@@ -251,7 +252,7 @@ by_first_segment w q p (s ∷ rest) =
 abbrev pub from_root : Setting → ModuleId → Crate → List Reading → ResolvePathResult
 from_root w m k S = option_map_or (λ r. stop (enter w.tree) w.tree m (root_item r) 0 S) (w.root_of k) nothing_yes
 
--- from a member of the chain without the roots of blocks; one of another map is entered
+-- `super::` and `self::`: from an ancestor, where roots of blocks do not count; one of another map is entered
 abbrev pub from_super : Tree → ModuleId → ℕ → List Reading → ResolvePathResult
 from_super t m k S = elim (slice_get (outer t m) k) [
   | None ↦ nothing_yes
@@ -288,7 +289,8 @@ places_along w h ms = map In (up_to h ms) ++ prelude_place w h
 abbrev pub places : Setting → ModuleId → List Place
 places w m = places_along w (home w.tree m) (chain w.tree m)
 
--- the answer of a setting to segments that are read
+-- the answer of a setting (the name-independent part of a world) to segments with readings (what a world says of one
+-- name)
 unfoldable pub answer_of : Setting → Ask → List Reading → ResolvePathResult
 answer_of w q S = merged (map (single w q S) (places w q.origin))
 

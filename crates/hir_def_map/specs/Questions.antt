@@ -1,4 +1,4 @@
--- Questions that a world can be asked.
+-- Path resolutions that a world can answer: all ids in them are the world's.
 use Rattle.std.specs.Prelude.{◌≡◌, Some, IsSome}
 use Rattle.dm_ids.specs.declared.ids.ModuleId.{ModuleId}
 use Rattle.dm_base.specs.declared.mod_path.PathKind.{PathKind}

@@ -1,4 +1,4 @@
--- What visibilities mean that are written: `pub`, `pub(crate)`, `pub(self)`, `pub(in path)`.
+-- Resolution of raw visibilities: `pub`, `pub(crate)`, `pub(self)`, `pub(in path)`.
 use Rattle.std.specs.Prelude.{◌≡◌, ◌||◌, ℕ, Bool, true, false, IsSome, List, [], Option, Some, None, if◌then◌else◌, map}
 use Rattle.std.specs.Option.{option_map, option_map_or, option_and_then}
 use Rattle.dm_ids.specs.declared.ids.BlockId.{BlockId}
@@ -34,8 +34,8 @@ use Rattle.hir_def_map.specs.declared.result.ResolveMode.TheVariants.{Other}
 use Rattle.hir_def_map.specs.declared.result.ResolvePathResult.{ResolvePathResult}
 use Rattle.hir_def_map.specs.Paths.{asked, answer}
 
--- A visibility that a world can be asked of: the map is the world's of its id, the module that it is written in lies in it, and
--- local map and path name only what the world has.
+-- A raw visibility that a world can resolve: the map is the world's of its id, the module that it is written in lies in
+-- it, and local map and path name only what the world has.
 pub record IsKnownVisibility (w : World) (M : Map) (L : LocalMap) (m : ModuleId) (v : RawVisibility) : Type 0 where
   pub map : numbered_map w M.id ≡ Some M
   pub origin : IsSome (module_at M.modules m)
@@ -48,7 +48,7 @@ abbrev pub module_named : ModuleDefId → Option ModuleId
 module_named (def.ModuleId m) = Some m
 module_named _ = None
 
--- the module that a path leads to: none where a segment is left, or no module stands in types
+-- the module that a path resolves to: none where a segment is left, or the type is no module
 abbrev pub module_reached : PerNs → Option ℕ → Option ModuleId
 module_reached x left = elim left [ Some i ↦ None | None ↦ option_and_then (λ i. module_named i.def) x.types ]
 
@@ -56,8 +56,8 @@ module_reached x left = elim left [ Some i ↦ None | None ↦ option_and_then (
 abbrev pub block_in : World → ModuleId → Option BlockId
 block_in w t = option_and_then (λ T. T.id.block) (map_of w t)
 
--- The module that a visibility of a map names for t: t itself where it lies in a map of the same block, or both are in none. For any
--- other the map's root stands, but within an `impl`.
+-- The module that a visibility of a map names for t: t itself where it lies in a map of the same block, or both are in
+-- none, and within an `impl`. Any other is replaced by the map's root.
 abbrev pub restricted : World → Map → Bool → ModuleId → ModuleId
 restricted w M within_impl t = if within_impl || same_block (block_in w t) M.id.block then t else M.root
 
@@ -65,15 +65,15 @@ restricted w M within_impl t = if within_impl || same_block (block_in w t) M.id.
 abbrev pub by_path : World → Map → Bool → VisibilityExplicitness → ResolvePathResult → Option Visibility
 by_path w M within_impl e a = option_map (λ t. Module (restricted w M within_impl t) e) (module_reached a.resolved_def a.segment_index)
 
--- What a visibility means that is written in module m of a map. Its path is no import's, has modules before builtin types, and
--- expects no macro.
+-- What a raw visibility in module m of a map resolves to. Its path is not an import's, modules shadow builtin types in
+-- it, and it expects no macro.
 abbrev pub raw_visibility : World → LocalMap → Map → ModuleId → Bool → RawVisibility → Option Visibility
 raw_visibility w L M m within_impl (raw.Module p e) = by_path w M within_impl e (answer w L (asked m Other shadow.Module None p.kind) p.segments)
 raw_visibility w L M m within_impl (raw.PubSelf e) = Some (Module m e)
 raw_visibility w L M m within_impl raw.PubCrate = Some (PubCrate M.id.krate)
 raw_visibility w L M m within_impl raw.Public = Some Public
 
--- an item whose visibility means nothing is public
+-- an item whose raw visibility does not resolve is public
 abbrev pub or_public : Option Visibility → Visibility
 or_public v = option_map_or (λ x. x) v Public
 
@@ -88,7 +88,7 @@ variant_def (variant.EnumVariantId v) = def.EnumVariantId v
 variant_def (variant.StructId s) = def.AdtId (adt.StructId s)
 variant_def (variant.UnionId u) = def.AdtId (adt.UnionId u)
 
--- what the visibilities of a list mean in a module, in order
+-- what the raw visibilities of a list resolve to in a module, in order
 abbrev pub visibilities_in : World → ModuleId → List RawVisibility → List Visibility
 visibilities_in w m vs = map (visibility_in w m false) vs
 
@@ -107,7 +107,7 @@ assoc_def (assoc.TypeAliasId t) = def.TypeAliasId t
 abbrev pub or_unset : Option RawVisibility → RawVisibility
 or_unset v = option_map_or (λ x. x) v (raw.PubSelf Implicit)
 
--- what a visibility means that is written at a definition: in the definition's module
+-- what the raw visibility of a definition resolves to: in the definition's module
 abbrev pub written_at : World → ModuleDefId → Bool → RawVisibility → Visibility
 written_at w d within_impl v = or_public (option_map (λ m. visibility_in w m within_impl v) (def_module (homes_of w) d))
 

@@ -1,5 +1,5 @@
--- Worked rows: what the origin alone answers, what preludes alone answer, and paths through crates that enter each other, as equations
--- that compute.
+-- Examples: what a path resolves to in the origin alone, in preludes alone, and through crates that re-export each
+-- other, as equations that compute.
 use Rattle.std.specs.Prelude.{◌≡◌, [], ◌∷◌, Some, None, true, false, codes, refl}
 use Rattle.dm_ids.specs.declared.item_ids.ItemKind.TheVariants as item
 use Rattle.dm_ids.specs.declared.source.Edition.TheVariants.{Edition2021}

@@ -1,4 +1,4 @@
--- Rows of the two versions of the rules: what macros of preludes are found, as equations that compute.
+-- Examples of the two versions of the rules: which macros of preludes are found, as equations that compute.
 use Rattle.std.specs.Prelude.{◌≡◌, [], ◌∷◌, Some, None, false, codes, refl}
 use Rattle.dm_base.specs.declared.mod_path.PathKind.TheVariants as kind
 use Rattle.dm_base.specs.declared.visibility.Visibility.TheVariants.{Public}

@@ -1,4 +1,4 @@
--- Rows of shadowing: what each path answers, as equations that compute.
+-- Examples of shadowing: what each path resolves to, as equations that compute.
 use Rattle.std.specs.Prelude.{◌≡◌, [], ◌∷◌, Some, None, false, codes, refl}
 use Rattle.dm_base.specs.declared.mod_path.PathKind.TheVariants as kind
 use Rattle.dm_base.specs.declared.visibility.Visibility.TheVariants.{Public}
@@ -10,13 +10,13 @@ use Rattle.hir_def_map.specs.Paths.{answer}
 use Rattle.hir_def_map.specs.Written.{meaning, said, an_item, a_struct, a_function, by_rules, named}
 use Rattle.hir_def_map.specs.WorldS.{world_s}
 
--- a named import takes the place of what a glob brought
+-- a named import shadows a glob import: explicit names win over globs
 pub glob_and_import : meaning world_s [] 0 mode.Other shadow.Module None kind.Plain (codes "A" ∷ [])
     ≡ said (Some (an_item (a_struct 1) Public (Some (named 0 1)))) None None Yes None false false
 unfolding answer
 glob_and_import = refl
 
--- of two legacy macros under one name the last counts, where it fits
+-- textual scope: of two legacy macros of one name the last shadows the first, where it fits
 pub last_legacy : meaning world_s [] 0 mode.Other shadow.Module (Some Bang) kind.Plain (codes "mm" ∷ [])
     ≡ said None None (Some (an_item (by_rules 1) Public None)) Yes None false false
 unfolding answer

@@ -1,4 +1,4 @@
--- Worked rows: what each path answers, as equations that compute.
+-- Examples: what each path resolves to, as equations that compute.
 use Rattle.std.specs.Prelude.{◌≡◌, [], ◌∷◌, Some, None, false, codes, refl}
 use Rattle.dm_ids.specs.declared.builtin_type.BuiltinType.TheVariants as builtin
 use Rattle.dm_ids.specs.declared.builtin_type.BuiltinUint.TheVariants as uint

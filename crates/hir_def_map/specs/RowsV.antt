@@ -1,4 +1,4 @@
--- Worked rows: what visibilities mean that are written, as equations that compute.
+-- Examples: what raw visibilities resolve to, as equations that compute.
 use Rattle.std.specs.Prelude.{◌≡◌, [], ◌∷◌, Some, true, false, codes, refl}
 use Rattle.dm_base.specs.declared.mod_path.PathKind.TheVariants as kind
 use Rattle.dm_base.specs.declared.visibility.RawVisibility.TheVariants as raw
@@ -9,7 +9,8 @@ use Rattle.hir_def_map.specs.RawVisibilities.{raw_visibility, visibilities_in}
 use Rattle.hir_def_map.specs.WorldA.{world_a, externs, map_of_block}
 use Rattle.hir_def_map.specs.Written.{number, within, within_crate}
 
--- `pub(in crate)` in module 6, which lies in a block: the crate's root is in another map, so the block's root stands
+-- `pub(in crate)` in module 6, which lies in a block: the crate's root is in another map, so the block's root replaces
+-- it
 pub outside_an_impl : raw_visibility world_a externs map_of_block (number 6) false (raw.Module (record { kind = kind.Crate; segments = [] }) Explicit)
     ≡ Some (within 5 Explicit)
 unfolding answer

@@ -1,4 +1,4 @@
--- A walk along the segments of a path: the plain program of which the answer at the stop is the meaning.
+-- Path resolution as a walk along the segments: the plain program, which gives the answer at the stop (specs/Paths).
 use Rattle.std.specs.Prelude.{ℕ, ◌+◌, Bool, true, false, List, [], ◌∷◌, Option, Some, None, if◌then◌else◌}
 use Rattle.dm_ids.specs.declared.ids.ModuleId.{ModuleId}
 use Rattle.dm_ids.specs.declared.imports.ImportOrExternCrate.{ImportOrExternCrate}
@@ -19,7 +19,7 @@ abbrev pub marked : Bool → ResolvePathResult → ResolvePathResult
 marked false a = a
 marked true a = record a { reached_fixedpoint = Yes; prefix_info = record { differing_crate = true; enum_variant = a.prefix_info.enum_variant } }
 
--- where a walk stands: whether it has come into another crate, from where it sees, what it has reached
+-- the state of a walk: whether it has come into another crate, from where it sees, what it has reached
 pub record Stand : Type 0 where
   pub differing : Bool
   pub origin : ModuleId
@@ -32,7 +32,7 @@ starting f x = record { differing = false; origin = f; here = x }
 abbrev pub in_types : Option (Item ModuleDefId ImportOrExternCrate) → PerNs
 in_types x = record { types = x; values = None; macros = None }
 
--- A path goes on by what it has reached as a type alone: where a walk stands while segments are left.
+-- A path goes on by the type alone that it has reached: the state of a walk while segments are left.
 abbrev pub standing : Bool → ModuleId → Option (Item ModuleDefId ImportOrExternCrate) → Stand
 standing d f x = record { differing = d; origin = f; here = in_types x }
 
@@ -51,7 +51,7 @@ abbrev pub module_in : ModuleDefId → Option ModuleId
 module_in (def.ModuleId m) = Some m
 module_in _ = None
 
--- The answer where what stands is no module and segments are left. `is_last` says that one is.
+-- The answer where what is reached is no module and segments are left. `is_last` says that one is.
 abbrev pub left_at : Item ModuleDefId ImportOrExternCrate → ℕ → Reading → Bool → ModuleDefId → ResolvePathResult
 left_at i pos s is_last (def.AdtId c) = at_adt i pos s is_last c
 left_at i pos s is_last _ = stopped i pos

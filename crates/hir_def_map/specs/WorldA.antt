@@ -1,4 +1,4 @@
--- A worked world of two crates and two blocks.
+-- An example world of two crates and two blocks.
 use Rattle.std.specs.Prelude.{[], ◌∷◌, Some, None, codes}
 use Rattle.dm_ids.specs.declared.fields_shape.FieldsShape.TheVariants.{Tuple}
 use Rattle.dm_ids.specs.declared.imports.ImportOrDef.TheVariants as stands_for

@@ -1,4 +1,5 @@
--- The worked world of two crates and two blocks, with module 3 as the prelude of its first crate, and two macros there.
+-- The example world of two crates and two blocks, with module 3 as the prelude of its first crate, and two macros
+-- there.
 use Rattle.std.specs.Prelude.{Some, None, codes}
 use Rattle.dm_ids.specs.declared.item_ids.MacroId.{MacroId}
 use Rattle.dm_ids.specs.declared.macros.MacroLoc.TheVariants.{Proc}

@@ -1,4 +1,4 @@
--- A worked world of shadowing: pushes under one name, macros under one name, and modules of blocks inside one another.
+-- An example world of shadowing: a glob and a named import of one name, legacy macros of one name, and nested blocks.
 use Rattle.std.specs.Prelude.{[], ◌∷◌, Some, None, codes}
 use Rattle.dm_ids.specs.declared.macros.MacroExpander.TheVariants.{Declarative}
 use Rattle.dm_ids.specs.declared.macros.MacroLoc.TheVariants.{MacroRules}

@@ -1,4 +1,4 @@
--- A worked world of one crate.
+-- An example world of one crate.
 use Rattle.std.specs.Prelude.{[], ◌∷◌, Some, None, codes}
 use Rattle.dm_ids.specs.declared.item_ids.ItemKind.TheVariants as kind
 use Rattle.dm_ids.specs.declared.source.Edition.TheVariants.{Edition2021}

@@ -1,4 +1,4 @@
--- Short forms for worked worlds and rows, after the words of the script.
+-- Short forms for example worlds and rows, after the words of the script language.
 use Rattle.std.specs.Prelude.{ℕ, Bool, List, [], Option, Some, None}
 use Rattle.dm_ids.specs.declared.ids.ModuleId.{ModuleId}
 use Rattle.dm_ids.specs.declared.ids.MapId.{MapId}

@@ -1,4 +1,4 @@
-//! The answers that a path can end with.
+//! The results that path resolution can end with.
 ghost use Rattle.std.specs.Prelude.{◌≡◌};
 ghost use Rattle.dm_base.specs.Overlays.{greatest};
 ghost use Rattle.hir_def_map.specs.Answers.{reached, nothing_yes, nothing_no, stopped, variant_answer, settled, over_answer, either_yes};

@@ -1,4 +1,4 @@
-//! What a first segment selects.
+//! Resolves the first segment of a path: layers of names, each of which shadows the next.
 ghost use Rattle.std.specs.Prelude.{◌≡◌, ◌&&◌};
 ghost use Rattle.std.specs.List.{AllByRecursion};
 ghost use Rattle.dm_base.specs.PerNs.{overlay};
@@ -40,7 +40,7 @@ fn asks_root(ask: &Ask) -> bool
     }
 }
 
-/// Whether builtin types go before the scope, which binds `own`.
+/// Whether builtin types shadow the scope, which binds `own`.
 fn are_builtins_first(ask: &Ask, own: &PerNs, is_last: bool) -> bool
     ensures { result ≡ are_builtins_first ask.now own.now is_last }
 {
@@ -51,7 +51,7 @@ fn are_builtins_first(ask: &Ask, own: &PerNs, is_last: bool) -> bool
     matches!(ask.shadow, BuiltinShadowMode::Other) && is_last && is_module
 }
 
-/// The layers, one over the other: in each namespace the first item that is there.
+/// The layers, each of which shadows the next: in each namespace the first item that there is.
 fn overlay(layers: &[PerNs]) -> PerNs
     ensures value { result ≡ overlay layers.now }
     ensures known { (w : World) → AllByRecursion (λ x. KnowsAll w (res_holds x)) layers.now → KnowsAll w (res_holds result) }

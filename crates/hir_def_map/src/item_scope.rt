@@ -1,4 +1,4 @@
-//! What names a module binds, and by which imports.
+//! The item scope of a module: which names it binds, and by which imports.
 pub use dm_base::definition::Definition;
 pub use dm_base::import_source::ImportSource;
 pub use dm_base::imports::{GlobId, ImportId, ImportOrDef, ImportOrExternCrate, ImportOrGlob};

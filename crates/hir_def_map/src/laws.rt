@@ -1,4 +1,4 @@
-//! Laws of questions and answers, for proofs above. A law does nothing: what has to be proved by it calls it.
+//! Lemmas about path resolution, for proofs of callers. Each is a function without effect: code calls it for its proof.
 ghost use Rattle.std.specs.Prelude.{◌≡◌, List, Some};
 ghost use Rattle.dm_ids.specs.Names.{Name};
 ghost use Rattle.dm_base.specs.Tree.{IsKnown, home};
@@ -29,7 +29,7 @@ pub fn enters_at_home(world: &World, m: ModuleId)
     let _inside = world.home(m);
 }
 
-/// Two worlds and local maps that have the same under the segments of a path answer it alike.
+/// Two worlds and local maps that agree on the names of a path's segments resolve it alike.
 pub fn answers_alike()
     ensures { (w v : worlds.World) (L K : LocalMap) (q : Ask) (S : List Name) → cut v S ≡ cut w S → cut_local K S ≡ cut_local L S → answer v K q S ≡ answer w L q S }
 {}

@@ -1,4 +1,4 @@
-//! What a first segment selects, layer by layer.
+//! The layers of names that a first segment is looked up in.
 ghost use Rattle.std.specs.Prelude.{◌≡◌, IsTrue, None};
 ghost use Rattle.std.specs.Option.{ForSome};
 ghost use Rattle.dm_base.specs.PerNs.{keep};
@@ -186,7 +186,8 @@ pub(crate) fn root_scope(world: &World, m: ModuleId, segment: &Name) -> PerNs
     }
 }
 
-/// The last legacy macro of a module, if it fits.
+/// The last legacy macro of a name in a module, if it fits: in textual scope (`macro_rules!` and `#[macro_use]` before
+/// macros 2.0, where a macro is visible in the text after it) a later macro shadows an earlier one.
 #[tactic(auto, unfolding(dm_maps::specs::Readings::read))]
 pub(crate) fn legacy(
     world: &World,

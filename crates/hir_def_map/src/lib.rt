@@ -1,8 +1,8 @@
-//! What paths mean: name resolution over a checked world.
+//! Name resolution: what paths resolve to over a checked world of def maps.
 //!
-//! All that callers name stands here under the modules of the Rust crate: `builtin_type`, `per_ns`, `visibility`, `item_scope`,
-//! `nameres` and `nameres::diagnostics`. What these speak of has modules of its own: numbers of things in `ids`, kinds of
-//! definitions in `item_ids`, `name`, `symbol`, `mod_path`, `source` and `fields_shape`.
+//! All public items are here under the modules of the Rust crate: `builtin_type`, `per_ns`, `visibility`, `item_scope`,
+//! `nameres` and `nameres::diagnostics`. The types in their signatures have modules of their own: ids in `ids`, kinds
+//! of definitions in `item_ids`, `name`, `symbol`, `mod_path`, `source` and `fields_shape`.
 #![tactic(auto)]
 
 mod answers;

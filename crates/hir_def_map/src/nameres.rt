@@ -1,4 +1,4 @@
-//! The maps of crates and blocks, checked worlds of them, and what paths mean in one.
+//! The def maps of crates and blocks, checked worlds of them, and path resolution over one.
 pub use crate::path_resolution::ResolvePath;
 pub use crate::result::{
     ReachedFixedPoint, ResolveMode, ResolvePathResult, ResolvePathResultPrefixInfo,

@@ -1,4 +1,4 @@
-//! Answers laid over one another: what the upper one lacks shows through from the lower one.
+//! Merging answers, as `PerNs::or` does with items: what the upper answer lacks is taken from the lower one.
 ghost use Rattle.std.specs.Prelude.{refl};
 ghost use Rattle.hir_def_map.specs.declared.result.ReachedFixedPoint.TheVariants.{No};
 ghost use Rattle.hir_def_map.specs.Answers.{no_flags, nothing_no, either_yes, either_flags, over_answer};

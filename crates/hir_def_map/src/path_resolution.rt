@@ -1,4 +1,4 @@
-//! Paths, resolved over a checked world.
+//! Path resolution over a checked world.
 ghost use Rattle.std.specs.Prelude.{◌≡◌, None, Some, IsSome, IsTrue, length};
 ghost use Rattle.std.specs.Option.{ForSome};
 ghost use Rattle.dm_base.specs.Tree.{IsKnown};
@@ -30,18 +30,19 @@ use dm_maps::local_def_map::LocalDefMap;
 use dm_maps::modes::{BuiltinShadowMode, MacroSubNs};
 use dm_maps::world::World;
 
-/// What a map resolves. No call takes memory (docs/RULES.md, "Paths").
+/// What a map resolves. No call allocates (docs/RULES.md, "Paths").
 ///
-/// A question has an origin, the module that asks; the local map, which is the extern prelude, as `local_def_map` gives a crate's;
-/// a mode, of an import or not; `shadow`, whether builtin types may go before modules; and what kind of macro is expected. It has
-/// to be one that the world knows: the map is the world's of its id, the origin lies in it, or for the calls on preludes in any map
-/// of its crate, and local map and path name only what the world has (`World::knows_local`, `World::knows_path`).
+/// The parameters are the origin, the module that the path is written in; the local map, which is the extern prelude,
+/// as `local_def_map` gives a crate's; a mode, of an import or not; `shadow`, whether builtin types may shadow modules;
+/// and what kind of macro is expected. All ids have to be the world's: the map is the world's of its id, the origin
+/// lies in it, or for the calls on preludes in any map of its crate, and local map and path name only what the world
+/// has (`World::knows_local`, `World::knows_path`).
 pub trait ResolvePath {
     /// The map, as contracts see it.
     ghost map: { Self → Map };
 
-    /// What a path means from a module of this map: definitions per namespace, the first segment that is left unresolved, the
-    /// status, and what the path went through.
+    /// What a path resolves to from a module of this map: definitions per namespace, the first segment that is left
+    /// unresolved, the status, and what the path went through.
     fn resolve_path_fp_with_macro(
         &self,
         local: &LocalDefMap,
@@ -57,10 +58,11 @@ pub trait ResolvePath {
         ensures lawful { IsAnswer (length path.now.segments) result }
         ensures known { KnowsAll world.now (res_holds result.resolved_def) }
 
-        // It is the answer of what world and local map have under the path's segments: where two have the same, they answer alike.
+        // Only what world and local map say of the names in the path is read: where two agree on that, they answer
+        // alike.
         ensures local { result ≡ local_answer world.now local.now (asked original_module mode shadow expected_macro_subns path.now.kind) path.now.segments };
 
-    /// What the origin alone answers, without the modules outside its block and without the preludes.
+    /// What a path resolves to in the origin alone, without the modules outside its block and without the preludes.
     fn resolve_path_fp_with_macro_single(
         &self,
         local: &LocalDefMap,
@@ -77,7 +79,8 @@ pub trait ResolvePath {
         ensures known { KnowsAll world.now (res_holds result.resolved_def) }
         ensures local { result ≡ local_answer_alone world.now local.now (asked original_module mode shadow expected_macro_subns path.now.kind) path.now.segments };
 
-    /// What the preludes of this map alone answer, seen from a module, which may lie in any map of the crate.
+    /// What a path resolves to in the preludes of this map alone, seen from a module, which may lie in any map of the
+    /// crate.
     fn resolve_path_fp_in_all_preludes_with_macro(
         &self,
         local: &LocalDefMap,
@@ -94,7 +97,7 @@ pub trait ResolvePath {
         ensures known { KnowsAll world.now (res_holds result.resolved_def) }
         ensures local { result ≡ local_prelude_answer world.now local.now (map self.now).id (asked original_module mode shadow expected_macro_subns path.now.kind) path.now.segments };
 
-    /// What the preludes of this map alone answer, where nothing is expected of a macro.
+    /// What a path resolves to in the preludes of this map alone, where no kind of macro is expected.
     fn resolve_path_fp_in_all_preludes(
         &self,
         local: &LocalDefMap,
@@ -110,7 +113,7 @@ pub trait ResolvePath {
         ensures known { KnowsAll world.now (res_holds result.resolved_def) }
         ensures local { result ≡ local_prelude_answer world.now local.now (map self.now).id (asked original_module mode shadow None path.now.kind) path.now.segments };
 
-    /// The definitions of a path that is no import, and the first segment that is left.
+    /// The definitions that a path, not of an import, resolves to, and the first segment that is left.
     fn resolve_path(
         &self,
         local: &LocalDefMap,
@@ -128,8 +131,8 @@ pub trait ResolvePath {
         ensures local_found { result.0 ≡ (local_answer world.now local.now (asked original_module Other shadow expected_macro_subns path.now.kind) path.now.segments).resolved_def }
         ensures local_left { result.1 ≡ (local_answer world.now local.now (asked original_module Other shadow expected_macro_subns path.now.kind) path.now.segments).segment_index };
 
-    /// The definitions that the origin alone gives a path that is no import, where nothing is expected of a macro, the first segment
-    /// that is left, and what the path went through.
+    /// The definitions that a path, not of an import, resolves to in the origin alone, where no kind of macro is
+    /// expected, the first segment that is left, and what the path went through.
     fn resolve_path_locally(
         &self,
         local: &LocalDefMap,
@@ -148,8 +151,8 @@ pub trait ResolvePath {
         ensures local_left { result.1 ≡ (local_answer_alone world.now local.now (asked original_module Other shadow None path.now.kind) path.now.segments).segment_index }
         ensures local_through { result.2 ≡ (local_answer_alone world.now local.now (asked original_module Other shadow None path.now.kind) path.now.segments).prefix_info };
 
-    /// What a visibility means that is written in a module of this map; none where its path leads to no module. Within an `impl` it
-    /// may name a module of any block; elsewhere the map's root stands for a module of another block.
+    /// What a raw visibility in a module of this map resolves to; none where its path leads to no module. Within an
+    /// `impl` it may name a module of any block; elsewhere a module of another block is replaced by the map's root.
     fn resolve_visibility(
         &self,
         local: &LocalDefMap,
@@ -331,7 +334,7 @@ impl ResolvePath for DefMap {
     }
 }
 
-/// A module of a map of the world is known, and so are the map's root and crate. It does nothing: what a question requires says it.
+/// A lemma, as a function without effect: a module of a map of the world is known, and so are the map's root and crate.
 fn origin_known(world: &World, map: &DefMap, m: ModuleId)
     requires map { numbered_map world.now map.now.id ≡ Some map.now }
     requires lies { IsSome (module_at map.now.modules m) }

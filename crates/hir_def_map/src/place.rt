@@ -1,4 +1,4 @@
-//! What asks for a first segment.
+//! The places where a first segment is looked up.
 ghost use Rattle.std.specs.Prelude.{◌≡◌};
 ghost use Rattle.dm_maps.specs.Readings.{setting_of};
 ghost use Rattle.dm_maps.specs.Trees.{tree_of};
@@ -8,7 +8,7 @@ use dm_base::ids::{MapId, ModuleId};
 use dm_base::module_tree::ModuleTree;
 use dm_maps::world::World;
 
-/// What asks: a module, or the preludes of a map, seen from a module.
+/// Where a first segment is looked up: a module, or the preludes of a map, seen from a module.
 #[derive(Clone, Copy)]
 pub(crate) enum Place {
     In(ModuleId),

@@ -1,4 +1,4 @@
-//! The places that a question asks.
+//! Resolves a path place by place: from the origin outwards through its blocks, and then in the preludes.
 ghost use Rattle.std.specs.Prelude.{◌≡◌, map};
 ghost use Rattle.dm_base.specs.Tree.{IsKnown};
 ghost use Rattle.dm_maps.specs.Known.{KnowsAll};

@@ -1,4 +1,4 @@
-//! Questions.
+//! The parameters of a path resolution.
 ghost use Rattle.std.specs.Prelude.{◌≡◌};
 ghost use Rattle.hir_def_map.specs.Paths.{asked};
 
@@ -7,8 +7,8 @@ use dm_base::ids::ModuleId;
 use dm_base::mod_path::PathKind;
 use dm_maps::modes::{BuiltinShadowMode, MacroSubNs};
 
-/// A question but for its segments: from where it is asked, for an import or not, whether builtin types may go before
-/// modules, what macro is expected, and where its path begins.
+/// The parameters of a path resolution except the segments: the origin, for an import or not, whether builtin types may
+/// shadow modules, what kind of macro is expected, and the kind of its path.
 #[derive(Clone, Copy)]
 pub(crate) struct Ask {
     pub(crate) origin: ModuleId,

@@ -1,4 +1,4 @@
-//! What a path resolves to.
+//! The result of path resolution.
 ghost use Rattle.std.specs.Prelude.{◌≡◌};
 ghost use Rattle.std.proofs.Common.{rules};
 ghost use Rattle.hir_def_map.specs.Answers.{no_flags};
@@ -13,8 +13,8 @@ pub enum ResolveMode {
     Other,
 }
 
-/// The status of an answer. `No` comes with nothing alone. `Yes` comes with all that is found, and with nothing too, as for a name
-/// alone that is not bound: it does not say that later pushes would leave the answer.
+/// The status of an answer. `No` comes only where nothing was found. `Yes` comes with all that is found, and with
+/// nothing too, as for a path of one name that is not bound: it does not promise that later pushes keep the answer.
 #[derive(Clone, Copy, PartialEq, Eq, Debug)]
 pub enum ReachedFixedPoint {
     Yes,
@@ -42,7 +42,7 @@ impl Default for ResolvePathResultPrefixInfo {
     }
 }
 
-/// What a path resolves to.
+/// The result of path resolution.
 #[derive(Clone, Copy, PartialEq, Eq, Debug)]
 pub struct ResolvePathResult {
     /// The definitions, per namespace.

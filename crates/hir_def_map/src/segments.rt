@@ -1,4 +1,4 @@
-//! The segments of a path after the first, one after another.
+//! Resolves the segments of a path after the first, one after another.
 ghost use Rattle.std.specs.Prelude.{◌≡◌, ◌≤◌, [], ◌∷◌, map};
 ghost use Rattle.std.specs.Option.{ForSome, option_copied};
 ghost use Rattle.dm_base.specs.PerNs.{keep, seen_by};
@@ -160,7 +160,7 @@ fn module_in(item: &TypesItem) -> Option<ModuleId>
     }
 }
 
-/// The answer where a type stands that is no module, and segments are left.
+/// The answer where a segment resolved to a type that is no module, and segments are left.
 #[tactic(auto, unfolding(dm_maps::specs::Readings::read))]
 fn left_at(
     world: &World,
@@ -205,7 +205,7 @@ fn last_answer(
     marked(into.differing, reached(found))
 }
 
-/// The answer of a walk along the segments, where `position` segments are behind it and `here` is reached, seen from a module.
+/// The answer of a walk along the segments, where `position` segments are resolved, to `here`, seen from a module.
 ///
 /// While segments are left, a path goes on by what it has reached as a type alone.
 #[tactic(auto, unfolding(dm_maps::specs::Readings::read))]

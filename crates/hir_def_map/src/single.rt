@@ -1,4 +1,4 @@
-//! What one place answers.
+//! Path resolution at one place: in a module, or in the preludes of a map.
 ghost use Rattle.std.specs.Prelude.{◌≡◌, ◌≤◌, if◌then◌else◌, map};
 ghost use Rattle.dm_base.specs.Tree.{IsKnown};
 ghost use Rattle.dm_maps.specs.Known.{KnowsAll};
@@ -42,7 +42,7 @@ fn answer_from(
     walk(world, from, &here, position, segments)
 }
 
-/// A module, as what a path has reached.
+/// A module, as what a path has resolved to so far.
 fn root_item(world: &World, m: ModuleId) -> PerNs
     requires { IsKnown (tree_of world.now) m }
     ensures value { result ≡ root_item m }
@@ -51,7 +51,7 @@ fn root_item(world: &World, m: ModuleId) -> PerNs
     PerNs::types(ModuleDefId::ModuleId(m), Visibility::Public, None)
 }
 
-/// From the root of a crate.
+/// Resolves from the root of a crate.
 #[tactic(auto, unfolding(dm_maps::specs::Readings::setting_of))]
 fn from_root(world: &World, m: ModuleId, krate: Crate, segments: &[Name]) -> ResolvePathResult
     requires { IsKnown (tree_of world.now) m }
@@ -75,7 +75,8 @@ fn enter(world: &World, m: ModuleId, segments: &[Name]) -> ResolvePathResult
     settled(world.block(inside).is_some(), answer)
 }
 
-/// From member `k` of the chain without the roots of blocks. One of another map is entered.
+/// Resolves from ancestor `k`, as `k` times `super::`, and `self::` where it is 0; roots of blocks do not count. One of
+/// another map is entered.
 fn from_super(world: &World, m: ModuleId, k: u8, segments: &[Name]) -> ResolvePathResult
     requires { IsKnown (tree_of world.now) m }
     ensures value { (L : LocalMap) → result ≡ from_super (tree_of world.now) m k (map (read world.now L) segments.now) }
@@ -113,7 +114,7 @@ fn after_first(
     }
 }
 
-/// By what the first segment selects.
+/// A path that begins with a name or `::`: resolves its first segment, and goes on from there.
 #[tactic(auto, unfolding(dm_maps::specs::Readings::setting_of))]
 fn by_first_segment(
     world: &World,
@@ -138,7 +139,7 @@ fn by_first_segment(
     }
 }
 
-/// What one place answers.
+/// Path resolution at one place: in a module, or in the preludes of a map.
 #[tactic(auto, unfolding(dm_maps::specs::Readings::setting_of))]
 pub(crate) fn single(
     world: &World,

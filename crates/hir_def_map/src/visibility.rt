@@ -1,4 +1,5 @@
-//! Who sees an item, and what visibilities mean that are written (docs/RULES.md, "Visibilities as they are written").
+//! Resolves raw visibilities, and tells the visibility of fields and associated items (docs/RULES.md, "Visibilities as
+//! they are written").
 ghost use Rattle.std.specs.Prelude.{◌≡◌, IfOk};
 ghost use Rattle.std.specs.List.{AllByRecursion};
 ghost use Rattle.dm_ids.specs.declared.item_ids.AssocItemId.{AssocItemId};
@@ -22,7 +23,7 @@ use dm_maps::local_def_map::LocalDefMap;
 use dm_maps::world::World;
 use std::alloc::{AllocError, Global};
 
-/// The module that a path leads to: none where a segment is left, or no module stands in types.
+/// The module that a path resolves to: none where a segment is left, or the type is no module.
 pub(crate) fn module_reached(found: PerNs, left: Option<usize>) -> Option<ModuleId>
     ensures { result ≡ module_reached found left }
 {
@@ -45,7 +46,8 @@ fn block_in(world: &World, m: ModuleId) -> Option<BlockId>
     }
 }
 
-/// The module that a visibility of a map names for `m`: of another block's map the root stands for it, but within an `impl`.
+/// The module that a visibility of a map names for `m`: outside an `impl`, the map's root replaces a module of another
+/// block.
 pub(crate) fn restricted(world: &World, map: &DefMap, within_impl: bool, m: ModuleId) -> ModuleId
     ensures { result ≡ restricted world.now map.now within_impl m }
 {
@@ -56,12 +58,12 @@ pub(crate) fn restricted(world: &World, map: &DefMap, within_impl: bool, m: Modu
     }
 }
 
-/// What resolves visibilities: `Visibility` itself.
+/// Resolution of raw visibilities, as functions of `Visibility`.
 pub trait ResolveVisibility {
-    /// What a visibility means that is written in a module of a map: public where its path leads to no module.
+    /// What a raw visibility in a module of a map resolves to: public where its path leads to no module.
     ///
     /// The map has to be the world's of its id, the module one of it, and the world has to know local map and path
-    /// (`World::knows_local`, `World::knows_path`). Takes no memory.
+    /// (`World::knows_local`, `World::knows_path`). Allocates nothing.
     fn resolve(
         world: &World,
         map: &DefMap,
@@ -90,10 +92,10 @@ impl ResolveVisibility for Visibility {
     }
 }
 
-/// What a visibility means that is written in a module, by the module's own map and the extern prelude of its crate.
+/// What a raw visibility in a module resolves to, by the module's own map and the extern prelude of its crate.
 ///
-/// The world has to know the path (`World::knows_path`). Of a module that it does not have, anything is public. Takes no
-/// memory.
+/// The world has to know the path (`World::knows_path`). In a module that it does not have, everything is public.
+/// Allocates nothing.
 pub fn visibility_from_raw(
     world: &World,
     m: ModuleId,
@@ -118,7 +120,7 @@ pub struct VariantFields;
 impl VariantFields {
     /// Who sees each field of a variant, a struct or a union of the world's, in order; none where no fields were set.
     ///
-    /// Refused is want of memory alone.
+    /// Fails only where an allocation fails.
     pub fn field_visibilities(
         alloc: Global,
         world: &World,
@@ -147,7 +149,7 @@ fn variant_def(variant: VariantId) -> ModuleDefId
     }
 }
 
-/// What the visibilities of fields mean in a module, in order.
+/// What the raw visibilities of fields resolve to in a module, in order.
 fn visibilities_in(
     alloc: Global,
     world: &World,
@@ -168,13 +170,13 @@ fn visibilities_in(
     Ok(seen)
 }
 
-/// What has a visibility by what it lies in: associated items.
+/// Associated items, whose visibility depends on the trait or impl that contains them.
 pub trait AssocVisibility {
     /// The item, as contracts see it.
     ghost item: { Self → AssocItemId };
 
-    /// Who sees an associated item of the world's: in a trait who sees the trait, else by its own visibility, which
-    /// in an `impl` may name a module of any block. Takes no memory.
+    /// The visibility of an associated item of the world's: in a trait that of the trait, else its own, which in an
+    /// `impl` may name a module of any block. Allocates nothing.
     fn assoc_visibility(self, world: &World) -> Visibility
         requires { KnowsAll world.now (def_holds (assoc_def (item self))) }
         ensures value { result ≡ assoc_visibility_of world.now (item self) }
@@ -204,14 +206,14 @@ fn assoc_def(item: AssocItemId) -> ModuleDefId
     }
 }
 
-/// The visibility of what has none written.
+/// The visibility of an item without a written one.
 fn unset() -> RawVisibility
     ensures { result ≡ raws.PubSelf Implicit }
 {
     RawVisibility::PubSelf(VisibilityExplicitness::Implicit)
 }
 
-/// What a visibility means that is written at a definition: in the definition's module.
+/// What the raw visibility of a definition resolves to: in the definition's module.
 fn written_at(world: &World, def: ModuleDefId, within_impl: bool, raw: &RawVisibility) -> Visibility
     requires { KnowsAll world.now (raw_holds raw.now) }
     ensures value { result ≡ written_at world.now def within_impl raw.now }
@@ -224,7 +226,7 @@ fn written_at(world: &World, def: ModuleDefId, within_impl: bool, raw: &RawVisib
     }
 }
 
-/// The visibility of an associated item, by what it lies in.
+/// The visibility of an associated item, by the trait or impl that contains it.
 fn by_container(
     world: &World,
     def: ModuleDefId,

@@ -1,4 +1,4 @@
-//! A scope that is filled call by call.
+//! Item scopes, filled call by call.
 mod changes;
 mod derives;
 mod lists;
@@ -77,7 +77,7 @@ struct Filled {
     globs: PerNsGlobImports,
 }
 
-/// Written out, since a scope let go in each function would be proved there each time.
+/// A hand-written `Drop`, since a scope dropped in each function would be proved there each time.
 impl Drop for Filled {
     fn drop(self) {
         let Filled {

@@ -1,4 +1,4 @@
-//! Scripts, and what they have to print.
+//! Transcripts: scripts, and what they have to print.
 //!
 //! A transcript has the lines of a script and what they print, each printed line behind `=> `, or `=>` where it is empty.
 //! `tools/refusals` and `tools/hostile` read the transcripts too.
@@ -33,7 +33,7 @@ struct Parted {
     printed: String,
 }
 
-/// Written out, since texts let go in each function would be proved there each time.
+/// A hand-written `Drop`, since texts dropped in each function would be proved there each time.
 impl Drop for Parted {
     fn drop(self) {
         let Parted {

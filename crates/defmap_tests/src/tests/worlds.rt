@@ -1,5 +1,5 @@
-//! The world of two crates and two blocks, by calls of a builder: each call that can be refused is made, and made once more
-//! where it is.
+//! The world of two crates and two blocks, by calls of a builder: each call that can fail is made, and made again where
+//! it fails.
 mod ancestry;
 mod crate_data;
 mod faults;
@@ -60,7 +60,7 @@ const OTHER_FILE: EditionedFileId = EditionedFileId {
     edition: Edition::Edition2015,
 };
 
-/// A macro call, which each module that is no root is written out in.
+/// A macro call, in whose expansion each module that is no root is inline.
 const CALL: MacroCallId = MacroCallId(6);
 
 const EXPANDED: ModuleOrigin = ModuleOrigin::Inline {
@@ -204,7 +204,7 @@ struct Building {
     globs: PerNsGlobImports,
 }
 
-/// Written out, since a builder let go in each function would be proved there each time.
+/// A hand-written `Drop`, since a builder dropped in each function would be proved there each time.
 impl Drop for Building {
     fn drop(self) {
         let Building {
@@ -219,7 +219,7 @@ struct Checked {
     world: World,
 }
 
-/// Written out, as for a builder.
+/// A hand-written `Drop`, as for a builder.
 impl Drop for Checked {
     fn drop(self) {
         let Checked { world: _world } = self;
@@ -470,7 +470,7 @@ impl Building {
     }
 }
 
-/// What a check found, with the tables let go where it found a fault.
+/// What a check found; where it found a fault, the tables are dropped.
 fn outcome(checked: Result<World, (WorldBuilder, WorldFault)>) -> Result<Checked, WorldFault> {
     match checked {
         Ok(world) => Ok(Checked { world }),

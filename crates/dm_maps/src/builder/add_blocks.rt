@@ -23,9 +23,9 @@ use std::alloc::{AllocError, Global};
 impl WorldBuilder {
     /// Adds a block in the module `containing`, and answers its number.
     ///
-    /// Its map is one of the crate of that module, and has its root alone, which is seen in that module. Refused are, in
-    /// this order, `NoSuchModule` of a module that is not the builder's, `OutOfNumbers` where there are 4,294,967,295
-    /// modules, and `OutOfMemory`; the builder is then as it was.
+    /// Its map is one of the crate of that module, and has its root alone, which is seen in that module. Errors, tested
+    /// in this order: `NoSuchModule` of a module that is not the builder's, `OutOfNumbers` where there are
+    /// 4,294,967,295 modules, and `OutOfMemory`; the builder is then as it was.
     pub fn add_block(&mut self, containing: ModuleId, block: AstId) -> Result<BlockId, BuildFault>
         ensures ok { OnOk result (self.new ≡ with_block self.old containing block) }
         ensures number { IfOk result (λ b. b ≡ next_block self.old) }

@@ -1,4 +1,4 @@
-//! What went wrong while maps were made, added to a builder.
+//! Diagnostics of def maps, added to a builder.
 ghost use Rattle.std.specs.Prelude.{◌≡◌, OnOk, OnErr};
 ghost use Rattle.dm_maps.specs.BuildMaps.{with_diagnostic, map_fault};
 ghost use Rattle.dm_maps.specs.Faults.{Answers};
@@ -12,8 +12,8 @@ use dm_scope::diagnostics::DefDiagnostic;
 impl WorldBuilder {
     /// Adds what went wrong while a map was made, the last of that map's list.
     ///
-    /// Refused are, in this order, `NoSuchCrate` of a map that is not the builder's, and `OutOfMemory`; the builder is then
-    /// as it was. The module and the `$crate` of a path may not be the builder's: `check` finds that.
+    /// Errors, tested in this order: `NoSuchCrate` of a map that is not the builder's, and `OutOfMemory`; the builder
+    /// is then as it was. The module and the `$crate` of a path may not be the builder's: `check` finds that.
     pub fn add_diagnostic(
         &mut self,
         map: MapId,

@@ -18,8 +18,8 @@ use std::alloc::AllocError;
 impl WorldBuilder {
     /// Adds an item of that kind in a module, and answers it. Items of all kinds are numbered together.
     ///
-    /// Refused are, in this order, `NoSuchModule` of a module that is not the builder's, `OutOfNumbers` where there are
-    /// 4,294,967,295 items, and `OutOfMemory`; the builder is then as it was.
+    /// Errors, tested in this order: `NoSuchModule` of a module that is not the builder's, `OutOfNumbers` where there
+    /// are 4,294,967,295 items, and `OutOfMemory`; the builder is then as it was.
     pub fn add_item(&mut self, kind: ItemKind, m: ModuleId) -> Result<ModuleDefId, BuildFault>
         ensures ok { OnOk result (self.new ≡ with_item self.old kind m) }
         ensures number { IfOk result (λ def. def ≡ item_def kind (length self.old.items)) }

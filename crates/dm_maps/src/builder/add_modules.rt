@@ -29,7 +29,7 @@ pub(crate) const LAST_NUMBER: usize = 4_294_967_295;
 impl WorldBuilder {
     /// Adds a crate, whose root lies in that file and is seen by everyone, and answers its number.
     ///
-    /// Its map and its extern prelude are numbered with it. Refused are `OutOfNumbers`, where there are 4,294,967,295
+    /// Its map and its extern prelude are numbered with it. Errors are `OutOfNumbers`, where there are 4,294,967,295
     /// modules, and `OutOfMemory`; the builder is then as it was.
     pub fn add_crate(
         &mut self,
@@ -88,9 +88,9 @@ impl WorldBuilder {
     /// Adds a module below `parent`, and answers its number. Its origin has to be that of a child: a file or inline
     /// (`ModuleOrigin::is_child`).
     ///
-    /// Refused are, in this order, `NoSuchModule` of a parent that is not the builder's, `TakenChild` where the parent
-    /// has a child of that name, `OutOfNumbers` and `OutOfMemory`; the builder is then as it was. The visibility may name
-    /// what is not the builder's: `check` finds that.
+    /// Errors, tested in this order: `NoSuchModule` of a parent that is not the builder's, `TakenChild` where the
+    /// parent has a child of that name, `OutOfNumbers` and `OutOfMemory`; the builder is then as it was. The visibility
+    /// may name what is not the builder's: `check` finds that.
     pub fn add_module(
         &mut self,
         parent: ModuleId,
@@ -118,9 +118,11 @@ impl WorldBuilder {
         }
     }
 
-    /// The fault for which a child of the name of that text is refused, if there is one, want of memory aside. Takes no memory.
+    /// The error that adding a child of the name of that text gives, if there is one, allocation failure aside. Takes
+    /// no memory.
     ///
-    /// It is for who has no memory for the name: the text is compared with the name of each child of the parent.
+    /// It is for callers that could not allocate the name: the text is compared with the name of each child of the
+    /// parent.
     #[tactic(auto, unfolding(crate::specs::Faults::child_fault))]
     pub fn child_fault(&self, parent: ModuleId, text: &str) -> Option<BuildFault>
         ensures { result ≡ child_fault self.now parent text.now }

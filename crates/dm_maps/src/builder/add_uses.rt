@@ -18,8 +18,8 @@ use std::alloc::AllocError;
 impl WorldBuilder {
     /// Adds a use in a module, and answers its number.
     ///
-    /// Refused are, in this order, `NoSuchModule` of a module that is not the builder's, `OutOfNumbers` where there are
-    /// 4,294,967,295 uses, and `OutOfMemory`; the builder is then as it was.
+    /// Errors, tested in this order: `NoSuchModule` of a module that is not the builder's, `OutOfNumbers` where there
+    /// are 4,294,967,295 uses, and `OutOfMemory`; the builder is then as it was.
     pub fn add_use(&mut self, m: ModuleId) -> Result<UseId, BuildFault>
         ensures ok { OnOk result (self.new ≡ with_use self.old m) }
         ensures number { IfOk result (λ id. id ≡ next_use self.old) }
@@ -49,8 +49,8 @@ impl WorldBuilder {
 
     /// Adds a macro in a module, and answers it. Macros of all kinds are numbered together.
     ///
-    /// Refused are, in this order, `NoSuchModule` of a module that is not the builder's, `OutOfNumbers` where there are
-    /// 4,294,967,295 macros, and `OutOfMemory`; the builder is then as it was.
+    /// Errors, tested in this order: `NoSuchModule` of a module that is not the builder's, `OutOfNumbers` where there
+    /// are 4,294,967,295 macros, and `OutOfMemory`; the builder is then as it was.
     pub fn add_macro(&mut self, m: ModuleId, loc: MacroLoc) -> Result<MacroId, BuildFault>
         ensures ok { OnOk result (self.new ≡ with_macro self.old m loc) }
         ensures number { IfOk result (λ id. id ≡ macro_id loc (length self.old.macros)) }

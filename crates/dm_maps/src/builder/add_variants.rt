@@ -25,9 +25,9 @@ impl WorldBuilder {
     /// Adds a variant of that name and shape to an enum, and answers its number. Variants of all enums are numbered
     /// together.
     ///
-    /// Refused are, in this order, `NoSuchEnum` of what is no enum of the builder's, `TakenVariant` where the enum has a
-    /// variant of that name, `OutOfNumbers` where there are 4,294,967,295 variants, and `OutOfMemory`; the builder is then
-    /// as it was.
+    /// Errors, tested in this order: `NoSuchEnum` of what is no enum of the builder's, `TakenVariant` where the enum
+    /// has a variant of that name, `OutOfNumbers` where there are 4,294,967,295 variants, and `OutOfMemory`; the
+    /// builder is then as it was.
     pub fn add_variant(
         &mut self,
         e: EnumId,
@@ -50,10 +50,11 @@ impl WorldBuilder {
         }
     }
 
-    /// The fault for which a variant of the name of that text is refused, if there is one, want of memory aside. Takes no
-    /// memory.
+    /// The error that adding a variant of the name of that text gives, if there is one, allocation failure aside. Takes
+    /// no memory.
     ///
-    /// It is for who has no memory for the name: the text is compared with the name of each variant of the enum.
+    /// It is for callers that could not allocate the name: the text is compared with the name of each variant of the
+    /// enum.
     #[tactic(auto, unfolding(crate::specs::ItemFaults::variant_fault))]
     pub fn variant_fault(&self, e: EnumId, text: &str) -> Option<BuildFault>
         ensures { result ≡ variant_fault self.now e text.now }

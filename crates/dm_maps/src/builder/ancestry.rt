@@ -1,4 +1,4 @@
-//! Which modules contain which, by their ladders.
+//! The ancestor test on the module tree of a builder, by ladders: jump pointers (binary lifting).
 ghost use Rattle.std.specs.Prelude.{◌≡◌, ◌<◌, ◌≤◌, length};
 ghost use Rattle.dm_base.specs.Tree.{chain, is_among};
 ghost use Rattle.dm_ladders.specs.Ancestry.{moves};
@@ -8,7 +8,7 @@ use crate::builder::WorldBuilder;
 use dm_base::ids::ModuleId;
 
 impl WorldBuilder {
-    /// Whether `a` is `m` or contains it, however far out, and the number of moves by which that was found.
+    /// Whether `a` is `m` or contains it, however far out, and the number of hops by which that was found.
     pub(crate) fn contains_counted(&self, a: ModuleId, m: ModuleId) -> (bool, u32)
         requires ancestor { a.0 < length self.now.places }
         requires known { m.0 < length self.now.places }

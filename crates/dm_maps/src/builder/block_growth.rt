@@ -1,4 +1,4 @@
-//! Growth of maps with the lists of the blocks of crates, all or nothing.
+//! Adding def maps, with the lists of the blocks of crates: all or nothing where an allocation fails.
 ghost use Rattle.std.specs.Prelude.{◌≡◌, ◌++◌, ◌∷◌, [], OnOk, OnErr};
 ghost use Rattle.dm_maps.specs.BlockLists.{entry_with};
 ghost use Rattle.dm_maps.specs.Maps.{maps_and};

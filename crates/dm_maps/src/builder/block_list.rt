@@ -38,7 +38,7 @@ impl BlockList {
         self.blocks.as_slice()
     }
 
-    /// Adds a block, the last. Refused is want of memory; the list is then as it was.
+    /// Adds a block, the last. Where an allocation fails, nothing changes.
     fn push(&mut self, b: BlockId) -> Result<(), AllocError>
         ensures ok { OnOk result (self.new ≡ self.old ++ b ∷ []) }
         ensures err { OnErr result (self.new ≡ self.old) }

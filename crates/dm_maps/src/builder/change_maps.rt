@@ -1,4 +1,4 @@
-//! What is set in the maps of a builder, and in its extern preludes.
+//! Setters for the def maps of a builder, and for its extern preludes.
 ghost use Rattle.std.specs.Prelude.{◌≡◌, false, IsOk, OnOk, OnErr};
 ghost use Rattle.dm_maps.specs.BuildMaps.{AnswersFree, with_map, with_prelude, with_macro_use, with_macro_def, with_helper, locals_with, with_extern_of, lacks_map, map_fault, crate_fault};
 ghost use Rattle.dm_maps.specs.Faults.{Answers};
@@ -23,8 +23,8 @@ use std::alloc::AllocError;
 impl WorldBuilder {
     /// Sets the prelude module of a map, with the use that named it, or none. Takes no memory.
     ///
-    /// Refused is `NoSuchCrate` alone, of a map that is not the builder's, which is then as it was. The module and the use
-    /// may not be the builder's: `check` finds that.
+    /// The only error is `NoSuchCrate`, of a map that is not the builder's, which is then as it was. The module and the
+    /// use may not be the builder's: `check` finds that.
     pub fn set_prelude(
         &mut self,
         map: MapId,
@@ -41,11 +41,11 @@ impl WorldBuilder {
         Ok(())
     }
 
-    /// Adds a macro to those that `#[macro_use]` brings into a map, with the item that brought it. A name that is there
-    /// takes the new macro.
+    /// Adds a macro to the `macro_use` prelude of a map (what `#[macro_use] extern crate` brings), with the item that
+    /// brought it. A name that is there takes the new macro.
     ///
-    /// Refused are, in this order, `NoSuchCrate` of a map that is not the builder's, and `OutOfMemory`; the builder is then
-    /// as it was. The macro may not be the builder's: `check` finds that.
+    /// Errors, tested in this order: `NoSuchCrate` of a map that is not the builder's, and `OutOfMemory`; the builder
+    /// is then as it was. The macro may not be the builder's: `check` finds that.
     pub fn add_macro_use(
         &mut self,
         map: MapId,
@@ -64,10 +64,10 @@ impl WorldBuilder {
         Ok(())
     }
 
-    /// Sets the macro that an item of the syntax defines, in a map. What is there is replaced.
+    /// Sets the macro that an AST item defines, in a map. What is there is replaced.
     ///
-    /// Refused are, in this order, `NoSuchCrate` of a map that is not the builder's, and `OutOfMemory`; the builder is then
-    /// as it was. The macro may not be the builder's: `check` finds that.
+    /// Errors, tested in this order: `NoSuchCrate` of a map that is not the builder's, and `OutOfMemory`; the builder
+    /// is then as it was. The macro may not be the builder's: `check` finds that.
     pub fn add_macro_def(&mut self, map: MapId, ast: AstId, m: MacroId) -> Result<(), BuildFault>
         ensures ok { OnOk result (self.new ≡ with_macro_def self.old map ast m) }
         ensures fault { Answers (map_fault self.old map) result }
@@ -80,11 +80,11 @@ impl WorldBuilder {
         Ok(())
     }
 
-    /// Adds a helper attribute of a derive at an item of the syntax, in a map, the last of that item: its name, the macro of
+    /// Adds a helper attribute of a derive at an AST item, in a map, the last of that item: its name, the macro of
     /// the derive, and the call of the derive, or what a builtin derive writes.
     ///
-    /// Refused are, in this order, `NoSuchCrate` of a map that is not the builder's, and `OutOfMemory`; the builder is then
-    /// as it was. The macro may not be the builder's: `check` finds that.
+    /// Errors, tested in this order: `NoSuchCrate` of a map that is not the builder's, and `OutOfMemory`; the builder
+    /// is then as it was. The macro may not be the builder's: `check` finds that.
     pub fn add_derive_helper(
         &mut self,
         map: MapId,
@@ -107,8 +107,8 @@ impl WorldBuilder {
     /// Adds a module to the extern prelude of a crate, with the item that named it. A name that is there takes the new
     /// module.
     ///
-    /// Refused are, in this order, `NoSuchCrate` of a crate that is not the builder's, and `OutOfMemory`; the builder is
-    /// then as it was. The module may not be the builder's: `check` finds that.
+    /// Errors, tested in this order: `NoSuchCrate` of a crate that is not the builder's, and `OutOfMemory`; the builder
+    /// is then as it was. The module may not be the builder's: `check` finds that.
     pub fn add_extern(
         &mut self,
         krate: Crate,

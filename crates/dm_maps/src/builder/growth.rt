@@ -1,4 +1,4 @@
-//! Growth of maps and of the places of their modules, all or nothing.
+//! Adding modules and def maps, with the places of their modules: all or nothing where an allocation fails.
 ghost use Rattle.std.specs.Prelude.{◌≡◌, ◌++◌, ◌∷◌, [], OnOk, OnErr};
 ghost use Rattle.dm_maps.specs.Maps.{IsFree, maps_with_child, maps_and};
 

@@ -1,4 +1,4 @@
-//! Growth of the ladders of modules with their maps and places, all or nothing.
+//! Adding modules with their ladders (jump pointers), maps and places: all or nothing where an allocation fails.
 ghost use Rattle.std.specs.Prelude.{◌≡◌, ◌<◌, ◌++◌, ◌∷◌, [], None, Some, OnOk, OnErr, length};
 ghost use Rattle.dm_maps.specs.BlockLists.{entry_with};
 ghost use Rattle.dm_maps.specs.Maps.{IsFree, maps_with_child, maps_and};
@@ -42,7 +42,8 @@ pub(crate) fn add_child_in(
     }
 }
 
-/// Adds the map of a block in `container`, with the place and the ladder of its root, and lists the block as one of its crate.
+/// Adds the map of a block in `container`, with the place and the ladder of its root, and lists the block as one of its
+/// crate.
 pub(crate) fn add_map_in(
     ladders: &mut Ladders,
     container: ModuleId,
@@ -72,7 +73,8 @@ pub(crate) fn add_map_in(
     }
 }
 
-/// Adds the map of a crate, with the place and the ladder of its root, an empty extern prelude, and an empty list of blocks.
+/// Adds the map of a crate, with the place and the ladder of its root, an empty extern prelude, and an empty list of
+/// blocks.
 pub(crate) fn add_outmost_map(
     ladders: &mut Ladders,
     lists: &mut Vec<BlockList>,

@@ -16,8 +16,8 @@ use dm_scope::item_scope::ItemScope;
 impl WorldBuilder {
     /// The scope of a module, to be changed; none where the module is not the builder's.
     ///
-    /// What is left there when the borrow ends is the module's scope, and nothing else changes. What the scope then holds
-    /// may be no id of the builder's: `check` finds that.
+    /// What is left there when the borrow ends is the module's scope, and nothing else changes. What the scope then
+    /// holds may be no id of the builder's: `check` finds that.
     pub fn scope_mut(&mut self, m: ModuleId) -> Option<&mut ItemScope>
         ensures* writes_back { sem 𝓛 (LendsScope self.entry m result) }
         ensures value { option_copied_mut result ≡ scope_if_known self.old m }
@@ -26,8 +26,8 @@ impl WorldBuilder {
         self.maps.scope_mut(place.map, place.index)
     }
 
-    /// What holds of the scope of a module of the builder's. It does nothing: a caller whose proof needs it calls it, before
-    /// `scope_mut`.
+    /// What holds of the scope of a module of the builder's. It does nothing: a caller whose proof needs it calls it,
+    /// before `scope_mut`.
     pub fn scope_facts_of(&self, m: ModuleId)
         requires { IsTrue (knows self.now (held.Module m)) }
 

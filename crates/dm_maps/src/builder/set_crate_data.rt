@@ -1,4 +1,4 @@
-//! What is set for all maps of a crate.
+//! Setters for crate data, which all def maps of a crate share.
 ghost use Rattle.std.specs.Prelude.{◌≡◌, ◌++◌, ◌∷◌, [], true, Some, IfOk, OnOk, OnErr};
 ghost use Rattle.dm_maps.specs.BuildCrateData.{TakesData, sharing, data_of, with_data, with_crate_setting, with_crate_settings, settings_fault};
 ghost use Rattle.dm_maps.specs.BuildMaps.{crate_fault};
@@ -15,10 +15,11 @@ use dm_tables::crate_data::CrateData;
 use dm_tables::crate_setting::CrateSetting;
 use std::alloc::AllocError;
 
-/// Each call refuses, in this order, `NoSuchCrate` of a crate that is not the builder's, and `OutOfMemory`; the builder is
-/// then as it was. What is set reaches the maps of the crate and of all its blocks, also of those that are added later.
+/// Errors of each call, tested in this order: `NoSuchCrate` of a crate that is not the builder's, and `OutOfMemory`;
+/// the builder is then as it was. What is set reaches the maps of the crate and of all its blocks, also of those that
+/// are added later.
 impl WorldBuilder {
-    /// Says that a crate goes without `std`.
+    /// Marks a crate as `#![no_std]`.
     pub fn set_no_std(&mut self, krate: Crate) -> Result<(), BuildFault>
         ensures ok { OnOk result (self.new ≡ with_data self.old krate (λ d. record d { no_std = true })) }
         ensures fault { Answers (crate_fault self.old krate) result }
@@ -27,7 +28,7 @@ impl WorldBuilder {
         self.set_one(krate, CrateSetting::NoStd)
     }
 
-    /// Says that a crate goes without `core`.
+    /// Marks a crate as `#![no_core]`.
     pub fn set_no_core(&mut self, krate: Crate) -> Result<(), BuildFault>
         ensures ok { OnOk result (self.new ≡ with_data self.old krate (λ d. record d { no_core = true })) }
         ensures fault { Answers (crate_fault self.old krate) result }
@@ -36,7 +37,7 @@ impl WorldBuilder {
         self.set_one(krate, CrateSetting::NoCore)
     }
 
-    /// Says that a crate counts as `core` where traits are implemented.
+    /// Marks a crate as `#![rustc_coherence_is_core]`: it counts as `core` where traits are implemented.
     pub fn set_coherence_is_core(&mut self, krate: Crate) -> Result<(), BuildFault>
         ensures ok { OnOk result (self.new ≡ with_data self.old krate (λ d. record d { coherence_is_core = true })) }
         ensures fault { Answers (crate_fault self.old krate) result }
@@ -45,7 +46,7 @@ impl WorldBuilder {
         self.set_one(krate, CrateSetting::CoherenceIsCore)
     }
 
-    /// Sets how deep macros of a crate may expand.
+    /// Sets the recursion limit of a crate: how deep its macros may expand.
     pub fn set_recursion_limit(&mut self, krate: Crate, limit: u32) -> Result<(), BuildFault>
         ensures ok { OnOk result (self.new ≡ with_data self.old krate (λ d. record d { recursion_limit = Some limit })) }
         ensures fault { Answers (crate_fault self.old krate) result }
@@ -88,9 +89,9 @@ impl WorldBuilder {
         self.set_one(krate, CrateSetting::ProcMacro(f, m))
     }
 
-    /// Sets many things for a crate: what stands, and what is refused, is as of the calls above, one for each in order.
+    /// Sets many things for a crate: the result and the errors are those of the calls above, one for each in order.
     ///
-    /// The crate's data is copied once, however many things are set. Where there are none, nothing is refused.
+    /// The crate's data is copied once, however many things are set. Where there are none, there is no error.
     pub fn set_crate_data(
         &mut self,
         krate: Crate,

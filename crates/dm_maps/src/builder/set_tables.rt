@@ -1,4 +1,4 @@
-//! What is set in a builder's tables that belong to no map and no module.
+//! Setters for the tables of a builder that belong to no map and no module.
 ghost use Rattle.std.specs.Prelude.{◌≡◌, None, OnOk, OnErr};
 ghost use Rattle.dm_maps.specs.BuildTables.{with_raw, with_fields, with_assoc_item, with_trait_visibility};
 ghost use Rattle.dm_maps.specs.Faults.{Answers};
@@ -12,8 +12,8 @@ use dm_base::visibility::RawVisibility;
 use dm_tables::field_list::FieldList;
 use std::alloc::AllocError;
 
-/// Each call refuses `OutOfMemory` alone; the builder is then as it was. An entry that is there is replaced. The ids that
-/// are handed in may not be the builder's: `check` finds that.
+/// The only error of each call is `OutOfMemory`; the builder is then as it was. An entry that is there is replaced. The
+/// ids that are handed in may not be the builder's: `check` finds that.
 impl WorldBuilder {
     /// Adds a name that is printed as raw. One that is there stays.
     pub fn add_raw_name(&mut self, name: Name) -> Result<(), BuildFault>

@@ -1,4 +1,4 @@
-//! The first fault of a world that is being built.
+//! The first fault, which is a dangling id, of a world that is being built.
 ghost use Rattle.std.specs.Prelude.{◌≡◌, ◌≤◌, length, map, [], ◌∷◌};
 ghost use Rattle.std.specs.Option.{option_map};
 ghost use Rattle.dm_maps.specs.First.{each_from, fault_of, local_at, crate_holder, block_holder, module_holder, holders, IsAnswer};

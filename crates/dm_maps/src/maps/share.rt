@@ -1,4 +1,4 @@
-//! New data of a crate, for all its maps.
+//! Gives new crate data to all def maps of the crate, which share it by `Rc`.
 ghost use Rattle.std.specs.Prelude.{◌≡◌, ◌≤◌, ◌<◌, ◌+◌, length, All, IfOk, OnOk, OnErr};
 ghost use Rattle.dm_maps.specs.BlockLists.{entry_with, AreNumbered, HoldsAll};
 ghost use Rattle.dm_maps.specs.BuildCrateData.{with_shared, map_with_shared, maps_sharing};
@@ -11,7 +11,7 @@ use dm_tables::crate_data::CrateData;
 use std::alloc::{AllocError, Global};
 use std::rc::Rc;
 
-/// A handle of the data.
+/// An `Rc` of the data.
 pub(crate) fn share(new: CrateData, alloc: Global) -> Result<Rc<CrateData>, AllocError>
     ensures { IfOk result (λ r. r.value ≡ new) }
 {
@@ -19,7 +19,7 @@ pub(crate) fn share(new: CrateData, alloc: Global) -> Result<Rc<CrateData>, Allo
     Ok(shared)
 }
 
-/// Another handle of the data that a map shares.
+/// Another `Rc` of the data that a map shares.
 pub(crate) fn shared_of(map: &DefMap) -> Result<Rc<CrateData>, AllocError>
     ensures { IfOk result (λ r. r.value ≡ map.now.shared) }
 {
@@ -27,7 +27,7 @@ pub(crate) fn shared_of(map: &DefMap) -> Result<Rc<CrateData>, AllocError>
     Ok(shared)
 }
 
-/// That many handles of the data, so that handing them out takes no memory.
+/// That many `Rc`s of the data, made beforehand so that handing them out cannot fail.
 fn handles(
     shared: &Rc<CrateData>,
     n: usize,

@@ -1,4 +1,4 @@
-//! How few moves tell whether one module of a world contains another.
+//! The ancestor test on the module tree, by jump pointers (binary lifting): at most 32 hops.
 ghost use Rattle.std.specs.Prelude.{◌≡◌, ◌≤◌};
 ghost use Rattle.dm_base.specs.Tree.{IsKnown, chain, is_among};
 ghost use Rattle.dm_ladders.specs.Ancestry.{moves};
@@ -8,11 +8,11 @@ use crate::world::World;
 use dm_base::ids::ModuleId;
 
 impl World {
-    /// Whether `a` is `m` or contains it, however far out, and the number of moves by which that was found.
+    /// Whether `a` is `m` or contains it, however far out, and the number of hops by which that was found.
     ///
-    /// A move goes from a module to member `2^k` of its chain, so there are as many as the binary form of how much deeper `m`
-    /// is has ones, which are 32 at most; and none where `m` is not deeper. Takes no memory. `ModuleTree::has` tests
-    /// whether a module is the world's.
+    /// A hop follows a jump pointer from a module to member `2^k` of its chain, so there are as many as the binary form
+    /// of how much deeper `m` is has ones, which are 32 at most; and none where `m` is not deeper. Takes no memory.
+    /// `ModuleTree::has` tests whether a module is the world's.
     #[tactic(auto, unfolding(crate::specs::Trees::tree_of))]
     pub fn contains_counted(&self, a: ModuleId, m: ModuleId) -> (bool, u32)
         requires ancestor { IsKnown (tree_of self.now) a }

@@ -1,4 +1,4 @@
-//! Tests whether what is handed in is the world's. None of them takes memory.
+//! Tests whether ids that are handed in are the world's. None of them takes memory.
 ghost use Rattle.std.specs.Prelude.{◌≡◌, ◌↔◌, IsTrue, nat_lt, length};
 ghost use Rattle.dm_held.specs.declared.held.HeldId.TheVariants as held;
 ghost use Rattle.dm_held.specs.Pushes.{push_holds};
@@ -60,8 +60,8 @@ impl World {
         least.is_none()
     }
 
-    /// Whether all that a push holds is the world's: the module that it goes to, the definitions, visibilities and uses of
-    /// what it resolves to, and the use of its import.
+    /// Whether all that a push holds is the world's: the module that it goes to, the definitions, visibilities and uses
+    /// of what it resolves to, and the use of its import.
     pub fn knows_res(&self, m: ModuleId, res: &PerNs, import: Option<ImportOrExternCrate>) -> bool
         ensures { IsTrue result ↔ KnowsAll self.now (push_holds m res.now import) }
     {

@@ -1,4 +1,4 @@
-//! The dump of a map.
+//! The dump of a def map, as text.
 ghost use Rattle.std.specs.Prelude.{◌≡◌, ◌++◌, ◌<◌, ◌≤◌, IfOk, IsSome, OnOk, Some, length, map, string_bytes};
 ghost use Rattle.dm_maps.specs.Branches.{AllLie, branch_text, child_text, children_text, left_text};
 ghost use Rattle.dm_maps.specs.MapDumps.{in_order, map_dump, map_text, path_and, scope_text, tree};
@@ -26,7 +26,7 @@ struct Branch {
     child: ModuleId,
 }
 
-/// Written out, so that what lets one go has one call to prove.
+/// Hand-written `Drop`, to keep proofs small: dropping one is then a single call.
 impl Drop for Branch {
     fn drop(self) {
         let Branch {

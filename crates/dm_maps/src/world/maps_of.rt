@@ -59,7 +59,7 @@ pub fn macro_styles_from_id(world: &World, m: MacroId) -> MacroCallStyles
     world.tables().styles_of(m)
 }
 
-/// The calls of a map that ask the world. `dump` alone takes memory.
+/// The methods of a def map that read the world. Only `dump` allocates.
 pub trait AskWorld {
     /// The map, as contracts see it.
     ghost map: { Self → Map };
@@ -69,11 +69,11 @@ pub trait AskWorld {
         requires { numbered_map world.now (map self.now).id ≡ Some (map self.now) }
         ensures { root_of world.now (map self.now).id.krate ≡ Some result };
 
-    /// What `f` answers about the first map for which it answers anything, from this one outwards.
+    /// The first `Some` that the closure `f` returns for a map, from this one outwards.
     ///
-    /// It is asked about this map with `m`, then about the map of the module that contains this map's block, with that
-    /// module, and so on; and about none after it has answered. No more than that has to be askable, and of each map after
-    /// the first the asker may rely on that it is the world's and has the module.
+    /// It is called with this map and `m`, then with the map of the module that contains this map's block, and that
+    /// module, and so on; and with none after it has returned `Some`. Only for these calls its preconditions have to
+    /// hold, and it may rely on each map after the first being the world's and having the module.
     fn with_ancestor_maps<T, F: FnMut(&DefMap, ModuleId) -> Option<T> + Drop>(
         &self,
         world: &World,
@@ -83,7 +83,8 @@ pub trait AskWorld {
         requires { MayAskMaps world.now F.pre F.step (maps_outwards world.now (map self.now) m) f }
         ensures { (last : F) × AsksMaps F.step (maps_outwards world.now (map self.now) m) f result last };
 
-    /// The dump of the map, and of those from it outwards (docs/RULES.md, "Dumps"). The map has to be the world's of its id.
+    /// The dump of the map, and of those from it outwards (docs/RULES.md, "Dumps"). The map has to be the world's of
+    /// its id.
     ///
     /// Fails where memory runs out.
     fn dump(&self, world: &World) -> Result<String, AllocError>

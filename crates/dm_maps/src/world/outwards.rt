@@ -1,4 +1,4 @@
-//! From a map outwards. Nothing here takes memory.
+//! Walks from a def map outwards: from a block's to that of the module around it. Nothing here allocates.
 ghost use Rattle.std.specs.Prelude.{◌≡◌, IfSome, IsSome, Some};
 ghost use Rattle.std.specs.Option.{option_map};
 ghost use Rattle.dm_maps.specs.MapFacts.{IsMapOf};
@@ -11,7 +11,7 @@ use crate::world::World;
 use dm_base::ids::ModuleId;
 use dm_def_map::def_map::DefMap;
 
-/// What `f` answers about the first map, from `first` outwards, for which it answers anything.
+/// The first `Some` that the closure `f` returns for a map, from `first` outwards.
 pub(crate) fn ask_outwards<T, F: FnMut(&DefMap, ModuleId) -> Option<T> + Drop>(
     world: &World,
     first: &DefMap,

@@ -1,4 +1,4 @@
-//! What paths read of a world beside its scopes. None of these calls takes memory.
+//! What path resolution reads of a world beside its scopes. None of these calls takes memory.
 ghost use Rattle.std.specs.Prelude.{◌≡◌, IsTrue, Some, slice_get};
 ghost use Rattle.std.specs.Option.{ForSome};
 ghost use Rattle.dm_ids.specs.Names.{find_name};
@@ -52,7 +52,7 @@ impl World {
         self.tables.prelude_of(id)
     }
 
-    /// The macro that `#[macro_use]` brings into a map under a name.
+    /// The macro of that name in the `macro_use` prelude of a map.
     pub fn macro_use_of(&self, id: MapId, name: &Name) -> Option<(MacroId, Option<ExternCrateId>)>
         ensures value { result ≡ find_name name.now (macro_uses_of self.now id) }
         ensures known { ForSome result (λ e. IsTrue (knows self.now (held.Macro e.0))) }
@@ -60,7 +60,7 @@ impl World {
         self.tables.macro_use_of(id, name)
     }
 
-    /// The last legacy macro of a module under a name.
+    /// The last legacy macro of a module under a name: in textual scope the last definition shadows those before it.
     pub fn legacy_of(&self, m: ModuleId, name: &Name) -> Option<MacroId>
         ensures value { result ≡ legacy_in (scope_of self.now m) name.now }
         ensures known { ForSome result (λ l. IsTrue (knows self.now (held.Macro l))) }

@@ -1,4 +1,4 @@
-//! What paths read of the tables of a world.
+//! What path resolution reads of the tables of a world.
 ghost use Rattle.std.specs.Prelude.{◌≡◌};
 ghost use Rattle.std.specs.Option.{option_copied};
 ghost use Rattle.dm_ids.specs.Names.{find_name};
@@ -56,7 +56,7 @@ impl WorldBuilder {
         }
     }
 
-    /// The macro that `#[macro_use]` brings into a map under a name.
+    /// The macro of that name in the `macro_use` prelude of a map.
     pub(crate) fn macro_use_of(
         &self,
         id: MapId,
@@ -70,7 +70,7 @@ impl WorldBuilder {
         }
     }
 
-    /// The last legacy macro of a module under a name.
+    /// The last legacy macro of a module under a name: in textual scope the last definition shadows those before it.
     pub(crate) fn legacy_of(&self, m: ModuleId, name: &Name) -> Option<MacroId>
         ensures { result ≡ legacy_in (scope_of self.now m) name.now }
     {

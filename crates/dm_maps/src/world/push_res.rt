@@ -29,8 +29,11 @@ use std::alloc::AllocError;
 impl World {
     /// Pushes what an import, or a declaration, resolves a name of a module to (docs/RULES.md, "Pushes").
     ///
-    /// All that the push holds has to be the world's: `knows_res` tests it. Answers whether a namespace was written, or the
-    /// name went among the unresolved ones. Other scopes and all tables stay. Where memory is short, nothing changes.
+    /// Explicit names shadow globs (`ItemScope::push_res_with_import`).
+    ///
+    /// All that the push holds has to be the world's: `knows_res` tests it. Answers whether a namespace was written, or
+    /// the name went among the unresolved ones. Other scopes and all tables stay. Where an allocation fails, nothing
+    /// changes.
     pub fn push_res(
         &mut self,
         glob_imports: &mut PerNsGlobImports,
@@ -54,19 +57,19 @@ impl World {
         // What the world has under other names than the pushed one is as before.
         ensures others_stay { (N : List Name) → among N lookup.1 ≡ false → cut self.new N ≡ cut self.old N }
 
-        // What was known is known, and what is said of no name is as before.
+        // What was known is known, and the name-independent part of the world is as before.
         ensures stays_known { StaysKnown self.old self.new }
 
-        // Where the module's scope and the table show a list of pushes, they show it with this push after it, and the answer
-        // is as that list says. After want of memory, and in another module, what was shown is shown.
+        // Where the module's scope and the table show a list of pushes, they show it with this push after it, and the
+        // answer is as that list says. After an allocation failure, and in another module, what was shown is shown.
         ensures shown { PushShows (scope_of self.old lookup.0) glob_imports.old (scope_of self.new lookup.0) glob_imports.new lookup.0 (push_of lookup.1 res import) result }
         ensures shown_answer { PushAnswers (scope_of self.old lookup.0) glob_imports.old lookup.0 (push_of lookup.1 res import) result }
         ensures refused { (k : ModuleId) → StillShows (scope_of self.old k) glob_imports.old (scope_of self.new k) glob_imports.new k result }
         ensures elsewhere { (k : ModuleId) → same_module lookup.0 k ≡ false → StaysShown self.old glob_imports.old self.new glob_imports.new k }
 
-        // What it leaves of other pushes, into each module: one that answers false changes nothing, none writes twice, and
-        // what a named import would not write it would not write after this push, if that came by another import, by a glob
-        // or by none.
+        // What it leaves of other pushes, into each module, as a worklist of imports needs it: one that answers false
+        // changes nothing, none writes twice, and what a named import would not write it would not write after this
+        // push, if that came by another import, by a glob or by none.
         ensures law { OnOk result (PushLaw scope_of self.old glob_imports.old self.new glob_imports.new lookup.0 (push_of lookup.1 res import)) }
     {
         let m = lookup.0;

@@ -1,4 +1,4 @@
-//! Visibilities as they are written in a world's tables. None of these look-ups takes memory.
+//! `RawVisibility`: visibilities as they are written, before they are resolved. None of these look-ups takes memory.
 //!
 //! The crate of each `$crate` in what they lend is the world's.
 ghost use Rattle.std.specs.Prelude.{◌≡◌, IfSome, Some, slice_get};

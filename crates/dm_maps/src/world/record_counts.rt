@@ -1,4 +1,4 @@
-//! How many records the scopes of a world have: counted once, and kept with each push.
+//! How many import records the scopes of a world have: counted once, and updated by each push.
 ghost use Rattle.std.specs.Prelude.{◌≡◌, ◌+◌, ◌-◌, ◌^◌, length, min};
 ghost use Rattle.std.specs.List.{flat_map};
 ghost use Rattle.dm_maps.specs.RecordCounts.{IsCounted, count_of};

@@ -1,4 +1,4 @@
-//! What chains of imports and dumps read of a world. None of these calls takes memory.
+//! What import chains and dumps read of a world. None of these calls takes memory.
 ghost use Rattle.std.specs.Prelude.{◌≡◌, IsTrue, IfSome, is_some, slice_get, unwrap_or};
 ghost use Rattle.std.specs.Option.{ForSome, option_copied};
 ghost use Rattle.dm_held.specs.declared.held.HeldId.TheVariants as held;

@@ -30,7 +30,7 @@ impl ModuleTree for World {
         self.tables.container_of(self.tables.map_id_of(m).block)
     }
 
-    /// By ladders: in at most 32 moves, however deep the module lies.
+    /// By ladders, which are tables of jump pointers: in at most 32 hops, however deep the module lies.
     fn contains(&self, a: ModuleId, m: ModuleId) -> bool {
         self.tables.contains(a, m)
     }

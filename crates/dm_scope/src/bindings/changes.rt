@@ -1,5 +1,5 @@
-//! What changes the bindings of a namespace beside pushes. Nothing here needs memory: `shrink_to_fit` may ask for some, and goes on
-//! without it.
+//! Mutators of the bindings of a namespace, beside pushes. None of them has to allocate: `shrink_to_fit` may, and goes
+//! on where that fails.
 ghost use Rattle.std.specs.Prelude.{◌≡◌, map};
 ghost use Rattle.dm_ids.specs.Names.{find_name};
 ghost use Rattle.dm_scope.specs.Changes.{is_of, without_binding, with_vis, with_def, change_item, change_all, censored, censored_macro, is_own_proc_macro};
@@ -16,7 +16,7 @@ use dm_base::visibility::Visibility;
 use indexmap::IndexMap;
 
 impl<D: Definition, I: ImportSource> Bindings<D, I> {
-    /// Takes a binding out, where it is of the definition. The others close up, and the records stay.
+    /// Removes a binding, where it is of the definition. The order of the others stays, and so do the import records.
     pub(crate) fn remove(&mut self, name: &Name, def: D)
         ensures { self.new ≡ without_binding D.eq name.now def self.old }
     {
@@ -32,7 +32,7 @@ impl<D: Definition, I: ImportSource> Bindings<D, I> {
         self.get(name).is_some_and(|item| item.def == def)
     }
 
-    /// Changes who sees a binding.
+    /// Changes the visibility of a binding.
     pub(crate) fn update_visibility(&mut self, name: &Name, vis: Visibility)
         ensures { self.new ≡ with_vis name.now vis self.old }
     {
@@ -41,7 +41,7 @@ impl<D: Definition, I: ImportSource> Bindings<D, I> {
         }
     }
 
-    /// Changes what a name is bound to, and who sees it.
+    /// Changes what a name is bound to, and its visibility.
     pub(crate) fn update_def(&mut self, name: &Name, def: D, vis: Visibility)
         ensures { self.new ≡ with_def name.now def vis self.old }
     {
@@ -50,7 +50,7 @@ impl<D: Definition, I: ImportSource> Bindings<D, I> {
         }
     }
 
-    /// Lets the crate alone see each binding.
+    /// Restricts each binding to the crate.
     pub(crate) fn censor(&mut self, krate: Crate)
         ensures { self.new ≡ change_all (censored krate) self.old }
     {
@@ -69,7 +69,7 @@ impl<D: Definition, I: ImportSource> Bindings<D, I> {
 }
 
 impl Bindings<MacroId, ImportOrExternCrate> {
-    /// Lets the crate alone see each macro but the procedural ones that are no import.
+    /// Restricts each macro to the crate, except procedural ones that are no import.
     pub(crate) fn censor_non_proc(&mut self, krate: Crate)
         ensures { self.new ≡ change_all (censored_macro krate) self.old }
     {
@@ -79,7 +79,7 @@ impl Bindings<MacroId, ImportOrExternCrate> {
     }
 }
 
-/// Changes who sees a binding.
+/// Changes the visibility of a binding.
 fn set_visibility<D: Definition, I: ImportSource>(
     items: &mut IndexMap<Name, Item<D, I>>,
     name: &Name,
@@ -92,7 +92,7 @@ fn set_visibility<D: Definition, I: ImportSource>(
     }
 }
 
-/// Changes what a name is bound to, and who sees it.
+/// Changes what a name is bound to, and its visibility.
 fn set_def<D: Definition, I: ImportSource>(
     items: &mut IndexMap<Name, Item<D, I>>,
     name: &Name,
@@ -107,7 +107,7 @@ fn set_def<D: Definition, I: ImportSource>(
     }
 }
 
-/// Lets the crate alone see each binding.
+/// Restricts each binding to the crate.
 fn censor<D: Definition, I: ImportSource>(items: &mut IndexMap<Name, Item<D, I>>, krate: Crate)
     ensures { items.new.entries ≡ map (λ e. (e.0, censored krate e.1)) items.old.entries }
 {
@@ -118,7 +118,7 @@ fn censor<D: Definition, I: ImportSource>(items: &mut IndexMap<Name, Item<D, I>>
     });
 }
 
-/// Lets the crate alone see each macro but the procedural ones that are no import.
+/// Restricts each macro to the crate, except procedural ones that are no import.
 fn censor_macros(items: &mut IndexMap<Name, MacrosItem>, krate: Crate)
     ensures { items.new.entries ≡ map (λ e. (e.0, censored_macro krate e.1)) items.old.entries }
 {

@@ -1,4 +1,4 @@
-//! The names of a definition in a namespace. Nothing here takes memory.
+//! Reverse look-up in a namespace: the names of a definition. Nothing here allocates.
 ghost use Rattle.std.specs.Prelude.{◌≡◌, slice_get};
 ghost use Rattle.std.specs.Option.{option_map};
 ghost use Rattle.dm_scope.specs.Lookups.{names_in, deref_named, MayAskNames, AsksNames};
@@ -10,7 +10,7 @@ use dm_base::name::Name;
 use dm_base::visibility::Visibility;
 
 impl<D: Definition, I: ImportSource> Bindings<D, I> {
-    /// The first name of a definition, with who sees it, and whether no import brought it.
+    /// The first name of a definition, with its visibility, and whether no import brought it.
     pub(crate) fn name_of(&self, def: D) -> Option<(&Name, Visibility, bool)>
         ensures { option_map deref_named result ≡ slice_get (names_in D.eq def self.now.items) 0 }
     {
@@ -23,7 +23,7 @@ impl<D: Definition, I: ImportSource> Bindings<D, I> {
         None
     }
 
-    /// What `f` answers about the first name of a definition for which it answers anything.
+    /// The first `Some` that the closure `f` returns for a name of a definition.
     pub(crate) fn names_of<T, F: FnMut(&Name, Visibility, bool) -> Option<T> + Drop>(
         &self,
         def: D,

@@ -1,4 +1,5 @@
-//! What changes a scope in place. Nothing here needs memory: `shrink_to_fit` may ask for some, and goes on without it.
+//! Mutators that change a scope in place. None of them has to allocate: `shrink_to_fit` may ask for some, and goes on
+//! without it.
 ghost use Rattle.std.specs.Prelude.{◌≡◌, IsSome, map};
 ghost use Rattle.dm_ids.specs.Names.{find_name};
 ghost use Rattle.dm_scope.specs.Changes.{without_binding, with_vis, with_def, change_all, censored, censored_macro, censored_trait};
@@ -11,14 +12,16 @@ use dm_base::name::Name;
 use dm_base::visibility::Visibility;
 
 impl ItemScope {
-    /// Takes a value out, where the name is bound to that definition. The others close up; records and glob flags stay.
+    /// Removes a value, where the name is bound to that definition. The order of the others stays; so do import records
+    /// and glob flags.
     pub fn remove_from_value_ns(&mut self, name: &Name, def: ModuleDefId)
         ensures { self.new ≡ record self.old { values = without_binding same_def name.now def self.old.values } }
     {
         self.values.remove(name, def);
     }
 
-    /// Lets the crate alone see all types, values, unnamed traits and macros, but the procedural macros that are no import.
+    /// Restricts all types, values, unnamed traits and macros to the crate, except the procedural macros that it
+    /// declares, which are all that a proc-macro crate exports.
     pub fn censor_non_proc_macros(&mut self, krate: Crate)
         ensures { self.new ≡ record self.old {
           types = change_all (censored krate) self.old.types;
@@ -33,7 +36,7 @@ impl ItemScope {
         self.rare.censor_traits(krate);
     }
 
-    /// Changes who sees a type. `type_` tells whether the name is bound.
+    /// Changes the visibility of a type. `type_` tells whether the name is bound.
     pub fn update_visibility_types(&mut self, name: &Name, vis: Visibility)
         requires { IsSome (find_name name.now self.old.types.items) }
         ensures { self.new ≡ record self.old { types = with_vis name.now vis self.old.types } }
@@ -41,7 +44,7 @@ impl ItemScope {
         self.types.update_visibility(name, vis);
     }
 
-    /// Changes who sees a value. `get` tells whether the name is bound.
+    /// Changes the visibility of a value. `get` tells whether the name is bound.
     pub fn update_visibility_values(&mut self, name: &Name, vis: Visibility)
         requires { IsSome (find_name name.now self.old.values.items) }
         ensures { self.new ≡ record self.old { values = with_vis name.now vis self.old.values } }
@@ -49,7 +52,7 @@ impl ItemScope {
         self.values.update_visibility(name, vis);
     }
 
-    /// Changes who sees a macro. `makro` tells whether the name is bound.
+    /// Changes the visibility of a macro. `makro` tells whether the name is bound.
     pub fn update_visibility_macros(&mut self, name: &Name, vis: Visibility)
         requires { IsSome (find_name name.now self.old.macros.items) }
         ensures { self.new ≡ record self.old { macros = with_vis name.now vis self.old.macros } }
@@ -57,7 +60,7 @@ impl ItemScope {
         self.macros.update_visibility(name, vis);
     }
 
-    /// Changes what a name is bound to as a type, and who sees it. `type_` tells whether the name is bound.
+    /// Changes what a name is bound to as a type, with its visibility. `type_` tells whether the name is bound.
     pub fn update_def_types(&mut self, name: &Name, def: ModuleDefId, vis: Visibility)
         requires { IsSome (find_name name.now self.old.types.items) }
         ensures { self.new ≡ record self.old { types = with_def name.now def vis self.old.types } }
@@ -65,7 +68,7 @@ impl ItemScope {
         self.types.update_def(name, def, vis);
     }
 
-    /// Changes what a name is bound to as a value, and who sees it. `get` tells whether the name is bound.
+    /// Changes what a name is bound to as a value, and its visibility. `get` tells whether the name is bound.
     pub fn update_def_values(&mut self, name: &Name, def: ModuleDefId, vis: Visibility)
         requires { IsSome (find_name name.now self.old.values.items) }
         ensures { self.new ≡ record self.old { values = with_def name.now def vis self.old.values } }
@@ -73,7 +76,7 @@ impl ItemScope {
         self.values.update_def(name, def, vis);
     }
 
-    /// Changes what a name is bound to as a macro, and who sees it. `makro` tells whether the name is bound.
+    /// Changes what a name is bound to as a macro, and its visibility. `makro` tells whether the name is bound.
     pub fn update_def_macros(&mut self, name: &Name, def: MacroId, vis: Visibility)
         requires { IsSome (find_name name.now self.old.macros.items) }
         ensures { self.new ≡ record self.old { macros = with_def name.now def vis self.old.macros } }

@@ -1,4 +1,4 @@
-//! The derive attributes of a scope.
+//! The derive attributes of a scope, with the macro call ids of their derives.
 ghost use Rattle.std.specs.Prelude.{◌≡◌, ◌<◌, length, OnOk, OnErr};
 ghost use Rattle.std.specs.Map.Iter.{ShowsInOrder};
 ghost use Rattle.std.specs.Option.{ForSome, option_map};
@@ -17,7 +17,9 @@ use smallvec::SmallVec;
 use std::alloc::AllocError;
 
 impl ItemScope {
-    /// Puts a derive attribute after those of an item, with so many empty slots. Where memory is short, nothing changes.
+    /// Puts a derive attribute after those of an item, with so many empty slots: one for each derive, made beforehand
+    /// so that `set_derive_macro_invoc` can fill in a macro call id later without allocating. Where an allocation
+    /// fails, nothing changes.
     pub fn init_derive_attribute(
         &mut self,
         adt: AstId,
@@ -66,7 +68,7 @@ impl ItemScope {
     }
 
     /// Fills a slot of an item's derive attribute, in the first entry of that attribute; does nothing where there is
-    /// none. Takes no memory. `derive_slots` tells how many slots there are.
+    /// none. Takes no memory, since `init_derive_attribute` made the slots. `derive_slots` tells how many there are.
     pub fn set_derive_macro_invoc(
         &mut self,
         adt: AstId,

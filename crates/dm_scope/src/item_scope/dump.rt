@@ -1,4 +1,4 @@
-//! The dump of a scope.
+//! The dump of a scope, as text.
 ghost use Rattle.std.specs.Prelude.{◌≡◌, ◌++◌, OnOk, OnErr, IfOk, map, string_bytes};
 ghost use Rattle.std.specs.List.{flat_map};
 ghost use Rattle.dm_scope.specs.Dumps.{Text, Appends, IsDump, mark, style_marks, macro_word, type_text, value_text, macro_text, bound_text, name_text, unnamed_line, name_line, legacies, legacy_line};

@@ -1,4 +1,4 @@
-//! What an import stands for in the end.
+//! Chains of imports: the definition that an import finally resolves to, through re-exports.
 ghost use Rattle.std.specs.Prelude.{◌≡◌};
 ghost use Rattle.std.specs.Option.{option_map, option_and_then};
 ghost use Rattle.dm_base.specs.Definitions.{widened_macro};
@@ -15,7 +15,7 @@ use dm_base::per_ns::{Item, Namespace, PerNs};
 use dm_base::visibility::Visibility;
 
 impl ItemScope {
-    /// The definitions that a named import of this scope stands for in the end, one for each
+    /// The definitions that a named import of this scope finally resolves to, one for each
     /// namespace (docs/RULES.md, "Chains of imports"). Takes no memory: a look-up for each import
     /// of the chain.
     pub fn fully_resolve_import<T: ScopeTables>(&self, tables: &T, import: ImportId) -> PerNs
@@ -67,7 +67,7 @@ impl ItemScope {
         }
     }
 
-    /// What a named import stands for in a namespace. Takes no memory: one look-up.
+    /// What a named import resolved to in a namespace, one step of its chain. Takes no memory: one look-up.
     #[tactic(auto, using(crate::proofs::ChainTables::lookup_widened))]
     fn record_in(&self, namespace: Namespace, import: ImportId) -> Option<ImportOrDef>
         ensures { result ≡ record_of namespace (self.now, import) }

@@ -145,7 +145,7 @@ impl ItemScope {
         self.macros.iter()
     }
 
-    /// The modules among the types, with who sees them, in order of first binding. Takes no memory.
+    /// The modules among the types, with its visibility, in order of first binding. Takes no memory.
     pub fn modules_in_scope(&self) -> ModulesInScope<'_>
         ensures rest { result ≡ filter_map item_module (map (λ e. e.1) self.now.types.items) }
         ensures runs { ShowsInOrder (λ (x : ModuleId × Visibility). x) }
@@ -153,7 +153,8 @@ impl ItemScope {
         Picked::new(self.types.items(), ModuleType)
     }
 
-    /// The traits among the types, in order of first binding, then the unnamed ones, in order of import. Takes no memory.
+    /// The traits among the types, in order of first binding, then the unnamed ones, in order of import. Takes no
+    /// memory.
     pub fn traits(&self) -> Traits<'_>
         ensures rest { result ≡ filter_map trait_of (map (λ e. e.1) self.now.types.items) ++ map (λ e. e.0) self.now.unnamed_traits }
         ensures runs { ShowsInOrder (λ (x : TraitId). x) }
@@ -161,7 +162,8 @@ impl ItemScope {
         Traits::new(self.types.items(), self.rare.unnamed_traits())
     }
 
-    /// The legacy macros of each name. Takes no memory.
+    /// The legacy macros of each name: those in textual scope, which is how `macro_rules!` and `#[macro_use]` worked
+    /// before macros 2.0, a macro being visible in the text after it. Takes no memory.
     pub fn legacy_macros(&self) -> LegacyMacros<'_>
         ensures rest { result ≡ self.now.legacy_macros }
         ensures runs { ShowsInOrder deref_legacy }
@@ -185,8 +187,8 @@ impl ItemScope {
         AttrMacroInvocations::new(self.rare.attr_macros())
     }
 
-    /// All macro calls: of function-like macros, of attribute macros, and in the slots of derive attributes. Neither the
-    /// derive attributes' own calls, nor builtin derives. Takes no memory.
+    /// All macro calls: of function-like macros, of attribute macros, and in the slots of derive attributes. Neither
+    /// the derive attributes' own calls, nor builtin derives. Takes no memory.
     pub fn all_macro_calls(&self) -> AllMacroCalls<'_>
         ensures rest { result ≡ all_calls self.now }
         ensures runs { ShowsInOrder (λ (x : MacroCallId). x) }
@@ -198,8 +200,8 @@ impl ItemScope {
         )
     }
 
-    /// What each import that brought a binding of a namespace stands for, an import of values seen as any import. Takes
-    /// no memory.
+    /// What each import that brought a binding of a namespace resolved to, an import of values seen as any import.
+    /// Takes no memory.
     pub fn import_records(&self, namespace: Namespace) -> ImportRecords<'_>
         ensures rest { result ≡ records_in namespace self.now }
         ensures runs { ShowsInOrder (λ (x : ImportOrExternCrate × ImportOrDef). x) }

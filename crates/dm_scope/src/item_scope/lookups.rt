@@ -1,4 +1,4 @@
-//! What a scope says of one name, of one definition, or of one place in the syntax.
+//! Look-ups in a scope: by name, by definition (the reverse look-up), or by AST id.
 ghost use Rattle.std.specs.Prelude.{◌≡◌, option_map, option_copied, find, slice_get};
 ghost use Rattle.std.specs.Map.{lookup};
 ghost use Rattle.dm_ids.specs.Names.{find_name};
@@ -15,7 +15,7 @@ use dm_base::source::AstId;
 use dm_base::visibility::Visibility;
 
 impl ItemScope {
-    /// What a name is bound to as a type, and who sees it. Takes no memory: one look-up.
+    /// What a name is bound to as a type, with its visibility. Takes no memory: one look-up.
     pub fn type_(&self, name: &Name) -> Option<(ModuleDefId, Visibility)>
         ensures { result ≡ option_map def_and_vis (find_name name.now self.now.types.items) }
     {
@@ -38,7 +38,8 @@ impl ItemScope {
         Some(item.def)
     }
 
-    /// The legacy macros of a name, in order of definition. Takes no memory: one look-up.
+    /// The legacy macros of a name, in order of definition: all that textual scope has under it, of which the last one
+    /// shadows the others. Takes no memory: one look-up.
     #[tactic(auto, using(crate::proofs::LookupLemmas::find_legacy))]
     pub fn get_legacy_macro(&self, name: &Name) -> Option<&[MacroId]>
         ensures { option_copied result ≡ find_name name.now self.now.legacy_macros }
@@ -56,7 +57,8 @@ impl ItemScope {
         tables.macro_invocations.get(&call).copied()
     }
 
-    /// Who sees a trait that was imported without a name, by its first such import. Takes no memory.
+    /// The visibility of a trait that was imported without a name (`use Trait as _`), by its first such import. Takes
+    /// no memory.
     pub fn unnamed_trait_vis(&self, tr: TraitId) -> Option<Visibility>
         ensures { result ≡ trait_vis tr self.now.unnamed_traits }
     {
@@ -68,8 +70,8 @@ impl ItemScope {
         None
     }
 
-    /// The first name of an item in its namespace, in order of first binding, with who sees it, and whether no import
-    /// brought it. Takes no memory: it goes over the namespace.
+    /// The first name of an item in its namespace, in order of first binding, with its visibility, and whether no
+    /// import brought it. Takes no memory: it goes over the namespace.
     pub fn name_of(&self, item: ItemInNs) -> Option<(&Name, Visibility, bool)>
         ensures { option_map deref_named result ≡ slice_get (names_for item self.now) 0 }
     {
@@ -80,8 +82,9 @@ impl ItemScope {
         }
     }
 
-    /// What `f` answers about the first name of an item for which it answers anything. It is asked about the names of
-    /// `name_of`, in the same order, and about none after it has answered; no more than that has to be askable.
+    /// The first `Some` that the closure `f` returns for a name of an item. It is called with the names of `name_of`,
+    /// in the same order, and with none after it has returned `Some`; only for these calls its preconditions have to
+    /// hold.
     pub fn names_of<T, F: FnMut(&Name, Visibility, bool) -> Option<T> + Drop>(
         &self,
         item: ItemInNs,

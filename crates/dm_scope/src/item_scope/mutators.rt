@@ -1,4 +1,4 @@
-//! What collectors put into a scope beside pushes.
+//! What a `DefCollector` puts into a scope beside pushes of names.
 ghost use Rattle.std.specs.Prelude.{◌≡◌, [], ◌∷◌, ◌++◌, OnOk, OnErr};
 ghost use Rattle.indexmap.specs.IndexMap.{insert_entry};
 ghost use Rattle.dm_ids.specs.Names.{same_name};
@@ -18,7 +18,7 @@ use dm_base::visibility::Visibility;
 use std::alloc::AllocError;
 
 impl ItemScope {
-    /// Declares a definition. Where memory is short, nothing changes.
+    /// Declares a definition. Where an allocation fails, nothing changes.
     pub fn declare(&mut self, def: ModuleDefId) -> Result<(), AllocError>
         ensures ok { OnOk result (self.new ≡ record self.old { declarations = self.old.declarations ++ def ∷ [] }) }
         ensures err { OnErr result (self.new ≡ self.old) }
@@ -27,7 +27,7 @@ impl ItemScope {
         Ok(())
     }
 
-    /// Defines an `impl` block, of a trait or of none. Where memory is short, nothing changes.
+    /// Defines an `impl` block, of a trait or of none. Where an allocation fails, nothing changes.
     pub fn define_impl(&mut self, imp: ImplId, is_trait_impl: bool) -> Result<(), AllocError>
         ensures ok { OnOk result (self.new ≡ record self.old { impls = self.old.impls ++ (imp, is_trait_impl) ∷ [] }) }
         ensures err { OnErr result (self.new ≡ self.old) }
@@ -39,7 +39,7 @@ impl ItemScope {
         Ok(())
     }
 
-    /// Defines an `impl` block that a builtin derive writes. Where memory is short, nothing changes.
+    /// Defines an `impl` block that a builtin derive writes. Where an allocation fails, nothing changes.
     pub fn define_builtin_derive_impl(&mut self, imp: BuiltinDeriveImplId) -> Result<(), AllocError>
         ensures ok { OnOk result (self.new ≡ record self.old { builtin_derive_impls = self.old.builtin_derive_impls ++ imp ∷ [] }) }
         ensures err { OnErr result (self.new ≡ self.old) }
@@ -51,7 +51,7 @@ impl ItemScope {
         Ok(())
     }
 
-    /// Defines an `extern` block. Where memory is short, nothing changes.
+    /// Defines an `extern` block. Where an allocation fails, nothing changes.
     pub fn define_extern_block(&mut self, extern_block: ExternBlockId) -> Result<(), AllocError>
         ensures ok { OnOk result (self.new ≡ record self.old { extern_blocks = self.old.extern_blocks ++ extern_block ∷ [] }) }
         ensures err { OnErr result (self.new ≡ self.old) }
@@ -63,7 +63,7 @@ impl ItemScope {
         Ok(())
     }
 
-    /// Defines an `extern crate` item. Where memory is short, nothing changes.
+    /// Defines an `extern crate` item. Where an allocation fails, nothing changes.
     pub fn define_extern_crate_decl(
         &mut self,
         extern_crate: ExternCrateId,
@@ -78,7 +78,7 @@ impl ItemScope {
         Ok(())
     }
 
-    /// Defines a constant without a name. Where memory is short, nothing changes.
+    /// Defines a constant without a name. Where an allocation fails, nothing changes.
     pub fn define_unnamed_const(&mut self, konst: ConstId) -> Result<(), AllocError>
         ensures ok { OnOk result (self.new ≡ record self.old { unnamed_consts = self.old.unnamed_consts ++ konst ∷ [] }) }
         ensures err { OnErr result (self.new ≡ self.old) }
@@ -90,7 +90,7 @@ impl ItemScope {
         Ok(())
     }
 
-    /// Imports a trait without a name. Where memory is short, nothing changes.
+    /// Imports a trait without a name. Where an allocation fails, nothing changes.
     pub fn push_unnamed_trait(
         &mut self,
         tr: TraitId,
@@ -107,7 +107,7 @@ impl ItemScope {
         Ok(())
     }
 
-    /// Sets the call of an attribute macro on an item, in place of one that was set. Where memory is short, nothing
+    /// Sets the call of an attribute macro on an item, in place of one that was set. Where an allocation fails, nothing
     /// changes.
     pub fn add_attr_macro_invoc(&mut self, item: AstId, call: MacroCallId) -> Result<(), AllocError>
         ensures ok { OnOk result (self.new ≡ record self.old { attr_macros = insert_entry same_ast self.old.attr_macros item call }) }
@@ -120,7 +120,8 @@ impl ItemScope {
         Ok(())
     }
 
-    /// Sets the call of a function-like macro, in place of one that was set. Where memory is short, nothing changes.
+    /// Sets the call of a function-like macro, in place of one that was set. Where an allocation fails, nothing
+    /// changes.
     pub fn add_macro_invoc(&mut self, call: AstId, call_id: MacroCallId) -> Result<(), AllocError>
         ensures ok { OnOk result (self.new ≡ record self.old { macro_invocations = insert_entry same_ast self.old.macro_invocations call call_id }) }
         ensures err { OnErr result (self.new ≡ self.old) }
@@ -132,7 +133,8 @@ impl ItemScope {
         Ok(())
     }
 
-    /// Defines a legacy macro, after those of its name. Where memory is short, nothing changes.
+    /// Defines a legacy macro (one in textual scope) after those of its name, which it shadows from there on. Where an
+    /// allocation fails, nothing changes.
     pub fn define_legacy_macro(&mut self, name: Name, mac: MacroId) -> Result<(), AllocError>
         ensures ok { OnOk result (self.new ≡ record self.old { legacy_macros = add_to_list same_name self.old.legacy_macros name mac }) }
         ensures err { OnErr result (self.new ≡ self.old) }

@@ -1,4 +1,4 @@
-//! A push into all namespaces of a scope.
+//! `push_res_with_import`: pushes a resolution into all namespaces of a scope.
 ghost use Rattle.std.specs.Prelude.{◌≡◌, ◌||◌, false, List, [], ◌∷◌, ◌++◌, IfOk, OnOk, OnErr};
 ghost use Rattle.dm_ids.specs.declared.ids.ModuleId.{ModuleId};
 ghost use Rattle.dm_ids.specs.Names.{Name};
@@ -21,7 +21,10 @@ use std::alloc::AllocError;
 impl ItemScope {
     /// Pushes what an import, or a declaration, resolves a name of a module to (docs/RULES.md, "Pushes").
     ///
-    /// Answers whether a namespace was written, or the name went among the unresolved ones. Where memory is short,
+    /// Explicit names shadow globs: a named import or a declaration replaces the binding of a glob, and a glob import
+    /// never replaces a binding.
+    ///
+    /// Answers whether a namespace was written, or the name went among the unresolved ones. Where an allocation fails,
     /// scope and glob table are as they were.
     pub fn push_res_with_import(
         &mut self,
@@ -33,18 +36,19 @@ impl ItemScope {
         ensures gives { PushGives self.old glob_imports.old self.new glob_imports.new lookup.0 (push_of lookup.1 def import) result }
 
         // Where scope and table show a list of pushes under the module, they show it with this push after it, and the
-        // answer is as that list says. After want of memory, and under another module, what was shown is shown.
+        // answer is as that list says. After an allocation failure, and under another module, what was shown is shown.
         ensures shown { PushShows self.old glob_imports.old self.new glob_imports.new lookup.0 (push_of lookup.1 def import) result }
         ensures shown_answer { PushAnswers self.old glob_imports.old lookup.0 (push_of lookup.1 def import) result }
         ensures refused { (k : ModuleId) → StillShows self.old glob_imports.old self.new glob_imports.new k result }
 
-        // What any list of pushes binds to a name in a namespace rests on the pushes of that name that have an item
-        // there, and not on globs beside an explicit one.
+        // What any list of pushes binds to a name in a namespace depends only on the pushes of that name that have an
+        // item there, and not on globs where one of these is explicit: explicit names shadow globs.
         ensures by_name { (n : Name) → IsByNameInEach n }
         ensures elsewhere { ShowsElsewhere glob_imports.old glob_imports.new lookup.0 }
 
-        // What it leaves of other pushes: one that answers false changes nothing, none writes twice, and what a named
-        // import would not write it would not write after this push, if that came by another import, by a glob or by none.
+        // What it leaves of other pushes, as a worklist of imports needs it: one that answers false changes nothing,
+        // none writes twice, and what a named import would not write it would not write after this push, if that came
+        // by another import, by a glob or by none.
         ensures law { OnOk result (PushLaw itself self.old glob_imports.old self.new glob_imports.new lookup.0 (push_of lookup.1 def import)) }
     {
         let (m, name) = lookup;
@@ -52,7 +56,8 @@ impl ItemScope {
         Ok(answer)
     }
 
-    /// The push. Where it has one item, the table of that namespace takes the name, and no step has to be taken back.
+    /// The push, with a fast path for one item: the name is moved into the table of its namespace, and there is no step
+    /// to undo.
     fn push_named(
         &mut self,
         globs: &mut PerNsGlobImports,
@@ -79,8 +84,8 @@ impl ItemScope {
         }
     }
 
-    /// The push, in all namespaces: the first step, then all that is below, then the second step, or all taken back.
-    // It stays a call, so that a push of one item need not read the others.
+    /// The push, in all namespaces: the first step, then all that is below, then the second step, or all undone.
+    // Not inlined, so that a push of one item need not read the others.
     #[inline(never)]
     fn push_from_types(
         &mut self,

@@ -1,4 +1,4 @@
-//! The sorted lists of a scope, which take memory.
+//! Sorted lists of what a scope has; each is allocated.
 ghost use Rattle.std.specs.Prelude.{◌≡◌, ◌++◌, ◌∷◌, [], None, IfOk, OnOk, map};
 ghost use Rattle.std.specs.List.{filter_map};
 ghost use Rattle.dm_scope.specs.Scope.{bound_in};
@@ -17,7 +17,8 @@ use dm_base::visibility::Visibility;
 use std::alloc::AllocError;
 
 impl ItemScope {
-    /// The names that are bound or unresolved, in order of their bytes, each with what it is bound to. Fails where memory runs out.
+    /// The names that are bound or unresolved, in order of their bytes, each with what it is bound to. Fails where
+    /// memory runs out.
     pub fn entries(&self) -> Result<Vec<(&Name, PerNs)>, AllocError>
         ensures { IfOk result (λ v. AreEntries (map deref_entry v.items) self.now) }
     {
@@ -47,8 +48,8 @@ impl ItemScope {
         Ok(entries)
     }
 
-    /// The named imports that have a record in any namespace, in order of their uses, then of their places there. Fails where memory
-    /// runs out.
+    /// The named imports that have a record in any namespace, in order of their uses, then of their places there. Fails
+    /// where memory runs out.
     pub fn imports(&self) -> Result<Vec<ImportId>, AllocError>
         ensures { IfOk result (λ v. AreImports ⟦<ImportId as Ord>⟧.cmp v.items self.now) }
     {
@@ -68,8 +69,8 @@ impl ItemScope {
         Ok(imports)
     }
 
-    /// The entries, in order of their names, and then the unnamed traits, in order of import, each as a type. Fails where memory runs
-    /// out.
+    /// The entries, in order of their names, and then the unnamed traits, in order of import, each as a type. Fails
+    /// where memory runs out.
     pub fn resolutions(&self) -> Result<Vec<(Option<&Name>, PerNs)>, AllocError>
         ensures { IfOk result (λ v. AreResolutions (map deref_resolution v.items) self.now) }
     {

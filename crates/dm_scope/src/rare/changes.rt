@@ -1,4 +1,4 @@
-//! What changes the rare tables of a scope. Where nothing is put into them, tables that were not made stay so.
+//! Mutators of the rare tables of a scope. Those that put nothing in do not allocate the tables.
 ghost use Rattle.std.specs.Prelude.{◌≡◌, OnOk, OnErr, map};
 ghost use Rattle.indexmap.specs.IndexSet.{insert_key};
 ghost use Rattle.dm_ids.specs.Names.{same_name};
@@ -13,7 +13,7 @@ use dm_base::visibility::Visibility;
 use std::alloc::AllocError;
 
 impl Rare {
-    /// Puts a name last among the unresolved ones, unless it is there. Where memory is short, nothing changes.
+    /// Puts a name last among the unresolved ones, unless it is there. Where an allocation fails, nothing changes.
     pub(crate) fn add_unresolved(&mut self, name: Name) -> Result<(), AllocError>
         ensures ok { OnOk result (self.new ≡ record self.old { unresolved = insert_key same_name self.old.unresolved name }) }
         ensures err { OnErr result (self.new ≡ self.old) }
@@ -25,7 +25,7 @@ impl Rare {
         Ok(())
     }
 
-    /// Lets the crate alone see each unnamed trait.
+    /// Restricts each unnamed trait to the crate.
     pub(crate) fn censor_traits(&mut self, krate: Crate)
         ensures { self.new ≡ record self.old { unnamed_traits = map (censored_trait krate) self.old.unnamed_traits } }
     {
@@ -61,7 +61,7 @@ fn shrink(tables: &mut RareTables)
     tables.derive_macros.shrink_to_fit();
 }
 
-/// Lets the crate alone see each unnamed trait.
+/// Restricts each unnamed trait to the crate.
 fn censor_traits(traits: &mut [(TraitId, Visibility, Option<ImportId>)], krate: Crate)
     ensures { traits.new ≡ map (censored_trait krate) traits.old }
 {

@@ -1,4 +1,4 @@
-//! What the rare tables of a scope have. Nothing here takes memory.
+//! Reads of the rare tables of a scope. None of them allocates.
 ghost use Rattle.std.specs.Prelude.{◌≡◌};
 ghost use Rattle.std.specs.List.{list_any};
 ghost use Rattle.dm_ids.specs.Names.{same_name};

@@ -1,4 +1,4 @@
-//! The builtin types, asked once more where memory is refused, and what is displayed of them.
+//! The builtin types, asked again where an allocation fails, and how they are displayed.
 use crate::tests::same;
 use dm_base::builtin_type::{BuiltinFloat, BuiltinInt, BuiltinType, BuiltinUint};
 use dm_base::mod_path::PathKind;

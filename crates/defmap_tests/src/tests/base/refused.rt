@@ -1,7 +1,7 @@
-//! Each call that takes memory, made once more where it is refused.
+//! Fault injection: each call of `dm_base` that allocates, made again where an allocation fails.
 //!
-//! With ample memory none is. `tools/refusals` runs this test with each request for memory refused in turn: whichever it
-//! is, the call made again answers as it would have.
+//! With enough memory none fails. `tools/refusals` injects faults: it runs this test with every allocation failing in
+//! turn. Whichever it is, the call made again answers as it would have.
 use super::builtins::first_other_of_all;
 use crate::tests::gives;
 use dm_base::name::Name;

@@ -1,4 +1,4 @@
-//! Generic callers of each trait with laws, each at one type.
+//! Generic callers of each trait with laws, each with one type.
 ghost use Rattle.std.specs.Prelude.{◌≡◌, Some, None};
 ghost use Rattle.dm_base.specs.ItemHomes.{Homes};
 

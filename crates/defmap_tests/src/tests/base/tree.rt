@@ -1,4 +1,4 @@
-//! What is generic over trees of modules, in a small one: each call once.
+//! Code that is generic over module trees, with a small mock tree: each call once.
 ghost use Rattle.std.specs.Prelude.{◌≡◌};
 ghost use Rattle.dm_base.specs.declared.visibility.Visibility.TheVariants.{Module};
 ghost use Rattle.dm_base.specs.declared.visibility.VisibilityExplicitness.TheVariants.{Implicit};

@@ -1,4 +1,4 @@
-//! What changes in place: each call once.
+//! Calls that change bindings of a scope in place: each once.
 use super::{Filled, function, structure, typed, valued};
 use crate::tests::gives;
 use dm_base::ids::{Crate, MacroRulesId, ProcMacroId};

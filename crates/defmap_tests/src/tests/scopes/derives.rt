@@ -1,4 +1,5 @@
-//! The slots of derive attributes.
+//! The slots of derive attributes, made beforehand so that a derive's macro call id is filled in later without
+//! allocating.
 use super::{Filled, ast};
 use crate::tests::gives;
 use dm_base::ids::{AttrId, BuiltinDeriveImplId, MacroCallId};

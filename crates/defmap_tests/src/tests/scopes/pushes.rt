@@ -1,4 +1,4 @@
-//! Worked pushes of one name, A.
+//! Pushes of one name, A: named imports shadow glob imports, since explicit names win.
 use super::{Filled, GLOB, HERE, function, import, structure, typed, valued};
 use crate::tests::gives;
 use dm_base::ids::{ExternCrateId, UseId, UseTreeIdx};
@@ -42,7 +42,7 @@ impl Filled {
         Ok((self.scope.get(&name), flags))
     }
 
-    /// What an import stands for in a namespace.
+    /// What an import resolves to in a namespace.
     fn record(&self, namespace: Namespace, import: ImportOrExternCrate) -> Option<ImportOrDef> {
         for (key, target) in self.scope.import_records(namespace) {
             if key == import {
@@ -69,7 +69,7 @@ fn after(alloc: Global, pushes: &[Push]) -> Result<Option<Reading>, AllocError> 
     Ok(Some(filled.reading(alloc)?))
 }
 
-/// What an import stands for after pushes, in types, values and macros.
+/// What an import resolves to after pushes, in types, values and macros.
 fn records(
     alloc: Global,
     pushes: &[Push],

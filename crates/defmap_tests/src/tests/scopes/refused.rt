@@ -1,7 +1,7 @@
-//! Each call that grows a scope, and each that lists one, made once more where memory is refused.
+//! Fault injection: each call that grows a scope, and each that lists one, made again where an allocation fails.
 //!
-//! With ample memory none is. `tools/refusals` runs these tests with each request for memory refused in turn: whichever
-//! it is, a refused call leaves all as it was, and the same call then answers as it would have.
+//! With enough memory none fails. `tools/refusals` injects faults: it runs these tests with every allocation failing in
+//! turn. Whichever it is, a failed call leaves all unchanged, and the same call then answers as it would have.
 ghost use Rattle.std.specs.Iterator.{IsFinite};
 
 use super::told::told;
@@ -123,7 +123,7 @@ where
     length
 }
 
-/// How many entries there are, where memory is refused once at most.
+/// How many entries there are, where at most one allocation fails.
 fn entry_count(scope: &ItemScope) -> usize {
     match again!(scope.entries()) {
         Ok(entries) => entries.len(),
@@ -252,7 +252,7 @@ impl Filled {
         }
     }
 
-    /// One call, made once more where it is refused: what it answers, and whether a refusal leaves all as it was.
+    /// One call, made again where it fails: what it answers, and whether a failure leaves all unchanged.
     fn insist(
         &mut self,
         alloc: Global,
@@ -284,7 +284,7 @@ fn names(alloc: Global) -> Result<[Name; 3], AllocError> {
     ])
 }
 
-/// A scope after all growths, and whether each answered as it should, and left all as it was where it was refused.
+/// A scope after all growths, and whether each answered as it should, and left all unchanged where it failed.
 fn grown(alloc: Global) -> Result<(Filled, bool), AllocError> {
     let names = names(alloc)?;
     let mut filled = Filled::new(alloc);
@@ -368,13 +368,13 @@ fn lists_in(scope: &ItemScope) -> Result<[bool; 3], AllocError> {
     ])
 }
 
-/// Whether each list that takes memory comes in order, asked once more where it is refused.
+/// Whether each list that is allocated comes in order, asked again where that fails.
 fn lists(alloc: Global) -> Result<[bool; 3], AllocError> {
     let (filled, _as_told) = grown(alloc)?;
     lists_in(&filled.scope)
 }
 
-/// The dump behind a text, made once more where it is refused, and whether a refusal left the text as it was.
+/// The dump appended to a text, made again where it fails, and whether a failure left the text unchanged.
 fn dumped(alloc: Global) -> Result<(String, bool), AllocError> {
     let (filled, _as_told) = grown(alloc)?;
     let modules = Modules {
@@ -414,7 +414,7 @@ fn a_refused_dump_leaves_the_text(rt: HostRuntime) -> Result<(), Fail> {
     Ok(())
 }
 
-/// A list of one diagnostic. Where memory is refused, what was handed in is dropped.
+/// A list of one diagnostic. Where an allocation fails, what was handed in is dropped.
 fn listed(alloc: Global) -> Result<DefDiagnostics, AllocError> {
     let mut diagnostics = again!(Vec::with_capacity(alloc, 1))?;
     diagnostics.push(DefDiagnostic::unresolved_extern_crate(HERE, ast(1)))?;
@@ -425,7 +425,7 @@ fn cloned(diagnostics: &DefDiagnostics) -> Result<DefDiagnostics, AllocError> {
     Ok(diagnostics.clone()?)
 }
 
-/// Whether the clone of such a list is the same, each made once more where it is refused.
+/// Whether the clone of such a list is the same, each made again where it fails.
 fn is_cloned(alloc: Global) -> Result<bool, AllocError> {
     let diagnostics = again!(listed(alloc))?;
     let copy = again!(cloned(&diagnostics))?;

@@ -1,14 +1,14 @@
-//! A helper that breaks its promise on purpose: with a request refused, its test has to fail.
+//! A helper that breaks its contract on purpose: under fault injection, its test has to fail.
 //!
-//! It passes with ample memory. `tools/refusals` fails where no refusal brings it to light, since then it would not bring
-//! to light a call that breaks the same promise.
+//! It passes with enough memory. `tools/refusals` fails where no failing allocation shows the defect, since then it
+//! would not show that of a real call either.
 use super::{Filled, structure, typed};
 use crate::tests::gives;
 use std::alloc::{AllocError, Global};
 use std::test::Fail;
 
 impl Filled {
-    /// Declares a struct, and then pushes it: where the push is refused, the declaration stays.
+    /// Declares a struct, and then pushes it: where the push fails, the declaration stays.
     fn write_before_growing(&mut self, alloc: Global) -> Result<(), AllocError> {
         self.scope.declare(structure(0))?;
         self.push(alloc, "A", typed(0, None), None)?;
@@ -16,7 +16,7 @@ impl Filled {
     }
 }
 
-/// Whether there is a second declaration, once the helper was called, and called again where it was refused.
+/// Whether there is a second declaration, once the helper was called, and called again where it failed.
 fn has_second(alloc: Global) -> Result<bool, AllocError> {
     let mut filled = Filled::new(alloc);
     again!(filled.write_before_growing(alloc))?;

@@ -1,4 +1,4 @@
-//! All that a scope tells in lists, as one number, so that two scopes are compared by every list at once.
+//! A hash of all lists that a scope tells, so that two scopes are compared by every list at once.
 ghost use Rattle.std.specs.Iterator.{IsFinite};
 
 use dm_base::per_ns::Namespace;

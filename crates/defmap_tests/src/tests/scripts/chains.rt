@@ -1,10 +1,10 @@
-//! Chains of imports, asked of whole worlds.
+//! Chains of re-exports, followed in whole worlds.
 use super::first_wrong;
 use super::worlds::{BLOCKS, CRATES, REST};
 use crate::tests::gives;
 use std::test::Fail;
 
-/// What imports of the world of two crates and two blocks stand for. The first goes round in types.
+/// What imports of the world of two crates and two blocks resolve to. The first is a cycle in types.
 const ENDS: &str = "import 0 0 0
 => - fn:2/pub/none -
 

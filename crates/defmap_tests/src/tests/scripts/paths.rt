@@ -1,4 +1,4 @@
-//! What questions answer.
+//! Path resolution in a small world.
 use super::first_wrong;
 use crate::tests::gives;
 use std::test::Fail;

@@ -1,4 +1,4 @@
-//! Which lines are refused, and with which words.
+//! Errors of scripts: which lines are refused, and with which words.
 use super::{first_wrong, hold};
 use crate::tests::gives;
 use std::alloc::{AllocError, Global};
@@ -265,7 +265,7 @@ module 0 a crate:1
 check
 => refused 3 UnknownCrate m1 1";
 
-/// Three modules, one with a push that its check would refuse, behind those that the transcripts push.
+/// Three modules, one with a push that fails its check, after those that the transcripts push.
 const DANGLING: &str = "crate 2021 0
 module 0 a pub
 module 0 b pub

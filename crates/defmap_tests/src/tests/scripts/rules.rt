@@ -1,4 +1,4 @@
-//! What the two versions of the rules answer.
+//! The two versions of the scoping rules.
 use super::first_wrong;
 use super::scoping::ANSWERS;
 use super::worlds::{BLOCKS, CRATES, REST};

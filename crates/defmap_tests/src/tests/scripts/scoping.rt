@@ -1,4 +1,4 @@
-//! What the scoping rules answer over several crates, blocks, preludes and macros.
+//! Path resolution over several crates, blocks, preludes and macros: what shadows what.
 use super::first_wrong;
 use super::worlds::{BLOCKS, CRATES, REST};
 use crate::tests::gives;

@@ -1,4 +1,4 @@
-//! Who sees what, and the most and the least of two visibilities.
+//! Visibility: what is visible from where, and the most and least permissive of two visibilities.
 use super::first_wrong;
 use super::worlds::{BLOCKS, CRATES};
 use crate::tests::gives;

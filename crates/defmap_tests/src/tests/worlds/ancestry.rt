@@ -1,4 +1,4 @@
-//! Which modules contain which, in how many moves, and that a climb says the same.
+//! Module ancestry by jump pointers: which modules contain which, in how many hops, and that a climb says the same.
 use super::{Building, FILE, ast};
 use crate::tests::gives;
 use dm_base::ids::ModuleId;
@@ -23,7 +23,7 @@ impl Building {
     }
 }
 
-/// Whether one module of a world contains another, and in how many moves; none where the world lacks one of them.
+/// Whether one module of a world contains another, and in how many hops; none where the world lacks one of them.
 fn counted(world: &World, a: u32, m: u32) -> Option<(bool, u32)> {
     let (a, m) = (ModuleId(a), ModuleId(m));
     if world.has(a) && world.has(m) {
@@ -123,7 +123,7 @@ fn contained(world: &World, a: u32, m: u32) -> bool {
     world.has(m) && world.contains(a, m)
 }
 
-/// Whether ladders say of two modules what the climb says.
+/// Whether the ladders (jump pointers) say of two modules what the climb says.
 fn agree(world: &World, a: u32, m: u32) -> bool {
     let climbed = climbs(world, a, m);
     let moves = counted(world, a, m).map(|(contains, _moves)| contains);

@@ -1,4 +1,4 @@
-//! What the maps of a crate answer of its data.
+//! A crate's data, as its def maps tell it.
 use super::{Building, map_at};
 use crate::tests::{gives, same};
 use dm_base::symbol::Symbol;

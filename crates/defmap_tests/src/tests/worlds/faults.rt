@@ -1,4 +1,4 @@
-//! What nobody has, where no line of a script puts it. Each entry names a 9.
+//! Dangling ids in tables that no line of a script fills, as `check` finds them. Each entry has an id 9.
 use super::{Building, CALL, CRATE_MAP, FILE, ast};
 use crate::tests::gives;
 use dm_base::ids::{

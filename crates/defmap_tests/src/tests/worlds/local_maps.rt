@@ -1,4 +1,4 @@
-//! Extern preludes, in whatever order their entries came.
+//! Extern preludes are equal in whatever order their entries came.
 use crate::tests::gives;
 use dm_base::ids::ModuleId;
 use dm_base::name::Name;

@@ -1,4 +1,4 @@
-//! Which maps are asked, from a block's outwards.
+//! `with_ancestor_maps`: which maps are visited, from a block's outwards.
 use super::Building;
 use crate::tests::gives;
 use dm_base::ids::{BlockId, ModuleId};
@@ -16,10 +16,10 @@ const INNER: ModuleId = ModuleId(6);
 /// The module that the block lies in.
 const OUTER: ModuleId = ModuleId(1);
 
-/// The blocks of the maps that are asked, with their modules: the first three.
+/// The blocks of the maps that are visited, with their modules: the first three.
 type Asked = [Option<(Option<BlockId>, ModuleId)>; 3];
 
-/// An asker that never answers.
+/// A closure that never answers.
 fn asked_in(world: &World) -> Option<Asked> {
     if !world.has_block(BLOCK) {
         return None;

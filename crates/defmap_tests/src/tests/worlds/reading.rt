@@ -25,7 +25,7 @@ fn homes_in(world: &World) -> Homes {
     (modules, ItemInNs::Types(root).krate(world))
 }
 
-/// The first module that fills file 0, and the first that is written out in the macro call.
+/// The first module whose content is file 0, and the first that is inline in the macro call.
 fn first_modules_in(world: &World) -> Option<[Option<ModuleId>; 2]> {
     let map = map_at(world, 0)?;
     Some([

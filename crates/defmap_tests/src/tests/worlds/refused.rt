@@ -1,7 +1,8 @@
-//! That world, and what takes memory of it, each call made once more where memory is refused.
+//! Fault injection: that world and its calls that allocate, each made again where an allocation fails.
 //!
-//! With ample memory none is. `tools/refusals` runs these tests with each request for memory refused in turn: whichever it
-//! is, the call made again does what it would have done, and the finished world answers as that of the script does.
+//! With enough memory none fails. `tools/refusals` injects faults: it runs these tests with every allocation failing in
+//! turn. Whichever it is, the call made again does what it would have done, and the finished world answers as that of
+//! the script does.
 pub(super) mod builders;
 mod crate_data;
 mod local_maps;
@@ -86,7 +87,8 @@ fn path(alloc: Global, words: &str) -> Result<ModPath, AllocError> {
     }
 }
 
-/// What a question of a script asks: the module, the mode, what shadows what, and which macro is expected.
+/// What a question of a script asks: the module, the mode, whether builtin types shadow modules, and which macro is
+/// expected.
 type Asked = (ModuleId, ResolveMode, BuiltinShadowMode, Option<MacroSubNs>);
 
 /// The text of what a path means; none where it names what the world has not.
@@ -121,7 +123,7 @@ fn answered(alloc: Global, world: &World, question: &str) -> Result<Option<Strin
     meaning(alloc, world, &path, asked)
 }
 
-/// Whether a question has this answer, asked once more where it is refused.
+/// Whether a question has this answer, asked again where it fails.
 fn is_answered(
     alloc: Global,
     world: &World,

@@ -1,7 +1,7 @@
-//! A call that breaks its promise on purpose: with a request refused, its test has to fail.
+//! A call that breaks its contract on purpose: under fault injection, its test has to fail.
 //!
-//! It passes with ample memory. `tools/refusals` fails where no refusal brings it to light, since then it would not bring to
-//! light a call of a builder that breaks the same promise.
+//! It passes with enough memory. `tools/refusals` fails where no failing allocation shows the defect, since then it
+//! would not show that of a builder's call either.
 use super::refused::builders::{Call, are_left};
 use crate::tests::gives;
 use std::test::Fail;

@@ -1,4 +1,4 @@
-//! A crate with two imports that wait, of which the first needs what the second binds, and rounds over them.
+//! Import resolution to a fixed point: two unresolved imports, of which the first needs what the second binds.
 mod refused;
 
 use super::{Building, Checked, FILE};
@@ -32,12 +32,12 @@ const STRUCT: StructId = StructId(0);
 /// No module of the crate.
 const MISSING: ModuleId = ModuleId(9);
 
-/// Imports that wait in a checked world.
+/// Unresolved imports in a checked world.
 struct Waiting {
     retry: Retry,
 }
 
-/// Written out, as for a builder.
+/// A hand-written `Drop`, as for a builder.
 impl Drop for Waiting {
     fn drop(self) {
         let Waiting { retry: _retry } = self;
@@ -127,13 +127,13 @@ impl Checked {
     }
 }
 
-/// Why imports do not wait, the place of the one that is meant, and how many were handed back.
+/// Why imports are not taken, the index of the one that is meant, and how many were handed back.
 type Refused = (Option<RetryFault>, Option<usize>, usize);
 
-/// Imports that wait, or why they do not.
+/// Unresolved imports, or why they are not taken.
 type Taken = Result<Waiting, Refused>;
 
-/// What taking imports answered, with the world and all else let go where they are refused.
+/// The result of taking imports; where they are not taken, the world and all else are dropped.
 fn outcome(answer: Result<Retry, (RetryFault, World, PerNsGlobImports, Vec<Pending>)>) -> Taken {
     match answer {
         Ok(retry) => Ok(Waiting { retry }),
@@ -155,7 +155,7 @@ fn taken(alloc: Global, pendings: Vec<Pending>) -> Result<Taken, BuildFault> {
     }
 }
 
-/// What a round answers, how many tries it began, and which of the two imports are due afterwards.
+/// What a round answers, how many tries it began, and which of the two imports are due (dirty) afterwards.
 type Row = (bool, usize, Option<bool>, Option<bool>);
 
 impl Waiting {
@@ -173,7 +173,7 @@ impl Waiting {
         Ok([self.round(all)?, self.round(all)?, self.round(all)?])
     }
 
-    /// What the first import stands for.
+    /// What the first import resolves to.
     fn first_import(&self) -> Option<PerNs> {
         let world = self.retry.world();
         let module = world.map_of(ROOT)?.get(ROOT)?;
@@ -181,7 +181,7 @@ impl Waiting {
     }
 }
 
-/// The three rounds of a kind, and what the first import stands for afterwards.
+/// The three rounds of a kind, and what the first import resolves to afterwards.
 fn rounds(alloc: Global, all: bool) -> Result<Option<([Row; 3], Option<PerNs>)>, BuildFault> {
     match taken(alloc, two_imports(alloc)?)? {
         Err(_) => Ok(None),
@@ -254,7 +254,7 @@ fn imports_are_refused(rt: HostRuntime) -> Result<(), Fail> {
     gives(&rt, refusal(alloc, lost(alloc)?), unknown)
 }
 
-/// A round of each kind where no import waits.
+/// A round of each kind where no import is unresolved.
 fn idle(alloc: Global) -> Result<Option<[Row; 2]>, BuildFault> {
     match taken(alloc, Vec::new(alloc))? {
         Err(_) => Ok(None),
@@ -267,7 +267,7 @@ fn where_none_waits_a_round_brings_nothing(rt: HostRuntime) -> Result<(), Fail> 
     gives(&rt, idle(rt.alloc()), Some([(false, 0, None, None); 2]))
 }
 
-/// What the first import stands for after rounds of both kinds.
+/// What the first import resolves to after rounds of both kinds.
 fn mixed(alloc: Global) -> Result<Option<PerNs>, BuildFault> {
     match taken(alloc, two_imports(alloc)?)? {
         Err(_) => Ok(None),
@@ -284,7 +284,7 @@ fn rounds_of_both_kinds(rt: HostRuntime) -> Result<(), Fail> {
     gives(&rt, mixed(rt.alloc()), Some(the_struct()))
 }
 
-/// What an import is: where it stands, whether it binds `Y`, how many segments its path has, who sees it, and which it is.
+/// What an import is: its module, whether it binds `Y`, how many segments its path has, its visibility, and its id.
 type Read = (ModuleId, bool, usize, Visibility, ImportId);
 
 fn read(pending: &Pending) -> Read {

@@ -1,4 +1,4 @@
-//! What visibilities mean that are written.
+//! Resolution of raw visibilities.
 use super::Building;
 use crate::tests::gives;
 use dm_base::ids::{BlockId, FunctionId, ModuleId};

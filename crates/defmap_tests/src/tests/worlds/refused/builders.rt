@@ -1,8 +1,8 @@
-//! Each call of a builder that takes memory: where it is refused, the tables are as they were.
+//! Fault injection: each call of a builder that allocates. Where an allocation fails, the tables are unchanged.
 //!
-//! With ample memory none is. `tools/refusals` runs this test with each request for memory refused in turn. Before each
-//! call, and where it is refused, the tables are checked, which takes no memory, and the world tells all that a call could
-//! have changed; the call made again then does what it would have done.
+//! With enough memory none fails. `tools/refusals` injects faults: it runs this test with every allocation failing in
+//! turn. Before each call, and where it fails, the tables are checked, which allocates nothing, and the world tells all
+//! that a call could have changed; the call made again then does what it would have done.
 use super::super::{Building, CRATE_MAP, FILE, RULES, STRUCT, ast, in_crate, map_at, structure};
 use crate::tests::gives;
 use crate::tests::scopes::told::tell_scope;
@@ -24,7 +24,7 @@ use std::alloc::{AllocError, Global};
 use std::hash::{DefaultHasher, Hash, Hasher};
 use std::test::Fail;
 
-/// A call that takes memory.
+/// A call that allocates.
 #[derive(Clone, Copy)]
 pub(in crate::tests) enum Call {
     Crate,
@@ -52,7 +52,7 @@ pub(in crate::tests) enum Call {
     ProcMacro,
     LegacyMacro,
     Push,
-    /// Two calls, of which the second may be refused when the first has written: no call may be such.
+    /// Two calls, of which the second may fail when the first has written: no single call may be like that.
     TwoTools,
 }
 
@@ -97,7 +97,7 @@ struct Words {
     feature: Symbol,
 }
 
-/// Written out, as for a builder.
+/// A hand-written `Drop`, as for a builder.
 impl Drop for Words {
     fn drop(self) {
         let Words {
@@ -172,7 +172,7 @@ fn tell_extern(state: &mut DefaultHasher, world: &World, words: &Words) {
     }
 }
 
-/// What stands in the tables that belong to no map, each visibility by whether it is there.
+/// The tables that belong to no map, each visibility by whether it is there.
 fn tell_visibilities(state: &mut DefaultHasher, world: &World, words: &Words) {
     match world.raw_fields_of(VariantId::StructId(STRUCT)) {
         None => 0usize.hash(state),
@@ -310,7 +310,7 @@ impl Building {
         }
     }
 
-    /// A call, made once more where it is refused, and whether a refusal left all as it was.
+    /// A call, made again where it fails, and whether a failure left all unchanged.
     fn insist(
         self,
         alloc: Global,

@@ -1,6 +1,7 @@
-//! Data of a crate, set by one call and by single calls, each made once more where memory is refused.
+//! Fault injection: data of a crate, set by one call and by single calls, each made again where an allocation fails.
 //!
-//! With ample memory none is. `tools/refusals` runs this test with each request for memory refused in turn.
+//! With enough memory none fails. `tools/refusals` injects faults: it runs this test with every allocation failing in
+//! turn.
 use crate::tests::gives;
 use crate::tests::worlds::{Building, map_at};
 use dm_base::ids::{Crate, FunctionId, ProcMacroId};
@@ -93,7 +94,7 @@ fn told(map: &DefMap, feature: &Symbol) -> Told {
     )
 }
 
-/// Whether the two tools stand in order behind the five that every crate has.
+/// Whether the two tools follow, in order, the five that every crate has.
 fn has_tools(map: &DefMap) -> bool {
     let tools = map.registered_tools();
     match (tools.get(5), tools.get(6)) {

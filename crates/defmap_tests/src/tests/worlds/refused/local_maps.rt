@@ -1,7 +1,7 @@
-//! Entries of an extern prelude, each put once more where memory is refused.
+//! Fault injection: entries of an extern prelude, each put again where an allocation fails.
 //!
-//! With ample memory none is. `tools/refusals` runs this test with each request for memory refused in turn: whichever it
-//! is, a refused call leaves the map as it was, and the call made again puts its entry.
+//! With enough memory none fails. `tools/refusals` injects faults: it runs this test with every allocation failing in
+//! turn. Whichever it is, a failed call leaves the map unchanged, and the call made again puts its entry.
 use crate::tests::gives;
 use dm_base::ids::{ExternCrateId, ModuleId};
 use dm_base::name::Name;
@@ -42,7 +42,7 @@ fn put(
     map.insert(name, m, named_by)
 }
 
-/// Puts an entry, once more where it is refused. Whether a refusal left the map as it was.
+/// Puts an entry, again where that fails. Whether a failure left the map unchanged.
 fn insist(
     alloc: Global,
     map: &mut LocalDefMap,
@@ -60,7 +60,7 @@ fn insist(
     }
 }
 
-/// What is seen in the end, and whether each refusal left the map as it was.
+/// The map in the end, and whether each failure left it unchanged.
 fn filled(alloc: Global) -> Result<(Seen, bool), AllocError> {
     let names = [
         again!(Name::new(alloc, "a"))?,

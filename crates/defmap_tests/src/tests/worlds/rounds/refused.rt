@@ -1,7 +1,7 @@
-//! Rounds to the end, each made once more where memory is refused.
+//! Fault injection: rounds to the fixed point, each made again where an allocation fails.
 //!
-//! With ample memory none is. `tools/refusals` runs these tests with each request for memory refused in turn: whichever it
-//! is, the refused import is due, and the rounds come to the same end.
+//! With enough memory none fails. `tools/refusals` injects faults: it runs these tests with every allocation failing in
+//! turn. Whichever it is, the import that failed is due (dirty), and the rounds come to the same end.
 use super::{ROOT, STRUCT, Waiting, import, taken, the_struct, two_imports};
 use crate::tests::gives;
 use dm_base::imports::ImportOrExternCrate;
@@ -13,33 +13,33 @@ use dm_maps::build_fault::BuildFault;
 use std::alloc::{AllocError, Global};
 use std::test::Fail;
 
-/// Which round was refused, from 1, how many tries it began, and which of the two imports were due then.
+/// Which round failed, from 1, how many tries it began, and which of the two imports were due then.
 type Refusal = (u32, usize, Option<bool>, Option<bool>);
 
-/// In the first round the first import finds nothing, which takes no memory.
+/// In the first round the first import finds nothing, which allocates nothing.
 const FIRST: Refusal = (1, 2, Some(false), Some(true));
 
 /// In the second round the first import is due again.
 const SECOND: Refusal = (2, 1, Some(true), Some(false));
 
-/// A round of all tries those as well that are not due, and each that finds something takes memory. A round of what changed
-/// takes none where nothing is due, so that its third is never refused.
+/// A round of all tries those as well that are not due, and each that finds something allocates. A round of the due
+/// ones allocates nothing where nothing is due, so that its third never fails.
 const OF_ALL_ALONE: [Refusal; 3] = [
     (2, 2, Some(false), Some(true)),
     (3, 1, Some(true), Some(false)),
     (3, 2, Some(false), Some(true)),
 ];
 
-/// Whether a round of that kind may be refused there.
+/// Whether a round of that kind may fail there.
 fn may_be(refusal: Refusal, all: bool) -> bool {
     refusal == FIRST || refusal == SECOND || (all && OF_ALL_ALONE.contains(&refusal))
 }
 
-/// What two names mean in the root, and what the first import stands for.
+/// What two names mean in the root, and what the first import resolves to.
 type End = ([PerNs; 2], Option<PerNs>);
 
 impl Waiting {
-    /// A round, made once more where it is refused: what it answers, and whether a refusal leaves what it may.
+    /// A round, made again where it fails: what it answers, and whether a failure leaves what it may.
     fn insist(&mut self, number: u32, all: bool) -> Result<(bool, bool), AllocError> {
         match self.round(all) {
             Ok((answer, _, _, _)) => Ok((answer, true)),
@@ -52,7 +52,7 @@ impl Waiting {
         }
     }
 
-    /// Rounds until one answers false, three at most: whether one did, and each refusal left what it may.
+    /// Rounds until one answers false, three at most: whether one did, and each failure left what it may.
     fn to_the_end(&mut self, all: bool) -> Result<bool, AllocError> {
         for number in 1..=3u32 {
             let (answer, is_left) = self.insist(number, all)?;
@@ -63,7 +63,7 @@ impl Waiting {
         Ok(false)
     }
 
-    /// What stands in the end.
+    /// The state in the end.
     fn end(&self, names: &[Name; 2]) -> Option<End> {
         let scope = self.retry.world().map_of(ROOT)?.get(ROOT)?.scope();
         Some((
@@ -73,7 +73,7 @@ impl Waiting {
     }
 }
 
-/// Whether rounds of a kind come to their end, and what stands then.
+/// Whether rounds of a kind come to the fixed point, and the state then.
 fn ended(alloc: Global, all: bool) -> Result<Option<(bool, Option<End>)>, BuildFault> {
     let names = [
         again!(Name::new(alloc, "X"))?,

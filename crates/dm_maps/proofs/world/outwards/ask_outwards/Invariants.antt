@@ -2,7 +2,7 @@ use Rattle.std.proofs.Common.{Option, length}
 use Rattle.dm_maps.specs.Outwards.{maps_outwards, AsksMaps, MayAskMaps}
 use Rattle.dm_maps.proofs.world.outwards.ask_outwards.Given as goal
 
--- the asker may be asked about the maps that are left, and what it answers about them, it answers about all
+-- the callback may be called with the maps that are left, and what it answers for them, it answers for all
 abbrev pub invariant-maps : goal.invariant-maps
 invariant-maps g l =
     MayAskMaps l.world (goal.F-pre g) (goal.F-step g) (maps_outwards l.world l.map l.at) l.f

@@ -2,7 +2,7 @@ use Rattle.std.proofs.Common.{Option}
 use Rattle.dm_scope.specs.Lookups.{names_in, MayAskNames, AsksNames}
 use Rattle.dm_scope.proofs.bindings.Bindings.names_of.Given as goal
 
--- the asker may be asked about the entries that are left; and what it answers about them, it answers about all of them
+-- the callback may be called with the entries that are left; and what it answers for them, it answers for all of them
 abbrev pub invariant-loop-name : goal.invariant-loop-name
 invariant-loop-name g l =
     MayAskNames (goal.F-pre g) (goal.F-step g) (names_in g.D.PartialEq.eq l.def l.entries) l.f
