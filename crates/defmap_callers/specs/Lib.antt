@@ -4,3 +4,5 @@ pub mod Modules
 pub mod Resolving
 pub mod Building
 pub mod Waiting
+pub mod Finding
+pub mod Program

@@ -85,7 +85,8 @@ pub fn widened_by<T: ModuleTree>(
 ) -> Visibility
     requires vis { NamesKnown (T.tree tree.now) vis }
     requires other { NamesKnown (T.tree tree.now) other }
-    ensures { (f : ModuleId) → IsKnown (T.tree tree.now) f → IsTrue (sees (T.tree tree.now) vis f) → IsTrue (sees (T.tree tree.now) result f) }
+    ensures { (f : ModuleId) → IsKnown (T.tree tree.now) f → IsTrue (sees (T.tree tree.now) vis f) →
+        IsTrue (sees (T.tree tree.now) result f) }
 {
     vis.max(tree, other, map).unwrap_or(vis)
 }

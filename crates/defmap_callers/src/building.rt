@@ -75,7 +75,8 @@ pub fn declared(
     declarations: Vec<(ModuleId, Name, ModuleDefId)>,
 ) -> Result<(World, PerNsGlobImports), NotMade>
     requires { (m : ModuleId) → scope_of tables m ≡ no_scope }
-    ensures { IfOk result (λ made. (m : ModuleId) → Shows (scope_of made.0 m) made.1 m (pushes_to m declarations.items)) }
+    ensures { IfOk result (λ made. (m : ModuleId) →
+        Shows (scope_of made.0 m) made.1 m (pushes_to m declarations.items)) }
 {
     let mut world = match tables.check() {
         Ok(world) => world,

@@ -4,9 +4,12 @@
 
 pub mod base;
 pub mod building;
+pub mod finding;
 pub mod maps;
 pub mod modules;
 pub mod paths;
+pub mod program;
 pub mod rounds;
 pub mod scopes;
+pub mod stays;
 pub mod tree;

@@ -1,7 +1,9 @@
 //! Example callers, shown in docs/USING.md: builders, checked worlds, and their def maps.
 ghost use Rattle.std.specs.Prelude.{◌≡◌, ◌∷◌, [], false, None, Some, IfOk, IfSome, IsSome, IsTrue, OnErr, OnOk, length, nat_lt, slice_get};
 ghost use Rattle.std.specs.List.{filter_map};
+ghost use Rattle.dm_ids.specs.Names.{find_name};
 ghost use Rattle.dm_ids.specs.declared.ids.ModuleId.{ModuleId};
+ghost use Rattle.dm_ids.specs.declared.imports.ImportOrExternCrate.TheVariants.{Glob};
 ghost use Rattle.dm_base.specs.PerNs.{type_alone};
 ghost use Rattle.dm_base.specs.Tree.{same_module};
 ghost use Rattle.dm_maps.specs.Build.{no_world, with_crate, with_rules};
@@ -16,6 +18,7 @@ ghost use Rattle.dm_tables.specs.CrateData.{with_feature};
 ghost use Rattle.defmap_callers.specs.Maps.{child_in};
 
 use dm_base::ids::{BlockId, Crate, ModuleId};
+use dm_base::imports::{GlobId, ImportOrExternCrate};
 use dm_base::item_ids::ModuleDefId;
 use dm_base::item_in_ns::ItemModules;
 use dm_base::name::Name;
@@ -87,7 +90,9 @@ pub fn enable_both(
     first: Symbol,
     second: Symbol,
 ) -> Result<(), BuildFault>
-    ensures ok { OnOk result (builder.new ≡ with_data (with_data builder.old krate (λ d. with_feature d first)) krate (λ d. with_feature d second)) }
+    ensures ok { OnOk result (builder.new ≡ with_data
+        (with_data builder.old krate (λ d. with_feature d first)) krate
+        (λ d. with_feature d second)) }
     ensures err { OnErr result (builder.new ≡ builder.old) }
 {
     let features = both_features(alloc, first, second)?;
@@ -117,8 +122,10 @@ pub fn declare_type(
     lookup: (ModuleId, Name),
     def: ModuleDefId,
 ) -> Result<bool, Refused>
-    ensures shown { PushShows (scope_of world.old lookup.0) globs.old (scope_of world.new lookup.0) globs.new lookup.0 (push_of lookup.1 (type_alone def Visibility.Public None) None) result }
-    ensures elsewhere { (k : ModuleId) → same_module lookup.0 k ≡ false → StaysShown world.old globs.old world.new globs.new k }
+    ensures shown { PushShows (scope_of world.old lookup.0) globs.old (scope_of world.new lookup.0) globs.new
+        lookup.0 (push_of lookup.1 (type_alone def Visibility.Public None) None) result }
+    ensures elsewhere { (k : ModuleId) → same_module lookup.0 k ≡ false →
+        StaysShown world.old globs.old world.new globs.new k }
     ensures err { OnErr result (world.new ≡ world.old) }
 {
     let items = PerNs::types(def, Visibility::Public, None);
@@ -126,6 +133,28 @@ pub fn declare_type(
         return Err(Refused::Unknown);
     }
     let written = world.push_res(globs, lookup, items, None)?;
+    Ok(written)
+}
+
+/// Brings items into a module by a glob import. A name that is bound as a type stays bound to it: a glob shadows nothing.
+pub fn bring_by_glob(
+    world: &mut World,
+    globs: &mut PerNsGlobImports,
+    lookup: (ModuleId, Name),
+    items: PerNs,
+    glob: GlobId,
+) -> Result<bool, Refused>
+    ensures shown { PushShows (scope_of world.old lookup.0) globs.old (scope_of world.new lookup.0) globs.new
+        lookup.0 (push_of lookup.1 items (Some (Glob glob))) result }
+    ensures shadowed { IsSome (find_name lookup.1 (scope_of world.old lookup.0).types.items) →
+        (scope_of world.new lookup.0).types ≡ (scope_of world.old lookup.0).types }
+    ensures err { OnErr result (world.new ≡ world.old) }
+{
+    let import = Some(ImportOrExternCrate::Glob(glob));
+    if !world.knows_res(lookup.0, &items, import) {
+        return Err(Refused::Unknown);
+    }
+    let written = world.push_res(globs, lookup, items, import)?;
     Ok(written)
 }
 
@@ -141,7 +170,8 @@ pub fn child_of<'a>(world: &'a World, m: ModuleId, name: &Name) -> Option<&'a Mo
 /// The first child of a name that a module has, or one of those that contain its block and so on outwards. Each map
 /// that the closure is called with has the module that it is called with, so the closure need not test that.
 pub fn child_outwards(world: &World, m: ModuleId, name: &Name) -> Option<ModuleId>
-    ensures { (map : Map) → map_of world.now m ≡ Some map → result ≡ slice_get (filter_map (child_in name.now) (maps_outwards world.now map m)) 0 }
+    ensures { (map : Map) → map_of world.now m ≡ Some map →
+        result ≡ slice_get (filter_map (child_in name.now) (maps_outwards world.now map m)) 0 }
 {
     let map = world.map_of(m)?;
     map.with_ancestor_maps(world, m, |map: &DefMap, m: ModuleId| -> Option<ModuleId> {

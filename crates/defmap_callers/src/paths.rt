@@ -32,7 +32,10 @@ use std::alloc::AllocError;
 pub fn meaning_in_root(world: &World, krate: Crate, path: &ModPath) -> PerNs
     requires krate { IsTrue (knows world.now (held.Crate krate)) }
     requires path { KnowsAll world.now (path_holds path.now.kind) }
-    ensures value { (map : Map) (local : LocalMap) → crate_map world.now krate ≡ Some map → slice_get world.now.local_maps krate.0 ≡ Some local → result ≡ (answer world.now local (asked map.root Other Module None path.now.kind) path.now.segments).resolved_def }
+    ensures value { (map : Map) (local : LocalMap) → crate_map world.now krate ≡ Some map →
+        slice_get world.now.local_maps krate.0 ≡ Some local →
+        result ≡ (answer world.now local (asked map.root Other Module None path.now.kind)
+        path.now.segments).resolved_def }
     ensures known { KnowsAll world.now (res_holds result) }
 {
     let map = crate_def_map(world, krate);
@@ -76,7 +79,10 @@ pub fn bring_in(
     requires local { KnowsAll world.old (local_holds local.now) }
     requires path { KnowsAll world.old (path_holds path.now.kind) }
     requires import { IsTrue (knows world.old (held.Use import.use_)) }
-    ensures shown { PushShows (scope_of world.old lookup.0) globs.old (scope_of world.new lookup.0) globs.new lookup.0 (push_of lookup.1 (answer world.old local.now (asked lookup.0 Other Module None path.now.kind) path.now.segments).resolved_def (Some (Import import))) result }
+    ensures shown { PushShows (scope_of world.old lookup.0) globs.old (scope_of world.new lookup.0) globs.new
+        lookup.0 (push_of lookup.1 (answer world.old local.now
+        (asked lookup.0 Other Module None path.now.kind) path.now.segments).resolved_def
+        (Some (Import import))) result }
     ensures err { OnErr result (world.new ≡ world.old) }
 {
     let found = meaning(world, local, lookup.0, path).resolved_def;

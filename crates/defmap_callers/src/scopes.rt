@@ -29,7 +29,8 @@ pub fn declare_type(
     lookup: (ModuleId, Name),
     def: ModuleDefId,
 ) -> Result<bool, AllocError>
-    ensures { PushShows scope.old globs.old scope.new globs.new lookup.0 (push_of lookup.1 (type_alone def Visibility.Public None) None) result }
+    ensures { PushShows scope.old globs.old scope.new globs.new lookup.0
+        (push_of lookup.1 (type_alone def Visibility.Public None) None) result }
 {
     let items = PerNs::types(def, Visibility::Public, None);
     scope.push_res_with_import(globs, lookup, items, None)
@@ -37,7 +38,9 @@ pub fn declare_type(
 
 /// What a name is bound to as a type: what the whole list of pushes binds to it, in whatever order they came.
 pub fn bound_type(scope: &ItemScope, name: &Name) -> Option<(ModuleDefId, Visibility)>
-    ensures { (globs : Globs) (m : ModuleId) (ps : List ScopePush) → Shows scope.now globs m ps → result ≡ option_map def_and_vis (binding types_reading (pushes_in types_reading (λ x. x.types) ps) name.now) }
+    ensures { (globs : Globs) (m : ModuleId) (ps : List ScopePush) → Shows scope.now globs m ps →
+        result ≡ option_map def_and_vis
+        (binding types_reading (pushes_in types_reading (λ x. x.types) ps) name.now) }
 {
     scope.type_(name)
 }
@@ -48,7 +51,9 @@ pub fn imported_type<T: ScopeTables>(
     scope: &ItemScope,
     import: ImportId,
 ) -> Option<ModuleDefId>
-    ensures { length (all_records Namespace.Types (T.tables tables.now)) < 2 ^ 64 → (d : ModuleDefId) → EndsIn (leads Namespace.Types (T.tables tables.now)) (ends Namespace.Types) (scope.now, import) d → result ≡ Some d }
+    ensures { length (all_records Namespace.Types (T.tables tables.now)) < 2 ^ 64 → (d : ModuleDefId) →
+        EndsIn (leads Namespace.Types (T.tables tables.now)) (ends Namespace.Types)
+        (scope.now, import) d → result ≡ Some d }
 {
     scope.fully_resolve_import(tables, import).take_types()
 }

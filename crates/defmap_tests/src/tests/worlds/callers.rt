@@ -1,0 +1,128 @@
+//! Callers of docs/USING.md: a crate of modules, what completion, bodies and dumps read of it, a glob import, and the
+//! program that goes from tables to an answer.
+use super::{EXPANDED, FILE, structure};
+use crate::tests::gives;
+use defmap_callers::building::{crate_of_modules, declared};
+use defmap_callers::finding::{dumped, is_exported, meaning_in_block, offered};
+use defmap_callers::maps::bring_by_glob;
+use defmap_callers::program::meaning_of_a_struct;
+use dm_base::ids::{Crate, ModuleId, StructId, UseId, UseTreeIdx};
+use dm_base::imports::GlobId;
+use dm_base::item_ids::{AdtId, ItemKind, ModuleDefId};
+use dm_base::item_in_ns::ItemInNs;
+use dm_base::mod_path::{ModPath, PathKind};
+use dm_base::module_tree::ModuleTree;
+use dm_base::name::Name;
+use dm_base::source::Edition;
+use dm_base::visibility::Visibility;
+use dm_maps::builder::WorldBuilder;
+use dm_maps::world::World;
+use dm_maps::world::maps_of::local_def_map;
+use dm_scope::glob_imports::PerNsGlobImports;
+use dm_scope::scope_tables::ScopeTables;
+use std::alloc::{AllocError, Global};
+use std::test::Fail;
+
+/// The module that is declared in the other.
+const DECLARED: ModuleDefId = ModuleDefId::ModuleId(ModuleId(2));
+
+/// Names, in order.
+fn names<const N: usize>(alloc: Global, texts: [&str; N]) -> Result<Vec<Name>, AllocError> {
+    let mut names = Vec::new(alloc);
+    for text in texts {
+        names.push(Name::new(alloc, text)?)?;
+    }
+    Ok(names)
+}
+
+/// The world of a crate with two modules, of which the first binds the second to the name `x`.
+fn small_world(alloc: Global) -> Option<World> {
+    let (tables, _modules) = crate_of_modules(
+        alloc,
+        FILE,
+        EXPANDED,
+        names(alloc, ["a", "b"]).ok()?,
+    ).ok()?;
+    let mut declarations = Vec::new(alloc);
+    let x = Name::new(alloc, "x").ok()?;
+    declarations.push((ModuleId(1), x, DECLARED)).ok()?;
+    let (world, _globs) = declared(alloc, tables, declarations).ok()?;
+    Some(world)
+}
+
+/// How many names the first module offers, whether it shows the second to all, and what `x` means in it.
+fn found(world: &World, x: &ModPath) -> Option<(usize, Option<bool>, Option<ModuleDefId>)> {
+    let a = ModuleId(1);
+    if !world.has(a) || !world.has_crate(Crate(0)) {
+        return None;
+    }
+    let exported = is_exported(world.scope_of(a)?, ItemInNs::Types(DECLARED));
+    let local = local_def_map(world, Crate(0));
+    let meaning = meaning_in_block(world, local, a, x).take_types();
+    Some((offered(world, a).ok()?.len(), exported, meaning))
+}
+
+/// Whether the crate's map is dumped as the rules have it.
+fn is_dumped(world: &World) -> Option<bool> {
+    if !world.has_crate(Crate(0)) {
+        return None;
+    }
+    let text = dumped(world, Crate(0)).ok()?;
+    Some(text.as_str() == "crate\n\ncrate::a\n- x : type\n\ncrate::b\n")
+}
+
+/// What the small world tells.
+fn told(alloc: Global) -> Option<(usize, Option<bool>, Option<ModuleDefId>, bool)> {
+    let world = small_world(alloc)?;
+    let x = ModPath::from_segments(PathKind::Plain, names(alloc, ["x"]).ok()?);
+    let (offered, exported, meaning) = found(&world, &x)?;
+    Some((offered, exported, meaning, is_dumped(&world)?))
+}
+
+#[test]
+fn completion_bodies_and_dumps_read_a_small_world(rt: HostRuntime) -> Result<(), Fail> {
+    let wanted = Some((1, Some(true), Some(DECLARED), true));
+    gives(&rt, Ok::<_, AllocError>(told(rt.alloc())), wanted)
+}
+
+/// The world of a crate with a struct and a `use` in its root.
+fn world_with_use(alloc: Global) -> Option<World> {
+    let root = ModuleId(0);
+    let mut builder = WorldBuilder::new(alloc);
+    builder.add_crate(Edition::Edition2021, FILE).ok()?;
+    builder.add_item(ItemKind::Struct, root).ok()?;
+    builder.add_use(root).ok()?;
+    builder.check().ok()
+}
+
+/// What two pushes by one glob answer, under a name that nothing else binds.
+fn brought(alloc: Global) -> Option<[bool; 2]> {
+    let mut world = world_with_use(alloc)?;
+    let mut globs = PerNsGlobImports::new(alloc);
+    let glob = GlobId {
+        use_: UseId(0),
+        idx: UseTreeIdx(0),
+    };
+    let mut written = [false; 2];
+    for answer in &mut written {
+        let lookup = (ModuleId(0), Name::new(alloc, "brought").ok()?);
+        let items = structure(0, Visibility::Public, None);
+        *answer = bring_by_glob(&mut world, &mut globs, lookup, items, glob).ok()?;
+    }
+    Some(written)
+}
+
+#[test]
+fn a_glob_brings_a_name_once(rt: HostRuntime) -> Result<(), Fail> {
+    gives(
+        &rt,
+        Ok::<_, AllocError>(brought(rt.alloc())),
+        Some([true, false]),
+    )
+}
+
+#[test]
+fn a_program_asks_for_a_struct(rt: HostRuntime) -> Result<(), Fail> {
+    let wanted = Some(ModuleDefId::AdtId(AdtId::StructId(StructId(0))));
+    gives(&rt, meaning_of_a_struct(rt.alloc(), FILE), wanted)
+}
