@@ -75,7 +75,8 @@ pub fn declare_in_tables(
 pub fn in_preludes_after(
     world: &mut World,
     globs: &mut PerNsGlobImports,
-    (krate, m): (Crate, ModuleId),
+    krate: Crate,
+    m: ModuleId,
     path: &ModPath,
     lookup: (ModuleId, Name),
     items: PerNs,
@@ -106,7 +107,8 @@ pub fn in_preludes_after(
 pub fn visibility_after(
     world: &mut World,
     globs: &mut PerNsGlobImports,
-    (krate, m): (Crate, ModuleId),
+    krate: Crate,
+    m: ModuleId,
     written: &RawVisibility,
     lookup: (ModuleId, Name),
     items: PerNs,
