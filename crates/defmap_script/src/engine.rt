@@ -1,5 +1,7 @@
 //! The interpreter: the state of a run, and what a command does to it.
 ghost use Rattle.std.specs.Prelude.{◌≡◌, Some, IfOk};
+ghost use Rattle.hir_def_map.specs.Paths as paths;
+ghost use Rattle.hir_def_map.specs.Questions as questions;
 ghost use Rattle.defmap_script.specs.Engine.{fresh, Answers, Finds, PushesInto, PushesWithin, reply_text, Steps};
 ghost use Rattle.defmap_script.specs.Lines.{asked, asking, Checks, Reopens, words_left};
 
@@ -198,15 +200,7 @@ fn answer(world: &World, alloc: Global, question: Question<'_>) -> Result<Reply,
     };
     let path = ModPath::from_segments(question.kind, names(alloc, question.segments)?);
     Ok(Reply::Answered(match question.reach {
-        Reach::Outwards => map.resolve_path_fp_with_macro(
-            local,
-            world,
-            question.mode,
-            question.from,
-            &path,
-            question.shadow,
-            question.expected,
-        ),
+        Reach::Outwards => resolved(world, map, local, question, &path),
         Reach::Alone => map.resolve_path_fp_with_macro_single(
             local,
             world,
@@ -217,6 +211,30 @@ fn answer(world: &World, alloc: Global, question: Question<'_>) -> Result<Reply,
             question.expected,
         ),
     }))
+}
+
+/// What a path resolves to in its origin, the modules around its blocks, and the preludes. It is not inlined, so that
+/// `bench/run` can count what is inside this call.
+#[inline(never)]
+fn resolved(
+    world: &World,
+    map: &DefMap,
+    local: &LocalDefMap,
+    question: Question<'_>,
+    path: &ModPath,
+) -> ResolvePathResult
+    requires { questions.IsKnownQuestion world.now map.now local.now question.entry.from path.now.kind }
+    ensures { result ≡ paths.answer world.now local.now (paths.asked question.entry.from question.entry.mode question.entry.shadow question.entry.expected path.now.kind) path.now.segments }
+{
+    map.resolve_path_fp_with_macro(
+        local,
+        world,
+        question.mode,
+        question.from,
+        path,
+        question.shadow,
+        question.expected,
+    )
 }
 
 /// The map that a question is about and the extern prelude of its crate, where all that the question names is the world's.
