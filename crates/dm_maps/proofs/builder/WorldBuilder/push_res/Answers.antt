@@ -1,4 +1,4 @@
-use Rattle.std.proofs.Common.{◌≡◌, ◌∙◌, ◌++◌, ◌∷◌, [], ap, subst, sym, tt, Option, Some, None}
+use Rattle.std.proofs.Common.{◌≡◌, ◌∙◌, ◌++◌, ◌∷◌, [], ap, subst, sym, Option, Some, None}
 use Rattle.std.specs.Option.{option_copied_mut, option_map, option_map_or}
 use Rattle.dm_modules.specs.Maps.{Module}
 use Rattle.dm_scope.specs.Push.{push_answer, scope_after, globs_after}
