@@ -1,4 +1,9 @@
-use Rattle.std.proofs.Common.{◌≡◌, ◌∙◌, ◌++◌, ◌∷◌, [], ap, subst, sym, Option, Some, None}
+use Rattle.std.proofs.Common.{◌≡◌, ◌∙◌, ◌++◌, ◌∷◌, [], rules, ap, subst, sym, Bool, Option, Some, None, Result, Ok, Err}
+use Rattle.std.specs.Result.{IsErr}
+use Rattle.std.specs.declared.alloc.AllocError.{AllocError}
+use Rattle.dm_ids.specs.declared.ids.ModuleId.{ModuleId}
+use Rattle.dm_scope.specs.Flags.{Globs}
+use Rattle.dm_scope.specs.Gives.{PushGives}
 use Rattle.std.specs.Option.{option_copied_mut, option_map, option_map_or}
 use Rattle.dm_modules.specs.Maps.{Module}
 use Rattle.dm_scope.specs.Push.{push_answer, scope_after, globs_after}
@@ -19,6 +24,19 @@ returns-in_err-answer-clause-err c = on-err c.from_residual.result
 read : (s : Scope) (o : Option Module) → option_map (λ (d : Module). d.scope) o ≡ Some s → s ≡ option_map_or (λ (d : Module). d.scope) o no_scope
 read s None e = cc
 read s (Some d) e = cc
+
+-- what a push gives that could not allocate
+refused : (s t : Scope) (g h : Globs) (m : ModuleId) (p : ScopePush) (r : Result Bool AllocError) → IsErr r → t ≡ s → h ≡ g → PushGives s g t h m p r
+refused s t g h m p (Ok answer) is own same = Prim.search rules
+refused s t g h m p (Err e) is own same = record { answer = tt; scope = tt; globs = tt; err = own; err_globs = same }
+
+pub returns-in_err-answer-clause-gives : goal.returns-in_err-answer-clause-gives
+returns-in_err-answer-clause-gives c =
+    let a = c.args in
+    let e = c.in_err-answer.ensures.gives in
+    let own = scope_of-own c.push_res_with_import.new.self a.self.now a.lookup.0 c.requires.there in
+    let lent = read c.unwrap-scope.result.now (module_of a.self.now a.lookup.0) (sym c.scope_mut.ensures.value ∙ ap option_copied_mut c.unwrap-scope.ensures) in
+    refused (scope_of a.self.now a.lookup.0) _ a.glob_imports.now _ a.lookup.0 _ c.from_residual.result c.from_residual.ensures.0 (own ∙ e.err ∙ lent) e.err_globs
 
 lent : (c : goal.In_ok-answer) → c.unwrap-scope.result.now ≡ scope_of c.args.self.now c.args.lookup.0
 lent c = read c.unwrap-scope.result.now (module_of c.args.self.now c.args.lookup.0) (sym c.scope_mut.ensures.value ∙ ap option_copied_mut c.unwrap-scope.ensures)
