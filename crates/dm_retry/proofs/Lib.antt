@@ -5,4 +5,5 @@ pub mod KnownLemmas
 pub mod TryLemmas
 pub mod SettleLemmas
 pub mod RoundLemmas
+pub mod TakeLemmas
 pub mod StartLemmas

@@ -1,4 +1,5 @@
 pub mod Rounds
+pub mod Waiting
 pub mod Known
 pub mod Settled
 pub mod Retries

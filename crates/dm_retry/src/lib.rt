@@ -8,4 +8,3 @@ pub mod retry;
 pub mod retry_fault;
 pub mod round_kind;
 mod rounds;
-mod wake;

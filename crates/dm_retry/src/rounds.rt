@@ -36,14 +36,15 @@ pub(crate) fn try_due(imports: &mut Imports, tries: &mut usize) -> Result<bool, 
 {
     *tries = 0;
     let mut written = false;
-    for i in 0..imports.len() {
-        if imports.is_due(i) {
-            *tries += 1;
-            let answer = imports.try_at(i)?;
-            written = written || answer;
-        } else {
-            imports.rests(i);
-        }
+    let mut from = 0;
+    let _len = imports.len();
+    imports.rests();
+    'due: while let Some(i) = imports.next_due(from) {
+        *tries += 1;
+        let answer = imports.try_at(i)?;
+        written |= answer;
+        from = i + 1;
+        imports.rests();
     }
     Ok(written)
 }

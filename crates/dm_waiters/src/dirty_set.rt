@@ -23,7 +23,7 @@ impl Model for DirtySet {
     ghost invariant = { λ d. IsDirtySet d.top.items d.words.items };
 }
 
-/// Written out, so that what lets one go has one call to prove.
+/// A hand-written `Drop`, to keep proofs small: what drops one has one call to prove.
 impl Drop for DirtySet {
     fn drop(self) {
         let DirtySet {

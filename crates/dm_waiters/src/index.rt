@@ -23,7 +23,7 @@ impl Model for Places {
     ghost view = { λ p. p.places.items };
 }
 
-/// Written out, so that what lets one go has one call to prove.
+/// A hand-written `Drop`, to keep proofs small: what drops one has one call to prove.
 impl Drop for Places {
     fn drop(self) {
         let Places { places: _places } = self;

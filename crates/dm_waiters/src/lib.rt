@@ -4,7 +4,5 @@
 mod bits;
 mod dirty_set;
 mod index;
-#[cfg(test)]
-mod tests;
 pub mod unresolved;
 pub mod worklist;

@@ -34,7 +34,7 @@ impl<I: Unresolved> Model for Worklist<I> {
     ghost invariant = { λ w. IsReady I.reading w.ready w.index.entries w.dirty w.imports.items };
 }
 
-/// Written out, so that what lets one go has one call to prove.
+/// A hand-written `Drop`, to keep proofs small: what drops one has one call to prove.
 impl<I: Unresolved> Drop for Worklist<I> {
     fn drop(self) {
         let Worklist {
@@ -62,14 +62,19 @@ impl<I: Unresolved> Worklist<I> {
         }
     }
 
-    /// The imports, as they stand.
+    /// The allocator of the list, from which `take` takes memory.
+    pub fn allocator(&self) -> Global {
+        *self.imports.allocator()
+    }
+
+    /// The imports in their current state.
     pub fn as_slice(&self) -> &[I]
         ensures { result.now ≡ self.now }
     {
         self.imports.as_slice()
     }
 
-    /// The imports, as they stand.
+    /// The imports in their current state.
     pub fn into_imports(self) -> Vec<I>
         ensures { result.items ≡ self }
     {
