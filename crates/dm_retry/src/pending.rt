@@ -112,7 +112,7 @@ impl Unresolved for Pending {
     }
 
     fn bound_name(&self) -> &Name {
-        &self.name
+        self.name()
     }
 
     fn is_dirty(&self) -> bool {

@@ -1,11 +1,11 @@
--- Unresolved imports in a worklist, some of them dirty: something that they may need has changed since they were last tried.
+-- Unresolved imports in a worklist. Some are dirty: something that they may need has changed since their last try.
 use Rattle.std.specs.Prelude.{◌≡◌, ℕ, Bool, true, false, ◌||◌, List, [], Some, slice_get, slice_set}
 use Rattle.std.specs.Option.{option_map_or}
 use Rattle.std.specs.List.{list_any}
 use Rattle.dm_ids.specs.Names.{Name, same_name}
 
--- What a worklist reads of an import: the segments of its path, the name that it binds, whether it is dirty, and the import
--- with another mark.
+-- What a worklist reads of an import: the segments of its path, the name that it binds, whether it is dirty, and the
+-- import with another mark.
 pub record Reading (I : Type 0) : Type 0 where
   pub segments : I → List Name
   pub name : I → Name

@@ -66,7 +66,7 @@ pub(crate) fn places_of<'a>(index: &'a IndexMap<Name, Places>, name: &Name) -> &
     }
 }
 
-/// Adds a place under each of these names; where memory runs out, under some of them.
+/// Adds a place under each of these names; where an allocation fails, under some of them.
 pub(crate) fn add_names(
     index: &mut IndexMap<Name, Places>,
     alloc: Global,

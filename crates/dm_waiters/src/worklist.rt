@@ -14,8 +14,8 @@ use std::marker::Model;
 
 /// Unresolved imports, in order, of which some are dirty. A contract sees their list.
 ///
-/// An index has the places of the imports that have a name as a segment, and bits tell which imports are dirty. Both are
-/// made when the first import is taken: until then every import is dirty.
+/// An index maps each name to the places of the imports whose path has it as a segment, and a bit set tells which
+/// imports are dirty. Both are made when the first import is taken: until then every import is dirty.
 pub struct Worklist<I: Unresolved> {
     imports: Vec<I>,
     index: IndexMap<Name, Places>,
@@ -47,7 +47,7 @@ impl<I: Unresolved> Drop for Worklist<I> {
 }
 
 impl<I: Unresolved> Worklist<I> {
-    /// These imports, all of them dirty. Takes no memory: `take` takes it from the allocator of the list.
+    /// These imports, all of them dirty. Allocates nothing; `take` uses the allocator of the list.
     pub fn all_dirty(imports: Vec<I>) -> Worklist<I>
         ensures { result ≡ map (I.reading.marked true) imports.items }
     {
@@ -62,7 +62,7 @@ impl<I: Unresolved> Worklist<I> {
         }
     }
 
-    /// The allocator of the list, from which `take` takes memory.
+    /// The allocator of the list.
     pub fn allocator(&self) -> Global {
         *self.imports.allocator()
     }
@@ -74,7 +74,7 @@ impl<I: Unresolved> Worklist<I> {
         self.imports.as_slice()
     }
 
-    /// The imports in their current state.
+    /// The imports in their current state, as a list.
     pub fn into_imports(self) -> Vec<I>
         ensures { result.items ≡ self }
     {
@@ -101,10 +101,10 @@ impl<I: Unresolved> Worklist<I> {
         }
     }
 
-    /// Takes the import at place k: it is not dirty any more. The first call makes the index and the bits, which it takes
-    /// memory for whole; later calls take none.
+    /// Takes the import at place k from the worklist: it is not dirty any more. The first call makes the index and the
+    /// bit set, whole; later calls allocate nothing.
     ///
-    /// After an allocation failure nothing has changed: every import is dirty, this one, too.
+    /// Where an allocation fails, nothing changes: every import is dirty, this one, too.
     pub fn take(&mut self, k: usize) -> Result<(), AllocError>
         ensures ok { OnOk result (self.new ≡ marked_at I.reading self.old k false) }
         ensures err { OnErr result (self.new ≡ self.old) }
@@ -121,7 +121,7 @@ impl<I: Unresolved> Worklist<I> {
         Ok(())
     }
 
-    /// The import at place k is dirty. Takes no memory.
+    /// The import at place k becomes dirty. Allocates nothing.
     pub fn put_back(&mut self, k: usize)
         ensures { self.new ≡ marked_at I.reading self.old k true }
     {
@@ -130,7 +130,7 @@ impl<I: Unresolved> Worklist<I> {
         }
     }
 
-    /// Each import whose path has the name as a segment becomes dirty. Takes no memory.
+    /// Each import whose path has the name as a segment becomes dirty. Allocates nothing.
     pub fn wake(&mut self, name: &Name)
         ensures { self.new ≡ map (awoken I.reading name.now) self.old }
     {
@@ -140,7 +140,8 @@ impl<I: Unresolved> Worklist<I> {
         }
     }
 
-    /// Each import whose path has, as a segment, the name that the import at place k binds becomes dirty. Takes no memory.
+    /// Each import whose path has the name that the import at place k binds as a segment becomes dirty. Allocates
+    /// nothing.
     pub fn wake_by(&mut self, k: usize)
         requires { k < length self.old }
         ensures { self.new ≡ map (awoken I.reading (name_at I.reading self.old k)) self.old }
@@ -193,7 +194,7 @@ fn mark<I: Unresolved>(imports: &mut Vec<I>, dirty: &mut DirtySet, k: usize, is_
     }
 }
 
-/// Makes the index and the bits, where they are not there yet.
+/// Makes the index and the bit set, where they are not there yet.
 fn prepare<I: Unresolved>(
     imports: &Vec<I>,
     index: &mut IndexMap<Name, Places>,
@@ -214,7 +215,7 @@ fn prepare<I: Unresolved>(
     Ok(())
 }
 
-/// The index and the bits of imports.
+/// The index and the bit set of imports.
 fn built<I: Unresolved>(
     alloc: Global,
     imports: &[I],
@@ -229,7 +230,7 @@ fn built<I: Unresolved>(
     Ok((index, dirty))
 }
 
-/// Adds the import at place k to the index and the bits of those before it.
+/// Adds the import at place k to the index and the bit set of those before it.
 fn index_one<I: Unresolved>(
     index: &mut IndexMap<Name, Places>,
     dirty: &mut DirtySet,
