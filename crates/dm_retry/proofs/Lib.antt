@@ -7,3 +7,6 @@ pub mod SettleLemmas
 pub mod RoundLemmas
 pub mod TakeLemmas
 pub mod StartLemmas
+pub mod FixedLemmas
+pub mod PushLemmas
+pub mod UnresolvedLemmas

@@ -1,17 +1,26 @@
 //! A world, a glob table and its unresolved imports.
-ghost use Rattle.std.specs.Prelude.{◌≡◌, ◌<◌, ℕ, None, false, true, if◌then◌else◌, IfOk, IfSome, OnErr, OnOk, length, map, slice_get};
+ghost use Rattle.std.specs.Prelude.{◌≡◌, ◌<◌, ℕ, None, Some, false, true, if◌then◌else◌, IfOk, IfSome, OnErr, OnOk, length, map, option_copied, slice_get};
 ghost use Rattle.std.specs.Option.{option_map};
-ghost use Rattle.dm_retry.specs.Rounds.{awoken, brings_at, is_due, marked, name_at, refused_at, try_at};
+ghost use Rattle.dm_retry.specs.Rounds.{awoken, brings_at, finds_nothing, is_due, marked, name_at, pushed_into, refused_at, try_at, unresolved};
 ghost use Rattle.dm_retry.specs.Retries.{RestsAt};
-ghost use Rattle.dm_retry.specs.Known.{fault_of};
+ghost use Rattle.dm_retry.specs.Known.{comes_by, fault_of, is_listed};
+ghost use Rattle.dm_held.specs.Pushes.{push_holds};
+ghost use Rattle.dm_maps.specs.Known.{KnowsAll};
+ghost use Rattle.dm_maps.specs.World.{scope_of};
+ghost use Rattle.dm_scope.specs.Push.{push_answer};
 ghost use Rattle.dm_waiters.specs.Bits.{IsFirst};
 
-use crate::attempt::attempt;
-use crate::pending::Pending;
+use crate::attempt::{attempt, found};
+use crate::pending::{Pending, is_listed};
+use dm_base::ids::ModuleId;
+use dm_base::imports::{ImportId, ImportOrExternCrate};
+use dm_base::name::Name;
+use dm_base::per_ns::PerNs;
 use dm_maps::world::World;
 use dm_scope::glob_imports::PerNsGlobImports;
 use dm_waiters::unresolved::Unresolved;
 use dm_waiters::worklist::Worklist;
+use hir_def_map::laws::answers_alike;
 use std::alloc::AllocError;
 use std::marker::Model;
 
@@ -88,6 +97,34 @@ impl Imports {
         let _pendings = &self.pendings;
     }
 
+    /// The import at place i, if there is one.
+    pub(crate) fn get(&self, i: usize) -> Option<&Pending>
+        ensures { option_copied result ≡ slice_get self.now.pending i }
+    {
+        self.pendings.as_slice().get(i)
+    }
+
+    /// Whether the import at place i is unresolved, if there is one.
+    pub(crate) fn is_unresolved(&self, i: usize) -> Option<bool>
+        ensures { result ≡ option_map (finds_nothing self.now.world) (slice_get self.now.pending i) }
+    {
+        let pending = self.pendings.as_slice().get(i)?;
+        Some(found(&self.world, pending).is_none())
+    }
+
+    /// The places of those that are unresolved, in order.
+    pub(crate) fn unresolved(&self) -> Result<Vec<usize>, AllocError>
+        ensures { IfOk result (λ places. places.items ≡ unresolved self.now) }
+    {
+        let mut places = Vec::new(self.pendings.allocator());
+        for i in 0..self.len() {
+            if self.is_unresolved(i) == Some(true) {
+                places.push(i)?;
+            }
+        }
+        Ok(places)
+    }
+
     /// Tries the import at place i. Where an allocation fails, it is due, and nothing else changes.
     pub(crate) fn try_at(&mut self, i: usize) -> Result<bool, AllocError>
         requires { i < length self.old.pending }
@@ -108,6 +145,34 @@ impl Imports {
                 Ok(written)
             }
         }
+    }
+
+    /// Pushes into the scope of a module. Where that answers true, each import whose path has the pushed name as a
+    /// segment becomes due.
+    pub(crate) fn push_res(
+        &mut self,
+        lookup: (ModuleId, Name),
+        res: PerNs,
+        import: Option<ImportOrExternCrate>,
+    ) -> Result<bool, AllocError>
+        requires known { KnowsAll self.old.world (push_holds lookup.0 res import) }
+        requires apart { comes_by self.old.pending import ≡ false }
+        ensures state { OnOk result (self.new ≡ pushed_into self.old lookup.0 lookup.1 res import) }
+        ensures answer { IfOk result (λ answer. answer ≡ push_answer (scope_of self.old.world lookup.0) self.old.globs lookup.0 lookup.1 res import) }
+        ensures err { OnErr result (self.new ≡ self.old) }
+    {
+        answers_alike();
+        let name = lookup.1.copy(self.pendings.allocator())?;
+        let written = self.world.push_res(&mut self.globs, lookup, res, import)?;
+        wake_all(&mut self.pendings, &name, written);
+        Ok(written)
+    }
+
+    /// Whether an import is one of these.
+    pub(crate) fn waits_for(&self, import: ImportId) -> bool
+        ensures { result ≡ is_listed self.now.pending import }
+    {
+        is_listed(self.pendings.as_slice(), import)
     }
 
     /// The world.
@@ -147,4 +212,14 @@ fn wake_after(pendings: &mut Worklist<Pending>, i: usize, written: bool)
     if written {
         pendings.wake_by(i);
     }
+}
+
+/// After a push of that name that wrote, each import whose path has it as a segment becomes due.
+fn wake_all(pendings: &mut Worklist<Pending>, name: &Name, written: bool)
+    ensures { pendings.new ≡ (if written then map (awoken name.now) pendings.old else pendings.old) }
+{
+    if !written {
+        return;
+    }
+    pendings.wake(name);
 }

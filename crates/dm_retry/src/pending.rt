@@ -3,7 +3,7 @@ ghost use Rattle.std.specs.Prelude.{◌≡◌, ◌↔◌, false, IsTrue, refl};
 ghost use Rattle.std.specs.List.{list_any};
 ghost use Rattle.dm_held.specs.Holding.{vis_holds};
 ghost use Rattle.dm_maps.specs.Known.{KnowsAll};
-ghost use Rattle.dm_retry.specs.Known.{first_double, first_unknown, is_known, parts, same_import};
+ghost use Rattle.dm_retry.specs.Known.{first_double, first_unknown, is_known, is_listed, parts, same_import};
 ghost use Rattle.dm_retry.specs.Waiting.{reading};
 
 use dm_base::ids::ModuleId;
@@ -144,7 +144,7 @@ pub(crate) fn first_double(pendings: &[Pending]) -> Option<usize>
     let mut rest = pendings;
     let mut place = 0;
     'imports: while let Some((first, after)) = rest.split_first() {
-        if has_import(after, first.import()) {
+        if is_listed(after, first.import()) {
             return Some(place);
         }
         rest = after;
@@ -154,8 +154,8 @@ pub(crate) fn first_double(pendings: &[Pending]) -> Option<usize>
 }
 
 /// Whether one of these is that import.
-fn has_import(pendings: &[Pending], import: ImportId) -> bool
-    ensures { result ≡ list_any (λ q. same_import import q.import) pendings.now }
+pub(crate) fn is_listed(pendings: &[Pending], import: ImportId) -> bool
+    ensures { result ≡ is_listed pendings.now import }
 {
     pendings.iter().any(|q| import == q.import())
 }
