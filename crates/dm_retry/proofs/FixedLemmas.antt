@@ -1,6 +1,7 @@
 -- After a round that changed nothing no import is due, and a try of any would change nothing.
-use Rattle.std.proofs.Common.{◌≡◌, ◌∙◌, ◌<◌, ◌≤◌, ◌×◌, ◌⊎◌, inl, inr, arith, ℕ, zero, suc, Bool, true, false, List, [], ◌∷◌, Option, None, Some, ap, sym, refl, subst, slice_get, slice_set, length}
+use Rattle.std.proofs.Common.{◌≡◌, ◌∙◌, ◌<◌, ◌≤◌, ◌⊎◌, inl, inr, arith, ℕ, zero, suc, Bool, true, false, List, [], ◌∷◌, Option, None, Some, Result, Ok, ap, sym, refl, subst, slice_get, slice_set, length}
 use Rattle.std.specs.Option.{option_map_or}
+use Rattle.std.specs.declared.alloc.AllocError.{AllocError}
 use Rattle.std.proofs.lemmas.Bool.{cases_lt, or_parts}
 use Rattle.std.proofs.lemmas.Option.{slice_get_past}
 use Rattle.dm_retry.specs.Rounds.{Pending, State, after, any_brings, brings, is_due, marked, marked_after, marked_at, round, round_answer, tried, try_at}
@@ -64,3 +65,10 @@ fixed-point s rests h = record { none_due = none; rests = λ i. rests i (none i)
 
     none : (i : ℕ) → is_due (round s) i ≡ false
     none i = at i (cases_lt i (length s.pending))
+
+-- what a round leaves that answers false
+pub fixed-after : (s t : State) (answer : Bool) → t ≡ round s → answer ≡ round_answer s → ((i : ℕ) → is_due t i ≡ false → RestsAt t i)
+    → ◌≡◌ {A = Result Bool AllocError} (Ok answer) (Ok false) → IsFixedPoint t
+fixed-after s t answer state is rests same =
+    let none : answer ≡ false = cc in
+    subst IsFixedPoint (sym state) (fixed-point s (subst (λ (u : State). (i : ℕ) → is_due u i ≡ false → RestsAt u i) state rests) (sym is ∙ none))

@@ -11,7 +11,7 @@ ghost use Rattle.dm_scope.specs.Push.{push_answer};
 ghost use Rattle.dm_waiters.specs.Bits.{IsFirst};
 
 use crate::attempt::{attempt, found};
-use crate::pending::{Pending, is_listed};
+use crate::pending::{Pending, has_import};
 use dm_base::ids::ModuleId;
 use dm_base::imports::{ImportId, ImportOrExternCrate};
 use dm_base::name::Name;
@@ -108,7 +108,7 @@ impl Imports {
     pub(crate) fn is_unresolved(&self, i: usize) -> Option<bool>
         ensures { result ≡ option_map (finds_nothing self.now.world) (slice_get self.now.pending i) }
     {
-        let pending = self.pendings.as_slice().get(i)?;
+        let pending = self.get(i)?;
         Some(found(&self.world, pending).is_none())
     }
 
@@ -172,7 +172,7 @@ impl Imports {
     pub(crate) fn waits_for(&self, import: ImportId) -> bool
         ensures { result ≡ is_listed self.now.pending import }
     {
-        is_listed(self.pendings.as_slice(), import)
+        has_import(self.pendings.as_slice(), import)
     }
 
     /// The world.

@@ -144,7 +144,7 @@ pub(crate) fn first_double(pendings: &[Pending]) -> Option<usize>
     let mut rest = pendings;
     let mut place = 0;
     'imports: while let Some((first, after)) = rest.split_first() {
-        if is_listed(after, first.import()) {
+        if has_import(after, first.import()) {
             return Some(place);
         }
         rest = after;
@@ -154,7 +154,7 @@ pub(crate) fn first_double(pendings: &[Pending]) -> Option<usize>
 }
 
 /// Whether one of these is that import.
-pub(crate) fn is_listed(pendings: &[Pending], import: ImportId) -> bool
+pub(crate) fn has_import(pendings: &[Pending], import: ImportId) -> bool
     ensures { result ≡ is_listed pendings.now import }
 {
     pendings.iter().any(|q| import == q.import())

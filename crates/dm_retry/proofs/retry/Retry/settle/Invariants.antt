@@ -1,7 +1,7 @@
 use Rattle.std.proofs.Common.{◌≡◌}
 use Rattle.dm_retry.specs.Rounds.{rounds}
 use Rattle.dm_retry.specs.Settling.{AllBring}
-use Rattle.dm_retry.proofs.settle.Retry.settle.Given as goal
+use Rattle.dm_retry.proofs.retry.Retry.settle.Given as goal
 
 abbrev pub invariant-loop-round : goal.invariant-loop-round
 invariant-loop-round l = record {
