@@ -1,5 +1,5 @@
 -- A try of an import that was taken from the worklist: it is the import of before but for its mark, which is not read.
-use Rattle.std.proofs.Common.{◌≡◌, ◌∙◌, ◌<◌, ◌≤◌, ◌⊎◌, inl, inr, ℕ, Bool, true, false, List, [], Option, None, Some, ap, arith, get_or, if◌then◌else◌, length, map, slice_get, slice_set, sym}
+use Rattle.std.proofs.Common.{◌≡◌, ◌∙◌, ◌<◌, ◌≤◌, ◌⊎◌, inl, inr, ℕ, Bool, true, false, List, [], None, Some, ap, arith, get_or, if◌then◌else◌, length, map, slice_get, slice_set, sym}
 use Rattle.std.proofs.lemmas.List.{get_or-set_same}
 use Rattle.std.proofs.lemmas.Option.{slice_get_cases}
 use Rattle.std.specs.Option.{option_map_or}
