@@ -13,7 +13,8 @@ loop-i-preserved c =
     let test = c.eq.ensures ∙ ap (λ o. option_eq beq o (Some true)) c.is_unresolved.ensures in
     record {
       places = elim c.if-eq.branch [
-        then-eq+in_ok-push w ↦ ap (λ (v : Vec ℕ Global). v.items) w.places-is ∙ w.in_ok-push.ensures.items ∙ ap (λ l. l ++ i ∷ []) c.loop-i.invariant.places ∙ sym (listed-more s i within true (sym w.if-eq.true ∙ test))
-      | else-eq w ↦ ap (λ (v : Vec ℕ Global). v.items) w.places-is ∙ c.loop-i.invariant.places ∙ sym (append-nil _) ∙ sym (listed-more s i within false (sym w.if-eq.false ∙ test)) ];
+        | then-eq+in_ok-push w ↦ ap (λ (v : Vec ℕ Global). v.items) w.places-is ∙ w.in_ok-push.ensures.items ∙ ap (λ l. l ++ i ∷ []) c.loop-i.invariant.places ∙ sym (listed-more s i within true (sym w.if-eq.true ∙ test))
+        | else-eq w ↦ ap (λ (v : Vec ℕ Global). v.items) w.places-is ∙ c.loop-i.invariant.places ∙ sym (append-nil _) ∙ sym (listed-more s i within false (sym w.if-eq.false ∙ test))
+      ];
       end = c.loop-i.invariant.end;
     }
