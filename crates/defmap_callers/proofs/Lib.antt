@@ -1,1 +1,3 @@
 pub mod SmallLemmas
+pub mod NameLemmas
+pub mod StayLemmas

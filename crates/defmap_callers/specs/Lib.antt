@@ -1,7 +1,6 @@
 pub mod SmallTree
 pub mod Maps
 pub mod Modules
-pub mod Resolving
 pub mod Building
 pub mod Waiting
 pub mod Finding

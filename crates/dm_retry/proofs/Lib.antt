@@ -5,4 +5,8 @@ pub mod KnownLemmas
 pub mod TryLemmas
 pub mod SettleLemmas
 pub mod RoundLemmas
+pub mod TakeLemmas
 pub mod StartLemmas
+pub mod FixedLemmas
+pub mod PushLemmas
+pub mod UnresolvedLemmas

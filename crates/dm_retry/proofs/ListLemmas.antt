@@ -1,7 +1,5 @@
--- Lists of which one element, or the first ones, are changed.
-use Rattle.std.proofs.Common.{◌≡◌, ◌≤◌, ◌++◌, ◌⊎◌, inl, inr, ℕ, zero, suc, List, [], ◌∷◌, Some, slice_get, slice_set, map, take, drop, length, ap, ap₂, ◌∙◌, refl, sym, append-nil}
-use Rattle.std.proofs.lemmas.List.{take_all, drop_all}
-use Rattle.std.specs.Option.{option_map_or}
+-- Lists of which one element is changed.
+use Rattle.std.proofs.Common.{◌≡◌, ◌⊎◌, inl, inr, ℕ, zero, suc, List, [], ◌∷◌, Some, slice_get, slice_set, ap, refl, sym}
 
 -- the elements of a list in which y was put at place i: y there, and the old ones elsewhere
 pub get-put : {X : Type 0} (xs : List X) (i j : ℕ) (y z : X) → slice_get (slice_set xs i y) j ≡ Some z → ((j ≡ i) × (z ≡ y)) ⊎ (slice_get xs j ≡ Some z)
@@ -15,14 +13,13 @@ get-put {X} (x ∷ xs) (suc i) (suc j) y z is = later (get-put xs i j y z is)
     later (inl h) = inl (ap suc h.0, h.1)
     later (inr h) = inr h
 
--- A loop has put f of each of the first n elements in their place: what f leaves of each element, it leaves of each.
-pub first-keep : {X Y : Type 0} (f : X → X) (read : X → Y) (none : Y) → ((x : X) → read (f x) ≡ read x) → (n : ℕ) (xs : List X) (i : ℕ)
-    → option_map_or read (slice_get (map f (take n xs) ++ drop n xs) i) none ≡ option_map_or read (slice_get xs i) none
-first-keep f read none keeps zero xs i = refl
-first-keep f read none keeps (suc n) [] i = refl
-first-keep f read none keeps (suc n) (x ∷ xs) zero = keeps x
-first-keep f read none keeps (suc n) (x ∷ xs) (suc i) = first-keep f read none keeps n xs i
+-- the element that was put at a place of the list, and a second one put there
+pub get-put_here : {X : Type 0} (xs : List X) (i : ℕ) (x y : X) → slice_get xs i ≡ Some x → slice_get (slice_set xs i y) i ≡ Some y
+get-put_here [] i x y is = cc
+get-put_here (z ∷ xs) zero x y is = refl
+get-put_here (z ∷ xs) (suc i) x y is = get-put_here xs i x y is
 
--- and at its end it has done so with each
-pub each-done : {X : Type 0} (f : X → X) (n : ℕ) (xs : List X) → length xs ≤ n → map f (take n xs) ++ drop n xs ≡ map f xs
-each-done f n xs h = ap₂ (λ l r. map f l ++ r) (take_all n xs h) (drop_all n xs h) ∙ append-nil (map f xs)
+pub put-put : {X : Type 0} (xs : List X) (i : ℕ) (y z : X) → slice_set (slice_set xs i y) i z ≡ slice_set xs i z
+put-put [] i y z = refl
+put-put (x ∷ xs) zero y z = refl
+put-put (x ∷ xs) (suc i) y z = ap (λ l. x ∷ l) (put-put xs i y z)

@@ -1,5 +1,5 @@
 -- What a try leaves of unresolved imports: a try of one that is not due would still change nothing.
-use Rattle.std.proofs.Common.{◌≡◌, ◌∙◌, ◌⊎◌, inl, inr, rules, ℕ, Bool, true, false, List, [], Option, None, Some, ap, sym, refl, subst, slice_get, slice_set, map}
+use Rattle.std.proofs.Common.{◌≡◌, ◌∙◌, ◌⊎◌, inl, inr, ℕ, Bool, true, false, List, [], Option, None, Some, ap, sym, refl, subst, slice_get, slice_set, map}
 use Rattle.std.specs.Option.{option_map, option_map_or}
 use Rattle.std.proofs.lemmas.Bool.{false≢true, true≢false, or_parts}
 use Rattle.std.proofs.lemmas.Option.{slice_get-map}
@@ -9,7 +9,7 @@ use Rattle.dm_maps.specs.Cut.{among}
 use Rattle.dm_maps.specs.Known.{KnowsAll}
 use Rattle.dm_maps.specs.World.{World}
 use Rattle.dm_retry.specs.Known.{parts, same_import}
-use Rattle.dm_retry.specs.Rounds.{Pending, State, awoken, brings, brings_at, is_due, marked, marked_after, marked_at, name_at, refused_at, tried, try_at}
+use Rattle.dm_retry.specs.Rounds.{Pending, State, awoken, brings, is_due, marked, marked_after, marked_at, name_at, refused_at, tried, try_at}
 use Rattle.dm_retry.specs.Retries.{RestsAt}
 use Rattle.dm_retry.specs.Settled.{IsSettled}
 use Rattle.dm_retry.proofs.ListLemmas.{get-put}

@@ -5,6 +5,7 @@ use Rattle.std.specs.Option.{option_map, option_map_or, option_and_then}
 use Rattle.std.proofs.lemmas.Bool.{and_parts, not-true}
 use Rattle.dm_ids.specs.declared.ids.ModuleId.{ModuleId}
 use Rattle.dm_ids.specs.declared.imports.ImportId.{ImportId}
+use Rattle.dm_ids.specs.declared.imports.ImportOrExternCrate.{ImportOrExternCrate}
 use Rattle.dm_ids.specs.declared.imports.ImportOrExternCrate.TheVariants as wide
 use Rattle.dm_base.specs.declared.mod_path.PathKind.{PathKind}
 use Rattle.dm_base.specs.declared.per_ns.Item.{Item}
@@ -15,7 +16,8 @@ use Rattle.dm_base.specs.PerNs.{is_empty, seen_as, seen_as_item}
 use Rattle.dm_modules.specs.declared.modes.BuiltinShadowMode.TheVariants as shadow
 use Rattle.dm_modules.specs.Maps.{LocalMap}
 use Rattle.dm_scope.specs.Flags.{Globs}
-use Rattle.dm_scope.specs.Push.{scope_after}
+use Rattle.dm_scope.specs.Bindings.{is_same}
+use Rattle.dm_scope.specs.Push.{scope_after, types_reading}
 use Rattle.dm_scope.specs.PushLaw.{PushLaw}
 use Rattle.dm_scope.specs.Shows.{ScopePush, push_of}
 use Rattle.dm_maps.specs.Cut.{among, cut, cut_local}
@@ -25,7 +27,6 @@ use Rattle.dm_maps.specs.World.{World, scope_of, with_scope}
 use Rattle.hir_def_map.specs.declared.result.ResolveMode.TheVariants as mode
 use Rattle.hir_def_map.specs.declared.result.ResolvePathResult.{ResolvePathResult}
 use Rattle.hir_def_map.specs.Paths.{answer, asked}
-use Rattle.dm_retry.specs.Known.{same_import}
 use Rattle.dm_retry.specs.Rounds.{Pending, answered, brings, brought, by_import, found, globs_with, local_of, marked, meaning, world_after}
 use Rattle.dm_retry.proofs.ScopeLemmas.{idle-scope, idle-globs}
 use Rattle.dm_retry.proofs.WorldLemmas.{scope-own, places-stay, locals-stay}
@@ -78,37 +79,36 @@ abbrev pub Alike : Type 0
 Alike = (w v : World) (L K : LocalMap) (m : ModuleId) (kind : PathKind) (S : List Name) → cut v S ≡ cut w S → cut_local K S ≡ cut_local L S
     → answer v K (asked m mode.Import shadow.Module None kind) S ≡ answer w L (asked m mode.Import shadow.Module None kind) S
 
--- What a push of x by the import p leaves: the world v and the glob table h.
-pub record IsPushed (w v : World) (g h : Globs) (p : Pending) (x : PerNs) : Type 0 where
+-- What a push into the module m leaves: the world v and the glob table h.
+pub record IsPushed (w v : World) (g h : Globs) (m : ModuleId) (n : Name) (x : PerNs) (by : Option ImportOrExternCrate) : Type 0 where
   pub alike : Alike
-  pub found : found w p ≡ Some x
-  pub world : v ≡ with_push w g p.origin p.name x (by_import p)
-  pub law : PushLaw scope_of w g v h p.origin (push_of p.name x (by_import p))
-  pub cuts : (N : List Name) → among N p.name ≡ false → cut v N ≡ cut w N
+  pub world : v ≡ with_push w g m n x by
+  pub law : PushLaw scope_of w g v h m (push_of n x by)
+  pub cuts : (N : List Name) → among N n ≡ false → cut v N ≡ cut w N
 
 -- the same of a push whose module, name and import are those of p
-pub pushed-by : (w v : World) (g h : Globs) (p : Pending) (x : PerNs) → Alike → found w p ≡ Some x
+pub pushed-by : (w v : World) (g h : Globs) (p : Pending) (x : PerNs) → Alike
     → (m : ModuleId) (n : Name) (i : ImportId) → m ≡ p.origin → n ≡ p.name → i ≡ p.import
-    → v ≡ with_push w g m n x (Some (wide.Import i)) → PushLaw scope_of w g v h m (push_of n x (Some (wide.Import i))) → ((N : List Name) → among N n ≡ false → cut v N ≡ cut w N) → IsPushed w v g h p x
-pushed-by w v g h p x alike is m n i origin name import world law cuts = record {
+    → v ≡ with_push w g m n x (Some (wide.Import i)) → PushLaw scope_of w g v h m (push_of n x (Some (wide.Import i))) → ((N : List Name) → among N n ≡ false → cut v N ≡ cut w N)
+    → IsPushed w v g h p.origin p.name x (by_import p)
+pushed-by w v g h p x alike m n i origin name import world law cuts = record {
   alike = alike;
-  found = is;
   world = world ∙ (λ k. with_push w g (origin k) (name k) x (Some (wide.Import (import k))));
   law = subst (λ (q : ModuleId × ScopePush). PushLaw scope_of w g v h q.0 q.1) (λ k. (origin k, push_of (name k) x (Some (wide.Import (import k))))) law;
   cuts = λ N e. cuts N (ap (among N) name ∙ e);
 }
 
-module _ (w v : World) (g h : Globs) (p : Pending) (x : PerNs) (push : IsPushed w v g h p x) where
-  local-stays : (m : ModuleId) → local_of v m ≡ local_of w m
+module _ (w v : World) (g h : Globs) (m : ModuleId) (n : Name) (x : PerNs) (by : Option ImportOrExternCrate) (push : IsPushed w v g h m n x by) where
+  local-stays : (k : ModuleId) → local_of v k ≡ local_of w k
   unfolding homes_of
-  local-stays m =
-      let s = scope_after (scope_of w p.origin) g p.origin p.name x (by_import p) in
-      let places = ap (λ (u : World). u.places) push.world ∙ places-stay w p.origin s in
-      let locals = ap (λ (u : World). u.local_maps) push.world ∙ locals-stay w p.origin s in
-      λ i. option_map_or (λ l. l) (option_and_then (λ k. slice_get (locals i) k.0) (option_map (λ p. p.map.krate) (slice_get (places i) m.0))) []
+  local-stays k =
+      let s = scope_after (scope_of w m) g m n x by in
+      let places = ap (λ (u : World). u.places) push.world ∙ places-stay w m s in
+      let locals = ap (λ (u : World). u.local_maps) push.world ∙ locals-stay w m s in
+      λ i. option_map_or (λ l. l) (option_and_then (λ k. slice_get (locals i) k.0) (option_map (λ p. p.map.krate) (slice_get (places i) k.0))) []
 
   -- what an import finds that has no segment of the pushed name
-  found-stays : (q : Pending) → among q.path.segments p.name ≡ false → found v q ≡ found w q
+  found-stays : (q : Pending) → among q.path.segments n ≡ false → found v q ≡ found w q
   unfolding found
   found-stays q other =
       let S = q.path.segments in
@@ -116,13 +116,13 @@ module _ (w v : World) (g h : Globs) (p : Pending) (x : PerNs) (push : IsPushed 
       (push.alike w v (local_of w q.origin) (local_of v q.origin) q.origin q.path.kind S (push.cuts S other) (ap (λ L. cut_local L S) (local-stays q.origin)))
 
   -- another import that would bind nothing, and has no segment of the pushed name, binds nothing
-  pub others-rest : (q : Pending) → same_import q.import p.import ≡ false → among q.path.segments p.name ≡ false → brings w g q ≡ false → brings v h q ≡ false
-  others-rest q differ other none = ap (answered v h q) (found-stays q other) ∙ by (found w q) none
+  pub others-rest : (q : Pending) → is_same types_reading (by_import q) by ≡ false → among q.path.segments n ≡ false → brings w g q ≡ false → brings v h q ≡ false
+  others-rest q differ other none = ap (answered v h q) (found-stays q other) ∙ by-found (found w q) none
     where
-      by : (o : Option PerNs) → answered w g q o ≡ false → answered v h q o ≡ false
-      by None none = refl
-      by (Some y) none = push.law.rests q.origin (push_of q.name y (by_import q)) refl differ none
+      by-found : (o : Option PerNs) → answered w g q o ≡ false → answered v h q o ≡ false
+      by-found None none = refl
+      by-found (Some y) none = push.law.rests q.origin (push_of q.name y (by_import q)) refl differ none
 
-  -- and the import itself, if the name is none of its own segments
-  pub own-rests : among p.path.segments p.name ≡ false → brings v h p ≡ false
-  own-rests other = ap (answered v h p) (found-stays p other ∙ push.found) ∙ push.law.again
+-- and the import that was tried itself, if the name is none of its own segments
+pub own-rests : (w v : World) (g h : Globs) (p : Pending) (x : PerNs) → IsPushed w v g h p.origin p.name x (by_import p) → found w p ≡ Some x → among p.path.segments p.name ≡ false → brings v h p ≡ false
+own-rests w v g h p x push is other = ap (answered v h p) (found-stays w v g h p.origin p.name x (by_import p) push p other ∙ is) ∙ push.law.again

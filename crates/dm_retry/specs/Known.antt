@@ -1,8 +1,10 @@
 -- Which imports a world can be asked about, and why imports are not taken.
-use Rattle.std.specs.Prelude.{ℕ, ◌+◌, Bool, not, List, [], ◌∷◌, ◌++◌, Option, Some, None, if◌then◌else◌}
+use Rattle.std.specs.Prelude.{ℕ, ◌+◌, Bool, false, not, List, [], ◌∷◌, ◌++◌, Option, Some, None, if◌then◌else◌}
 use Rattle.std.specs.List.{list_any, list_all, position_from}
 use Rattle.std.specs.Option.{option_map, option_or}
 use Rattle.dm_ids.specs.declared.imports.ImportId.{ImportId}
+use Rattle.dm_ids.specs.declared.imports.ImportOrExternCrate.{ImportOrExternCrate}
+use Rattle.dm_ids.specs.declared.imports.ImportOrExternCrate.TheVariants as wide
 use Rattle.dm_ids.specs.contracts.imports.ImportIdPartialEq.TheImpl as import_eq
 use Rattle.dm_held.specs.declared.held.HeldId.{HeldId}
 use Rattle.dm_held.specs.declared.held.HeldId.TheVariants as held
@@ -24,10 +26,14 @@ is_known w p = list_all (knows w) (parts p)
 abbrev pub same_import : ImportId → ImportId → Bool
 same_import = import_eq.ghosts.eq
 
+-- whether an import is one of a list
+abbrev pub is_listed : List Pending → ImportId → Bool
+is_listed ps i = list_any (λ q. same_import i q.import) ps
+
 -- the place of the first import that is listed again behind it, where the first of these is at place i
 abbrev pub double_from : ℕ → List Pending → Option ℕ
 double_from i [] = None
-double_from i (p ∷ ps) = if list_any (λ q. same_import p.import q.import) ps then Some i else double_from (i + 1) ps
+double_from i (p ∷ ps) = if is_listed ps p.import then Some i else double_from (i + 1) ps
 
 -- the place of the first import that is listed twice
 abbrev pub first_double : List Pending → Option ℕ
@@ -45,3 +51,9 @@ refusal w ps = option_or (option_map (λ i. (DoubleImport, i)) (first_double ps)
 -- why they are not taken
 abbrev pub fault_of : World → List Pending → Option RetryFault
 fault_of w ps = option_map (λ r. r.0) (refusal w ps)
+
+-- whether the import of a push is one of a list: a named import may be, and no other
+abbrev pub comes_by : List Pending → Option ImportOrExternCrate → Bool
+comes_by ps None = false
+comes_by ps (Some (wide.Import i)) = is_listed ps i
+comes_by ps (Some _) = false

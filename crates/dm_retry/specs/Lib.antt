@@ -1,6 +1,9 @@
 pub mod Rounds
+pub mod Waiting
 pub mod Known
 pub mod Settled
 pub mod Retries
+pub mod Settling
 pub mod Rows
 pub mod RoundRows
+pub mod CircleRows

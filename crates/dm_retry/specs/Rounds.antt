@@ -1,5 +1,5 @@
 -- Unresolved imports, and what a round of resolution makes of a world and its glob table.
-use Rattle.std.specs.Prelude.{ℕ, zero, suc, ◌+◌, ◌&&◌, ◌||◌, Bool, true, false, not, List, [], Option, Some, None, if◌then◌else◌, is_none, length, map, slice_get, slice_set}
+use Rattle.std.specs.Prelude.{ℕ, zero, suc, ◌+◌, ◌&&◌, ◌||◌, Bool, true, false, not, List, [], ◌∷◌, Option, Some, None, if◌then◌else◌, is_none, length, map, slice_get, slice_set}
 use Rattle.std.specs.Option.{option_map, option_map_or, option_and_then}
 use Rattle.dm_ids.specs.declared.ids.ModuleId.{ModuleId}
 use Rattle.dm_ids.specs.declared.imports.ImportId.{ImportId}
@@ -55,6 +55,18 @@ brought a = if is_none a.segment_index && not (is_empty a.resolved_def) then Som
 -- what a try pushes, if it pushes: what the path means, with the visibility of the import
 unfoldable pub found : World → Pending → Option PerNs
 found w p = option_map (seen_as p.visibility) (brought (meaning w p))
+
+-- whether an import is unresolved: its path resolves to nothing, or a segment of it is left
+abbrev pub finds_nothing : World → Pending → Bool
+finds_nothing w p = is_none (found w p)
+
+-- the indices of those that are unresolved, in order, where the first of these is at index i
+abbrev pub unresolved_from : World → ℕ → List Pending → List ℕ
+unresolved_from w i [] = []
+unresolved_from w i (p ∷ ps) = if finds_nothing w p then i ∷ unresolved_from w (i + 1) ps else unresolved_from w (i + 1) ps
+
+abbrev pub unresolved : State → List ℕ
+unresolved s = unresolved_from s.world 0 s.pending
 
 -- the import of its push
 abbrev pub by_import : Pending → Option ImportOrExternCrate
@@ -147,3 +159,11 @@ rounds (suc n) s = round (rounds n s)
 -- What an allocation failure at the try of the import at place i leaves: the tries before it are kept, and it is due.
 abbrev pub refused_at : State → ℕ → State
 refused_at s i = record s { pending = marked_at s.pending i true }
+
+-- A push between rounds; where it changes the scope, each import whose path has the pushed name as a segment is due.
+abbrev pub pushed_into : State → ModuleId → Name → PerNs → Option ImportOrExternCrate → State
+pushed_into s m n x by = record {
+  world = with_push s.world s.globs m n x by;
+  globs = globs_after (scope_of s.world m) s.globs m n x by;
+  pending = if push_answer (scope_of s.world m) s.globs m n x by then map (awoken n) s.pending else s.pending;
+}

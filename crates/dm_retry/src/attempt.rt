@@ -60,7 +60,7 @@ fn brought(answer: &ResolvePathResult) -> Option<PerNs>
 }
 
 /// What an import resolves to in the current state of the world.
-fn found(world: &World, pending: &Pending) -> Option<PerNs>
+pub(crate) fn found(world: &World, pending: &Pending) -> Option<PerNs>
     requires known { KnowsAll world.now (parts pending.now) }
     ensures value { result ≡ found world.now pending.now }
     ensures known { IfSome result (λ x. KnowsAll world.now (push_holds pending.now.origin x (by_import pending.now))) }

@@ -1,15 +1,26 @@
 //! A world, a glob table and its unresolved imports.
-ghost use Rattle.std.specs.Prelude.{◌≡◌, ◌<◌, None, false, true, IfOk, OnErr, OnOk, length, map, slice_get};
+ghost use Rattle.std.specs.Prelude.{◌≡◌, ◌<◌, ℕ, None, Some, false, true, if◌then◌else◌, IfOk, IfSome, OnErr, OnOk, length, map, option_copied, slice_get};
 ghost use Rattle.std.specs.Option.{option_map};
-ghost use Rattle.dm_retry.specs.Rounds.{awoken, brings_at, is_due, marked_after, marked_at, marked, name_at, refused_at, try_at};
+ghost use Rattle.dm_retry.specs.Rounds.{awoken, brings_at, finds_nothing, is_due, marked, name_at, pushed_into, refused_at, try_at, unresolved};
 ghost use Rattle.dm_retry.specs.Retries.{RestsAt};
-ghost use Rattle.dm_retry.specs.Known.{fault_of};
+ghost use Rattle.dm_retry.specs.Known.{comes_by, fault_of, is_listed};
+ghost use Rattle.dm_held.specs.Pushes.{push_holds};
+ghost use Rattle.dm_maps.specs.Known.{KnowsAll};
+ghost use Rattle.dm_maps.specs.World.{scope_of};
+ghost use Rattle.dm_scope.specs.Push.{push_answer};
+ghost use Rattle.dm_waiters.specs.Bits.{IsFirst};
 
-use crate::attempt::attempt;
-use crate::pending::{Pending, mark_each};
-use crate::wake::wake;
+use crate::attempt::{attempt, found};
+use crate::pending::{Pending, has_import};
+use dm_base::ids::ModuleId;
+use dm_base::imports::{ImportId, ImportOrExternCrate};
+use dm_base::name::Name;
+use dm_base::per_ns::PerNs;
 use dm_maps::world::World;
 use dm_scope::glob_imports::PerNsGlobImports;
+use dm_waiters::unresolved::Unresolved;
+use dm_waiters::worklist::Worklist;
+use hir_def_map::laws::answers_alike;
 use std::alloc::AllocError;
 use std::marker::Model;
 
@@ -17,7 +28,7 @@ use std::marker::Model;
 pub(crate) struct Imports {
     world: World,
     globs: PerNsGlobImports,
-    pendings: Vec<Pending>,
+    pendings: Worklist<Pending>,
 }
 
 impl Model for Imports {
@@ -26,9 +37,9 @@ impl Model for Imports {
 
     ghost Value = { State };
 
-    ghost view = { λ s. record { world = s.world; globs = s.globs; pending = s.pendings.items } };
+    ghost view = { λ s. record { world = s.world; globs = s.globs; pending = s.pendings } };
 
-    ghost invariant = { λ s. IsSettled (record { world = s.world; globs = s.globs; pending = s.pendings.items }) };
+    ghost invariant = { λ s. IsSettled (record { world = s.world; globs = s.globs; pending = s.pendings }) };
 }
 
 /// A hand-written `Drop`, to keep proofs small: what drops one has one call to prove.
@@ -48,12 +59,10 @@ impl Imports {
         requires { fault_of world pendings.items ≡ None }
         ensures { result ≡ record { world = world; globs = globs; pending = map (marked true) pendings.items } }
     {
-        let mut due = pendings;
-        mark_all(&mut due);
         Imports {
             world,
             globs,
-            pendings: due,
+            pendings: Worklist::all_dirty(pendings),
         }
     }
 
@@ -61,17 +70,15 @@ impl Imports {
     pub(crate) fn len(&self) -> usize
         ensures { result ≡ length self.now.pending }
     {
-        self.pendings.len()
+        self.pendings.as_slice().len()
     }
 
-    /// Whether the import at place i is due.
-    pub(crate) fn is_due(&self, i: usize) -> bool
-        ensures { result ≡ is_due self.now i }
+    /// The first due import from place `from` on.
+    pub(crate) fn next_due(&self, from: usize) -> Option<usize>
+        ensures first { IsFirst (is_due self.now) from result }
+        ensures within { IfSome result (λ i. i < length self.now.pending) }
     {
-        match self.pendings.get(i) {
-            None => false,
-            Some(pending) => pending.is_due(),
-        }
+        self.pendings.next_dirty(from)
     }
 
     /// Whether the import at place i is due, if there is one.
@@ -79,16 +86,43 @@ impl Imports {
         ensures value { result ≡ option_map (λ p. p.due) (slice_get self.now.pending i) }
         ensures rests { result ≡ Some false → RestsAt self.now i }
     {
-        mark_of(&self.pendings, i)
+        mark_of(self.pendings.as_slice(), i)
     }
 
     /// A lemma, as a function without effect that code calls for its proof: a try of an import that is not due changes
     /// nothing.
-    pub(crate) fn rests(&self, i: usize)
-        requires { is_due self.now i ≡ false }
-        ensures { RestsAt self.now i }
+    pub(crate) fn rests(&self)
+        ensures { (k : ℕ) → is_due self.now k ≡ false → RestsAt self.now k }
     {
         let _pendings = &self.pendings;
+    }
+
+    /// The import at place i, if there is one.
+    pub(crate) fn get(&self, i: usize) -> Option<&Pending>
+        ensures { option_copied result ≡ slice_get self.now.pending i }
+    {
+        self.pendings.as_slice().get(i)
+    }
+
+    /// Whether the import at place i is unresolved, if there is one.
+    pub(crate) fn is_unresolved(&self, i: usize) -> Option<bool>
+        ensures { result ≡ option_map (finds_nothing self.now.world) (slice_get self.now.pending i) }
+    {
+        let pending = self.get(i)?;
+        Some(found(&self.world, pending).is_none())
+    }
+
+    /// The places of those that are unresolved, in order.
+    pub(crate) fn unresolved(&self) -> Result<Vec<usize>, AllocError>
+        ensures { IfOk result (λ places. places.items ≡ unresolved self.now) }
+    {
+        let mut places = Vec::new(self.pendings.allocator());
+        for i in 0..self.len() {
+            if self.is_unresolved(i) == Some(true) {
+                places.push(i)?;
+            }
+        }
+        Ok(places)
     }
 
     /// Tries the import at place i. Where an allocation fails, it is due, and nothing else changes.
@@ -98,18 +132,47 @@ impl Imports {
         ensures answer { IfOk result (λ answer. answer ≡ brings_at self.old i) }
         ensures err { OnErr result (self.new ≡ refused_at self.old i) }
     {
-        let alloc = *self.pendings.allocator();
-        let pending = &self.pendings[i];
+        self.pendings.take(i)?;
+        let alloc = self.pendings.allocator();
+        let pending = &self.pendings.as_slice()[i];
         match attempt(&mut self.world, &mut self.globs, pending, alloc) {
             Err(refused) => {
-                mark_at(&mut self.pendings, i, true);
+                self.pendings.put_back(i);
                 Err(refused)
             }
             Ok(written) => {
-                after_try(&mut self.pendings, i, written);
+                wake_after(&mut self.pendings, i, written);
                 Ok(written)
             }
         }
+    }
+
+    /// Pushes into the scope of a module. Where that answers true, each import whose path has the pushed name as a
+    /// segment becomes due.
+    pub(crate) fn push_res(
+        &mut self,
+        lookup: (ModuleId, Name),
+        res: PerNs,
+        import: Option<ImportOrExternCrate>,
+    ) -> Result<bool, AllocError>
+        requires known { KnowsAll self.old.world (push_holds lookup.0 res import) }
+        requires apart { comes_by self.old.pending import ≡ false }
+        ensures state { OnOk result (self.new ≡ pushed_into self.old lookup.0 lookup.1 res import) }
+        ensures answer { IfOk result (λ answer. answer ≡ push_answer (scope_of self.old.world lookup.0) self.old.globs lookup.0 lookup.1 res import) }
+        ensures err { OnErr result (self.new ≡ self.old) }
+    {
+        answers_alike();
+        let name = lookup.1.copy(self.pendings.allocator())?;
+        let written = self.world.push_res(&mut self.globs, lookup, res, import)?;
+        wake_all(&mut self.pendings, &name, written);
+        Ok(written)
+    }
+
+    /// Whether an import is one of these.
+    pub(crate) fn waits_for(&self, import: ImportId) -> bool
+        ensures { result ≡ is_listed self.now.pending import }
+    {
+        has_import(self.pendings.as_slice(), import)
     }
 
     /// The world.
@@ -130,7 +193,7 @@ impl Imports {
             globs,
             pendings,
         } = self;
-        (world, globs, pendings)
+        (world, globs, pendings.into_imports())
     }
 }
 
@@ -138,39 +201,25 @@ impl Imports {
 fn mark_of(pendings: &[Pending], i: usize) -> Option<bool>
     ensures { result ≡ option_map (λ p. p.due) (slice_get pendings.now i) }
 {
-    pendings.get(i).map(|pending| pending.is_due())
+    pendings.get(i).map(|pending| pending.is_dirty())
 }
 
-/// Sets or clears the mark that the import at place i is due.
-fn mark_at(pendings: &mut Vec<Pending>, i: usize, due: bool)
-    requires { i < length pendings.old.items }
-    ensures { pendings.new.items ≡ marked_at pendings.old.items i due }
+/// After a try of the import at place i that wrote, each import whose path has its name as a segment becomes due.
+fn wake_after(pendings: &mut Worklist<Pending>, i: usize, written: bool)
+    requires { i < length pendings.old }
+    ensures { pendings.new ≡ (if written then map (awoken (name_at pendings.old i)) pendings.old else pendings.old) }
 {
-    pendings[i].mark(due);
-}
-
-/// Each import whose path has the name of the import at place i as a segment becomes due.
-fn wake_by(pendings: &mut Vec<Pending>, i: usize)
-    requires { i < length pendings.old.items }
-    ensures { pendings.new.items ≡ map (awoken (name_at pendings.old.items i)) pendings.old.items }
-{
-    wake(pendings.as_mut_slice(), i);
-}
-
-/// Marks the imports after a try of the one at place i that wrote, or did not.
-fn after_try(pendings: &mut Vec<Pending>, i: usize, written: bool)
-    requires { i < length pendings.old.items }
-    ensures { pendings.new.items ≡ marked_after pendings.old.items i written }
-{
-    mark_at(pendings, i, false);
     if written {
-        wake_by(pendings, i);
+        pendings.wake_by(i);
     }
 }
 
-/// All of these are due.
-fn mark_all(pendings: &mut Vec<Pending>)
-    ensures { pendings.new.items ≡ map (marked true) pendings.old.items }
+/// After a push of that name that wrote, each import whose path has it as a segment becomes due.
+fn wake_all(pendings: &mut Worklist<Pending>, name: &Name, written: bool)
+    ensures { pendings.new ≡ (if written then map (awoken name.now) pendings.old else pendings.old) }
 {
-    mark_each(pendings.as_mut_slice());
+    if !written {
+        return;
+    }
+    pendings.wake(name);
 }

@@ -8,4 +8,4 @@ pub mod retry;
 pub mod retry_fault;
 pub mod round_kind;
 mod rounds;
-mod wake;
+mod settle;

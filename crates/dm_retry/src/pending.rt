@@ -1,10 +1,10 @@
 //! Unresolved imports.
-ghost use Rattle.std.specs.Prelude.{◌≡◌, ◌↔◌, false, true, map, IsTrue};
+ghost use Rattle.std.specs.Prelude.{◌≡◌, ◌↔◌, false, IsTrue, refl};
 ghost use Rattle.std.specs.List.{list_any};
 ghost use Rattle.dm_held.specs.Holding.{vis_holds};
 ghost use Rattle.dm_maps.specs.Known.{KnowsAll};
-ghost use Rattle.dm_retry.specs.Known.{first_double, first_unknown, is_known, parts, same_import};
-ghost use Rattle.dm_retry.specs.Rounds.{marked};
+ghost use Rattle.dm_retry.specs.Known.{first_double, first_unknown, is_known, is_listed, parts, same_import};
+ghost use Rattle.dm_retry.specs.Waiting.{reading};
 
 use dm_base::ids::ModuleId;
 use dm_base::imports::{ImportId, ImportOrExternCrate};
@@ -14,6 +14,7 @@ use dm_base::name::Name;
 use dm_base::per_ns::PerNs;
 use dm_base::visibility::Visibility;
 use dm_maps::world::World;
+use dm_waiters::unresolved::Unresolved;
 use std::marker::Model;
 
 /// An unresolved import, and whether it is due (dirty): it was not tried yet, or a name on its path was bound since.
@@ -91,20 +92,6 @@ impl Pending {
         self.import
     }
 
-    /// Whether it is due.
-    pub(crate) fn is_due(&self) -> bool
-        ensures { result ≡ self.now.due }
-    {
-        self.due
-    }
-
-    /// Sets or clears the mark that it is due.
-    pub(crate) fn mark(&mut self, due: bool)
-        ensures { self.new ≡ marked due self.old }
-    {
-        self.due = due;
-    }
-
     /// Whether its module, its use, the `$crate` of its path and what its visibility names are the world's.
     pub(crate) fn is_known(&self, world: &World) -> bool
         ensures { result ≡ is_known world.now self.now }
@@ -115,6 +102,28 @@ impl Pending {
         let seen = knows_visibility(world, self.visibility);
         placed && begun && seen
     }
+}
+
+impl Unresolved for Pending {
+    ghost reading = { reading };
+
+    fn segments(&self) -> &[Name] {
+        self.path.segments()
+    }
+
+    fn bound_name(&self) -> &Name {
+        self.name()
+    }
+
+    fn is_dirty(&self) -> bool {
+        self.due
+    }
+
+    fn set_dirty(&mut self, dirty: bool) {
+        self.due = dirty;
+    }
+
+    ghost mark = { record { reads = λ _ _. refl; path = λ _ _. refl; binds = λ _ _. refl; last = λ _ _ _. refl; own = λ _. refl } };
 }
 
 /// Whether what a visibility names is the world's.
@@ -145,8 +154,8 @@ pub(crate) fn first_double(pendings: &[Pending]) -> Option<usize>
 }
 
 /// Whether one of these is that import.
-fn has_import(pendings: &[Pending], import: ImportId) -> bool
-    ensures { result ≡ list_any (λ q. same_import import q.import) pendings.now }
+pub(crate) fn has_import(pendings: &[Pending], import: ImportId) -> bool
+    ensures { result ≡ is_listed pendings.now import }
 {
     pendings.iter().any(|q| import == q.import())
 }
@@ -156,13 +165,4 @@ pub(crate) fn first_unknown(world: &World, pendings: &[Pending]) -> Option<usize
     ensures { result ≡ first_unknown world.now pendings.now }
 {
     pendings.iter().position(|p| !p.is_known(world))
-}
-
-/// All of these are due.
-pub(crate) fn mark_each(pendings: &mut [Pending])
-    ensures { pendings.new ≡ map (marked true) pendings.old }
-{
-    for pending in pendings.iter_mut() {
-        pending.mark(true);
-    }
 }

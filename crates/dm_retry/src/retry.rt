@@ -1,14 +1,23 @@
 //! The unresolved imports of a world, resolved round by round until a fixed point.
 ghost use Rattle.std.specs.Prelude.{◌≡◌, false, IfErr, IfOk, None, OnErr, OnOk, Some, length, map, slice_get, true};
 ghost use Rattle.std.specs.Option.{option_map};
-ghost use Rattle.dm_retry.specs.Known.{fault_of, refusal};
+ghost use Rattle.dm_held.specs.Pushes.{push_holds};
+ghost use Rattle.dm_maps.specs.Known.{KnowsAll};
+ghost use Rattle.dm_maps.specs.World.{scope_of};
+ghost use Rattle.dm_scope.specs.Push.{push_answer};
+ghost use Rattle.dm_retry.specs.Known.{comes_by, fault_of, refusal};
 ghost use Rattle.dm_retry.specs.Retries.{NoneDue, RestsAt, StopsAt, StopsAtDue};
-ghost use Rattle.dm_retry.specs.Rounds.{due_turns, marked, round, round_answer};
+ghost use Rattle.dm_retry.specs.Rounds.{due_turns, marked, pushed_into, round, round_answer};
+ghost use Rattle.dm_retry.specs.Settling.{IsFixedPoint};
 
 use crate::imports::Imports;
 use crate::pending::{Pending, first_double, first_unknown};
 use crate::retry_fault::RetryFault;
 use crate::rounds::{try_all, try_due};
+use dm_base::ids::ModuleId;
+use dm_base::imports::ImportOrExternCrate;
+use dm_base::name::Name;
+use dm_base::per_ns::PerNs;
 use dm_maps::world::World;
 use dm_scope::glob_imports::PerNsGlobImports;
 use std::alloc::AllocError;
@@ -84,8 +93,12 @@ impl Retry {
         ensures answer { IfOk result (λ answer. answer ≡ round_answer self.old.state) }
         ensures tries { OnOk result (self.new.last_tries ≡ length self.old.state.pending) }
         ensures err { OnErr result (StopsAt self.old.state self.new) }
+
+        // Where it answers false the world is a fixed point of its imports.
+        ensures fixed { result ≡ Ok false → IsFixedPoint self.new.state }
     {
         let answer = try_all(&mut self.imports, &mut self.last_tries)?;
+        self.imports.rests();
         Ok(answer)
     }
 
@@ -104,9 +117,34 @@ impl Retry {
         // Where none is due nothing is tried, and nothing allocated.
         ensures none { NoneDue self.old.state → result ≡ Ok false }
         ensures rests { NoneDue self.old.state → self.new ≡ record self.old { last_tries = 0 } }
+
+        // Where it answers false the world is a fixed point of its imports.
+        ensures fixed { result ≡ Ok false → IsFixedPoint self.new.state }
     {
         let answer = try_due(&mut self.imports, &mut self.last_tries)?;
+        self.imports.rests();
         Ok(answer)
+    }
+
+    /// A push between rounds, of an item, a macro, or what a glob brings, into the world and the glob table, under the
+    /// conditions of `World::push_res`; its import may be none of these (`waits_for`). Where it answers true, each
+    /// import whose path has the pushed name as a segment becomes due (dirty).
+    ///
+    /// Where an allocation fails, nothing changes.
+    pub fn push_res(
+        &mut self,
+        lookup: (ModuleId, Name),
+        res: PerNs,
+        import: Option<ImportOrExternCrate>,
+    ) -> Result<bool, AllocError>
+        requires known { KnowsAll self.old.state.world (push_holds lookup.0 res import) }
+        requires apart { comes_by self.old.state.pending import ≡ false }
+        ensures state { OnOk result (self.new ≡ record self.old { state = pushed_into self.old.state lookup.0 lookup.1 res import }) }
+        ensures answer { IfOk result (λ answer. answer ≡ push_answer (scope_of self.old.state.world lookup.0) self.old.state.globs lookup.0 lookup.1 res import) }
+        ensures err { OnErr result (self.new ≡ self.old) }
+    {
+        let written = self.imports.push_res(lookup, res, import)?;
+        Ok(written)
     }
 
     /// Whether the import at an index is due (dirty); none past the last. A try of one that is not due would change
@@ -123,6 +161,13 @@ impl Retry {
         ensures { result ≡ self.now.last_tries }
     {
         self.last_tries
+    }
+
+    /// The imports, with their world and its glob table.
+    pub(crate) fn imports(&self) -> &Imports
+        ensures { result.now ≡ self.now.state }
+    {
+        &self.imports
     }
 
     /// The world in its current state.

@@ -23,7 +23,7 @@ pub(crate) fn try_all(imports: &mut Imports, tries: &mut usize) -> Result<bool, 
     Ok(written)
 }
 
-/// Tries each import that is due (dirty) at its turn, and counts the tries.
+/// Tries each import that is due (dirty) at its turn, from one to the next, and counts the tries.
 pub(crate) fn try_due(imports: &mut Imports, tries: &mut usize) -> Result<bool, AllocError>
     ensures state { OnOk result (imports.new ≡ round imports.old) }
     ensures answer { IfOk result (λ answer. answer ≡ round_answer imports.old) }
@@ -36,14 +36,17 @@ pub(crate) fn try_due(imports: &mut Imports, tries: &mut usize) -> Result<bool, 
 {
     *tries = 0;
     let mut written = false;
-    for i in 0..imports.len() {
-        if imports.is_due(i) {
-            *tries += 1;
-            let answer = imports.try_at(i)?;
-            written = written || answer;
-        } else {
-            imports.rests(i);
-        }
+    let mut from = 0;
+
+    // For the proof: the number of imports fits a `usize`, and a try of one that is not due would change nothing.
+    let _len = imports.len();
+    imports.rests();
+    'due: while let Some(i) = imports.next_due(from) {
+        *tries += 1;
+        let answer = imports.try_at(i)?;
+        written |= answer;
+        from = i + 1;
+        imports.rests();
     }
     Ok(written)
 }

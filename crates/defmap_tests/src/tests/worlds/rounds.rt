@@ -1,5 +1,6 @@
 //! Import resolution to a fixed point: two unresolved imports, of which the first needs what the second binds.
 mod refused;
+mod settled;
 
 use super::{Building, Checked, FILE};
 use crate::tests::gives;

@@ -1,16 +1,20 @@
-use Rattle.std.proofs.Common.{◌≡◌, ◌≤◌, false, length}
-use Rattle.dm_retry.specs.Retries.{NoneDue}
-use Rattle.dm_retry.specs.Rounds.{after, any_brings, due_turns}
+use Rattle.std.proofs.Common.{◌≡◌, ◌≤◌, ◌-◌, ℕ, false, length}
+use Rattle.dm_retry.specs.Retries.{NoneDue, RestsAt}
+use Rattle.dm_retry.specs.Rounds.{after, any_brings, due_turns, is_due}
 use Rattle.dm_retry.proofs.rounds.try_due.Given as goal
 
-abbrev pub invariant-loop-i : goal.invariant-loop-i
-invariant-loop-i l = record {
-  state : l.imports ≡ after l.fn.imports l.i;
-  answer : l.written ≡ any_brings l.fn.imports l.i;
-  tries : l.tries ≡ due_turns l.fn.imports l.i;
+abbrev pub invariant-due : goal.invariant-due
+invariant-due l = record {
+  within : l.from ≤ length l.fn.imports.pending;
+  state : l.imports ≡ after l.fn.imports l.from;
+  answer : l.written ≡ any_brings l.fn.imports l.from;
+  tries : l.tries ≡ due_turns l.fn.imports l.from;
+  few : l.tries ≤ l.from;
   idle : l.tries ≡ 0 → l.written ≡ false;
-  rests : NoneDue l.fn.imports → l.imports ≡ l.fn.imports;
+  rests : (k : ℕ) → is_due l.imports k ≡ false → RestsAt l.imports k;
+  untouched : NoneDue l.fn.imports → l.imports ≡ l.fn.imports;
   untried : NoneDue l.fn.imports → l.tries ≡ 0;
-  few : l.tries ≤ l.i;
-  end : l.i-end ≡ length l.fn.imports.pending;
 }
+
+abbrev pub decreases-due : goal.decreases-due
+decreases-due l = length l.fn.imports.pending - l.from

@@ -4,4 +4,4 @@ use Rattle.dm_retry.proofs.SettleLemmas.{rests}
 use Rattle.dm_retry.proofs.imports.Imports.rests.Goals as goal
 
 pub returns : goal.returns
-returns c = rests c.args.self.now (subst IsSettled c.self.view_is c.self.invariant) c.args.i c.requires
+returns c = λ k idle. rests c.args.self.now (subst IsSettled c.self.view_is c.self.invariant) k idle

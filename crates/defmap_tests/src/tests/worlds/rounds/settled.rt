@@ -1,0 +1,158 @@
+//! Rounds until a fixed point, what is unresolved then, a push between rounds, and an import that never settles.
+use super::{CHILD, ROOT, Waiting, import, pending, plain_path, taken, the_struct, two_imports};
+use crate::tests::gives;
+use crate::tests::worlds::{EXPANDED, FILE};
+use defmap_callers::maps::{bring_by_glob, declare_type};
+use defmap_callers::rounds::settled;
+use dm_base::ids::{ModuleId, UseId, UseTreeIdx};
+use dm_base::imports::GlobId;
+use dm_base::item_ids::ModuleDefId;
+use dm_base::mod_path::{ModPath, PathKind};
+use dm_base::name::Name;
+use dm_base::per_ns::PerNs;
+use dm_base::source::Edition;
+use dm_base::visibility::Visibility;
+use dm_maps::build_fault::BuildFault;
+use dm_maps::builder::WorldBuilder;
+use dm_maps::world::World;
+use dm_retry::pending::Pending;
+use dm_retry::retry::Retry;
+use dm_scope::glob_imports::PerNsGlobImports;
+use std::alloc::{AllocError, Global};
+use std::test::Fail;
+
+/// How many imports are unresolved, and whether the first is.
+type Left = (usize, Option<bool>);
+
+impl Waiting {
+    /// Settles within three rounds; what is unresolved then.
+    fn settle(&mut self) -> Result<Option<Left>, AllocError> {
+        let Some(places) = settled(&mut self.retry, 3)? else {
+            return Ok(None);
+        };
+        Ok(Some((places.len(), self.retry.is_unresolved(0))))
+    }
+
+    /// Declares what the first import is in need of.
+    fn declare(&mut self, alloc: Global) -> Result<Option<bool>, AllocError> {
+        let items = the_struct();
+        if !self.retry.world().knows_res(ROOT, &items, None) {
+            return Ok(None);
+        }
+        let written = self
+            .retry
+            .push_res((ROOT, Name::new(alloc, "Y")?), items, None)?;
+        Ok(Some(written))
+    }
+}
+
+/// What two imports leave unresolved, and how many they are.
+fn both(alloc: Global) -> Result<Option<(Option<Left>, usize, bool)>, BuildFault> {
+    match taken(alloc, two_imports(alloc)?)? {
+        Err(_) => Ok(None),
+        Ok(mut waiting) => {
+            let left = waiting.settle()?;
+            let is_second = waiting.retry.get(1).map(|p| p.import()) == Some(import(1));
+            let is_listed = waiting.retry.waits_for(import(1))
+                && !waiting.retry.waits_for(import(2));
+            Ok(Some((left, waiting.retry.len(), is_second && is_listed)))
+        }
+    }
+}
+
+#[test]
+fn two_imports_settle(rt: HostRuntime) -> Result<(), Fail> {
+    gives(
+        &rt,
+        both(rt.alloc()),
+        Some((Some((0, Some(false))), 2, true)),
+    )
+}
+
+/// `use Y as X;` alone.
+fn lone(alloc: Global) -> Result<Vec<Pending>, AllocError> {
+    let mut pendings = Vec::new(alloc);
+    pendings.push(pending(alloc, ROOT, "X", plain_path(alloc)?, 0)?)?;
+    Ok(pendings)
+}
+
+/// What the first import alone leaves unresolved, before what it is in need of is declared and after.
+fn declared(
+    alloc: Global,
+) -> Result<Option<(Option<Left>, Option<bool>, Option<Left>)>, BuildFault> {
+    match taken(alloc, lone(alloc)?)? {
+        Err(_) => Ok(None),
+        Ok(mut waiting) => {
+            let before = waiting.settle()?;
+            let written = waiting.declare(alloc)?;
+            Ok(Some((before, written, waiting.settle()?)))
+        }
+    }
+}
+
+#[test]
+fn a_declaration_between_rounds_resolves_an_import(rt: HostRuntime) -> Result<(), Fail> {
+    let before = Some((1, Some(true)));
+    let after = Some((0, Some(false)));
+    gives(&rt, declared(rt.alloc()), Some((before, Some(true), after)))
+}
+
+/// A crate with two modules and a use in its root.
+fn two_modules(alloc: Global) -> Option<World> {
+    let mut builder = WorldBuilder::new(alloc);
+    builder.add_crate(Edition::Edition2021, FILE).ok()?;
+    for name in ["p", "q"] {
+        let name = Name::new(alloc, name).ok()?;
+        builder
+            .add_module(ROOT, name, EXPANDED, Visibility::Public)
+            .ok()?;
+    }
+    builder.add_use(ROOT).ok()?;
+    builder.check().ok()
+}
+
+/// The same, where the modules have each other as `b`, and a glob brought the first into the root as `a`.
+fn circle(alloc: Global) -> Option<(World, PerNsGlobImports)> {
+    let mut world = two_modules(alloc)?;
+    let mut globs = PerNsGlobImports::new(alloc);
+    for (m, other) in [(CHILD, ModuleId(2)), (ModuleId(2), CHILD)] {
+        let lookup = (m, Name::new(alloc, "b").ok()?);
+        declare_type(&mut world, &mut globs, lookup, ModuleDefId::ModuleId(other)).ok()?;
+    }
+    let glob = GlobId {
+        use_: UseId(0),
+        idx: UseTreeIdx(1),
+    };
+    let items = PerNs::types(ModuleDefId::ModuleId(CHILD), Visibility::Public, None);
+    let lookup = (ROOT, Name::new(alloc, "a").ok()?);
+    bring_by_glob(&mut world, &mut globs, lookup, items, glob).ok()?;
+    Some((world, globs))
+}
+
+/// `use a::b as a;`, in the root.
+fn turning(alloc: Global) -> Result<Vec<Pending>, AllocError> {
+    let mut segments = Vec::new(alloc);
+    segments.push(Name::new(alloc, "a")?)?;
+    segments.push(Name::new(alloc, "b")?)?;
+    let path = ModPath::from_segments(PathKind::Plain, segments);
+    let mut pendings = Vec::new(alloc);
+    pendings.push(pending(alloc, ROOT, "a", path, 0)?)?;
+    Ok(pendings)
+}
+
+/// Whether it settles within ten rounds, and whether it is due then.
+fn turned(alloc: Global) -> Option<(bool, Option<bool>)> {
+    let (world, globs) = circle(alloc)?;
+    let mut retry = Retry::new(world, globs, turning(alloc).ok()?).ok()?;
+    let settled = retry.settle(10).ok()?;
+    Some((settled, retry.due(0)))
+}
+
+#[test]
+fn an_import_of_its_own_name_never_settles(rt: HostRuntime) -> Result<(), Fail> {
+    gives(
+        &rt,
+        Ok::<_, AllocError>(turned(rt.alloc())),
+        Some((false, Some(true))),
+    )
+}

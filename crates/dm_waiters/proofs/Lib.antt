@@ -1,0 +1,5 @@
+pub mod BitLemmas
+pub mod FirstLemmas
+pub mod PlaceLemmas
+pub mod ListLemmas
+pub mod KeptLemmas

@@ -1,0 +1,3 @@
+pub mod Unresolved
+pub mod Bits
+pub mod Index

@@ -1,0 +1,118 @@
+//! An index of the names in paths.
+ghost use Rattle.std.specs.Prelude.{◌≡◌, ℕ, ◌&&◌, ◌||◌, nat_eq, None, [], ◌∷◌, ◌++◌, IfOk, OnOk};
+ghost use Rattle.dm_ids.specs.Names.{Name, same_name};
+ghost use Rattle.indexmap.specs.IndexMap.{get};
+ghost use Rattle.dm_waiters.specs.Index.{has_place, places_of};
+ghost use Rattle.dm_waiters.specs.Unresolved.{among};
+
+use dm_ids::name::Name;
+use indexmap::IndexMap;
+use std::alloc::{AllocError, Global};
+use std::marker::Model;
+
+/// Places of imports, which a contract sees as their list.
+pub(crate) struct Places {
+    places: Vec<u32>,
+}
+
+impl Model for Places {
+    ghost use Rattle.std.specs.Prelude.{ℕ, List};
+
+    ghost Value = { List ℕ };
+
+    ghost view = { λ p. p.places.items };
+}
+
+/// A hand-written `Drop`, to keep proofs small: what drops one has one call to prove.
+impl Drop for Places {
+    fn drop(self) {
+        let Places { places: _places } = self;
+    }
+}
+
+impl Places {
+    /// One place.
+    fn one(alloc: Global, k: u32) -> Result<Places, AllocError>
+        ensures { IfOk result (λ places. places ≡ k ∷ []) }
+    {
+        let mut places = Vec::new(alloc);
+        places.push(k)?;
+        Ok(Places { places })
+    }
+
+    /// The places.
+    pub(crate) fn as_slice(&self) -> &[u32]
+        ensures { result.now ≡ self.now }
+    {
+        self.places.as_slice()
+    }
+
+    /// Adds a place.
+    fn push(&mut self, k: u32) -> Result<(), AllocError>
+        ensures { OnOk result (self.new ≡ self.old ++ k ∷ []) }
+    {
+        self.places.push(k)?;
+        Ok(())
+    }
+}
+
+/// The places under a name.
+pub(crate) fn places_of<'a>(index: &'a IndexMap<Name, Places>, name: &Name) -> &'a [u32]
+    ensures { result.now ≡ places_of index.now.entries name.now }
+{
+    match index.get(name) {
+        None => &[],
+        Some(places) => places.as_slice(),
+    }
+}
+
+/// Adds a place under each of these names; where an allocation fails, under some of them.
+pub(crate) fn add_names(
+    index: &mut IndexMap<Name, Places>,
+    alloc: Global,
+    names: &[Name],
+    k: u32,
+) -> Result<(), AllocError>
+    ensures { OnOk result ((n : Name) (j : ℕ) → has_place index.new.entries n j ≡ (has_place index.old.entries n j || (among names.now n && nat_eq j k))) }
+{
+    let mut rest = names;
+    'names: while let Some((first, after)) = rest.split_first() {
+        add_name(index, alloc, first, k)?;
+        rest = after;
+    }
+    Ok(())
+}
+
+/// Adds a place under a name.
+fn add_name(
+    index: &mut IndexMap<Name, Places>,
+    alloc: Global,
+    name: &Name,
+    k: u32,
+) -> Result<(), AllocError>
+    ensures { OnOk result ((n : Name) (j : ℕ) → has_place index.new.entries n j ≡ (has_place index.old.entries n j || (same_name n name.now && nat_eq j k))) }
+{
+    match index.get_mut(name) {
+        Some(places) => {
+            let pushed = places.push(k)?;
+            Ok(pushed)
+        }
+        None => add_new_name(index, alloc, name, k),
+    }
+}
+
+/// Adds a place under a name that is new.
+fn add_new_name(
+    index: &mut IndexMap<Name, Places>,
+    alloc: Global,
+    name: &Name,
+    k: u32,
+) -> Result<(), AllocError>
+    requires { get same_name index.old name.now ≡ None }
+    ensures { OnOk result (index.new.entries ≡ index.old.entries ++ (name.now, k ∷ []) ∷ []) }
+{
+    let key = name.copy(alloc)?;
+    let places = Places::one(alloc, k)?;
+    index.insert(key, places)?;
+    Ok(())
+}
