@@ -1,5 +1,7 @@
 //! Callers of docs/USING.md: a crate of modules, what completion, bodies and dumps read of it, a glob import, and the
 //! program that goes from tables to an answer.
+mod asked;
+
 use super::{EXPANDED, FILE, structure};
 use crate::tests::gives;
 use defmap_callers::building::{crate_of_modules, declared};
