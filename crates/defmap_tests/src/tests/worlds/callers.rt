@@ -28,13 +28,20 @@ use std::test::Fail;
 /// The module that is declared in the other.
 const DECLARED: ModuleDefId = ModuleDefId::ModuleId(ModuleId(2));
 
-/// Names, in order.
-fn names<const N: usize>(alloc: Global, texts: [&str; N]) -> Result<Vec<Name>, AllocError> {
+/// Two names, in order.
+fn names(alloc: Global, texts: [&str; 2]) -> Result<Vec<Name>, AllocError> {
     let mut names = Vec::new(alloc);
     for text in texts {
         names.push(Name::new(alloc, text)?)?;
     }
     Ok(names)
+}
+
+/// `x`.
+fn path(alloc: Global) -> Result<ModPath, AllocError> {
+    let mut segments = Vec::new(alloc);
+    segments.push(Name::new(alloc, "x")?)?;
+    Ok(ModPath::from_segments(PathKind::Plain, segments))
 }
 
 /// The world of a crate with two modules, of which the first binds the second to the name `x`.
@@ -55,7 +62,7 @@ fn small_world(alloc: Global) -> Option<World> {
 /// How many names the first module offers, whether it shows the second to all, and what `x` means in it.
 fn found(world: &World, x: &ModPath) -> Option<(usize, Option<bool>, Option<ModuleDefId>)> {
     let a = ModuleId(1);
-    if !world.has(a) || !world.has_crate(Crate(0)) {
+    if !world.has(a) || !world.has_crate(Crate(0)) || !world.knows_path(x) {
         return None;
     }
     let exported = is_exported(world.scope_of(a)?, ItemInNs::Types(DECLARED));
@@ -76,8 +83,7 @@ fn is_dumped(world: &World) -> Option<bool> {
 /// What the small world tells.
 fn told(alloc: Global) -> Option<(usize, Option<bool>, Option<ModuleDefId>, bool)> {
     let world = small_world(alloc)?;
-    let x = ModPath::from_segments(PathKind::Plain, names(alloc, ["x"]).ok()?);
-    let (offered, exported, meaning) = found(&world, &x)?;
+    let (offered, exported, meaning) = found(&world, &path(alloc).ok()?)?;
     Some((offered, exported, meaning, is_dumped(&world)?))
 }
 

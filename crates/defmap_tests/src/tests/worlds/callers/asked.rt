@@ -6,45 +6,29 @@ use defmap_callers::maps::{
     by_version, child_of, child_outwards, enable_both, one_crate, rechecked,
 };
 use defmap_callers::rounds::refused_import;
-use defmap_callers::stays::{declare_in_tables, set_prelude_of};
+use defmap_callers::stays::set_prelude_of;
 use dm_base::ids::{Crate, ModuleId};
-use dm_base::item_ids::ModuleDefId;
 use dm_base::name::Name;
-use dm_base::source::Edition;
 use dm_base::symbol::Symbol;
 use dm_maps::builder::WorldBuilder;
 use dm_maps::rules::Rules;
 use dm_maps::world::World;
-use dm_scope::glob_imports::PerNsGlobImports;
 use std::alloc::{AllocError, Global};
 use std::test::Fail;
 
-/// The tables of a crate whose root is bound to a name in itself.
-fn bound(alloc: Global) -> Option<(WorldBuilder, bool)> {
-    let root = ModuleId(0);
-    let mut builder = WorldBuilder::new(alloc);
-    builder.add_crate(Edition::Edition2021, FILE).ok()?;
-    let mut globs = PerNsGlobImports::new(alloc);
-    let lookup = (root, Name::new(alloc, "itself").ok()?);
-    let def = ModuleDefId::ModuleId(root);
-    let written = declare_in_tables(&mut builder, &mut globs, lookup, def).ok()?;
-    Some((builder, written))
-}
-
-/// The same, with two features and a prelude module.
-fn tables(alloc: Global) -> Option<(WorldBuilder, bool)> {
-    let (mut builder, written) = bound(alloc)?;
+/// The tables of a crate with two features and a prelude module.
+fn tables(alloc: Global) -> Option<WorldBuilder> {
+    let mut builder = one_crate(alloc, FILE).ok()?;
     let first = Symbol::new(alloc, "first").ok()?;
     let second = Symbol::new(alloc, "second").ok()?;
     enable_both(&mut builder, alloc, Crate(0), first, second).ok()?;
     set_prelude_of(&mut builder, CRATE_MAP, ModuleId(0)).ok()?;
-    Some((builder, written && one_crate(alloc, FILE).is_ok()))
+    Some(builder)
 }
 
-/// Whether the root was bound, both features are enabled, and no import is refused in an empty list.
-fn built(alloc: Global) -> Option<[bool; 4]> {
-    let (builder, written) = tables(alloc)?;
-    let world = rechecked(builder.check().ok()?);
+/// Whether both features are enabled, and no import is refused in an empty list.
+fn built(alloc: Global) -> Option<[bool; 3]> {
+    let world = rechecked(tables(alloc)?.check().ok()?);
     let map = world.map_of(ModuleId(0))?;
     let first = map
         .features()
@@ -52,17 +36,12 @@ fn built(alloc: Global) -> Option<[bool; 4]> {
     let second = map
         .features()
         .is_enabled(&Symbol::new(alloc, "second").ok()?);
-    Some([
-        written,
-        first,
-        second,
-        refused_import(&world, &[]).is_none(),
-    ])
+    Some([first, second, refused_import(&world, &[]).is_none()])
 }
 
 #[test]
 fn tables_are_built_and_checked_anew(rt: HostRuntime) -> Result<(), Fail> {
-    gives(&rt, Ok::<_, AllocError>(built(rt.alloc())), Some([true; 4]))
+    gives(&rt, Ok::<_, AllocError>(built(rt.alloc())), Some([true; 3]))
 }
 
 /// The child `b` of the root, by itself and outwards, and outwards from the module `a`.
