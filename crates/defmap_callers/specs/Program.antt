@@ -10,6 +10,7 @@ use Rattle.dm_ids.specs.declared.source.Edition.TheVariants.{Edition2021}
 use Rattle.dm_ids.specs.declared.source.EditionedFileId.{EditionedFileId}
 use Rattle.dm_base.specs.PerNs.{definition, type_alone}
 use Rattle.dm_base.specs.declared.mod_path.PathKind.TheVariants.{Plain}
+use Rattle.dm_base.specs.declared.per_ns.PerNs.{PerNs}
 use Rattle.dm_base.specs.declared.visibility.Visibility.TheVariants.{Public}
 use Rattle.dm_modules.specs.declared.modes.BuiltinShadowMode.TheVariants.{Module}
 use Rattle.dm_scope.specs.Flags.{no_globs}
@@ -33,7 +34,12 @@ tables_of f = with_item (with_crate no_world Edition2021 f) Struct root
 abbrev pub world_of : World → Name → World
 world_of w n = with_push w no_globs root n (type_alone struct_0 Public None) None
 
--- The name means the struct.
-pub is_struct : (f : EditionedFileId) → definition (answer (world_of (tables_of f) (codes "S")) [] (asked root Other Module None Plain) (codes "S" ∷ [])).resolved_def.types ≡ Some struct_0
+-- what the name `S` means in the root of that world
+abbrev pub meant : EditionedFileId → PerNs
+meant f =
+    (answer (world_of (tables_of f) (codes "S")) [] (asked root Other Module None Plain) (codes "S" ∷ [])).resolved_def
+
+-- It means the struct.
+pub is_struct : (f : EditionedFileId) → definition (meant f).types ≡ Some struct_0
 unfolding answer
 is_struct f = refl

@@ -21,7 +21,8 @@ use dm_maps::world::World;
 use dm_scope::glob_imports::PerNsGlobImports;
 use std::alloc::{AllocError, Global};
 
-/// The tables of one crate with a public module of each name below its root, and these modules: none of them binds anything.
+/// The tables of one crate with a public module of each name below its root, and these modules: none of them binds
+/// anything.
 pub fn crate_of_modules(
     alloc: Global,
     file: EditionedFileId,
@@ -67,8 +68,8 @@ impl From<Refused> for NotMade {
     }
 }
 
-/// The world of tables whose modules bind nothing, with declarations made in it: each module binds what the declarations say
-/// that go to it.
+/// The world of tables whose modules bind nothing, with declarations made in it: each module binds what the
+/// declarations say that go to it.
 pub fn declared(
     alloc: Global,
     tables: WorldBuilder,

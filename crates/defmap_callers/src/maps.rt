@@ -114,8 +114,8 @@ impl From<AllocError> for Refused {
     }
 }
 
-/// Declares a public type in a module of a world: the list of pushes that the module's scope shows has it last, and what
-/// other scopes show stays.
+/// Declares a public type in a module of a world: the list of pushes that the module's scope shows has it last, and
+/// what other scopes show stays.
 pub fn declare_type(
     world: &mut World,
     globs: &mut PerNsGlobImports,
@@ -136,7 +136,8 @@ pub fn declare_type(
     Ok(written)
 }
 
-/// Brings items into a module by a glob import. A name that is bound as a type stays bound to it: a glob shadows nothing.
+/// Brings items into a module by a glob import. A name that is bound as a type stays bound to it: a glob shadows
+/// nothing.
 pub fn bring_by_glob(
     world: &mut World,
     globs: &mut PerNsGlobImports,

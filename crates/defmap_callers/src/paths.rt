@@ -65,8 +65,8 @@ pub fn meaning(world: &World, local: &LocalDefMap, m: ModuleId, path: &ModPath) 
     map.resolve_path_fp_with_macro(local, world, mode, m, path, BuiltinShadowMode::Module, None)
 }
 
-/// Brings what a path means in a module into it under a name, as an import does: the list of pushes that the module's scope
-/// shows has it last.
+/// Brings what a path means in a module into it under a name, as an import does: the list of pushes that the module's
+/// scope shows has it last.
 pub fn bring_in(
     world: &mut World,
     globs: &mut PerNsGlobImports,
@@ -94,8 +94,8 @@ pub fn bring_in(
     )
 }
 
-/// What a path means in a module, by the extern prelude of a crate, before and after a push under a name that is no segment
-/// of it: the same.
+/// What a path means in a module, by the extern prelude of a crate, before and after a push under a name that is no
+/// segment of it: the same.
 pub fn before_and_after(
     world: &mut World,
     globs: &mut PerNsGlobImports,

@@ -102,8 +102,8 @@ pub fn in_preludes_after(
     Ok(map.resolve_path_fp_in_all_preludes(local, world, mode, m, path, shadow))
 }
 
-/// What a visibility that is written in a module of a crate's map means after a push: it may be asked, since it could be
-/// asked before.
+/// What a visibility that is written in a module of a crate's map means after a push: it may be asked, since it could
+/// be asked before.
 pub fn visibility_after(
     world: &mut World,
     globs: &mut PerNsGlobImports,
