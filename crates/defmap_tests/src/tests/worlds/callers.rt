@@ -1,10 +1,9 @@
-//! Callers of docs/USING.md: a crate of modules, what completion, bodies and dumps read of it, a glob import, and the
+//! Callers of docs/USING.md: what completion, bodies and dumps read of a small world, a glob import, and the
 //! program that goes from tables to an answer.
 mod asked;
 
-use super::{EXPANDED, FILE, structure};
+use super::{Building, FILE, structure};
 use crate::tests::gives;
-use defmap_callers::building::{crate_of_modules, declared};
 use defmap_callers::finding::{dumped, is_exported, meaning_in_block, offered};
 use defmap_callers::maps::bring_by_glob;
 use defmap_callers::program::meaning_of_a_struct;
@@ -15,8 +14,10 @@ use dm_base::item_in_ns::ItemInNs;
 use dm_base::mod_path::{ModPath, PathKind};
 use dm_base::module_tree::ModuleTree;
 use dm_base::name::Name;
+use dm_base::per_ns::PerNs;
 use dm_base::source::Edition;
 use dm_base::visibility::Visibility;
+use dm_maps::build_fault::BuildFault;
 use dm_maps::builder::WorldBuilder;
 use dm_maps::world::World;
 use dm_maps::world::maps_of::local_def_map;
@@ -28,15 +29,6 @@ use std::test::Fail;
 /// The module that is declared in the other.
 const DECLARED: ModuleDefId = ModuleDefId::ModuleId(ModuleId(2));
 
-/// Two names, in order.
-fn names(alloc: Global, texts: [&str; 2]) -> Result<Vec<Name>, AllocError> {
-    let mut names = Vec::new(alloc);
-    for text in texts {
-        names.push(Name::new(alloc, text)?)?;
-    }
-    Ok(names)
-}
-
 /// `x`.
 fn path(alloc: Global) -> Result<ModPath, AllocError> {
     let mut segments = Vec::new(alloc);
@@ -44,19 +36,21 @@ fn path(alloc: Global) -> Result<ModPath, AllocError> {
     Ok(ModPath::from_segments(PathKind::Plain, segments))
 }
 
-/// The world of a crate with two modules, of which the first binds the second to the name `x`.
+/// The tables of a crate with two modules, of which the first binds the second to the name `x`.
+fn small_tables(alloc: Global) -> Result<Building, BuildFault> {
+    let mut building = Building::new(alloc);
+    building.builder.add_crate(Edition::Edition2021, FILE)?;
+    building.put_module(alloc, 0, "a")?;
+    building.put_module(alloc, 0, "b")?;
+    let items = PerNs::types(DECLARED, Visibility::Public, None);
+    building.push(alloc, (ModuleId(1), "x"), items, None)?;
+    Ok(building)
+}
+
+/// Their world.
 fn small_world(alloc: Global) -> Option<World> {
-    let (tables, _modules) = crate_of_modules(
-        alloc,
-        FILE,
-        EXPANDED,
-        names(alloc, ["a", "b"]).ok()?,
-    ).ok()?;
-    let mut declarations = Vec::new(alloc);
-    let x = Name::new(alloc, "x").ok()?;
-    declarations.push((ModuleId(1), x, DECLARED)).ok()?;
-    let (world, _globs) = declared(alloc, tables, declarations).ok()?;
-    Some(world)
+    let checked = small_tables(alloc).ok()?.world()?;
+    Some(checked.into_world())
 }
 
 /// How many names the first module offers, whether it shows the second to all, and what `x` means in it.

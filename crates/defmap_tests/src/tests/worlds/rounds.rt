@@ -122,7 +122,7 @@ fn a_world(alloc: Global) -> Result<Option<World>, BuildFault> {
 }
 
 impl Checked {
-    fn into_world(self) -> World {
+    pub(super) fn into_world(self) -> World {
         let Checked { world } = self;
         world
     }
