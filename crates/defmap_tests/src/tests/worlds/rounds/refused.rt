@@ -16,7 +16,10 @@ use std::test::Fail;
 /// Which round failed, from 1, how many tries it began, and which of the two imports were due then.
 type Refusal = (u32, usize, Option<bool>, Option<bool>);
 
-/// In the first round the first import finds nothing, which allocates nothing.
+/// The first try makes the index of names: where that fails, nothing has changed, and all imports are due.
+const INDEX: Refusal = (1, 1, Some(true), Some(true));
+
+/// In the first round the first import finds nothing, which allocates nothing more.
 const FIRST: Refusal = (1, 2, Some(false), Some(true));
 
 /// In the second round the first import is due again.
@@ -32,7 +35,8 @@ const OF_ALL_ALONE: [Refusal; 3] = [
 
 /// Whether a round of that kind may fail there.
 fn may_be(refusal: Refusal, all: bool) -> bool {
-    refusal == FIRST || refusal == SECOND || (all && OF_ALL_ALONE.contains(&refusal))
+    let is_one = refusal == INDEX || refusal == FIRST || refusal == SECOND;
+    is_one || (all && OF_ALL_ALONE.contains(&refusal))
 }
 
 /// What two names mean in the root, and what the first import resolves to.
