@@ -1,6 +1,6 @@
 -- A crate has the extern prelude that it had, where all extern preludes are the same.
 use Rattle.std.proofs.Common.{◌≡◌, ◌∙◌, ℕ, List, Some, ap, slice_get, sym}
-use Rattle.dm_modules.specs.Maps.{LocalMap}
+use Rattle.dm_def_map.specs.Maps.{LocalMap}
 
 one : (L K : LocalMap) → Some L ≡ Some K → L ≡ K
 one L K same = cc

@@ -8,7 +8,7 @@ use Rattle.dm_base.specs.PerNs.{type_alone}
 use Rattle.dm_base.specs.Tree.{same_module}
 use Rattle.dm_base.specs.declared.visibility.Visibility.TheVariants.{Public}
 use Rattle.dm_scope.specs.Shows.{ScopePush, push_of}
-use Rattle.dm_held.specs.declared.held.HeldId.TheVariants as held
+use Rattle.dm_check.specs.declared.held.HeldId.TheVariants as held
 use Rattle.dm_maps.specs.Known.{knows}
 use Rattle.dm_maps.specs.World.{World}
 use Rattle.dm_maps.specs.Trees.{parent_in}

@@ -2,7 +2,7 @@
 use Rattle.std.specs.Prelude.{Option, option_and_then}
 use Rattle.dm_ids.specs.declared.ids.ModuleId.{ModuleId}
 use Rattle.dm_ids.specs.Names.{Name, find_name}
-use Rattle.dm_modules.specs.Maps.{Map, module_at}
+use Rattle.dm_def_map.specs.Maps.{Map, module_at}
 
 -- the child of a name that a map lists for a module
 abbrev pub child_in : Name → Map × ModuleId → Option ModuleId

@@ -3,7 +3,7 @@ ghost use Rattle.std.specs.Prelude.{◌≡◌, ◌++◌, ◌∷◌, [], All, IfO
 ghost use Rattle.dm_ids.specs.declared.ids.ModuleId.{ModuleId};
 ghost use Rattle.dm_scope.specs.Scope.{no_scope};
 ghost use Rattle.dm_scope.specs.Shows.{Shows};
-ghost use Rattle.dm_modules.specs.Origins.{is_child};
+ghost use Rattle.dm_def_map.specs.Origins.{is_child};
 ghost use Rattle.dm_maps.specs.World.{scope_of};
 ghost use Rattle.defmap_callers.specs.Building.{IsBelow, pushes_to};
 
@@ -13,7 +13,7 @@ use dm_base::item_ids::ModuleDefId;
 use dm_base::name::Name;
 use dm_base::source::{Edition, EditionedFileId};
 use dm_base::visibility::Visibility;
-use dm_held::fault::WorldFault;
+use dm_check::fault::WorldFault;
 use dm_maps::build_fault::BuildFault;
 use dm_maps::builder::WorldBuilder;
 use dm_maps::module_origin::ModuleOrigin;

@@ -12,9 +12,9 @@ ghost use Rattle.dm_maps.specs.ItemHomes.{homes_of};
 ghost use Rattle.dm_maps.specs.Outwards.{maps_outwards};
 ghost use Rattle.dm_maps.specs.PushRes.{StaysShown};
 ghost use Rattle.dm_maps.specs.World.{map_of, scope_of};
-ghost use Rattle.dm_modules.specs.Maps.{Map};
+ghost use Rattle.dm_def_map.specs.Maps.{Map};
 ghost use Rattle.dm_scope.specs.Shows.{PushShows, push_of};
-ghost use Rattle.dm_tables.specs.CrateData.{with_feature};
+ghost use Rattle.dm_def_map.specs.CrateData.{with_feature};
 ghost use Rattle.defmap_callers.specs.Maps.{child_in};
 
 use dm_base::ids::{BlockId, Crate, ModuleId};

@@ -1,14 +1,14 @@
 //! Example callers, shown in docs/USING.md: path resolution.
 ghost use Rattle.std.specs.Prelude.{◌≡◌, false, IfOk, IsTrue, None, OnErr, Some, slice_get};
 ghost use Rattle.dm_ids.specs.declared.imports.ImportOrExternCrate.TheVariants.{Import};
-ghost use Rattle.dm_held.specs.declared.held.HeldId.TheVariants as held;
-ghost use Rattle.dm_held.specs.Holding.{local_holds, path_holds, res_holds};
-ghost use Rattle.dm_held.specs.Pushes.{push_holds};
+ghost use Rattle.dm_check.specs.declared.held.HeldId.TheVariants as held;
+ghost use Rattle.dm_check.specs.Holding.{local_holds, path_holds, res_holds};
+ghost use Rattle.dm_check.specs.Pushes.{push_holds};
 ghost use Rattle.dm_maps.specs.Cut.{among};
 ghost use Rattle.dm_maps.specs.Known.{knows, KnowsAll};
 ghost use Rattle.dm_maps.specs.World.{crate_map, scope_of};
-ghost use Rattle.dm_modules.specs.Maps.{LocalMap, Map};
-ghost use Rattle.dm_modules.specs.declared.modes.BuiltinShadowMode.TheVariants.{Module};
+ghost use Rattle.dm_def_map.specs.Maps.{LocalMap, Map};
+ghost use Rattle.dm_def_map.specs.declared.modules.modes.BuiltinShadowMode.TheVariants.{Module};
 ghost use Rattle.dm_scope.specs.Shows.{PushShows, push_of};
 ghost use Rattle.hir_def_map.specs.Paths.{answer, asked};
 ghost use Rattle.hir_def_map.specs.declared.result.ResolveMode.TheVariants.{Other};

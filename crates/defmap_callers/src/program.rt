@@ -10,7 +10,7 @@ use dm_base::name::Name;
 use dm_base::per_ns::PerNs;
 use dm_base::source::{Edition, EditionedFileId};
 use dm_base::visibility::Visibility;
-use dm_held::fault::WorldFault;
+use dm_check::fault::WorldFault;
 use dm_maps::build_fault::BuildFault;
 use dm_maps::builder::WorldBuilder;
 use dm_maps::world::World;

@@ -4,13 +4,13 @@ ghost use Rattle.std.specs.Prelude.{◌≡◌, false, IfOk, IsTrue, None, OnErr,
 ghost use Rattle.dm_ids.specs.declared.ids.ModuleId.{ModuleId};
 ghost use Rattle.dm_base.specs.PerNs.{type_alone};
 ghost use Rattle.dm_base.specs.Tree.{same_module};
-ghost use Rattle.dm_held.specs.declared.held.HeldId.TheVariants as held;
-ghost use Rattle.dm_held.specs.Pushes.{push_holds};
+ghost use Rattle.dm_check.specs.declared.held.HeldId.TheVariants as held;
+ghost use Rattle.dm_check.specs.Pushes.{push_holds};
 ghost use Rattle.dm_maps.specs.BuildMaps.{with_prelude};
 ghost use Rattle.dm_maps.specs.Known.{knows, KnowsAll};
 ghost use Rattle.dm_maps.specs.World.{crate_map, scope_of};
-ghost use Rattle.dm_modules.specs.Maps.{LocalMap, Map};
-ghost use Rattle.dm_modules.specs.declared.modes.BuiltinShadowMode.TheVariants.{Module};
+ghost use Rattle.dm_def_map.specs.Maps.{LocalMap, Map};
+ghost use Rattle.dm_def_map.specs.declared.modules.modes.BuiltinShadowMode.TheVariants.{Module};
 ghost use Rattle.dm_scope.specs.Shows.{PushShows, push_of};
 ghost use Rattle.hir_def_map.specs.Paths.{asked, prelude_answer};
 ghost use Rattle.hir_def_map.specs.Questions.{IsKnownInCrate};

@@ -5,11 +5,11 @@ use Rattle.std.specs.Result.{IsErr, IsErrAnd}
 use Rattle.dm_ids.specs.Names.{Name}
 use Rattle.dm_ids.specs.declared.imports.ImportOrExternCrate.{ImportOrExternCrate}
 use Rattle.dm_base.specs.declared.per_ns.PerNs.{PerNs}
-use Rattle.dm_held.specs.Pushes.{push_holds}
+use Rattle.dm_check.specs.Pushes.{push_holds}
 use Rattle.dm_ids.specs.declared.ids.ModuleId.{ModuleId}
 use Rattle.dm_maps.specs.Known.{KnowsAll}
 use Rattle.dm_maps.specs.World.{World}
-use Rattle.dm_modules.specs.Maps.{Map, LocalMap}
+use Rattle.dm_def_map.specs.Maps.{Map, LocalMap}
 use Rattle.dm_scope.specs.Flags.{Globs}
 use Rattle.defmap_script.specs.declared.engine.Reply.{Reply}
 use Rattle.defmap_script.specs.declared.engine.Reply.TheVariants.{Nothing}

@@ -18,8 +18,8 @@ use Rattle.dm_ids.specs.declared.source.HirFileId.TheVariants as tree_file
 use Rattle.dm_scope.specs.Scope.{Scope}
 use Rattle.dm_scope.specs.TableLists.{add_to_list}
 use Rattle.dm_maps.specs.declared.build_fault.BuildFault.{BuildFault}
-use Rattle.dm_modules.specs.declared.module_origin.ModuleOrigin.{ModuleOrigin}
-use Rattle.dm_modules.specs.declared.module_origin.ModuleOrigin.TheVariants.{Inline}
+use Rattle.dm_def_map.specs.declared.modules.module_origin.ModuleOrigin.{ModuleOrigin}
+use Rattle.dm_def_map.specs.declared.modules.module_origin.ModuleOrigin.TheVariants.{Inline}
 use Rattle.dm_maps.specs.Build.{with_crate, with_module, with_item, with_rules}
 use Rattle.dm_maps.specs.BuildBlocks.{with_block, block_fault}
 use Rattle.dm_maps.specs.BuildItems.{with_use, with_macro, with_variant}

@@ -8,14 +8,14 @@ use Rattle.dm_base.specs.declared.per_ns.PerNs.{PerNs}
 use Rattle.dm_scope.specs.Flags.{Globs, no_globs}
 use Rattle.dm_scope.specs.Push.{scope_after, globs_after, push_answer}
 use Rattle.dm_scope.specs.Scope.{Scope}
-use Rattle.dm_held.specs.declared.fault.WorldFault.{WorldFault}
-use Rattle.dm_held.specs.declared.held.HeldId.TheVariants as held
+use Rattle.dm_check.specs.declared.fault.WorldFault.{WorldFault}
+use Rattle.dm_check.specs.declared.held.HeldId.TheVariants as held
 use Rattle.dm_maps.specs.Build.{no_world}
 use Rattle.dm_maps.specs.First.{holders, IsChecked, IsFirstFault}
 use Rattle.dm_maps.specs.Known.{knows, KnowsAll}
-use Rattle.dm_held.specs.Holding.{local_holds, path_holds}
-use Rattle.dm_modules.specs.Maps.{Map, LocalMap, module_at}
-use Rattle.dm_held.specs.Pushes.{push_holds}
+use Rattle.dm_check.specs.Holding.{local_holds, path_holds}
+use Rattle.dm_def_map.specs.Maps.{Map, LocalMap, module_at}
+use Rattle.dm_check.specs.Pushes.{push_holds}
 use Rattle.dm_maps.specs.PushRes.{with_push}
 use Rattle.dm_maps.specs.World.{World, map_of, numbered_map, scope_if_known, scope_of, with_scope}
 use Rattle.hir_def_map.specs.Paths.{asked, answer, answer_alone}

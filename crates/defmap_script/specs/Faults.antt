@@ -4,11 +4,11 @@ use Rattle.std.specs.Fmt.{decimal}
 use Rattle.dm_ids.specs.declared.ids.BlockId.{BlockId}
 use Rattle.dm_maps.specs.declared.build_fault.BuildFault.{BuildFault}
 use Rattle.dm_maps.specs.declared.build_fault.BuildFault.TheVariants as build
-use Rattle.dm_held.specs.declared.fault.Holder.{Holder}
-use Rattle.dm_held.specs.declared.fault.Holder.TheVariants as holder
-use Rattle.dm_held.specs.declared.fault.WorldFault.{WorldFault}
-use Rattle.dm_held.specs.declared.fault.WorldFaultKind.{WorldFaultKind}
-use Rattle.dm_held.specs.declared.fault.WorldFaultKind.TheVariants as kind
+use Rattle.dm_check.specs.declared.fault.Holder.{Holder}
+use Rattle.dm_check.specs.declared.fault.Holder.TheVariants as holder
+use Rattle.dm_check.specs.declared.fault.WorldFault.{WorldFault}
+use Rattle.dm_check.specs.declared.fault.WorldFaultKind.{WorldFaultKind}
+use Rattle.dm_check.specs.declared.fault.WorldFaultKind.TheVariants as kind
 use Rattle.defmap_script.specs.declared.fault.Fault.{Fault}
 use Rattle.defmap_script.specs.declared.fault.Fault.TheVariants.{BadLine, NeedsWorld, NeedsBuilder, Unknown, Build, World, OutOfMemory}
 

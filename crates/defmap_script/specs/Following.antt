@@ -5,7 +5,7 @@ use Rattle.dm_ids.specs.declared.imports.ImportId.{ImportId}
 use Rattle.dm_base.specs.declared.per_ns.Namespace.TheVariants.{Types, Values, Macros}
 use Rattle.dm_base.specs.declared.per_ns.PerNs.{PerNs}
 use Rattle.dm_base.specs.Definitions.{widened_macro}
-use Rattle.dm_held.specs.declared.held.HeldId.TheVariants as held
+use Rattle.dm_check.specs.declared.held.HeldId.TheVariants as held
 use Rattle.dm_maps.specs.Known.{knows}
 use Rattle.dm_maps.specs.ScopeTables.{scope_tables}
 use Rattle.dm_maps.specs.World.{World, scope_of}

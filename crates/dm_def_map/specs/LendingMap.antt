@@ -3,7 +3,7 @@ use Rattle.std.specs.Prelude.{ℕ, Option}
 use Rattle.std.specs.Borrow.{LendsIf, MutBor, Fml}
 use Rattle.dm_scope.specs.Scope.{Scope}
 use Rattle.dm_scope.specs.contracts.item_scope.ItemScope.{the_row as scope_row}
-use Rattle.dm_modules.specs.Maps.{Map, map_with_scope}
+use Rattle.dm_def_map.specs.Maps.{Map, map_with_scope}
 use Rattle.dm_def_map.specs.contracts.def_map.DefMap.{the_row}
 
 -- the map ends with the last value behind r as the scope of its module at index i

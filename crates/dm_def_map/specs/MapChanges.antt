@@ -5,8 +5,8 @@ use Rattle.dm_ids.specs.Names.{same_name}
 use Rattle.dm_base.specs.Sameness.{same_ast}
 use Rattle.dm_def_map.specs.declared.map_change.MapChange.{MapChange}
 use Rattle.dm_def_map.specs.declared.map_change.MapChange.TheVariants.{Prelude, MacroUse, MacroDef, Helper, Diagnostic}
-use Rattle.dm_tables.specs.HelperChanges.{helpers_with}
-use Rattle.dm_modules.specs.Maps.{Map}
+use Rattle.dm_def_map.specs.HelperChanges.{helpers_with}
+use Rattle.dm_def_map.specs.Maps.{Map}
 
 -- the map after it: an entry of a table that is set again keeps its place and is replaced, and a diagnostic goes last
 abbrev pub changed : MapChange → Map → Map

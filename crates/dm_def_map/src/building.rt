@@ -2,22 +2,22 @@
 ghost use Rattle.std.specs.Prelude.{◌≡◌, false, None, IsOk, IfOk, OnOk, OnErr};
 ghost use Rattle.std.specs.Option.{option_copied, option_copied_mut};
 ghost use Rattle.std.specs.Borrow.{sem};
-ghost use Rattle.dm_modules.specs.Maps.{module_at, nth_module, nth_scope, fresh_map, map_with_child};
+ghost use Rattle.dm_def_map.specs.Maps.{module_at, nth_module, nth_scope, fresh_map, map_with_child};
 ghost use Rattle.dm_def_map.specs.LendingMap.{LendsMapScope};
 ghost use Rattle.dm_def_map.specs.MapChanges.{changed, grows};
 
+use crate::crate_data::CrateData;
 use crate::def_map::DefMap;
+use crate::item_tables::derive_helpers::{DeriveHelpers, add_helper};
+use crate::item_tables::keyed_tables::put_macro_def;
 use crate::map_change::MapChange;
+use crate::modules::building;
+use crate::modules::module_data::ModuleData;
 use dm_base::ids::{ExternCrateId, MapId, ModuleId};
 use dm_base::item_ids::MacroId;
 use dm_base::name::Name;
 use dm_base::source::{AstId, Edition};
-use dm_modules::building;
-use dm_modules::module_data::ModuleData;
 use dm_scope::item_scope::ItemScope;
-use dm_tables::crate_data::CrateData;
-use dm_tables::derive_helpers::{DeriveHelpers, add_helper};
-use dm_tables::keyed_tables::put_macro_def;
 use indexmap::IndexMap;
 use std::alloc::{AllocError, Global};
 use std::rc::Rc;

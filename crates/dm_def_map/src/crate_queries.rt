@@ -1,11 +1,11 @@
 //! Queries of a def map about its crate, the same for each map of the crate. None of these calls allocates.
 ghost use Rattle.std.specs.Prelude.{◌≡◌};
-ghost use Rattle.dm_tables.specs.CrateData.{limit_of, goes_without_std, macro_of, fn_of};
+ghost use Rattle.dm_def_map.specs.CrateData.{limit_of, goes_without_std, macro_of, fn_of};
 
+use crate::crate_data::unstable_features::UnstableFeatures;
 use crate::def_map::DefMap;
 use dm_base::ids::{FunctionId, ProcMacroId};
 use dm_base::symbol::Symbol;
-use dm_tables::unstable_features::UnstableFeatures;
 
 impl DefMap {
     /// The tools whose attributes the crate may have: those of every crate, then those that it registers, in order.

@@ -4,18 +4,18 @@ ghost use Rattle.std.specs.Option.{option_copied};
 ghost use Rattle.std.specs.Map.{lookup};
 ghost use Rattle.dm_ids.specs.Names.{find_name};
 ghost use Rattle.dm_base.specs.Sameness.{same_ast};
-ghost use Rattle.dm_modules.specs.Maps.{module_at};
+ghost use Rattle.dm_def_map.specs.Maps.{module_at};
 
+use crate::crate_data::CrateData;
+use crate::item_tables::derive_helpers::{DeriveHelper, DeriveHelpers};
+use crate::item_tables::keyed_tables::{helpers_of, macro_def_of};
+use crate::modules::module_data::ModuleData;
+use crate::modules::modules_map::ModulesMap;
 use dm_base::ids::{BlockId, Crate, ExternCrateId, MapId, ModuleId, UseId};
 use dm_base::item_ids::MacroId;
 use dm_base::name::Name;
 use dm_base::source::{AstId, Edition};
-use dm_modules::module_data::ModuleData;
-use dm_modules::modules_map::ModulesMap;
 use dm_scope::diagnostics::DefDiagnostic;
-use dm_tables::crate_data::CrateData;
-use dm_tables::derive_helpers::{DeriveHelper, DeriveHelpers};
-use dm_tables::keyed_tables::{helpers_of, macro_def_of};
 use indexmap::IndexMap;
 use std::marker::Model;
 use std::rc::Rc;
@@ -55,7 +55,7 @@ impl Drop for DefMap {
 }
 
 impl Model for DefMap {
-    ghost use Rattle.dm_modules.specs.Maps.{Map};
+    ghost use Rattle.dm_def_map.specs.Maps.{Map};
 
     ghost Value = { Map };
 

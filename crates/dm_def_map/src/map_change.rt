@@ -1,10 +1,10 @@
 //! `MapChange`: one change of a def map, outside its modules.
+use crate::item_tables::derive_helpers::DeriveHelper;
 use dm_base::ids::{ExternCrateId, ModuleId, UseId};
 use dm_base::item_ids::MacroId;
 use dm_base::name::Name;
 use dm_base::source::AstId;
 use dm_scope::diagnostics::DefDiagnostic;
-use dm_tables::derive_helpers::DeriveHelper;
 
 /// One change of a def map, outside its modules.
 #[derive(Drop)]

@@ -2,14 +2,14 @@
 ghost use Rattle.std.specs.Prelude.{◌≡◌, IsSome, Some};
 ghost use Rattle.std.specs.Map.Iter.{ShowsInOrder};
 ghost use Rattle.dm_ids.specs.declared.ids.ModuleId.{ModuleId};
-ghost use Rattle.dm_modules.specs.Maps.{module_at};
-ghost use Rattle.dm_modules.specs.Queries.{containing_in, fills, is_inline_in, modules_with};
+ghost use Rattle.dm_def_map.specs.Maps.{module_at};
+ghost use Rattle.dm_def_map.specs.Queries.{containing_in, fills, is_inline_in, modules_with};
 
 use crate::def_map::DefMap;
+use crate::modules::choosing::{filling, inline_in};
+use crate::modules::module_data::ModuleData;
+use crate::modules::modules_iter::{InlineModules, ModulesForFile};
 use dm_base::ids::{FileId, MacroCallId, ModuleId};
-use dm_modules::choosing::{filling, inline_in};
-use dm_modules::module_data::ModuleData;
-use dm_modules::modules_iter::{InlineModules, ModulesForFile};
 
 impl DefMap {
     /// The module of that number, which has to lie in this map: `has` tests it.

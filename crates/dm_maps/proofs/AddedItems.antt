@@ -13,10 +13,10 @@ use Rattle.dm_ids.specs.declared.item_ids.ModuleDefId.{ModuleDefId}
 use Rattle.dm_ids.specs.declared.macros.MacroLoc.{MacroLoc}
 use Rattle.dm_ids.specs.declared.macros.MacroLoc.TheVariants as loc
 use Rattle.dm_ids.specs.Names.{Name}
-use Rattle.dm_held.specs.declared.held.HeldId.{HeldId}
-use Rattle.dm_held.specs.declared.held.HeldId.TheVariants as held
-use Rattle.dm_held.specs.Holding.{def_holds}
-use Rattle.dm_held.specs.Kinds.{same_kind, is_of_kind}
+use Rattle.dm_check.specs.declared.held.HeldId.{HeldId}
+use Rattle.dm_check.specs.declared.held.HeldId.TheVariants as held
+use Rattle.dm_check.specs.Holding.{def_holds}
+use Rattle.dm_check.specs.Kinds.{same_kind, is_of_kind}
 use Rattle.dm_maps.specs.Added.{AreAdded}
 use Rattle.dm_maps.specs.Build.{item_def, with_item}
 use Rattle.dm_maps.specs.BuildItems.{macro_id, next_use, next_variant, with_macro, with_use, with_variant}

@@ -11,7 +11,7 @@ use Rattle.dm_ids.specs.declared.source.Edition.{Edition}
 use Rattle.dm_ids.specs.declared.source.EditionedFileId.{EditionedFileId}
 use Rattle.dm_ids.specs.Names.{Name}
 use Rattle.dm_scope.specs.Scope.{no_scope}
-use Rattle.dm_modules.specs.Maps.{Map, Module, Modules, nth_module, map_with_child}
+use Rattle.dm_def_map.specs.Maps.{Map, Module, Modules, nth_module, map_with_child}
 use Rattle.dm_maps.specs.declared.place.Place.{Place}
 use Rattle.dm_maps.specs.Added.{IsAddedModule, IsAddedCrate, IsAddedBlock}
 use Rattle.dm_maps.specs.Build.{fresh_crate, next_crate, next_module, next_place, with_child_at_place, with_child_of, with_crate}

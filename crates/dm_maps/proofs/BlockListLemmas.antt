@@ -8,8 +8,8 @@ use Rattle.std.specs.Option.{option_map, option_map_or}
 use Rattle.dm_ids.specs.declared.ids.BlockId.{BlockId}
 use Rattle.dm_ids.specs.declared.ids.Crate.{Crate}
 use Rattle.dm_ids.specs.declared.ids.MapId.{MapId}
-use Rattle.dm_tables.specs.CrateData.{CrateData}
-use Rattle.dm_modules.specs.Maps.{Map}
+use Rattle.dm_def_map.specs.CrateData.{CrateData}
+use Rattle.dm_def_map.specs.Maps.{Map}
 use Rattle.dm_maps.specs.BlockLists.{entry_with, crates_of, list_at, HasBlock, AreGathered, AreNumbered}
 use Rattle.dm_maps.specs.BuildCrateData.{map_with_shared, with_shared}
 use Rattle.dm_maps.specs.Maps.{maps_with}

@@ -8,7 +8,7 @@ use Rattle.dm_ids.specs.declared.ids.BlockId.{BlockId}
 use Rattle.dm_ids.specs.declared.ids.Crate.{Crate}
 use Rattle.dm_ids.specs.declared.source.AstId.{AstId}
 use Rattle.dm_maps.specs.declared.place.Place.{Place}
-use Rattle.dm_modules.specs.Maps.{Map}
+use Rattle.dm_def_map.specs.Maps.{Map}
 use Rattle.dm_maps.specs.Maps.{Maps, maps_and}
 use Rattle.dm_maps.specs.World.{World, crate_map, maps_of, with_maps}
 use Rattle.dm_maps.specs.Build.{next_module}

@@ -9,8 +9,8 @@ use Rattle.dm_ids.specs.declared.source.EditionedFileId.{EditionedFileId}
 use Rattle.dm_ids.specs.Names.{Name}
 use Rattle.dm_ids.specs.declared.ids.Crate.{Crate}
 use Rattle.dm_scope.specs.Scope.{Scope}
-use Rattle.dm_tables.specs.CrateData.{CrateData}
-use Rattle.dm_modules.specs.Maps.{Map, Module, map_with_scope}
+use Rattle.dm_def_map.specs.CrateData.{CrateData}
+use Rattle.dm_def_map.specs.Maps.{Map, Module, map_with_scope}
 use Rattle.dm_maps.specs.BuildCrateData.{sharing}
 use Rattle.dm_maps.specs.declared.place.Place.{Place}
 use Rattle.dm_maps.specs.World.{World, crate_map, place_of}

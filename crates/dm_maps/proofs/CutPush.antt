@@ -16,7 +16,7 @@ use Rattle.dm_scope.specs.Bindings.{Bound}
 use Rattle.dm_scope.specs.Flags.{Flags, Globs, has_flag}
 use Rattle.dm_scope.specs.Push.{types_reading, values_reading, macros_reading, scope_after}
 use Rattle.dm_scope.specs.Scope.{Scope, no_scope}
-use Rattle.dm_modules.specs.Maps.{Map, Module, Modules, fresh_module, nth_module, put_scope, map_with_scope}
+use Rattle.dm_def_map.specs.Maps.{Map, Module, Modules, fresh_module, nth_module, put_scope, map_with_scope}
 use Rattle.dm_maps.proofs.MapWrites.{put-cases, with-cases}
 use Rattle.dm_maps.proofs.ModuleGrowth.{map-set_own}
 use Rattle.dm_maps.specs.declared.place.Place.{Place}

@@ -17,8 +17,8 @@ use Rattle.dm_def_map.specs.declared.map_change.MapChange.TheVariants.{Prelude, 
 use Rattle.dm_def_map.specs.MapChanges.{changed}
 use Rattle.dm_maps.proofs.AllLemmas.{all-weaker}
 use Rattle.dm_scope.specs.Scope.{Scope}
-use Rattle.dm_tables.specs.CrateData.{CrateData}
-use Rattle.dm_modules.specs.Maps.{Map, Module, Modules, nth_module, put_scope, put_child, map_with_child, map_with_scope, with_child, with_new_child, with_scope_at}
+use Rattle.dm_def_map.specs.CrateData.{CrateData}
+use Rattle.dm_def_map.specs.Maps.{Map, Module, Modules, nth_module, put_scope, put_child, map_with_child, map_with_scope, with_child, with_new_child, with_scope_at}
 use Rattle.dm_maps.specs.declared.place.Place.{Place}
 use Rattle.dm_maps.specs.Maps.{Maps, map_at, maps_with}
 use Rattle.dm_maps.specs.World.{World, crate_map, maps_of, numbered_map}

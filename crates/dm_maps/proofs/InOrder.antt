@@ -8,9 +8,9 @@ use Rattle.dm_ids.specs.declared.ids.MapId.{MapId}
 use Rattle.dm_ids.specs.declared.ids.ModuleId.{ModuleId}
 use Rattle.dm_maps.specs.declared.place.Place.{Place}
 use Rattle.dm_maps.specs.MapFacts.{IsAscending, HasContainer}
-use Rattle.dm_modules.specs.Maps.{Map, Module, Modules, module_at, nth_module}
+use Rattle.dm_def_map.specs.Maps.{Map, Module, Modules, module_at, nth_module}
 use Rattle.dm_maps.specs.Trees.{no_map, Outline, outline, containers_of, map_id_in, IsMap, IsWorld}
-use Rattle.dm_held.specs.declared.held.HeldId.TheVariants as held
+use Rattle.dm_check.specs.declared.held.HeldId.TheVariants as held
 use Rattle.dm_maps.specs.Known.{knows}
 use Rattle.dm_maps.specs.World.{World, map_of, placed_module, module_of, numbered_map}
 use Rattle.dm_maps.proofs.GrowthLemmas.{get-within}

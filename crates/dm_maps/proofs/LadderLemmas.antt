@@ -16,8 +16,8 @@ use Rattle.dm_ids.specs.Names.{Name}
 use Rattle.dm_ids.specs.declared.source.AstId.{AstId}
 use Rattle.dm_ids.specs.declared.source.Edition.{Edition}
 use Rattle.dm_ids.specs.declared.source.EditionedFileId.{EditionedFileId}
-use Rattle.dm_tables.specs.CrateData.{CrateData}
-use Rattle.dm_modules.specs.Maps.{Map, Module, map_with_child}
+use Rattle.dm_def_map.specs.CrateData.{CrateData}
+use Rattle.dm_def_map.specs.Maps.{Map, Module, map_with_child}
 use Rattle.dm_maps.specs.Build.{fresh_crate}
 use Rattle.dm_maps.specs.BuildBlocks.{next_block, fresh_block}
 use Rattle.dm_maps.specs.BuildCrateData.{sharing}

@@ -4,7 +4,7 @@ use Rattle.std.specs.Option.{option_map, option_map_or}
 use Rattle.dm_ids.specs.declared.ids.ModuleId.{ModuleId}
 use Rattle.dm_base.specs.IdLaws.{same_module-true}
 use Rattle.dm_base.specs.Tree.{same_module}
-use Rattle.dm_modules.specs.Maps.{Module}
+use Rattle.dm_def_map.specs.Maps.{Module}
 use Rattle.dm_scope.specs.Flags.{Globs}
 use Rattle.dm_scope.specs.PushLaw.{PushLaw, have_one_import, is_named, itself, would_write}
 use Rattle.dm_scope.specs.Scope.{Scope, no_scope}

@@ -13,9 +13,9 @@ use Rattle.dm_ids.specs.declared.item_ids.ItemKind.{ItemKind}
 use Rattle.dm_ids.specs.declared.item_ids.ItemKind.TheVariants as item
 use Rattle.dm_ids.specs.declared.macros.MacroLoc.{MacroLoc}
 use Rattle.dm_maps.proofs.AllLemmas.{all-weaker}
-use Rattle.dm_tables.specs.Variants.{same_enum, Enums, Variants, variants_in, enums_with_variant}
-use Rattle.dm_held.specs.declared.held.HeldId.TheVariants as held
-use Rattle.dm_held.specs.Kinds.{same_kind, macro_number, is_of_kind}
+use Rattle.dm_def_map.specs.Variants.{same_enum, Enums, Variants, variants_in, enums_with_variant}
+use Rattle.dm_check.specs.declared.held.HeldId.TheVariants as held
+use Rattle.dm_check.specs.Kinds.{same_kind, macro_number, is_of_kind}
 use Rattle.dm_ids.specs.declared.item_ids.MacroId.{MacroId}
 use Rattle.dm_ids.specs.declared.item_ids.ModuleDefId.{ModuleDefId}
 use Rattle.dm_ids.specs.declared.item_ids.ModuleDefId.TheVariants as def

@@ -9,10 +9,10 @@ use Rattle.dm_ids.specs.declared.ids.BlockId.{BlockId}
 use Rattle.dm_ids.specs.declared.ids.ModuleId.{ModuleId}
 use Rattle.dm_ids.specs.Names.{Name, same_name, find_name}
 use Rattle.dm_base.specs.Tree.{containing}
-use Rattle.dm_held.specs.declared.held.HeldId.TheVariants as held
+use Rattle.dm_check.specs.declared.held.HeldId.TheVariants as held
 use Rattle.dm_maps.proofs.AllLemmas.{all-weaker}
-use Rattle.dm_modules.specs.Maps.{Map, Module, Modules, module_at}
-use Rattle.dm_modules.specs.Queries.{containing_in}
+use Rattle.dm_def_map.specs.Maps.{Map, Module, Modules, module_at}
+use Rattle.dm_def_map.specs.Queries.{containing_in}
 use Rattle.dm_maps.specs.declared.place.Place.{Place}
 use Rattle.dm_maps.specs.Family.{IsParent, AreParents, common, HaveFamilies, IsFamily}
 use Rattle.dm_maps.specs.Known.{knows}

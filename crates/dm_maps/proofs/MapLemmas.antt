@@ -9,10 +9,10 @@ use Rattle.dm_ids.specs.declared.ids.BlockId.{BlockId}
 use Rattle.dm_ids.specs.declared.ids.Crate.{Crate}
 use Rattle.dm_ids.specs.declared.ids.MapId.{MapId}
 use Rattle.dm_ids.specs.declared.ids.ModuleId.{ModuleId}
-use Rattle.dm_held.specs.declared.held.HeldId.TheVariants as held
+use Rattle.dm_check.specs.declared.held.HeldId.TheVariants as held
 use Rattle.dm_maps.specs.Known.{knows}
 use Rattle.dm_maps.specs.declared.place.Place.{Place}
-use Rattle.dm_modules.specs.Maps.{Map, Modules, module_at}
+use Rattle.dm_def_map.specs.Maps.{Map, Modules, module_at}
 use Rattle.dm_maps.specs.World.{World, numbered_map, crate_map, map_of}
 use Rattle.dm_maps.specs.Trees.{Outline, outline, outlines, IsWorld}
 use Rattle.dm_maps.proofs.GrowthLemmas.{get-within}

@@ -6,9 +6,9 @@ use Rattle.dm_ids.specs.declared.ids.ModuleId.{ModuleId}
 use Rattle.dm_def_map.specs.declared.map_change.MapChange.{MapChange}
 use Rattle.dm_def_map.specs.declared.map_change.MapChange.TheVariants.{Prelude, MacroUse, MacroDef, Helper, Diagnostic}
 use Rattle.dm_maps.specs.BuildCrateData.{map_with_shared, with_shared, sharing}
-use Rattle.dm_tables.specs.CrateData.{CrateData}
+use Rattle.dm_def_map.specs.CrateData.{CrateData}
 use Rattle.dm_scope.specs.Scope.{Scope}
-use Rattle.dm_modules.specs.Maps.{Map, Module, Modules, nth_module, put_scope, with_scope_at, map_with_scope}
+use Rattle.dm_def_map.specs.Maps.{Map, Module, Modules, nth_module, put_scope, with_scope_at, map_with_scope}
 use Rattle.dm_maps.specs.World.{World, maps_of, with_maps}
 use Rattle.dm_maps.specs.BuildMaps.{with_map}
 use Rattle.dm_def_map.specs.MapChanges.{changed}

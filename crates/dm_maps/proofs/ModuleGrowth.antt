@@ -10,7 +10,7 @@ use Rattle.dm_ids.specs.declared.ids.BlockId.{BlockId}
 use Rattle.dm_ids.specs.declared.ids.MapId.{MapId}
 use Rattle.dm_ids.specs.Names.{Name}
 use Rattle.dm_maps.specs.declared.place.Place.{Place}
-use Rattle.dm_modules.specs.Maps.{Map, Module, Modules, nth_module, put_child, with_child_at, map_with_child}
+use Rattle.dm_def_map.specs.Maps.{Map, Module, Modules, nth_module, put_child, with_child_at, map_with_child}
 use Rattle.dm_maps.specs.Trees.{no_map, Outline, outline, IsPlaced, IsWorldOf, Stands, AreMaps, is_crate_id, is_block_id, map_id_in, numbered_outline}
 use Rattle.dm_maps.proofs.EntryLemmas.{get-push, get-last, get-set_same, set-own}
 use Rattle.dm_maps.proofs.GrowthLemmas.{longer, place_below, after, map_id_in-append, IsPlaced-append, IsTree-placed, AreMaps-append, AreMaps-longer, Grows, Grows-same, Grows-longer, Stands-grows}

@@ -20,11 +20,11 @@ use Rattle.dm_scope.specs.Bindings.{Bound, Reading, recorded_from, recorded, wit
 use Rattle.dm_scope.specs.Flags.{Flags, Globs, has_flag}
 use Rattle.dm_scope.specs.Push.{types_reading, values_reading, macros_reading, scope_after}
 use Rattle.dm_scope.specs.Scope.{Scope}
-use Rattle.dm_held.specs.declared.held.HeldId.{HeldId}
-use Rattle.dm_held.specs.declared.held.HeldId.TheVariants as held
-use Rattle.dm_held.specs.Pushes.{push_holds}
-use Rattle.dm_held.specs.Holds.{step_holds, record_holds, value_record_holds, records_hold, scope_holds, bindings_hold, types_hold, values_hold, macros_hold, legacies_hold, lists_hold}
-use Rattle.dm_held.specs.Holding.{def_holds, vis_holds, import_holds, value_import_holds, type_holds, value_holds, macro_holds, res_holds}
+use Rattle.dm_check.specs.declared.held.HeldId.{HeldId}
+use Rattle.dm_check.specs.declared.held.HeldId.TheVariants as held
+use Rattle.dm_check.specs.Pushes.{push_holds}
+use Rattle.dm_check.specs.Holds.{step_holds, record_holds, value_record_holds, records_hold, scope_holds, bindings_hold, types_hold, values_hold, macros_hold, legacies_hold, lists_hold}
+use Rattle.dm_check.specs.Holding.{def_holds, vis_holds, import_holds, value_import_holds, type_holds, value_holds, macro_holds, res_holds}
 use Rattle.dm_maps.proofs.AllLemmas.{all-left, all-right, all-append}
 
 module _ (P : HeldId → Type 0) where

@@ -7,8 +7,8 @@ use Rattle.dm_ids.specs.declared.item_ids.AssocItemId.{AssocItemId}
 use Rattle.dm_ids.specs.declared.item_ids.ItemContainerId.{ItemContainerId}
 use Rattle.dm_ids.specs.declared.item_ids.VariantId.{VariantId}
 use Rattle.dm_base.specs.declared.visibility.RawVisibility.{RawVisibility}
-use Rattle.dm_held.specs.declared.held.HeldId.{HeldId}
-use Rattle.dm_held.specs.TablesHold.{raw_holds, container_holds, field_list_holds, assoc_holds, trait_holds, tables_hold}
+use Rattle.dm_check.specs.declared.held.HeldId.{HeldId}
+use Rattle.dm_check.specs.TablesHold.{raw_holds, container_holds, field_list_holds, assoc_holds, trait_holds, tables_hold}
 use Rattle.dm_maps.specs.World.{World}
 use Rattle.dm_maps.specs.Known.{knows, KnowsAll}
 use Rattle.dm_maps.specs.First.{Held, each_from, crate_holder, block_holder, module_holder, tables_holder, IsChecked}

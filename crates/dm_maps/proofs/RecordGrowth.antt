@@ -25,7 +25,7 @@ use Rattle.dm_scope.specs.Records.{records_in}
 use Rattle.dm_scope.specs.Scope.{Scope, no_scope}
 use Rattle.dm_scope.specs.Tables.{all_records}
 use Rattle.dm_maps.specs.declared.place.Place.{Place}
-use Rattle.dm_modules.specs.Maps.{Module}
+use Rattle.dm_def_map.specs.Maps.{Module}
 use Rattle.dm_maps.specs.PushRes.{with_push}
 use Rattle.dm_maps.specs.ScopeTables.{scope_at_place, scope_tables}
 use Rattle.dm_maps.specs.Trees.{IsWorld}

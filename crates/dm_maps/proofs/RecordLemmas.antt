@@ -11,7 +11,7 @@ use Rattle.dm_base.specs.declared.per_ns.Namespace.TheVariants.{Types, Values, M
 use Rattle.dm_scope.specs.Records.{records_in}
 use Rattle.dm_scope.specs.Scope.{no_scope}
 use Rattle.dm_maps.specs.declared.place.Place.{Place}
-use Rattle.dm_modules.specs.Maps.{Module}
+use Rattle.dm_def_map.specs.Maps.{Module}
 use Rattle.dm_maps.specs.ScopeTables.{scope_at_place}
 use Rattle.dm_maps.specs.Trees.{IsWorld}
 use Rattle.dm_maps.specs.World.{World, placed_module, scope_if_known}

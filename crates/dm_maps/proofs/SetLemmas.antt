@@ -9,9 +9,9 @@ use Rattle.dm_ids.specs.declared.ids.EnumId.{EnumId}
 use Rattle.dm_ids.specs.declared.ids.MapId.{MapId}
 use Rattle.dm_ids.specs.declared.ids.ModuleId.{ModuleId}
 use Rattle.dm_scope.specs.Scope.{Scope, no_scope}
-use Rattle.dm_held.specs.declared.held.HeldId.TheVariants as held
-use Rattle.dm_tables.specs.CrateData.{CrateData}
-use Rattle.dm_modules.specs.Maps.{LocalMap, Map, Module}
+use Rattle.dm_check.specs.declared.held.HeldId.TheVariants as held
+use Rattle.dm_def_map.specs.CrateData.{CrateData}
+use Rattle.dm_def_map.specs.Maps.{LocalMap, Map, Module}
 use Rattle.dm_maps.specs.declared.place.Place.{Place}
 use Rattle.dm_maps.specs.Added.{IsGrown, IsScoped}
 use Rattle.dm_maps.specs.Build.{with_rules}
@@ -26,7 +26,7 @@ use Rattle.dm_maps.proofs.MapWrites.{put-other, with-cases}
 use Rattle.dm_maps.proofs.ScopeWrites.{knows-scoped, scope_of-other, scope_of-own}
 use Rattle.dm_maps.proofs.WorldFacts.{scope-there}
 use Rattle.dm_maps.specs.declared.rules.Rules.{Rules}
-use Rattle.dm_tables.specs.ItemTables.{ItemTables}
+use Rattle.dm_def_map.specs.ItemTables.{ItemTables}
 use Rattle.dm_maps.proofs.GrownLemmas.{grows, scope_in, scope_by, scopes-kept, count-with, Longer, longer-same}
 
 -- ---- Another scope for a module.

@@ -5,9 +5,9 @@ use Rattle.std.proofs.lemmas.Bool.{eq-eqb, lt-ltb}
 use Rattle.std.proofs.lemmas.List.{length-map}
 use Rattle.std.proofs.lemmas.Option.{slice_get-map, slice_get_within}
 use Rattle.dm_ids.specs.declared.ids.Crate.{Crate}
-use Rattle.dm_tables.specs.CrateData.{CrateData, fresh_data, with_setting, with_settings}
-use Rattle.dm_tables.specs.declared.crate_setting.CrateSetting.{CrateSetting}
-use Rattle.dm_modules.specs.Maps.{Map}
+use Rattle.dm_def_map.specs.CrateData.{CrateData, fresh_data, with_setting, with_settings}
+use Rattle.dm_def_map.specs.declared.crate_data.crate_setting.CrateSetting.{CrateSetting}
+use Rattle.dm_def_map.specs.Maps.{Map}
 use Rattle.dm_maps.specs.BlockLists.{AreNumbered}
 use Rattle.dm_maps.specs.BuildCrateData.{TakesData, map_with_shared, with_shared, sharing, data_of, with_crate_settings, settings_fault}
 use Rattle.dm_maps.specs.BuildMaps.{crate_fault}

@@ -9,7 +9,7 @@ use Rattle.dm_ids.specs.Names.{Name}
 use Rattle.dm_scope.specs.Flags.{Globs}
 use Rattle.dm_scope.specs.Push.{scope_after}
 use Rattle.dm_scope.specs.Scope.{Scope}
-use Rattle.dm_held.specs.declared.held.HeldId.{HeldId}
+use Rattle.dm_check.specs.declared.held.HeldId.{HeldId}
 use Rattle.dm_maps.specs.declared.place.Place.{Place}
 use Rattle.dm_maps.specs.PushRes.{with_push}
 use Rattle.dm_maps.specs.Cut.{cut, cut_map}

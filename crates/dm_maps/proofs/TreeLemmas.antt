@@ -7,7 +7,7 @@ use Rattle.std.proofs.lemmas.List.{append_assoc, append-nil, length-append}
 use Rattle.dm_ids.specs.declared.ids.ModuleId.{ModuleId}
 use Rattle.dm_ids.specs.Names.{Name, find_name}
 use Rattle.dm_scope.specs.Dumps.{Text}
-use Rattle.dm_modules.specs.Maps.{Map, Module, module_at}
+use Rattle.dm_def_map.specs.Maps.{Map, Module, module_at}
 use Rattle.dm_maps.specs.Branches.{children_text, branch_text, left_text}
 use Rattle.dm_maps.specs.MapDumps.{in_order, path_and, module_text, of_children, tree_within, tree, map_text, map_dump}
 use Rattle.dm_maps.specs.MapFacts.{IsChild, IsMapOf}

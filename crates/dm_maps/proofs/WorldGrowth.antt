@@ -12,7 +12,7 @@ use Rattle.dm_ids.specs.declared.source.Edition.{Edition}
 use Rattle.dm_ids.specs.declared.source.EditionedFileId.{EditionedFileId}
 use Rattle.dm_ids.specs.Names.{Name}
 use Rattle.dm_maps.specs.declared.place.Place.{Place}
-use Rattle.dm_modules.specs.Maps.{Map, Module, Modules, LocalMap, module_at, map_with_child}
+use Rattle.dm_def_map.specs.Maps.{Map, Module, Modules, LocalMap, module_at, map_with_child}
 use Rattle.dm_maps.specs.Maps.{Maps, IsFree, maps_and, maps_with_child}
 use Rattle.dm_maps.specs.World.{World, maps_of, with_maps, numbered_map}
 use Rattle.dm_maps.specs.Build.{with_child_of, with_child_at_place, next_module, next_crate, next_place, with_crate, fresh_crate}

@@ -9,8 +9,8 @@ use Rattle.dm_base.specs.Tree.{same_module}
 use Rattle.dm_scope.specs.Flags.{Globs}
 use Rattle.dm_scope.specs.Scope.{Scope, no_scope}
 use Rattle.dm_scope.specs.Shows.{Shows}
-use Rattle.dm_held.specs.declared.held.HeldId.{HeldId}
-use Rattle.dm_held.specs.declared.held.HeldId.TheVariants as held
+use Rattle.dm_check.specs.declared.held.HeldId.{HeldId}
+use Rattle.dm_check.specs.declared.held.HeldId.TheVariants as held
 use Rattle.dm_maps.specs.Build.{next_module}
 use Rattle.dm_maps.specs.BuildBlocks.{crate_in}
 use Rattle.dm_maps.specs.Known.{knows, KnowsAll}

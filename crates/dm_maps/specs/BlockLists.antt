@@ -3,7 +3,7 @@ use Rattle.std.specs.Prelude.{◌≡◌, ℕ, List, [], Some, length, map, slice
 use Rattle.std.specs.Option.{option_map_or}
 use Rattle.dm_ids.specs.declared.ids.BlockId.{BlockId}
 use Rattle.dm_ids.specs.declared.ids.Crate.{Crate}
-use Rattle.dm_modules.specs.Maps.{Map}
+use Rattle.dm_def_map.specs.Maps.{Map}
 
 -- a list with f of its entry of number k, where there is one
 abbrev pub entry_with : {X : Type 0} → List X → ℕ → (X → X) → List X

@@ -3,7 +3,7 @@ use Rattle.std.specs.Prelude.{List, [], ◌∷◌, ◌++◌, All, IsSome, codes,
 use Rattle.std.specs.Option.{option_map_or}
 use Rattle.dm_ids.specs.Names.{Name, find_name}
 use Rattle.dm_scope.specs.Dumps.{Text}
-use Rattle.dm_modules.specs.Maps.{Map, Module, module_at}
+use Rattle.dm_def_map.specs.Maps.{Map, Module, module_at}
 use Rattle.dm_maps.specs.MapDumps.{path_and, of_children, tree}
 use Rattle.dm_maps.specs.ScopeTables.{scope_tables}
 use Rattle.dm_maps.specs.World.{World}

@@ -17,10 +17,10 @@ use Rattle.dm_ids.specs.Names.{Name}
 use Rattle.dm_maps.specs.declared.place.Place.{Place}
 use Rattle.dm_maps.specs.declared.rules.Rules.{Rules}
 use Rattle.dm_maps.specs.declared.rules.Rules.TheVariants.{V1}
-use Rattle.dm_modules.specs.declared.module_origin.ModuleOrigin.{ModuleOrigin}
-use Rattle.dm_modules.specs.declared.module_origin.ModuleOrigin.TheVariants.{CrateRoot}
-use Rattle.dm_modules.specs.Maps.{Map, Module, fresh_module, fresh_map}
-use Rattle.dm_tables.specs.ItemTables.{no_tables}
+use Rattle.dm_def_map.specs.declared.modules.module_origin.ModuleOrigin.{ModuleOrigin}
+use Rattle.dm_def_map.specs.declared.modules.module_origin.ModuleOrigin.TheVariants.{CrateRoot}
+use Rattle.dm_def_map.specs.Maps.{Map, Module, fresh_module, fresh_map}
+use Rattle.dm_def_map.specs.ItemTables.{no_tables}
 use Rattle.dm_maps.specs.Maps.{maps_with_child}
 use Rattle.dm_maps.specs.World.{World, place_of, numbered_map, maps_of, with_maps}
 

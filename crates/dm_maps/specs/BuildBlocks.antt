@@ -8,8 +8,8 @@ use Rattle.dm_ids.specs.declared.source.AstId.{AstId}
 use Rattle.dm_base.specs.declared.visibility.Visibility.TheVariants.{Module}
 use Rattle.dm_base.specs.declared.visibility.VisibilityExplicitness.TheVariants.{Implicit}
 use Rattle.dm_maps.specs.declared.build_fault.BuildFault.{BuildFault}
-use Rattle.dm_modules.specs.declared.module_origin.ModuleOrigin.TheVariants.{BlockExpr}
-use Rattle.dm_modules.specs.Maps.{Map, fresh_module, fresh_map}
+use Rattle.dm_def_map.specs.declared.modules.module_origin.ModuleOrigin.TheVariants.{BlockExpr}
+use Rattle.dm_def_map.specs.Maps.{Map, fresh_module, fresh_map}
 use Rattle.dm_maps.specs.World.{World, crate_map}
 use Rattle.dm_maps.specs.Trees.{map_id_in}
 use Rattle.dm_maps.specs.Build.{next_module}

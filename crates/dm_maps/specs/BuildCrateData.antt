@@ -3,9 +3,9 @@ use Rattle.std.specs.Prelude.{◌≡◌, nat_eq, List, [], ◌∷◌, Option, No
 use Rattle.std.specs.List.{fold}
 use Rattle.std.specs.Option.{option_map_or, option_or}
 use Rattle.dm_ids.specs.declared.ids.Crate.{Crate}
-use Rattle.dm_tables.specs.CrateData.{CrateData, fresh_data, with_setting}
-use Rattle.dm_tables.specs.declared.crate_setting.CrateSetting.{CrateSetting}
-use Rattle.dm_modules.specs.Maps.{Map}
+use Rattle.dm_def_map.specs.CrateData.{CrateData, fresh_data, with_setting}
+use Rattle.dm_def_map.specs.declared.crate_data.crate_setting.CrateSetting.{CrateSetting}
+use Rattle.dm_def_map.specs.Maps.{Map}
 use Rattle.dm_maps.specs.BuildMaps.{crate_fault}
 use Rattle.dm_maps.specs.declared.build_fault.BuildFault.{BuildFault}
 use Rattle.dm_maps.specs.Maps.{Maps}

@@ -10,18 +10,18 @@ use Rattle.dm_ids.specs.declared.ids.UseId.{UseId}
 use Rattle.dm_ids.specs.declared.item_ids.MacroId.{MacroId}
 use Rattle.dm_ids.specs.declared.source.AstId.{AstId}
 use Rattle.dm_ids.specs.Names.{Name, same_name}
-use Rattle.dm_diagnostics.specs.declared.DefDiagnostic.{DefDiagnostic}
+use Rattle.dm_scope.specs.declared.diagnostics.DefDiagnostic.{DefDiagnostic}
 use Rattle.dm_base.specs.Sameness.{same_ast}
 use Rattle.dm_maps.specs.declared.build_fault.BuildFault.{BuildFault}
-use Rattle.dm_held.specs.declared.held.HeldId.TheVariants as held
-use Rattle.dm_modules.specs.Maps.{Map, LocalMap}
+use Rattle.dm_check.specs.declared.held.HeldId.TheVariants as held
+use Rattle.dm_def_map.specs.Maps.{Map, LocalMap}
 use Rattle.dm_maps.specs.Maps.{maps_with}
 use Rattle.dm_maps.specs.World.{World, numbered_map, maps_of, with_maps}
 use Rattle.dm_maps.specs.Known.{knows}
 use Rattle.dm_maps.specs.Faults.{first_fault, none_found}
-use Rattle.dm_tables.specs.HelperChanges.{helpers_with}
-use Rattle.dm_tables.specs.Helpers.{Helper}
-use Rattle.dm_modules.specs.Locals.{with_extern}
+use Rattle.dm_def_map.specs.HelperChanges.{helpers_with}
+use Rattle.dm_def_map.specs.Helpers.{Helper}
+use Rattle.dm_def_map.specs.Locals.{with_extern}
 
 -- the world, with f of the map of that id
 abbrev pub with_map : World → MapId → (Map → Map) → World

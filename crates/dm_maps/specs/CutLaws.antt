@@ -27,9 +27,9 @@ use Rattle.dm_ids.specs.Names.{Name, same_name, find_name}
 use Rattle.dm_ids.specs.Builtins.{builtin_words}
 use Rattle.dm_scope.specs.Scope.{Scope, no_scope, bound_in, legacy_in, last_of}
 use Rattle.dm_scope.specs.Tables.{no_style}
-use Rattle.dm_tables.specs.Variants.{Variants, Enums, same_enum, variants_in}
-use Rattle.dm_held.specs.Kinds.{macro_number}
-use Rattle.dm_modules.specs.Maps.{Map, Module, Modules, LocalMap, nth_module}
+use Rattle.dm_def_map.specs.Variants.{Variants, Enums, same_enum, variants_in}
+use Rattle.dm_check.specs.Kinds.{macro_number}
+use Rattle.dm_def_map.specs.Maps.{Map, Module, Modules, LocalMap, nth_module}
 use Rattle.dm_maps.specs.declared.place.Place.{Place}
 use Rattle.dm_maps.specs.Readings.{setting_of, read, is_edition_2015, styles_by, styles_of, variants_of, macro_uses_of}
 use Rattle.dm_maps.specs.Trees.{tree_of, tree_by, outline}

@@ -3,8 +3,8 @@ use Rattle.std.specs.Prelude.{◌≡◌, List, None, Some, map, slice_get}
 use Rattle.std.specs.List.{AllByRecursion}
 use Rattle.dm_ids.specs.declared.ids.ModuleId.{ModuleId}
 use Rattle.dm_ids.specs.declared.source.Edition.{Edition}
-use Rattle.dm_tables.specs.CrateData.{CrateData}
-use Rattle.dm_modules.specs.Maps.{Map, Module}
+use Rattle.dm_def_map.specs.CrateData.{CrateData}
+use Rattle.dm_def_map.specs.Maps.{Map, Module}
 use Rattle.dm_maps.specs.declared.place.Place.{Place}
 use Rattle.dm_maps.specs.Trees.{parent_in}
 use Rattle.dm_maps.specs.World.{World}

@@ -2,7 +2,7 @@
 use Rattle.std.specs.Prelude.{List, Option, length}
 use Rattle.dm_ids.specs.declared.ids.BlockId.{BlockId}
 use Rattle.dm_ids.specs.declared.ids.ModuleId.{ModuleId}
-use Rattle.dm_modules.specs.Maps.{Map}
+use Rattle.dm_def_map.specs.Maps.{Map}
 use Rattle.dm_maps.specs.BlockLists.{AreGathered, crates_of}
 use Rattle.dm_maps.specs.Ladders.{AreLaddered}
 use Rattle.dm_maps.specs.declared.place.Place.{Place}

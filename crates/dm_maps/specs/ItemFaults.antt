@@ -5,7 +5,7 @@ use Rattle.dm_ids.specs.declared.ids.EnumId.{EnumId}
 use Rattle.dm_ids.specs.declared.item_ids.ItemKind.TheVariants as item
 use Rattle.dm_ids.specs.Names.{Name, find_name}
 use Rattle.dm_maps.specs.declared.build_fault.BuildFault.{BuildFault}
-use Rattle.dm_held.specs.declared.held.HeldId.TheVariants as held
+use Rattle.dm_check.specs.declared.held.HeldId.TheVariants as held
 use Rattle.dm_maps.specs.World.{World}
 use Rattle.dm_maps.specs.Known.{knows}
 use Rattle.dm_maps.specs.Readings.{variants_of}

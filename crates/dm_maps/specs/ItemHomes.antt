@@ -9,7 +9,7 @@ use Rattle.dm_ids.specs.declared.item_ids.MacroId.{MacroId}
 use Rattle.dm_ids.specs.declared.item_ids.ModuleDefId.{ModuleDefId}
 use Rattle.dm_ids.specs.declared.item_ids.ModuleDefId.TheVariants as def
 use Rattle.dm_base.specs.ItemHomes.{Homes}
-use Rattle.dm_held.specs.Kinds.{same_kind, macro_number, is_of_kind}
+use Rattle.dm_check.specs.Kinds.{same_kind, macro_number, is_of_kind}
 use Rattle.dm_maps.specs.World.{World, place_of}
 
 -- the module of the item of that number, if the item is of that kind

@@ -2,7 +2,7 @@
 use Rattle.std.specs.Prelude.{◌≡◌, List, Option, map}
 use Rattle.std.specs.Option.{option_or}
 use Rattle.dm_ids.specs.declared.ids.ModuleId.{ModuleId}
-use Rattle.dm_modules.specs.Maps.{Map}
+use Rattle.dm_def_map.specs.Maps.{Map}
 use Rattle.dm_maps.specs.Trees.{container_in, containers_of}
 use Rattle.dm_maps.specs.declared.place.Place.{Place}
 

@@ -4,7 +4,7 @@ use Rattle.std.specs.Borrow.{LendsIf, MutBor, Fml}
 use Rattle.dm_ids.specs.declared.ids.MapId.{MapId}
 use Rattle.dm_scope.specs.Scope.{Scope}
 use Rattle.dm_scope.specs.contracts.item_scope.ItemScope.{the_row as scope_row}
-use Rattle.dm_modules.specs.Maps.{Map}
+use Rattle.dm_def_map.specs.Maps.{Map}
 use Rattle.dm_def_map.specs.contracts.def_map.DefMap.{the_row as map_row}
 use Rattle.dm_maps.specs.Maps.{Maps, put_map, maps_with_scope}
 use Rattle.dm_maps.specs.contracts.maps.Maps.{the_row}

@@ -7,8 +7,8 @@ use Rattle.dm_ids.specs.declared.ids.ModuleId.{ModuleId}
 use Rattle.dm_ids.specs.declared.item_ids.ItemKind.{ItemKind}
 use Rattle.dm_ids.specs.declared.item_ids.ItemKind.TheVariants as item
 use Rattle.dm_ids.specs.declared.macros.MacroLoc.{MacroLoc}
-use Rattle.dm_held.specs.Kinds.{same_kind}
-use Rattle.dm_tables.specs.Variants.{Enums}
+use Rattle.dm_check.specs.Kinds.{same_kind}
+use Rattle.dm_def_map.specs.Variants.{Enums}
 use Rattle.dm_maps.specs.World.{World}
 
 abbrev pub Items : Type 0

@@ -11,7 +11,7 @@ use Rattle.dm_scope.specs.Dumps.{Text, name_text, lines}
 use Rattle.dm_scope.specs.Scope.{Scope}
 use Rattle.dm_scope.specs.Sorted.{names_of}
 use Rattle.dm_scope.specs.Tables.{Tables}
-use Rattle.dm_modules.specs.Maps.{Map, Module, Modules, module_at}
+use Rattle.dm_def_map.specs.Maps.{Map, Module, Modules, module_at}
 use Rattle.dm_maps.specs.Outwards.{maps_outwards}
 use Rattle.dm_maps.specs.ScopeTables.{scope_tables}
 use Rattle.dm_maps.specs.World.{World}

@@ -5,7 +5,7 @@ use Rattle.dm_ids.specs.declared.ids.MapId.{MapId}
 use Rattle.dm_ids.specs.declared.ids.ModuleId.{ModuleId}
 use Rattle.dm_ids.specs.Names.{Name}
 use Rattle.dm_scope.specs.Scope.{Scope}
-use Rattle.dm_modules.specs.Maps.{Map, Module, module_at, nth_scope, map_with_child, map_with_scope}
+use Rattle.dm_def_map.specs.Maps.{Map, Module, module_at, nth_scope, map_with_child, map_with_scope}
 
 -- the map of each crate, and of each block, by number
 pub record Maps : Type 0 where

@@ -6,7 +6,7 @@ use Rattle.dm_ids.specs.declared.item_ids.AssocItemId.{AssocItemId}
 use Rattle.dm_ids.specs.declared.item_ids.ItemContainerId.{ItemContainerId}
 use Rattle.dm_ids.specs.declared.item_ids.VariantId.{VariantId}
 use Rattle.dm_base.specs.declared.visibility.RawVisibility.{RawVisibility}
-use Rattle.dm_tables.specs.Keys.{same_variant, same_assoc, same_trait}
+use Rattle.dm_def_map.specs.Keys.{same_variant, same_assoc, same_trait}
 use Rattle.dm_maps.specs.World.{World}
 
 -- the visibilities of the fields of a variant, a struct or a union, in order

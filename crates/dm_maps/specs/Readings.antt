@@ -25,12 +25,12 @@ use Rattle.dm_ids.specs.Builtins.{builtin_words}
 use Rattle.dm_ids.specs.Styles as kinds
 use Rattle.dm_scope.specs.Scope.{bound_in, legacy_in}
 use Rattle.dm_scope.specs.Tables.{no_style}
-use Rattle.dm_modules.specs.Maps.{LocalMap}
-use Rattle.dm_tables.specs.Variants.{same_enum}
+use Rattle.dm_def_map.specs.Maps.{LocalMap}
+use Rattle.dm_def_map.specs.Variants.{same_enum}
 use Rattle.dm_maps.specs.declared.rules.Rules.{Rules}
 use Rattle.dm_maps.specs.World.{World, crate_map, numbered_map, scope_of}
 use Rattle.dm_maps.specs.Trees.{tree_of}
-use Rattle.dm_held.specs.Kinds.{macro_number}
+use Rattle.dm_check.specs.Kinds.{macro_number}
 
 -- The name-independent part of a world, as far as path resolution reads it: the module tree, and the tables by id.
 pub record Setting : Type 0 where

@@ -14,12 +14,12 @@ use Rattle.dm_ids.specs.declared.item_ids.ModuleDefId.{ModuleDefId}
 use Rattle.dm_ids.specs.Names.{Name, find_name}
 use Rattle.dm_base.specs.Tree.{IsKnown}
 use Rattle.dm_scope.specs.Scope.{bound_in, legacy_in}
-use Rattle.dm_held.specs.declared.held.HeldId.TheVariants as held
-use Rattle.dm_modules.specs.Maps.{Map, module_at}
+use Rattle.dm_check.specs.declared.held.HeldId.TheVariants as held
+use Rattle.dm_def_map.specs.Maps.{Map, module_at}
 use Rattle.dm_maps.specs.World.{World, place_of, scope_of, map_of, numbered_map}
 use Rattle.dm_maps.specs.ItemHomes.{module_of_def, module_of_macro}
 use Rattle.dm_maps.specs.Known.{knows, KnowsAll}
-use Rattle.dm_held.specs.Holding.{res_holds}
+use Rattle.dm_check.specs.Holding.{res_holds}
 use Rattle.dm_maps.specs.Readings.{macro_uses_of, variants_of, block_root_of, root_of, prelude_of}
 use Rattle.dm_maps.specs.First.{IsChecked}
 use Rattle.dm_maps.specs.Family.{IsFamily}

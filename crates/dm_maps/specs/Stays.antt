@@ -2,7 +2,7 @@
 use Rattle.std.specs.Prelude.{◌≡◌, List, length}
 use Rattle.std.specs.Option.{option_map}
 use Rattle.dm_ids.specs.declared.ids.MapId.{MapId}
-use Rattle.dm_held.specs.declared.held.HeldId.{HeldId}
+use Rattle.dm_check.specs.declared.held.HeldId.{HeldId}
 use Rattle.dm_maps.specs.Known.{knows, KnowsAll}
 use Rattle.dm_maps.specs.Readings.{setting_of}
 use Rattle.dm_maps.specs.Trees.{outline}

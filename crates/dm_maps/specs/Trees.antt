@@ -6,7 +6,7 @@ use Rattle.dm_ids.specs.declared.ids.BlockId.{BlockId}
 use Rattle.dm_ids.specs.declared.ids.MapId.{MapId}
 use Rattle.dm_base.specs.Tree.{Tree, IsTree}
 use Rattle.dm_maps.specs.declared.place.Place.{Place}
-use Rattle.dm_modules.specs.Maps.{Map}
+use Rattle.dm_def_map.specs.Maps.{Map}
 use Rattle.dm_maps.specs.World.{World}
 
 -- what is said of a module that is not the world's

@@ -13,8 +13,8 @@ use Rattle.dm_ids.specs.Names.{Name}
 use Rattle.dm_scope.specs.Scope.{Scope, no_scope}
 use Rattle.dm_maps.specs.declared.place.Place.{Place}
 use Rattle.dm_maps.specs.declared.rules.Rules.{Rules}
-use Rattle.dm_tables.specs.ItemTables.{ItemTables}
-use Rattle.dm_modules.specs.Maps.{Map, Module, LocalMap, nth_module}
+use Rattle.dm_def_map.specs.ItemTables.{ItemTables}
+use Rattle.dm_def_map.specs.Maps.{Map, Module, LocalMap, nth_module}
 use Rattle.dm_maps.specs.Maps.{Maps, map_at, maps_with_scope}
 
 -- The tables of a world. A number of a list is an id: the third of `uses` is the use of number 2.

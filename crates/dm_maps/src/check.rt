@@ -8,7 +8,7 @@ pub(crate) mod note_maps;
 
 use crate::builder::WorldBuilder;
 use crate::world::World;
-use dm_held::fault::WorldFault;
+use dm_check::fault::WorldFault;
 
 impl WorldBuilder {
     /// The world of the builder's tables, if each id that they hold is one of their own, with its kind.

@@ -10,7 +10,10 @@ pub mod place;
 pub mod rules;
 pub mod world;
 
+pub use dm_check::fault;
+pub use dm_def_map::crate_data::{crate_setting, unstable_features};
 pub use dm_def_map::def_map;
-pub use dm_held::fault;
-pub use dm_modules::{local_def_map, modes, module_data, module_origin, modules_iter, modules_map};
-pub use dm_tables::{crate_setting, derive_helpers, unstable_features};
+pub use dm_def_map::item_tables::derive_helpers;
+pub use dm_def_map::modules::{
+    local_def_map, modes, module_data, module_origin, modules_iter, modules_map,
+};

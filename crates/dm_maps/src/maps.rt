@@ -13,7 +13,7 @@ use dm_base::name::Name;
 use dm_def_map::building;
 use dm_def_map::def_map::DefMap;
 use dm_def_map::map_change::MapChange;
-use dm_modules::module_data::ModuleData;
+use dm_def_map::modules::module_data::ModuleData;
 use dm_scope::item_scope::ItemScope;
 use std::alloc::{AllocError, Global};
 use std::marker::Model;

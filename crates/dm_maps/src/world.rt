@@ -5,10 +5,10 @@ ghost use Rattle.dm_scope.specs.Scope.{bound_in};
 ghost use Rattle.dm_maps.specs.Built.{IsBuilt};
 ghost use Rattle.dm_maps.specs.World.{place_of, numbered_map, map_of, module_of, scope_of};
 ghost use Rattle.dm_maps.specs.First.{IsChecked};
-ghost use Rattle.dm_held.specs.declared.held.HeldId.TheVariants as held;
+ghost use Rattle.dm_check.specs.declared.held.HeldId.TheVariants as held;
 ghost use Rattle.dm_maps.specs.Known.{knows, KnowsAll};
-ghost use Rattle.dm_held.specs.Holding.{res_holds};
-ghost use Rattle.dm_modules.specs.Maps.{module_at};
+ghost use Rattle.dm_check.specs.Holding.{res_holds};
+ghost use Rattle.dm_def_map.specs.Maps.{module_at};
 ghost use Rattle.dm_maps.specs.MapFacts.{IsMapOf};
 ghost use Rattle.dm_maps.specs.Sound.{IsCheckedWorld};
 

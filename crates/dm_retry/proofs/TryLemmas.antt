@@ -13,8 +13,8 @@ use Rattle.dm_base.specs.declared.per_ns.PerNs.{PerNs}
 use Rattle.dm_base.specs.declared.visibility.Visibility.{Visibility}
 use Rattle.dm_ids.specs.Names.{Name}
 use Rattle.dm_base.specs.PerNs.{is_empty, seen_as, seen_as_item}
-use Rattle.dm_modules.specs.declared.modes.BuiltinShadowMode.TheVariants as shadow
-use Rattle.dm_modules.specs.Maps.{LocalMap}
+use Rattle.dm_def_map.specs.declared.modules.modes.BuiltinShadowMode.TheVariants as shadow
+use Rattle.dm_def_map.specs.Maps.{LocalMap}
 use Rattle.dm_scope.specs.Flags.{Globs}
 use Rattle.dm_scope.specs.Bindings.{is_same}
 use Rattle.dm_scope.specs.Push.{scope_after, types_reading}

@@ -3,12 +3,12 @@ use Rattle.std.proofs.Common.{◌≡◌, ◌∙◌, ℕ, List, Option, None, Som
 use Rattle.std.specs.Option.{option_map_or, option_and_then}
 use Rattle.std.proofs.lemmas.List.{set-get_or}
 use Rattle.std.proofs.lemmas.Option.{get_or_from_slice_get}
-use Rattle.dm_tables.specs.TableLaws.{set_value_at-own}
+use Rattle.dm_def_map.specs.TableLaws.{set_value_at-own}
 use Rattle.dm_ids.specs.declared.ids.ModuleId.{ModuleId}
 use Rattle.dm_ids.specs.declared.ids.MapId.{MapId}
 use Rattle.dm_ids.specs.declared.ids.BlockId.{BlockId}
 use Rattle.dm_scope.specs.Scope.{Scope, no_scope}
-use Rattle.dm_modules.specs.Maps.{Map, Module, nth_module, put_scope, map_with_scope}
+use Rattle.dm_def_map.specs.Maps.{Map, Module, nth_module, put_scope, map_with_scope}
 use Rattle.dm_maps.specs.declared.place.Place.{Place}
 use Rattle.dm_maps.specs.Maps.{Maps, map_at, put_map, maps_with_scope}
 use Rattle.dm_maps.specs.World.{World, maps_of, with_maps, scope_of, placed_module, place_of, with_scope, with_scope_in}

@@ -10,8 +10,8 @@ use Rattle.dm_base.specs.declared.visibility.Visibility.{Visibility}
 use Rattle.dm_ids.specs.Names.{Name}
 use Rattle.dm_base.specs.Path.{Path}
 use Rattle.dm_base.specs.PerNs.{is_empty, seen_as}
-use Rattle.dm_modules.specs.declared.modes.BuiltinShadowMode.TheVariants as shadow
-use Rattle.dm_modules.specs.Maps.{LocalMap}
+use Rattle.dm_def_map.specs.declared.modules.modes.BuiltinShadowMode.TheVariants as shadow
+use Rattle.dm_def_map.specs.Maps.{LocalMap}
 use Rattle.dm_scope.specs.Flags.{Globs}
 use Rattle.dm_scope.specs.Push.{globs_after, push_answer}
 use Rattle.dm_maps.specs.Cut.{among}

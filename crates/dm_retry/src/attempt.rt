@@ -1,8 +1,8 @@
 //! One try of an import: its path is resolved, and what it resolves to is pushed.
 ghost use Rattle.std.specs.Prelude.{◌≡◌, false, IfOk, IfSome, IsTrue, OnErr, OnOk};
-ghost use Rattle.dm_held.specs.declared.held.HeldId.TheVariants as held;
-ghost use Rattle.dm_held.specs.Holding.{local_holds, res_holds};
-ghost use Rattle.dm_held.specs.Pushes.{push_holds};
+ghost use Rattle.dm_check.specs.declared.held.HeldId.TheVariants as held;
+ghost use Rattle.dm_check.specs.Holding.{local_holds, res_holds};
+ghost use Rattle.dm_check.specs.Pushes.{push_holds};
 ghost use Rattle.dm_maps.specs.Cut.{among};
 ghost use Rattle.dm_maps.specs.Known.{knows, KnowsAll};
 ghost use Rattle.dm_retry.specs.Known.{parts, same_import};

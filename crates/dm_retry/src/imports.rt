@@ -4,7 +4,7 @@ ghost use Rattle.std.specs.Option.{option_map};
 ghost use Rattle.dm_retry.specs.Rounds.{awoken, brings_at, finds_nothing, is_due, marked, name_at, pushed_into, refused_at, try_at, unresolved};
 ghost use Rattle.dm_retry.specs.Retries.{RestsAt};
 ghost use Rattle.dm_retry.specs.Known.{comes_by, fault_of, is_listed};
-ghost use Rattle.dm_held.specs.Pushes.{push_holds};
+ghost use Rattle.dm_check.specs.Pushes.{push_holds};
 ghost use Rattle.dm_maps.specs.Known.{KnowsAll};
 ghost use Rattle.dm_maps.specs.World.{scope_of};
 ghost use Rattle.dm_scope.specs.Push.{push_answer};

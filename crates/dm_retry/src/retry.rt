@@ -1,7 +1,7 @@
 //! The unresolved imports of a world, resolved round by round until a fixed point.
 ghost use Rattle.std.specs.Prelude.{◌≡◌, false, IfErr, IfOk, None, OnErr, OnOk, Some, length, map, slice_get, true};
 ghost use Rattle.std.specs.Option.{option_map};
-ghost use Rattle.dm_held.specs.Pushes.{push_holds};
+ghost use Rattle.dm_check.specs.Pushes.{push_holds};
 ghost use Rattle.dm_maps.specs.Known.{KnowsAll};
 ghost use Rattle.dm_maps.specs.World.{scope_of};
 ghost use Rattle.dm_scope.specs.Push.{push_answer};

@@ -22,6 +22,7 @@ pub mod Pushes
 pub mod Rare
 pub mod Records
 pub mod Rows
+pub mod SameTexts
 pub mod Scope
 pub mod Shows
 pub mod Sorted

@@ -19,7 +19,7 @@ use Rattle.dm_base.specs.PerNs.{overlay}
 use Rattle.dm_ids.specs.Names.{Name}
 use Rattle.dm_base.specs.Overlays.{greatest}
 use Rattle.dm_base.specs.Tree.{Tree, home, outer, crate_of, in_block_map, same_map}
-use Rattle.dm_modules.specs.Maps.{LocalMap}
+use Rattle.dm_def_map.specs.Maps.{LocalMap}
 use Rattle.dm_maps.specs.Readings.{Setting, Reading, setting_of, read}
 use Rattle.dm_maps.specs.World.{World}
 use Rattle.hir_def_map.specs.declared.question.Ask.{Ask}

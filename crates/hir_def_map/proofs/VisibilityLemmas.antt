@@ -13,13 +13,13 @@ use Rattle.dm_base.specs.declared.visibility.Visibility.TheVariants.{Module}
 use Rattle.dm_base.specs.declared.visibility.VisibilityExplicitness.{VisibilityExplicitness}
 use Rattle.dm_base.specs.Tree.{IsKnown, same_block}
 use Rattle.dm_base.specs.Visibility.{NamesKnown}
-use Rattle.dm_held.specs.declared.held.HeldId.TheVariants as held
-use Rattle.dm_held.specs.Holding.{res_holds, vis_holds}
+use Rattle.dm_check.specs.declared.held.HeldId.TheVariants as held
+use Rattle.dm_check.specs.Holding.{res_holds, vis_holds}
 use Rattle.dm_maps.specs.Family.{common}
 use Rattle.dm_maps.specs.Known.{KnowsAll, knows}
 use Rattle.dm_maps.specs.Trees.{tree_of}
 use Rattle.dm_maps.specs.World.{World, crate_map}
-use Rattle.dm_modules.specs.Maps.{Map}
+use Rattle.dm_def_map.specs.Maps.{Map}
 use Rattle.hir_def_map.specs.RawVisibilities.{module_named, module_reached, block_in, restricted}
 use Rattle.hir_def_map.proofs.KnownLemmas.{type_module-known}
 

@@ -4,7 +4,7 @@ use Rattle.std.specs.Prelude.{List}
 use Rattle.dm_ids.specs.Names.{Name}
 use Rattle.dm_maps.specs.Cut.{cut, cut_local}
 use Rattle.dm_maps.specs.World.{World}
-use Rattle.dm_modules.specs.Maps.{LocalMap}
+use Rattle.dm_def_map.specs.Maps.{LocalMap}
 use Rattle.dm_ids.specs.declared.ids.MapId.{MapId}
 use Rattle.hir_def_map.specs.declared.question.Ask.{Ask}
 use Rattle.hir_def_map.specs.declared.result.ResolvePathResult.{ResolvePathResult}

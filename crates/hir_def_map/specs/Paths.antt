@@ -26,11 +26,11 @@ use Rattle.dm_base.specs.PerNs.{nothing, overlay, keep, seen_by, type_alone, mac
 use Rattle.dm_base.specs.PerNs as per_ns
 use Rattle.dm_ids.specs.Styles.{has_styles, fn_like, attr, derive}
 use Rattle.dm_base.specs.Tree.{Tree, IsKnown, same_crate, same_map, crate_of, in_block_map, is_block_root, chain, sees, outer, home, up_to, block_of}
-use Rattle.dm_modules.specs.declared.modes.BuiltinShadowMode.{BuiltinShadowMode}
-use Rattle.dm_modules.specs.declared.modes.BuiltinShadowMode.TheVariants as shadow
-use Rattle.dm_modules.specs.declared.modes.MacroSubNs.{MacroSubNs}
-use Rattle.dm_modules.specs.declared.modes.MacroSubNs.TheVariants.{Bang, Attr}
-use Rattle.dm_modules.specs.Maps.{LocalMap}
+use Rattle.dm_def_map.specs.declared.modules.modes.BuiltinShadowMode.{BuiltinShadowMode}
+use Rattle.dm_def_map.specs.declared.modules.modes.BuiltinShadowMode.TheVariants as shadow
+use Rattle.dm_def_map.specs.declared.modules.modes.MacroSubNs.{MacroSubNs}
+use Rattle.dm_def_map.specs.declared.modules.modes.MacroSubNs.TheVariants.{Bang, Attr}
+use Rattle.dm_def_map.specs.Maps.{LocalMap}
 use Rattle.dm_maps.specs.declared.rules.Rules.TheVariants.{V1, V2}
 use Rattle.dm_maps.specs.World.{World}
 use Rattle.dm_maps.specs.Readings.{Setting, Reading, setting_of, read}

@@ -21,10 +21,10 @@ use Rattle.dm_base.specs.declared.visibility.VisibilityExplicitness.{VisibilityE
 use Rattle.dm_base.specs.declared.visibility.VisibilityExplicitness.TheVariants.{Implicit}
 use Rattle.dm_base.specs.ItemHomes.{def_module}
 use Rattle.dm_base.specs.Tree.{same_block}
-use Rattle.dm_held.specs.Holding.{local_holds}
-use Rattle.dm_held.specs.TablesHold.{raw_holds}
-use Rattle.dm_modules.specs.declared.modes.BuiltinShadowMode.TheVariants as shadow
-use Rattle.dm_modules.specs.Maps.{Map, LocalMap, module_at}
+use Rattle.dm_check.specs.Holding.{local_holds}
+use Rattle.dm_check.specs.TablesHold.{raw_holds}
+use Rattle.dm_def_map.specs.declared.modules.modes.BuiltinShadowMode.TheVariants as shadow
+use Rattle.dm_def_map.specs.Maps.{Map, LocalMap, module_at}
 use Rattle.dm_maps.specs.First.{local_at}
 use Rattle.dm_maps.specs.ItemHomes.{homes_of}
 use Rattle.dm_maps.specs.Known.{KnowsAll}

@@ -6,8 +6,8 @@ use Rattle.dm_base.specs.declared.mod_path.PathKind.TheVariants.{DollarCrate, Su
 use Rattle.dm_base.specs.declared.mod_path.PathKind.TheVariants as kind
 use Rattle.dm_base.specs.declared.visibility.Visibility.TheVariants.{Public}
 use Rattle.dm_base.specs.declared.visibility.VisibilityExplicitness.TheVariants.{Implicit}
-use Rattle.dm_modules.specs.declared.modes.BuiltinShadowMode.TheVariants as shadow
-use Rattle.dm_modules.specs.declared.modes.MacroSubNs.TheVariants.{Bang, Attr}
+use Rattle.dm_def_map.specs.declared.modules.modes.BuiltinShadowMode.TheVariants as shadow
+use Rattle.dm_def_map.specs.declared.modules.modes.MacroSubNs.TheVariants.{Bang, Attr}
 use Rattle.hir_def_map.specs.declared.result.ResolveMode.TheVariants as mode
 use Rattle.hir_def_map.specs.declared.result.ReachedFixedPoint.TheVariants.{Yes, No}
 use Rattle.hir_def_map.specs.Paths.{answer}

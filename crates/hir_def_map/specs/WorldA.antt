@@ -9,7 +9,7 @@ use Rattle.dm_ids.specs.declared.source.Edition.TheVariants.{Edition2015, Editio
 use Rattle.dm_base.specs.declared.visibility.Visibility.TheVariants.{Public}
 use Rattle.dm_base.specs.declared.visibility.VisibilityExplicitness.TheVariants.{Implicit}
 use Rattle.dm_scope.specs.Scope.{Scope, no_scope}
-use Rattle.dm_modules.specs.Maps.{LocalMap, Map}
+use Rattle.dm_def_map.specs.Maps.{LocalMap, Map}
 use Rattle.dm_maps.specs.Build.{no_world}
 use Rattle.dm_maps.specs.World.{World}
 use Rattle.hir_def_map.specs.Written.{a_module, a_struct, a_function, an_enum, by_rules, within, leaf, named, named_value, an_item, crate_id, block_id, number, place, bindings, binds_types, module_with, a_map}

@@ -11,7 +11,7 @@ use Rattle.dm_scope.specs.Flags.{Globs, no_globs}
 use Rattle.dm_scope.specs.Push.{scope_after, globs_after}
 use Rattle.dm_scope.specs.Scope.{Scope, no_scope}
 use Rattle.dm_maps.specs.Build.{no_world}
-use Rattle.dm_modules.specs.Maps.{Map}
+use Rattle.dm_def_map.specs.Maps.{Map}
 use Rattle.dm_maps.specs.World.{World}
 use Rattle.hir_def_map.specs.Written.{a_struct, a_function, by_rules, glob, named, an_item, crate_id, block_id, number, place, bindings, binds_types, module_with, a_map}
 

@@ -25,13 +25,13 @@ use Rattle.dm_base.specs.declared.visibility.VisibilityExplicitness.{VisibilityE
 use Rattle.dm_ids.specs.Names.{Name}
 use Rattle.dm_scope.specs.Bindings.{Bound}
 use Rattle.dm_scope.specs.Scope.{Scope, no_scope}
-use Rattle.dm_modules.specs.declared.modes.BuiltinShadowMode.{BuiltinShadowMode}
-use Rattle.dm_modules.specs.declared.modes.MacroSubNs.{MacroSubNs}
-use Rattle.dm_modules.specs.declared.module_origin.ModuleOrigin.TheVariants.{Inline}
+use Rattle.dm_def_map.specs.declared.modules.modes.BuiltinShadowMode.{BuiltinShadowMode}
+use Rattle.dm_def_map.specs.declared.modules.modes.MacroSubNs.{MacroSubNs}
+use Rattle.dm_def_map.specs.declared.modules.module_origin.ModuleOrigin.TheVariants.{Inline}
 use Rattle.dm_maps.specs.declared.place.Place.{Place}
-use Rattle.dm_tables.specs.CrateData.{fresh_data}
-use Rattle.dm_modules.specs.Maps as maps
-use Rattle.dm_modules.specs.Maps.{Map, Modules, LocalMap}
+use Rattle.dm_def_map.specs.CrateData.{fresh_data}
+use Rattle.dm_def_map.specs.Maps as maps
+use Rattle.dm_def_map.specs.Maps.{Map, Modules, LocalMap}
 use Rattle.dm_maps.specs.World.{World}
 use Rattle.hir_def_map.specs.declared.result.ResolveMode.{ResolveMode}
 use Rattle.hir_def_map.specs.declared.result.ReachedFixedPoint.{ReachedFixedPoint}

@@ -11,7 +11,7 @@ ghost use Rattle.dm_maps.specs.Stays.{StaysKnown};
 ghost use Rattle.dm_maps.specs.Trees.{tree_of};
 ghost use Rattle.dm_maps.specs.World as worlds;
 ghost use Rattle.dm_maps.specs.World.{numbered_map};
-ghost use Rattle.dm_modules.specs.Maps.{Map, LocalMap};
+ghost use Rattle.dm_def_map.specs.Maps.{Map, LocalMap};
 ghost use Rattle.hir_def_map.specs.Paths.{answer, enter};
 ghost use Rattle.hir_def_map.specs.Questions.{IsKnownInCrate, IsKnownQuestion};
 ghost use Rattle.hir_def_map.specs.RawVisibilities.{IsKnownVisibility};

@@ -3,12 +3,12 @@ ghost use Rattle.std.specs.Prelude.{◌≡◌, None, Some, IsSome, IsTrue, lengt
 ghost use Rattle.std.specs.Option.{ForSome};
 ghost use Rattle.dm_base.specs.Tree.{IsKnown};
 ghost use Rattle.dm_base.specs.Visibility.{NamesKnown};
-ghost use Rattle.dm_held.specs.declared.held.HeldId.TheVariants as held;
-ghost use Rattle.dm_held.specs.Holding.{res_holds, vis_holds};
+ghost use Rattle.dm_check.specs.declared.held.HeldId.TheVariants as held;
+ghost use Rattle.dm_check.specs.Holding.{res_holds, vis_holds};
 ghost use Rattle.dm_maps.specs.Known.{KnowsAll, knows};
 ghost use Rattle.dm_maps.specs.Trees.{tree_of};
 ghost use Rattle.dm_maps.specs.World.{numbered_map};
-ghost use Rattle.dm_modules.specs.Maps.{Map, module_at};
+ghost use Rattle.dm_def_map.specs.Maps.{Map, module_at};
 ghost use Rattle.hir_def_map.specs.declared.result.ResolveMode.TheVariants.{Other};
 ghost use Rattle.hir_def_map.specs.Laws.{IsAnswer, IsLeft};
 ghost use Rattle.hir_def_map.specs.Local.{local_answer, local_answer_alone, local_prelude_answer};

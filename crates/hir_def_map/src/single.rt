@@ -2,8 +2,8 @@
 ghost use Rattle.std.specs.Prelude.{◌≡◌, ◌≤◌, if◌then◌else◌, map};
 ghost use Rattle.dm_base.specs.Tree.{IsKnown};
 ghost use Rattle.dm_maps.specs.Known.{KnowsAll};
-ghost use Rattle.dm_held.specs.Holding.{res_holds, local_holds};
-ghost use Rattle.dm_modules.specs.Maps.{LocalMap};
+ghost use Rattle.dm_check.specs.Holding.{res_holds, local_holds};
+ghost use Rattle.dm_def_map.specs.Maps.{LocalMap};
 ghost use Rattle.dm_maps.specs.Readings.{setting_of, read};
 ghost use Rattle.dm_maps.specs.Trees.{tree_of};
 ghost use Rattle.hir_def_map.specs.Answers.{nothing_no};

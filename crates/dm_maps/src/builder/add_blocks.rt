@@ -16,8 +16,8 @@ use dm_base::source::AstId;
 use dm_base::visibility::{Visibility, VisibilityExplicitness};
 use dm_def_map::building;
 use dm_def_map::def_map::DefMap;
-use dm_modules::module_data::ModuleData;
-use dm_modules::module_origin::ModuleOrigin;
+use dm_def_map::modules::module_data::ModuleData;
+use dm_def_map::modules::module_origin::ModuleOrigin;
 use std::alloc::{AllocError, Global};
 
 impl WorldBuilder {

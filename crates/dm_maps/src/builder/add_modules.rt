@@ -4,7 +4,7 @@ ghost use Rattle.dm_maps.specs.Added.{IsAddedCrate, IsAddedModule};
 ghost use Rattle.dm_maps.specs.Build.{with_crate, with_module, with_child_of, next_crate, next_module, next_place, fresh_crate};
 ghost use Rattle.dm_maps.specs.Faults.{Answers, new_crate_fault, child_fault, first_fault, none_found, lacks_module, is_full};
 ghost use Rattle.dm_maps.specs.Trees.{map_id_in};
-ghost use Rattle.dm_modules.specs.Origins.{is_child};
+ghost use Rattle.dm_def_map.specs.Origins.{is_child};
 
 use crate::build_fault::BuildFault;
 use crate::builder::WorldBuilder;
@@ -17,10 +17,10 @@ use dm_base::name::Name;
 use dm_base::source::{Edition, EditionedFileId};
 use dm_base::visibility::Visibility;
 use dm_def_map::building;
+use dm_def_map::crate_data::CrateData;
 use dm_def_map::def_map::DefMap;
-use dm_modules::module_data::ModuleData;
-use dm_modules::module_origin::ModuleOrigin;
-use dm_tables::crate_data::CrateData;
+use dm_def_map::modules::module_data::ModuleData;
+use dm_def_map::modules::module_origin::ModuleOrigin;
 use std::alloc::{AllocError, Global};
 
 /// The numbers of a list's entries are below this, so that the list's length is one too.

@@ -9,7 +9,7 @@ use crate::maps::Maps;
 use crate::place::Place;
 use dm_base::ids::{BlockId, Crate};
 use dm_def_map::def_map::DefMap;
-use dm_modules::local_def_map::LocalDefMap;
+use dm_def_map::modules::local_def_map::LocalDefMap;
 use std::alloc::{AllocError, Global};
 
 /// A block that is added: its crate and its number, the place of its root, and its map.

@@ -2,7 +2,7 @@
 ghost use Rattle.std.specs.Prelude.{◌≡◌, false, IsOk, OnOk, OnErr};
 ghost use Rattle.dm_maps.specs.BuildMaps.{AnswersFree, with_map, with_prelude, with_macro_use, with_macro_def, with_helper, locals_with, with_extern_of, lacks_map, map_fault, crate_fault};
 ghost use Rattle.dm_maps.specs.Faults.{Answers};
-ghost use Rattle.dm_modules.specs.Locals.{with_extern};
+ghost use Rattle.dm_def_map.specs.Locals.{with_extern};
 ghost use Rattle.dm_def_map.specs.MapChanges.{changed, grows};
 
 use crate::build_fault::BuildFault;
@@ -13,10 +13,10 @@ use dm_base::ids::{
 use dm_base::item_ids::MacroId;
 use dm_base::name::Name;
 use dm_base::source::AstId;
+use dm_check::held::HeldId;
+use dm_check::known_ids::KnownIds;
 use dm_def_map::map_change::MapChange;
-use dm_held::held::HeldId;
-use dm_held::known_ids::KnownIds;
-use dm_modules::local_def_map::LocalDefMap;
+use dm_def_map::modules::local_def_map::LocalDefMap;
 use either::Either;
 use std::alloc::AllocError;
 

@@ -7,8 +7,8 @@ use crate::place::Place;
 use dm_base::ids::ModuleId;
 use dm_base::name::Name;
 use dm_def_map::def_map::DefMap;
-use dm_modules::local_def_map::LocalDefMap;
-use dm_modules::module_data::ModuleData;
+use dm_def_map::modules::local_def_map::LocalDefMap;
+use dm_def_map::modules::module_data::ModuleData;
 use std::alloc::{AllocError, Global};
 
 /// A module that is added: its number, its name as a child of the module at `at`, and its own place.

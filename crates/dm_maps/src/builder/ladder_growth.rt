@@ -10,8 +10,8 @@ use crate::maps::Maps;
 use crate::place::Place;
 use dm_base::ids::ModuleId;
 use dm_def_map::def_map::DefMap;
+use dm_def_map::modules::local_def_map::LocalDefMap;
 use dm_ladders::ladders::Ladders;
-use dm_modules::local_def_map::LocalDefMap;
 use std::alloc::{AllocError, Global};
 
 /// Adds a module in `parent`, with its place and its ladder.

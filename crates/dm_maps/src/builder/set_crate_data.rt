@@ -2,7 +2,7 @@
 ghost use Rattle.std.specs.Prelude.{◌≡◌, ◌++◌, ◌∷◌, [], true, Some, IfOk, OnOk, OnErr};
 ghost use Rattle.dm_maps.specs.BuildCrateData.{TakesData, sharing, data_of, with_data, with_crate_setting, with_crate_settings, settings_fault};
 ghost use Rattle.dm_maps.specs.BuildMaps.{crate_fault};
-ghost use Rattle.dm_tables.specs.CrateData.{with_feature, with_proc_macro};
+ghost use Rattle.dm_def_map.specs.CrateData.{with_feature, with_proc_macro};
 ghost use Rattle.dm_maps.specs.Faults.{Answers};
 
 use crate::build_fault::BuildFault;
@@ -11,8 +11,8 @@ use crate::builder::block_list::blocks_of;
 use dm_base::ids::{Crate, FunctionId, MapId, ProcMacroId};
 use dm_base::symbol::Symbol;
 use dm_def_map::building;
-use dm_tables::crate_data::CrateData;
-use dm_tables::crate_setting::CrateSetting;
+use dm_def_map::crate_data::CrateData;
+use dm_def_map::crate_data::crate_setting::CrateSetting;
 use std::alloc::AllocError;
 
 /// Errors of each call, tested in this order: `NoSuchCrate` of a crate that is not the builder's, and `OutOfMemory`;

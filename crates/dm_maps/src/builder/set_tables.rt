@@ -9,7 +9,7 @@ use dm_base::ids::TraitId;
 use dm_base::item_ids::{AssocItemId, ItemContainerId, VariantId};
 use dm_base::name::Name;
 use dm_base::visibility::RawVisibility;
-use dm_tables::field_list::FieldList;
+use dm_def_map::item_tables::field_list::FieldList;
 use std::alloc::AllocError;
 
 /// The only error of each call is `OutOfMemory`; the builder is then as it was. An entry that is there is replaced. The

@@ -16,7 +16,7 @@ use dm_base::name::Name;
 use dm_base::per_ns::{PerNs, TypesItem};
 use dm_def_map::building;
 use dm_def_map::def_map::DefMap;
-use dm_modules::module_data::ModuleData;
+use dm_def_map::modules::module_data::ModuleData;
 
 impl WorldBuilder {
     /// Where a module stands.

@@ -2,25 +2,25 @@
 ghost use Rattle.std.specs.Prelude.{◌≡◌, ◌≤◌, length, map, [], ◌∷◌};
 ghost use Rattle.std.specs.Option.{option_map};
 ghost use Rattle.dm_maps.specs.First.{each_from, fault_of, local_at, crate_holder, block_holder, module_holder, holders, IsAnswer};
-ghost use Rattle.dm_held.specs.declared.fault.Holder.TheVariants as holder;
-ghost use Rattle.dm_held.specs.Held.{IsLeastFault};
+ghost use Rattle.dm_check.specs.declared.fault.Holder.TheVariants as holder;
+ghost use Rattle.dm_check.specs.Held.{IsLeastFault};
 ghost use Rattle.dm_maps.specs.Known.{knows};
-ghost use Rattle.dm_held.specs.Holding.{local_holds};
-ghost use Rattle.dm_held.specs.TablesHold.{tables_hold};
+ghost use Rattle.dm_check.specs.Holding.{local_holds};
+ghost use Rattle.dm_check.specs.TablesHold.{tables_hold};
 ghost use Rattle.dm_maps.specs.Built.{IsBuilt};
 
 use crate::builder::WorldBuilder;
 use crate::check::note_maps::{note_local_map, note_map, note_module};
 use crate::place::Place;
 use dm_base::ids::ModuleId;
+use dm_check::fault::{Holder, WorldFault};
+use dm_check::held::HeldFault;
+use dm_check::note_tables::{note_data, note_tables};
+use dm_check::notes::lesser;
 use dm_def_map::building;
 use dm_def_map::def_map::DefMap;
-use dm_held::fault::{Holder, WorldFault};
-use dm_held::held::HeldFault;
-use dm_held::note_tables::{note_data, note_tables};
-use dm_held::notes::lesser;
-use dm_modules::local_def_map::LocalDefMap;
-use dm_tables::item_tables::ItemTables;
+use dm_def_map::item_tables::ItemTables;
+use dm_def_map::modules::local_def_map::LocalDefMap;
 
 /// The fault of a holder whose ids' least fault this is.
 fn fault_of(holder: Holder, least: Option<HeldFault>) -> Option<WorldFault>

@@ -1,13 +1,13 @@
 //! Which ids a world has, also while it is built.
 ghost use Rattle.std.specs.Prelude.{◌≡◌};
-ghost use Rattle.dm_held.specs.declared.held.HeldId.TheVariants as held;
+ghost use Rattle.dm_check.specs.declared.held.HeldId.TheVariants as held;
 ghost use Rattle.dm_maps.specs.Known.{knows};
 
 use crate::builder::WorldBuilder;
 use dm_base::item_ids::{ItemKind, MacroId};
-use dm_held::held::HeldId;
-use dm_held::kinds::{is_of_kind, macro_number};
-use dm_held::known_ids::KnownIds;
+use dm_check::held::HeldId;
+use dm_check::kinds::{is_of_kind, macro_number};
+use dm_check::known_ids::KnownIds;
 
 impl KnownIds for WorldBuilder {
     ghost use Rattle.dm_maps.specs.Known.{knows};

@@ -6,8 +6,8 @@ ghost use Rattle.dm_maps.specs.BuildCrateData.{with_shared, map_with_shared, map
 use crate::maps::Maps;
 use dm_base::ids::{BlockId, Crate};
 use dm_def_map::building;
+use dm_def_map::crate_data::CrateData;
 use dm_def_map::def_map::DefMap;
-use dm_tables::crate_data::CrateData;
 use std::alloc::{AllocError, Global};
 use std::rc::Rc;
 

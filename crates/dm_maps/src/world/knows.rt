@@ -1,9 +1,9 @@
 //! Tests whether ids that are handed in are the world's. None of them takes memory.
 ghost use Rattle.std.specs.Prelude.{◌≡◌, ◌↔◌, IsTrue, nat_lt, length};
-ghost use Rattle.dm_held.specs.declared.held.HeldId.TheVariants as held;
-ghost use Rattle.dm_held.specs.Pushes.{push_holds};
+ghost use Rattle.dm_check.specs.declared.held.HeldId.TheVariants as held;
+ghost use Rattle.dm_check.specs.Pushes.{push_holds};
 ghost use Rattle.dm_maps.specs.Known.{knows, KnowsAll};
-ghost use Rattle.dm_held.specs.Holding.{def_holds, res_holds, local_holds, path_holds};
+ghost use Rattle.dm_check.specs.Holding.{def_holds, res_holds, local_holds, path_holds};
 
 use crate::builder::WorldBuilder;
 use crate::check::note_maps::note_local_map;
@@ -13,11 +13,11 @@ use dm_base::imports::ImportOrExternCrate;
 use dm_base::item_ids::ModuleDefId;
 use dm_base::mod_path::{ModPath, PathKind};
 use dm_base::per_ns::PerNs;
-use dm_held::held::HeldId;
-use dm_held::known_ids::KnownIds;
-use dm_held::note_pushes::note_push;
-use dm_held::notes::def_fault;
-use dm_modules::local_def_map::LocalDefMap;
+use dm_check::held::HeldId;
+use dm_check::known_ids::KnownIds;
+use dm_check::note_pushes::note_push;
+use dm_check::notes::def_fault;
+use dm_def_map::modules::local_def_map::LocalDefMap;
 
 impl World {
     /// Whether the world has a crate of that number.

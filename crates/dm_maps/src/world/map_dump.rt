@@ -5,7 +5,7 @@ ghost use Rattle.dm_maps.specs.MapDumps.{in_order, map_dump, map_text, path_and,
 ghost use Rattle.dm_maps.specs.MapFacts.{IsMapOf};
 ghost use Rattle.dm_maps.specs.ScopeTables.{scope_tables};
 ghost use Rattle.dm_maps.specs.World.{numbered_map};
-ghost use Rattle.dm_modules.specs.Maps.{module_at};
+ghost use Rattle.dm_def_map.specs.Maps.{module_at};
 ghost use Rattle.dm_scope.specs.Dumps.{Appends};
 ghost use Rattle.dm_scope.specs.Sorted.{seen};
 
@@ -14,7 +14,7 @@ use crate::world::outwards::next_outwards;
 use dm_base::ids::ModuleId;
 use dm_base::name::Name;
 use dm_def_map::def_map::DefMap;
-use dm_modules::module_data::ModuleData;
+use dm_def_map::modules::module_data::ModuleData;
 use dm_scope::item_scope::ItemScope;
 use dm_scope::name_order::sorted_names;
 use dm_scope::scope_tables::ScopeTables;

@@ -1,14 +1,14 @@
 //! The maps of a world, by crate and by block.
 ghost use Rattle.std.specs.Prelude.{◌≡◌, IsTrue, IfOk, Some, None, nat_lt, length, slice_get, string_bytes};
-ghost use Rattle.dm_held.specs.declared.held.HeldId.TheVariants as held;
+ghost use Rattle.dm_check.specs.declared.held.HeldId.TheVariants as held;
 ghost use Rattle.dm_maps.specs.Known.{knows, KnowsAll};
-ghost use Rattle.dm_held.specs.Holding.{local_holds};
+ghost use Rattle.dm_check.specs.Holding.{local_holds};
 ghost use Rattle.dm_maps.specs.MapDumps.{map_dump};
 ghost use Rattle.dm_maps.specs.MapFacts.{IsMapOf};
 ghost use Rattle.dm_maps.specs.Outwards.{maps_outwards, AsksMaps, MayAskMaps};
 ghost use Rattle.dm_maps.specs.Readings.{root_of, styles_of};
 ghost use Rattle.dm_maps.specs.World.{crate_map, numbered_map};
-ghost use Rattle.dm_modules.specs.Maps.{Map};
+ghost use Rattle.dm_def_map.specs.Maps.{Map};
 
 use crate::builder::WorldBuilder;
 use crate::world::World;
@@ -18,7 +18,7 @@ use dm_base::ids::{BlockId, Crate, ModuleId};
 use dm_base::item_ids::MacroId;
 use dm_base::macros::MacroCallStyles;
 use dm_def_map::def_map::DefMap;
-use dm_modules::local_def_map::LocalDefMap;
+use dm_def_map::modules::local_def_map::LocalDefMap;
 use std::alloc::AllocError;
 
 /// The map of a crate. The crate has to be the world's (`World::has_crate`).

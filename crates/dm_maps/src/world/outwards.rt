@@ -5,7 +5,7 @@ ghost use Rattle.dm_maps.specs.MapFacts.{IsMapOf};
 ghost use Rattle.dm_maps.specs.Outwards.{maps_outwards, next_outwards, AsksMaps, MayAskMaps};
 ghost use Rattle.dm_maps.specs.Trees.{IsWorld};
 ghost use Rattle.dm_maps.specs.World.{numbered_map};
-ghost use Rattle.dm_modules.specs.Maps.{module_at};
+ghost use Rattle.dm_def_map.specs.Maps.{module_at};
 
 use crate::world::World;
 use dm_base::ids::ModuleId;

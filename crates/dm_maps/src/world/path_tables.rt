@@ -12,8 +12,8 @@ use dm_base::ids::{BlockId, Crate, ExternCrateId, MapId, ModuleId};
 use dm_base::item_ids::MacroId;
 use dm_base::macros::{MacroCallStyles, MacroLoc};
 use dm_base::name::Name;
+use dm_check::kinds::macro_number;
 use dm_def_map::def_map::DefMap;
-use dm_held::kinds::macro_number;
 
 impl WorldBuilder {
     /// The map of a crate.

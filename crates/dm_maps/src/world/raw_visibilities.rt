@@ -4,8 +4,8 @@
 ghost use Rattle.std.specs.Prelude.{◌≡◌, IfSome, Some, slice_get};
 ghost use Rattle.std.specs.List.{AllByRecursion};
 ghost use Rattle.std.specs.Option.{option_copied};
-ghost use Rattle.dm_held.specs.Holding.{local_holds};
-ghost use Rattle.dm_held.specs.TablesHold.{raw_holds, container_holds};
+ghost use Rattle.dm_check.specs.Holding.{local_holds};
+ghost use Rattle.dm_check.specs.TablesHold.{raw_holds, container_holds};
 ghost use Rattle.dm_maps.specs.Known.{KnowsAll};
 ghost use Rattle.dm_maps.specs.RawTables.{fields_in, assoc_in, trait_visibility_in};
 ghost use Rattle.dm_maps.specs.World.{numbered_map};
@@ -17,7 +17,7 @@ use dm_base::ids::TraitId;
 use dm_base::item_ids::{AssocItemId, ItemContainerId, VariantId};
 use dm_base::visibility::RawVisibility;
 use dm_def_map::def_map::DefMap;
-use dm_modules::local_def_map::LocalDefMap;
+use dm_def_map::modules::local_def_map::LocalDefMap;
 
 impl World {
     /// The visibilities of the fields of a variant, a struct or a union, in order, where they were set.

@@ -2,7 +2,7 @@ use Rattle.std.proofs.Common.{◌≡◌, ◌∙◌, Some, ap, refl, rules, slice
 use Rattle.std.specs.List.{filter_map}
 use Rattle.dm_maps.specs.OutwardLaws.{AsksMaps-first, MayAskMaps-own}
 use Rattle.dm_maps.specs.Outwards.{maps_outwards}
-use Rattle.dm_modules.specs.Maps.{Map}
+use Rattle.dm_def_map.specs.Maps.{Map}
 use Rattle.defmap_callers.specs.Maps.{child_in}
 use Rattle.defmap_callers.proofs.maps.child_outwards.Goals as goal
 

@@ -9,8 +9,8 @@ use Rattle.dm_base.specs.Path.{Path}
 use Rattle.dm_base.specs.PerNs.{definition}
 use Rattle.dm_base.specs.declared.mod_path.PathKind.TheVariants.{Plain}
 use Rattle.dm_base.specs.declared.per_ns.PerNs.{PerNs}
-use Rattle.dm_modules.specs.Maps.{LocalMap, Map}
-use Rattle.dm_modules.specs.declared.modes.BuiltinShadowMode.TheVariants.{Module}
+use Rattle.dm_def_map.specs.Maps.{LocalMap, Map}
+use Rattle.dm_def_map.specs.declared.modules.modes.BuiltinShadowMode.TheVariants.{Module}
 use Rattle.dm_maps.specs.Build.{fresh_crate}
 use Rattle.dm_maps.specs.World.{World, crate_map}
 use Rattle.hir_def_map.specs.Paths.{answer, asked}

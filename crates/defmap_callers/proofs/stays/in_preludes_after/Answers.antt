@@ -1,6 +1,6 @@
 use Rattle.std.proofs.Common.{◌≡◌, ◌∙◌, Some, ap, slice_get, subst, sym}
 use Rattle.dm_maps.specs.World.{numbered_map}
-use Rattle.dm_modules.specs.Maps.{LocalMap}
+use Rattle.dm_def_map.specs.Maps.{LocalMap}
 use Rattle.hir_def_map.specs.Questions.{IsKnownInCrate}
 use Rattle.defmap_callers.proofs.StayLemmas.{same-local}
 use Rattle.defmap_callers.proofs.stays.in_preludes_after.Goals as goal

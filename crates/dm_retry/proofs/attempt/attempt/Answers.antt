@@ -1,5 +1,5 @@
 use Rattle.std.proofs.Common.{◌∙◌, None, sym}
-use Rattle.dm_modules.specs.declared.modes.BuiltinShadowMode.TheVariants as shadow
+use Rattle.dm_def_map.specs.declared.modules.modes.BuiltinShadowMode.TheVariants as shadow
 use Rattle.hir_def_map.specs.declared.result.ResolveMode.TheVariants as mode
 use Rattle.hir_def_map.specs.Paths.{asked}
 use Rattle.dm_retry.specs.Rounds.{by_import}

@@ -2,8 +2,8 @@ use Rattle.std.proofs.Common.{◌∙◌, Some, ap, subst, sym}
 use Rattle.std.specs.Option.{option_map}
 use Rattle.dm_base.specs.declared.per_ns.PerNs.{PerNs}
 use Rattle.dm_base.specs.PerNs.{seen_as}
-use Rattle.dm_held.specs.Holding.{res_holds}
-use Rattle.dm_held.specs.Pushes.{push_holds}
+use Rattle.dm_check.specs.Holding.{res_holds}
+use Rattle.dm_check.specs.Pushes.{push_holds}
 use Rattle.dm_maps.specs.Known.{KnowsAll}
 use Rattle.dm_retry.specs.Rounds.{by_import}
 use Rattle.dm_retry.proofs.KnownLemmas.{brought-is, found-is, push-known}

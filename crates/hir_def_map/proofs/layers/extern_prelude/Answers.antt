@@ -4,7 +4,7 @@ use Rattle.dm_base.specs.declared.per_ns.PerNs.{PerNs}
 use Rattle.dm_base.specs.declared.visibility.Visibility.TheVariants.{Public}
 use Rattle.dm_base.specs.PerNs.{type_alone}
 use Rattle.dm_maps.specs.Known.{KnowsAll}
-use Rattle.dm_held.specs.Holding.{res_holds}
+use Rattle.dm_check.specs.Holding.{res_holds}
 use Rattle.hir_def_map.proofs.KnownLemmas.{local-known, public_module-known}
 use Rattle.hir_def_map.proofs.layers.extern_prelude.Goals as goal
 

@@ -1,6 +1,6 @@
 use Rattle.std.proofs.Common.{◌≡◌, map}
 use Rattle.dm_base.specs.Tree.{IsKnown}
-use Rattle.dm_held.specs.Holding.{res_holds}
+use Rattle.dm_check.specs.Holding.{res_holds}
 use Rattle.dm_maps.specs.Known.{KnowsAll}
 use Rattle.dm_maps.specs.Readings.{setting_of, read}
 use Rattle.dm_maps.specs.Trees.{tree_of}

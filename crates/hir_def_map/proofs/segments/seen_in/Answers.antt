@@ -2,7 +2,7 @@ use Rattle.std.proofs.Common.{sym, subst}
 use Rattle.dm_base.specs.declared.per_ns.PerNs.{PerNs}
 use Rattle.dm_base.specs.Tree.{sees}
 use Rattle.dm_maps.specs.Known.{KnowsAll}
-use Rattle.dm_held.specs.Holding.{res_holds}
+use Rattle.dm_check.specs.Holding.{res_holds}
 use Rattle.dm_maps.specs.Trees.{tree_of}
 use Rattle.hir_def_map.proofs.KnownLemmas.{type_vis-known, value_vis-known, macro_vis-known, seen_by-known}
 use Rattle.hir_def_map.proofs.segments.seen_in.Goals as goal

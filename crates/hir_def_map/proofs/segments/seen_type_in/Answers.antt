@@ -8,7 +8,7 @@ use Rattle.dm_base.specs.PerNs.{keep, seen_by}
 use Rattle.dm_base.specs.Tree.{sees}
 use Rattle.dm_scope.specs.Scope.{bound_in}
 use Rattle.dm_maps.specs.Known.{KnowsAll}
-use Rattle.dm_held.specs.Holding.{res_holds}
+use Rattle.dm_check.specs.Holding.{res_holds}
 use Rattle.dm_maps.specs.Trees.{tree_of}
 use Rattle.dm_maps.specs.World.{scope_of}
 use Rattle.hir_def_map.specs.Walk.{in_types}

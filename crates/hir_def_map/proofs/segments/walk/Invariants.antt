@@ -2,8 +2,8 @@ use Rattle.std.proofs.Common.{◌≡◌, ◌+◌, ◌∷◌, suc, map, length}
 use Rattle.std.specs.Option.{option_copied}
 use Rattle.dm_base.specs.Tree.{IsKnown}
 use Rattle.dm_maps.specs.Known.{KnowsAll}
-use Rattle.dm_held.specs.Holding.{res_holds}
-use Rattle.dm_modules.specs.Maps.{LocalMap}
+use Rattle.dm_check.specs.Holding.{res_holds}
+use Rattle.dm_def_map.specs.Maps.{LocalMap}
 use Rattle.dm_maps.specs.Readings.{read}
 use Rattle.dm_maps.specs.Trees.{tree_of}
 use Rattle.hir_def_map.specs.Walk.{in_types, standing, starting, walk}

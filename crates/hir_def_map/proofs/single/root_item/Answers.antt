@@ -1,7 +1,7 @@
 use Rattle.std.proofs.Common.{sym, subst}
 use Rattle.dm_base.specs.declared.per_ns.PerNs.{PerNs}
 use Rattle.dm_maps.specs.Known.{KnowsAll}
-use Rattle.dm_held.specs.Holding.{res_holds}
+use Rattle.dm_check.specs.Holding.{res_holds}
 use Rattle.hir_def_map.proofs.KnownLemmas.{root-known}
 use Rattle.hir_def_map.proofs.single.root_item.Goals as goal
 

@@ -2,8 +2,8 @@ use Rattle.std.proofs.Common.{◌≡◌, ◌++◌, length}
 use Rattle.std.specs.List.{AllByRecursion}
 use Rattle.dm_base.specs.Visibility.{NamesKnown}
 use Rattle.dm_maps.specs.Trees.{tree_of}
-use Rattle.dm_held.specs.Holding.{vis_holds}
-use Rattle.dm_held.specs.TablesHold.{raw_holds}
+use Rattle.dm_check.specs.Holding.{vis_holds}
+use Rattle.dm_check.specs.TablesHold.{raw_holds}
 use Rattle.dm_maps.specs.Known.{KnowsAll}
 use Rattle.hir_def_map.specs.RawVisibilities.{visibilities_in}
 use Rattle.hir_def_map.proofs.visibility.visibilities_in.Given as goal

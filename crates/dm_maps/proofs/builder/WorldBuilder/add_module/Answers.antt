@@ -1,5 +1,5 @@
 use Rattle.std.proofs.Common.{ap, sym}
-use Rattle.dm_modules.specs.Maps.{Module}
+use Rattle.dm_def_map.specs.Maps.{Module}
 use Rattle.dm_maps.proofs.AddedMaps.{added-child}
 use Rattle.dm_maps.proofs.FaultLemmas.{child_fault-none}
 use Rattle.dm_maps.proofs.builder.WorldBuilder.add_module.Goals as goal

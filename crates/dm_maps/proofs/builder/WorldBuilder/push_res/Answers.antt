@@ -5,7 +5,7 @@ use Rattle.dm_ids.specs.declared.ids.ModuleId.{ModuleId}
 use Rattle.dm_scope.specs.Flags.{Globs}
 use Rattle.dm_scope.specs.Gives.{PushGives}
 use Rattle.std.specs.Option.{option_copied_mut, option_map, option_map_or}
-use Rattle.dm_modules.specs.Maps.{Module}
+use Rattle.dm_def_map.specs.Maps.{Module}
 use Rattle.dm_scope.specs.Push.{push_answer, scope_after, globs_after}
 use Rattle.dm_scope.specs.PushLaw.{PushLaw, itself}
 use Rattle.dm_scope.specs.Scope.{Scope, no_scope}

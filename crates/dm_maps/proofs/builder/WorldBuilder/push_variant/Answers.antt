@@ -2,7 +2,7 @@ use Rattle.std.proofs.Common.{◌≡◌, ◌++◌, ◌∷◌, [], List, length, 
 use Rattle.dm_ids.specs.declared.ids.EnumId.{EnumId}
 use Rattle.dm_maps.specs.Lists.{IsEnum, IsListed}
 use Rattle.dm_maps.specs.World.{World}
-use Rattle.dm_tables.specs.Variants.{Enums, enums_with_variant}
+use Rattle.dm_def_map.specs.Variants.{Enums, enums_with_variant}
 use Rattle.dm_maps.proofs.ListLemmas.{IsListed-variant}
 use Rattle.dm_maps.specs.Tables.{tables_of}
 use Rattle.dm_maps.proofs.builder.WorldBuilder.push_variant.Goals as goal

@@ -1,6 +1,6 @@
 use Rattle.dm_maps.proofs.BuiltGrowth.{IsBuilt-scoped}
 use Rattle.dm_maps.specs.Tables.{tables_of}
-use Rattle.dm_modules.specs.Maps.{map_with_scope}
+use Rattle.dm_def_map.specs.Maps.{map_with_scope}
 use Rattle.dm_maps.proofs.IndexLemmas.{AreIndexed-with}
 use Rattle.dm_maps.proofs.MapsKept.{Keeps-scoped}
 use Rattle.dm_maps.proofs.builder.WorldBuilder.scope_mut.Goals as goal

@@ -1,5 +1,5 @@
 use Rattle.std.proofs.Common.{◌∙◌, Ok, ap, subst, rules}
-use Rattle.dm_tables.specs.CrateData.{with_settings}
+use Rattle.dm_def_map.specs.CrateData.{with_settings}
 use Rattle.dm_maps.specs.BuildCrateData.{sharing, settings_fault}
 use Rattle.dm_maps.specs.BuildMaps.{crate_fault}
 use Rattle.dm_maps.specs.Faults.{Answers}

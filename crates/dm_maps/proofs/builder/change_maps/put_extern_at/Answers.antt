@@ -1,7 +1,7 @@
 use Rattle.std.proofs.Common.{◌≡◌, ◌<◌, refl, rules, length, Some, slice_get}
 use Rattle.std.proofs.lemmas.Option.{slice_get_read}
-use Rattle.dm_modules.specs.Maps.{LocalMap}
-use Rattle.dm_modules.specs.Locals.{with_extern}
+use Rattle.dm_def_map.specs.Maps.{LocalMap}
+use Rattle.dm_def_map.specs.Locals.{with_extern}
 use Rattle.dm_maps.proofs.EntryChanges.{unchanged, entry-changed}
 use Rattle.dm_maps.proofs.builder.change_maps.put_extern_at.Goals as goal
 

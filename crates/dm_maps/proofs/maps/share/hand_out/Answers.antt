@@ -1,6 +1,6 @@
 use Rattle.std.proofs.Common.{◌∙◌, List, map, sym, ap, subst, arith}
 use Rattle.std.proofs.lemmas.Option.{slice_get_within}
-use Rattle.dm_modules.specs.Maps.{Map}
+use Rattle.dm_def_map.specs.Maps.{Map}
 use Rattle.dm_maps.specs.BuildCrateData.{map_with_shared}
 use Rattle.dm_maps.proofs.SharedMaps.{Stays, given-twice, map-entry, given-next, all-given}
 use Rattle.dm_maps.proofs.maps.share.hand_out.Goals as goal

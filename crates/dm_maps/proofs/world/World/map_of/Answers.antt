@@ -1,6 +1,6 @@
 use Rattle.std.proofs.Common.{◌≡◌, ◌∙◌, Some, IsSome, ap}
 use Rattle.std.specs.Option.{option_copied}
-use Rattle.dm_modules.specs.Maps.{Map, module_at}
+use Rattle.dm_def_map.specs.Maps.{Map, module_at}
 use Rattle.dm_maps.specs.World.{World, numbered_map, map_of}
 use Rattle.dm_maps.proofs.MapLemmas.{map-own, map-lists, map-there, of_found, is_found}
 use Rattle.dm_maps.specs.MapFacts.{IsMapOf}

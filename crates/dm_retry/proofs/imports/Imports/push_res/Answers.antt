@@ -1,5 +1,5 @@
 use Rattle.std.proofs.Common.{◌≡◌, ◌∙◌, List, None, false, ap, cond, map, subst, sym}
-use Rattle.dm_modules.specs.declared.modes.BuiltinShadowMode.TheVariants as shadow
+use Rattle.dm_def_map.specs.declared.modules.modes.BuiltinShadowMode.TheVariants as shadow
 use Rattle.dm_maps.specs.World.{scope_of}
 use Rattle.hir_def_map.specs.declared.result.ResolveMode.TheVariants as mode
 use Rattle.hir_def_map.specs.Paths.{asked}

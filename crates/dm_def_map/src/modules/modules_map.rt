@@ -1,0 +1,61 @@
+//! `ModulesMap`: the modules of a def map, by number.
+ghost use Rattle.std.specs.Prelude.{◌≡◌, ◌↔◌, [], IsTrue, length};
+ghost use Rattle.std.specs.Option.{option_copied};
+ghost use Rattle.dm_def_map.specs.Maps.{module_at, nth_module};
+
+use crate::modules::module_data::ModuleData;
+use dm_base::ids::ModuleId;
+use indexmap::IndexMap;
+use std::marker::Model;
+
+/// The modules of a map, in order of number.
+#[derive(Drop)]
+pub struct ModulesMap {
+    pub(crate) entries: IndexMap<ModuleId, ModuleData>,
+}
+
+impl Model for ModulesMap {
+    ghost use Rattle.dm_def_map.specs.Maps.{Modules};
+
+    ghost Value = { Modules };
+
+    ghost view = { λ m. m.entries.entries };
+}
+
+impl ModulesMap {
+    /// How many modules there are.
+    pub fn len(&self) -> usize
+        ensures { result ≡ length self.now }
+    {
+        self.entries.len()
+    }
+
+    /// Whether there is no module.
+    pub fn is_empty(&self) -> bool
+        ensures { IsTrue result ↔ (self.now ≡ []) }
+    {
+        self.entries.is_empty()
+    }
+
+    /// The module of that number.
+    pub fn get(&self, m: ModuleId) -> Option<&ModuleData>
+        ensures { option_copied result ≡ module_at self.now m }
+    {
+        self.entries.get(&m)
+    }
+
+    /// The modules, each under its number.
+    pub fn entries(&self) -> &IndexMap<ModuleId, ModuleData>
+        ensures { result.now.entries ≡ self.now }
+    {
+        &self.entries
+    }
+
+    /// The module at index `i`, counted from the root.
+    pub fn nth(&self, i: usize) -> Option<&ModuleData>
+        ensures { option_copied result ≡ nth_module self.now i }
+    {
+        let (_number, data) = self.entries.get_index(i)?;
+        Some(data)
+    }
+}

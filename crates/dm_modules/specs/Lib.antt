@@ -1,9 +1,0 @@
-pub mod Origins
-pub mod SameOrigins
-pub mod Maps
-pub mod Locals
-pub mod LendingModule
-pub mod LendingModules
-pub mod LocalHash
-pub mod LocalLaws
-pub mod Queries
