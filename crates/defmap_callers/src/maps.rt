@@ -74,7 +74,9 @@ fn both_features(
     first: Symbol,
     second: Symbol,
 ) -> Result<Vec<CrateSetting>, AllocError>
-    ensures { IfOk result (λ features. features.items ≡ CrateSetting.Feature first ∷ CrateSetting.Feature second ∷ []) }
+    ensures { IfOk result
+        (λ features.
+        features.items ≡ CrateSetting.Feature first ∷ CrateSetting.Feature second ∷ []) }
 {
     let mut features = Vec::new(alloc);
     features.push(CrateSetting::Feature(first))?;

@@ -57,7 +57,8 @@ pub fn meaning(world: &World, local: &LocalDefMap, m: ModuleId, path: &ModPath) 
     requires m { IsTrue (knows world.now (held.Module m)) }
     requires local { KnowsAll world.now (local_holds local.now) }
     requires path { KnowsAll world.now (path_holds path.now.kind) }
-    ensures value { result ≡ answer world.now local.now (asked m Other Module None path.now.kind) path.now.segments }
+    ensures value { result
+        ≡ answer world.now local.now (asked m Other Module None path.now.kind) path.now.segments }
     ensures known { KnowsAll world.now (res_holds result.resolved_def) }
 {
     let map = world.map_of(m).unwrap();

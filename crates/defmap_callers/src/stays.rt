@@ -62,7 +62,8 @@ pub fn declare_in_tables(
     ensures shown { PushShows (scope_of builder.old lookup.0) globs.old (scope_of builder.new lookup.0)
         globs.new lookup.0 (push_of lookup.1 (type_alone def Visibility.Public None) None)
         result }
-    ensures others { (k : ModuleId) → same_module lookup.0 k ≡ false → scope_of builder.new k ≡ scope_of builder.old k }
+    ensures others { (k : ModuleId) → same_module lookup.0 k ≡ false
+        → scope_of builder.new k ≡ scope_of builder.old k }
 {
     builder.scope_facts_of(lookup.0);
     let scope = builder.scope_mut(lookup.0).unwrap();

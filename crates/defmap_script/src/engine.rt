@@ -224,7 +224,11 @@ fn resolved(
     path: &ModPath,
 ) -> ResolvePathResult
     requires { questions.IsKnownQuestion world.now map.now local.now question.from path.now.kind }
-    ensures { result ≡ paths.answer world.now local.now (paths.asked question.entry.from question.entry.mode question.entry.shadow question.entry.expected path.now.kind) path.now.segments }
+    ensures { result
+        ≡ paths.answer world.now local.now
+        (paths.asked question.entry.from question.entry.mode question.entry.shadow
+        question.entry.expected path.now.kind)
+        path.now.segments }
 {
     map.resolve_path_fp_with_macro(
         local,

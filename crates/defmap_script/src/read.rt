@@ -18,7 +18,8 @@ pub enum ReadFault {
 /// Fails where a read fails, where the input has not ended after 16,777,216 reads, and where an allocation fails, and
 /// says which it was. What was read until then stays in `input`.
 pub fn read_all<R: Read>(reader: &mut R, input: &mut Vec<u8>) -> Result<(), ReadFault>
-    ensures ok { OnOk result (IfSome (R.remaining reader.old) (λ bytes. input.new.items ≡ input.old.items ++ bytes)) }
+    ensures ok { OnOk result
+        (IfSome (R.remaining reader.old) (λ bytes. input.new.items ≡ input.old.items ++ bytes)) }
     ensures err { OnErr result (take (length input.old.items) input.new.items ≡ input.old.items) }
 {
     let mut buffer = [0u8; 4096];

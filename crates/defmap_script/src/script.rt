@@ -26,7 +26,8 @@ pub enum RunEnd {
 /// The first line that is refused ends the run with a line that names its fault; where that line cannot be allocated
 /// either, it is missing. A line is appended whole or not at all. All allocations use the output's allocator.
 pub fn run_script(input: &[u8], out: &mut Vec<u8>) -> RunEnd
-    ensures { (printed : List ℕ) × (out.new.items ≡ out.old.items ++ printed) × Runs fresh 1 (lines input.now) printed result }
+    ensures { (printed : List ℕ) × (out.new.items ≡ out.old.items ++ printed)
+        × Runs fresh 1 (lines input.now) printed result }
 {
     let mut engine = Engine::new(*out.allocator());
     let mut number = 1usize;

@@ -36,7 +36,9 @@ fn note_records_in<T: KnownIds>(
     scope: &ItemScope,
     namespace: Namespace,
 ) -> Option<HeldFault>
-    ensures { result ≡ fold (noted (T.known world.now)) least (flat_map record_holds (records_in namespace scope.now)) }
+    ensures { result
+        ≡ fold (noted (T.known world.now)) least
+        (flat_map record_holds (records_in namespace scope.now)) }
 {
     let mut least = least;
     for (import, step) in scope.import_records(namespace) {

@@ -190,7 +190,9 @@ fn note_unnamed_traits<T: KnownIds>(
     least: Option<HeldFault>,
     scope: &ItemScope,
 ) -> Option<HeldFault>
-    ensures { result ≡ fold (noted (T.known world.now)) least (flat_map unnamed_trait_holds scope.now.unnamed_traits) }
+    ensures { result
+        ≡ fold (noted (T.known world.now)) least
+        (flat_map unnamed_trait_holds scope.now.unnamed_traits) }
 {
     let mut least = least;
     for unnamed in scope.unnamed_traits() {
@@ -206,7 +208,8 @@ fn note_unnamed_consts<T: KnownIds>(
     least: Option<HeldFault>,
     scope: &ItemScope,
 ) -> Option<HeldFault>
-    ensures { result ≡ fold (noted (T.known world.now)) least (map unnamed_const_holds scope.now.unnamed_consts) }
+    ensures { result
+        ≡ fold (noted (T.known world.now)) least (map unnamed_const_holds scope.now.unnamed_consts) }
 {
     let mut least = least;
     for unnamed in scope.unnamed_consts() {

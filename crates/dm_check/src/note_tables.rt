@@ -75,7 +75,8 @@ fn note_macro_of_fn<T: KnownIds>(
     least: Option<HeldFault>,
     table: &IndexMap<FunctionId, ProcMacroId>,
 ) -> Option<HeldFault>
-    ensures { result ≡ fold (noted (T.known world.now)) least (flat_map macro_of_fn_holds table.now.entries) }
+    ensures { result
+        ≡ fold (noted (T.known world.now)) least (flat_map macro_of_fn_holds table.now.entries) }
 {
     let mut least = least;
     for (f, m) in table {
@@ -91,7 +92,8 @@ fn note_fn_of_macro<T: KnownIds>(
     least: Option<HeldFault>,
     table: &IndexMap<ProcMacroId, FunctionId>,
 ) -> Option<HeldFault>
-    ensures { result ≡ fold (noted (T.known world.now)) least (flat_map fn_of_macro_holds table.now.entries) }
+    ensures { result
+        ≡ fold (noted (T.known world.now)) least (flat_map fn_of_macro_holds table.now.entries) }
 {
     let mut least = least;
     for (m, f) in table {
@@ -188,7 +190,8 @@ fn note_fields<T: KnownIds>(
     least: Option<HeldFault>,
     table: &IndexMap<VariantId, FieldList>,
 ) -> Option<HeldFault>
-    ensures { result ≡ fold (noted (T.known world.now)) least (flat_map field_list_holds table.now.entries) }
+    ensures { result
+        ≡ fold (noted (T.known world.now)) least (flat_map field_list_holds table.now.entries) }
 {
     let mut least = least;
     for (variant, fields) in table {

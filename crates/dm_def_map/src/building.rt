@@ -32,7 +32,8 @@ pub fn with_root(
     shared: Rc<CrateData>,
     alloc: Global,
 ) -> Result<DefMap, AllocError>
-    ensures { IfOk result (λ map. map ≡ record (fresh_map id edition parent root added) { shared = shared.value }) }
+    ensures { IfOk result
+        (λ map. map ≡ record (fresh_map id edition parent root added) { shared = shared.value }) }
 {
     let modules = building::with_root(root, added, alloc)?;
     Ok(DefMap {

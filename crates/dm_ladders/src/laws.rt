@@ -11,5 +11,7 @@ use dm_base::module_tree::ModuleTree;
 pub fn moves_add<T: ModuleTree>(_tree: &T, _m: ModuleId)
     requires known { IsKnown (T.tree _tree.now) _m }
     requires lawful { IsTree (T.tree _tree.now) }
-    ensures { (j k : ℕ) → member (T.tree _tree.now) (2 ^ j + 2 ^ k) _m ≡ member (T.tree _tree.now) (2 ^ k) (member (T.tree _tree.now) (2 ^ j) _m) }
+    ensures { (j k : ℕ)
+        → member (T.tree _tree.now) (2 ^ j + 2 ^ k) _m
+        ≡ member (T.tree _tree.now) (2 ^ k) (member (T.tree _tree.now) (2 ^ j) _m) }
 {}

@@ -141,16 +141,21 @@ impl<D: Definition, I: ImportSource> Bindings<D, I> {
         item: Item<D, I>,
         import: Option<ImportOrExternCrate>,
     ) -> Result<bool, AllocError>
-        ensures gives { PushGivesIn ⟦<D as Reads<I>>⟧.reading self.old flags.old self.new flags.new lookup.0 lookup.1 item import result }
+        ensures gives { PushGivesIn ⟦<D as Reads<I>>⟧.reading self.old flags.old self.new flags.new lookup.0
+            lookup.1 item import result }
 
         // Where they show a list of pushes, they show it with this push after it, and the answer is as that list says.
-        ensures shown { PushShowsIn ⟦<D as Reads<I>>⟧.reading self.old (has_flag flags.old lookup.0) self.new (has_flag flags.new lookup.0) (one_push ⟦<D as Reads<I>>⟧.reading lookup.1 item import) result }
-        ensures shown_answer { PushAnswersIn ⟦<D as Reads<I>>⟧.reading self.old (has_flag flags.old lookup.0) (one_push ⟦<D as Reads<I>>⟧.reading lookup.1 item import) result }
+        ensures shown { PushShowsIn ⟦<D as Reads<I>>⟧.reading self.old (has_flag flags.old lookup.0) self.new
+            (has_flag flags.new lookup.0)
+            (one_push ⟦<D as Reads<I>>⟧.reading lookup.1 item import) result }
+        ensures shown_answer { PushAnswersIn ⟦<D as Reads<I>>⟧.reading self.old (has_flag flags.old lookup.0)
+            (one_push ⟦<D as Reads<I>>⟧.reading lookup.1 item import) result }
 
         // What any list of pushes binds to a name depends only on the pushes of that name, and not on globs where one
         // of these is explicit.
         ensures by_name { (n : Name) → IsByName ⟦<D as Reads<I>>⟧.reading n }
-        ensures elsewhere { (k : ModuleId) (n : Name) → same_module lookup.0 k ≡ false → has_flag flags.new k n ≡ has_flag flags.old k n }
+        ensures elsewhere { (k : ModuleId) (n : Name) → same_module lookup.0 k ≡ false
+            → has_flag flags.new k n ≡ has_flag flags.old k n }
     {
         let (m, name) = lookup;
         let effective = self.push_named(flags, m, name, item, import)?;
@@ -167,7 +172,8 @@ impl<D: Definition, I: ImportSource> Bindings<D, I> {
         item: Item<D, I>,
         import: Option<ImportOrExternCrate>,
     ) -> Result<bool, AllocError>
-        ensures { PushGivesIn ⟦<D as Reads<I>>⟧.reading self.old flags.old self.new flags.new m name item import result }
+        ensures { PushGivesIn ⟦<D as Reads<I>>⟧.reading self.old flags.old self.new flags.new m name item
+            import result }
     {
         let narrow = narrowed(import);
         if self.is_first(flags, m, &name, narrow) {
@@ -254,11 +260,23 @@ impl<D: Definition, I: ImportSource> Bindings<D, I> {
         item: Option<Item<D, I>>,
         import: Option<ImportOrExternCrate>,
     ) -> Result<NewKeys, AllocError>
-        ensures writes { IfOk result (λ new. new.writes ≡ is_effective_at ⟦<D as Reads<I>>⟧.reading self.old flags.old m name.now item import) }
+        ensures writes { IfOk result
+            (λ new.
+            new.writes
+            ≡ is_effective_at ⟦<D as Reads<I>>⟧.reading self.old flags.old m name.now item
+            import) }
         ensures undo { IfOk result (λ new. without_keys self.new new.item new.record_key ≡ self.old) }
         ensures undo_flags { IfOk result (λ new. flags_undone flags.new m name.now new.flag ≡ flags.old) }
-        ensures finish { IfOk result (λ new. finished ⟦<D as Reads<I>>⟧.reading self.new new.writes name.now item import ≡ bound_after ⟦<D as Reads<I>>⟧.reading self.old flags.old m name.now item import) }
-        ensures finish_flags { IfOk result (λ new. flags_done ⟦<D as Reads<I>>⟧.reading flags.new new.writes m name.now import ≡ flags_after ⟦<D as Reads<I>>⟧.reading self.old flags.old m name.now item import) }
+        ensures finish { IfOk result
+            (λ new.
+            finished ⟦<D as Reads<I>>⟧.reading self.new new.writes name.now item import
+            ≡ bound_after ⟦<D as Reads<I>>⟧.reading self.old flags.old m name.now item
+            import) }
+        ensures finish_flags { IfOk result
+            (λ new.
+            flags_done ⟦<D as Reads<I>>⟧.reading flags.new new.writes m name.now import
+            ≡ flags_after ⟦<D as Reads<I>>⟧.reading self.old flags.old m name.now item
+            import) }
         ensures err { OnErr result (self.new ≡ self.old) }
         ensures err_flags { OnErr result (flags.new ≡ flags.old) }
     {
@@ -313,7 +331,9 @@ impl<D: Definition, I: ImportSource> Bindings<D, I> {
 
     /// Whether a push is effective.
     fn writes(&self, flag: bool, name: &Name, item: &Item<D, I>, import: Option<I>) -> bool
-        ensures { result ≡ writes ⟦<D as Reads<I>>⟧.reading (find_name name.now self.now.items) flag item.now import }
+        ensures { result
+            ≡ writes ⟦<D as Reads<I>>⟧.reading (find_name name.now self.now.items) flag item.now
+            import }
     {
         let Some(old) = self.get(name) else {
             return true;
@@ -330,8 +350,12 @@ impl<D: Definition, I: ImportSource> Bindings<D, I> {
     ) -> Result<NewKeys, AllocError>
         ensures writes { IfOk result (λ new. new.writes ≡ true) }
         ensures item { IfOk result (λ new. new.item ≡ is_new same_name self.old.items name.now) }
-        ensures record_key { IfOk result (λ new. new.record_key ≡ is_new_record ⟦<D as Reads<I>>⟧.reading self.old.records import) }
-        ensures ok { OnOk result (self.new ≡ with_keys ⟦<D as Reads<I>>⟧.reading self.old name.now item.now import) }
+        ensures record_key { IfOk result
+            (λ new.
+            new.record_key
+            ≡ is_new_record ⟦<D as Reads<I>>⟧.reading self.old.records import) }
+        ensures ok { OnOk result
+            (self.new ≡ with_keys ⟦<D as Reads<I>>⟧.reading self.old name.now item.now import) }
         ensures err { OnErr result (self.new ≡ self.old) }
     {
         let item_is_new = add_name(&mut self.items, name, stored(item, import), self.alloc)?;
@@ -427,7 +451,10 @@ fn put_record<D: Definition, I: ImportSource>(
     item: &Item<D, I>,
     import: Option<I>,
 ) -> Result<(), AllocError>
-    ensures ok { OnOk result (records.new ≡ with_record ⟦<D as Reads<I>>⟧.reading records.old import (recorded ⟦<D as Reads<I>>⟧.reading item.now)) }
+    ensures ok { OnOk result
+        (records.new
+        ≡ with_record ⟦<D as Reads<I>>⟧.reading records.old import
+        (recorded ⟦<D as Reads<I>>⟧.reading item.now)) }
     ensures err { OnErr result (records.new ≡ records.old) }
 {
     if let Some(i) = import {

@@ -29,7 +29,8 @@ impl Passed {
     pub(crate) fn stepped(self, import: ImportId) -> Passed
         ensures import { result.import ≡ (if nat_eq self.steps 0 then Some import else self.import) }
         ensures steps { result.steps ≡ (if nat_eq self.steps 0 then self.gap else self.steps - 1) }
-        ensures gap { result.gap ≡ (if nat_eq self.steps 0 then min (2 * self.gap + 1) (2 ^ 64 - 1) else self.gap) }
+        ensures gap { result.gap
+            ≡ (if nat_eq self.steps 0 then min (2 * self.gap + 1) (2 ^ 64 - 1) else self.gap) }
     {
         if self.steps == 0 {
             return Passed {

@@ -85,7 +85,11 @@ impl DefDiagnostic {
         declaration: AstId,
         candidates: Vec<String>,
     ) -> DefDiagnostic
-        ensures { result ≡ record { in_module = container; kind = DefDiagnosticKind.UnresolvedModule declaration candidates } }
+        ensures { result
+            ≡ record {
+              in_module = container;
+              kind = DefDiagnosticKind.UnresolvedModule declaration candidates;
+            } }
     {
         DefDiagnostic {
             in_module: container,
@@ -98,7 +102,11 @@ impl DefDiagnostic {
 
     /// No crate is there for an `extern crate` item.
     pub fn unresolved_extern_crate(container: ModuleId, declaration: AstId) -> DefDiagnostic
-        ensures { result ≡ record { in_module = container; kind = DefDiagnosticKind.UnresolvedExternCrate declaration } }
+        ensures { result
+            ≡ record {
+              in_module = container;
+              kind = DefDiagnosticKind.UnresolvedExternCrate declaration;
+            } }
     {
         DefDiagnostic {
             in_module: container,
@@ -108,7 +116,8 @@ impl DefDiagnostic {
 
     /// A path of a `use` tree resolves to nothing.
     pub fn unresolved_import(container: ModuleId, id: AstId, index: UseTreeIdx) -> DefDiagnostic
-        ensures { result ≡ record { in_module = container; kind = DefDiagnosticKind.UnresolvedImport id index } }
+        ensures { result
+            ≡ record { in_module = container; kind = DefDiagnosticKind.UnresolvedImport id index } }
     {
         DefDiagnostic {
             in_module: container,
@@ -123,7 +132,8 @@ impl DefDiagnostic {
         path: ModPath,
         err: ExpandErrorKind,
     ) -> DefDiagnostic
-        ensures { result ≡ record { in_module = container; kind = DefDiagnosticKind.MacroError ast path err } }
+        ensures { result
+            ≡ record { in_module = container; kind = DefDiagnosticKind.MacroError ast path err } }
     {
         DefDiagnostic {
             in_module: container,
@@ -138,7 +148,11 @@ impl DefDiagnostic {
         cfg: CfgExpr,
         opts: CfgOptions,
     ) -> DefDiagnostic
-        ensures { result ≡ record { in_module = container; kind = DefDiagnosticKind.UnconfiguredCode ast_id cfg opts } }
+        ensures { result
+            ≡ record {
+              in_module = container;
+              kind = DefDiagnosticKind.UnconfiguredCode ast_id cfg opts;
+            } }
     {
         DefDiagnostic {
             in_module: container,
@@ -152,7 +166,9 @@ impl DefDiagnostic {
         ast: MacroCallKind,
         path: ModPath,
     ) -> DefDiagnostic
-        ensures { result ≡ record { in_module = container; kind = DefDiagnosticKind.UnresolvedMacroCall ast path } }
+        ensures { result
+            ≡ record
+            { in_module = container; kind = DefDiagnosticKind.UnresolvedMacroCall ast path } }
     {
         DefDiagnostic {
             in_module: container,
@@ -162,7 +178,9 @@ impl DefDiagnostic {
 
     /// A macro is declared as a builtin one (`#[rustc_builtin_macro]`), but no such builtin macro is known.
     pub fn unimplemented_builtin_macro(container: ModuleId, ast: AstId) -> DefDiagnostic
-        ensures { result ≡ record { in_module = container; kind = DefDiagnosticKind.UnimplementedBuiltinMacro ast } }
+        ensures { result
+            ≡ record
+            { in_module = container; kind = DefDiagnosticKind.UnimplementedBuiltinMacro ast } }
     {
         DefDiagnostic {
             in_module: container,
@@ -172,7 +190,8 @@ impl DefDiagnostic {
 
     /// A derive stands on an item that is no struct, enum or union.
     pub fn invalid_derive_target(container: ModuleId, ast: AstId, id: AttrId) -> DefDiagnostic
-        ensures { result ≡ record { in_module = container; kind = DefDiagnosticKind.InvalidDeriveTarget ast id } }
+        ensures { result
+            ≡ record { in_module = container; kind = DefDiagnosticKind.InvalidDeriveTarget ast id } }
     {
         DefDiagnostic {
             in_module: container,
@@ -182,7 +201,8 @@ impl DefDiagnostic {
 
     /// A derive does not list paths.
     pub fn malformed_derive(container: ModuleId, ast: AstId, id: AttrId) -> DefDiagnostic
-        ensures { result ≡ record { in_module = container; kind = DefDiagnosticKind.MalformedDerive ast id } }
+        ensures { result
+            ≡ record { in_module = container; kind = DefDiagnosticKind.MalformedDerive ast id } }
     {
         DefDiagnostic {
             in_module: container,

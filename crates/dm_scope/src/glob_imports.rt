@@ -115,7 +115,10 @@ impl GlobFlags {
 
 /// Adds a name to the names of a module.
 fn add_name(names: &mut IndexSet<Name>, name: Name) -> Result<(), AllocError>
-    ensures has { OnOk result ((n : Name) → list_any (same_name n) names.new.keys ≡ cond (same_name name n) true (list_any (same_name n) names.old.keys)) }
+    ensures has { OnOk result
+        ((n : Name)
+        → list_any (same_name n) names.new.keys
+        ≡ cond (same_name name n) true (list_any (same_name n) names.old.keys)) }
     ensures err { OnErr result (names.new.keys ≡ names.old.keys) }
 {
     names.insert(name)?;
@@ -130,7 +133,8 @@ fn add_first(
     alloc: Global,
 ) -> Result<(), AllocError>
     requires { lookup (same_module m) flags.old.entries ≡ None }
-    ensures ok { OnOk result (flags_of flags.new.entries ≡ with_flag (flags_of flags.old.entries) m name true) }
+    ensures ok { OnOk result
+        (flags_of flags.new.entries ≡ with_flag (flags_of flags.old.entries) m name true) }
     ensures err { OnErr result (flags.new.entries ≡ flags.old.entries) }
 {
     let mut names = IndexSet::new(alloc);
@@ -141,7 +145,9 @@ fn add_first(
 
 /// Takes a name off the names of a module, by its key: the last one comes into its place.
 fn take_name(names: &mut IndexSet<Name>, name: &Name)
-    ensures { (n : Name) → list_any (same_name n) names.new.keys ≡ cond (same_name name.now n) false (list_any (same_name n) names.old.keys) }
+    ensures { (n : Name)
+        → list_any (same_name n) names.new.keys
+        ≡ cond (same_name name.now n) false (list_any (same_name n) names.old.keys) }
 {
     names.swap_remove(name);
 }

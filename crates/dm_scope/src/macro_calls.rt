@@ -53,7 +53,8 @@ impl<'a> AttributeCalls<'a> {
 fn next_in_attributes<'a>(
     attributes: &mut slice::Iter<'a, DeriveMacroInvocation>,
 ) -> Option<(MacroCallId, SlotCalls<'a>)>
-    ensures { Takes (attribute_calls (iter_rest attributes.old)) (attribute_calls (iter_rest attributes.new)) result }
+    ensures { Takes (attribute_calls (iter_rest attributes.old))
+        (attribute_calls (iter_rest attributes.new)) result }
 {
     while let Some(attribute) = attributes.next() {
         let mut slots = Picked::new(attribute.derive_call_ids.as_slice(), CallInSlot);

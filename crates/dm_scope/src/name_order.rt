@@ -15,7 +15,8 @@ pub(crate) fn sorted_once<T: Ord + Drop, I: Iterator<Item = T>>(
 ) -> Result<Vec<T>, AllocError>
     requires can { I.can_next items }
     requires finite { IsFinite (I.remaining items) }
-    ensures { IfOk result (λ v. WholeRun I.next_gives items (λ p. AreSortedOnce T.cmp T.eq v.items p.items)) }
+    ensures { IfOk result
+        (λ v. WholeRun I.next_gives items (λ p. AreSortedOnce T.cmp T.eq v.items p.items)) }
 {
     let sorted = items.sorted_unstable(alloc)?;
     let once = sorted.dedup().collect_vec(alloc)?;
@@ -29,7 +30,8 @@ pub fn sorted_names<'a, I: Iterator<Item = &'a Name>>(
 ) -> Result<Vec<&'a Name>, AllocError>
     requires can { I.can_next names }
     requires finite { IsFinite (I.remaining names) }
-    ensures { IfOk result (λ v. WholeRun I.next_gives names (λ p. AreInOrder (seen v.items) (seen p.items))) }
+    ensures { IfOk result
+        (λ v. WholeRun I.next_gives names (λ p. AreInOrder (seen v.items) (seen p.items))) }
 {
     let sorted = sorted_once(names, alloc)?;
     Ok(sorted)

@@ -49,7 +49,8 @@ impl<'a, T, P: Pick<T>> Picked<'a, T, P> {
 
 /// The next that an element shows.
 fn next_shown<T, P: Pick<T>>(rest: &mut slice::Iter<'_, T>, pick: P) -> Option<P::Shown>
-    ensures { TakesFirst (λ x. x) (filter_map P.shown (iter_rest rest.old)) result (filter_map P.shown (iter_rest rest.new)) }
+    ensures { TakesFirst (λ x. x) (filter_map P.shown (iter_rest rest.old)) result
+        (filter_map P.shown (iter_rest rest.new)) }
 {
     while let Some(x) = rest.next() {
         if let Some(shown) = pick.pick(x) {

@@ -17,7 +17,8 @@ pub(crate) fn add_to_list<K: Eq + Hash + Drop, X: MadeWith<Global> + Drop, const
     x: X,
     alloc: Global,
 ) -> Result<(), AllocError>
-    ensures ok { OnOk result (lists_of table.new.entries ≡ add_to_list K.eq (lists_of table.old.entries) key x) }
+    ensures ok { OnOk result
+        (lists_of table.new.entries ≡ add_to_list K.eq (lists_of table.old.entries) key x) }
     ensures err { OnErr result (lists_of table.new.entries ≡ lists_of table.old.entries) }
 {
     match table.get_mut(&key) {
@@ -49,7 +50,8 @@ fn add_list<K: Eq + Hash + Drop, X: MadeWith<Global> + Drop, const N: usize>(
     alloc: Global,
 ) -> Result<(), AllocError>
     requires { lookup (K.eq key) table.old.entries ≡ None }
-    ensures ok { OnOk result (lists_of table.new.entries ≡ add_to_list K.eq (lists_of table.old.entries) key x) }
+    ensures ok { OnOk result
+        (lists_of table.new.entries ≡ add_to_list K.eq (lists_of table.old.entries) key x) }
     ensures err { OnErr result (lists_of table.new.entries ≡ lists_of table.old.entries) }
 {
     let mut list = SmallVec::new(alloc);

@@ -70,7 +70,10 @@ pub(crate) fn put_helpers(
 /// The place of an item that has helpers.
 pub(crate) fn place_of_helpers(table: &IndexMap<AstId, DeriveHelpers>, ast: AstId) -> Option<usize>
     ensures index { result ≡ position (same_ast ast) (keys_of table.now.entries) }
-    ensures value { IfSome result (λ i. slice_get (map (λ e. e.1) table.now.entries) i ≡ lookup (same_ast ast) table.now.entries) }
+    ensures value { IfSome result
+        (λ i.
+        slice_get (map (λ e. e.1) table.now.entries) i
+        ≡ lookup (same_ast ast) table.now.entries) }
 {
     table.get_index_of(&ast)
 }

@@ -115,7 +115,8 @@ fn next_passing<P: Origins>(
     rest: &mut map::Iter<'_, ModuleId, ModuleData>,
     origins: P,
 ) -> Option<ModuleId>
-    ensures { TakesFirst (λ x. x) (modules_with (P.passes origins) rest.old) result (modules_with (P.passes origins) rest.new) }
+    ensures { TakesFirst (λ x. x) (modules_with (P.passes origins) rest.old) result
+        (modules_with (P.passes origins) rest.new) }
 {
     while let Some((m, data)) = rest.next() {
         if origins.passes(data.origin()) {

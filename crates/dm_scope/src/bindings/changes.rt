@@ -99,7 +99,8 @@ fn set_def<D: Definition, I: ImportSource>(
     def: D,
     vis: Visibility,
 )
-    ensures { items.new.entries ≡ change_item (λ x. record x { def = def; vis = vis }) name.now items.old.entries }
+    ensures { items.new.entries
+        ≡ change_item (λ x. record x { def = def; vis = vis }) name.now items.old.entries }
 {
     if let Some(item) = items.get_mut(name) {
         item.def = def;

@@ -15,7 +15,8 @@ impl ItemScope {
     /// Removes a value, where the name is bound to that definition. The order of the others stays; so do import records
     /// and glob flags.
     pub fn remove_from_value_ns(&mut self, name: &Name, def: ModuleDefId)
-        ensures { self.new ≡ record self.old { values = without_binding same_def name.now def self.old.values } }
+        ensures { self.new
+            ≡ record self.old { values = without_binding same_def name.now def self.old.values } }
     {
         self.values.remove(name, def);
     }

@@ -27,7 +27,13 @@ impl ItemScope {
         attr_call_id: MacroCallId,
         slots: usize,
     ) -> Result<(), AllocError>
-        ensures ok { OnOk result (self.new ≡ record self.old { derive_macros = add_to_list same_ast self.old.derive_macros adt (fresh_derive attr_id attr_call_id slots) }) }
+        ensures ok { OnOk result
+            (self.new
+            ≡ record self.old {
+              derive_macros =
+                  add_to_list same_ast self.old.derive_macros adt
+                  (fresh_derive attr_id attr_call_id slots);
+            }) }
         ensures err { OnErr result (self.new ≡ self.old) }
     {
         let derive_call_ids = SmallVec::from_elem(self.alloc, None, slots)?;
@@ -77,7 +83,9 @@ impl ItemScope {
         idx: usize,
     )
         requires { ForSome (derive_at adt attr_id self.old.derive_macros) (λ d. idx < length d.slots) }
-        ensures { self.new ≡ record self.old { derive_macros = fill_slot adt attr_id idx call self.old.derive_macros } }
+        ensures { self.new
+            ≡ record self.old
+            { derive_macros = fill_slot adt attr_id idx call self.old.derive_macros } }
     {
         self.rare.fill_slot(adt, call, attr_id, idx);
     }

@@ -23,10 +23,13 @@ impl ItemScope {
     ///
     /// Fails where memory runs out, and then the text is as before.
     pub fn dump<T: ScopeTables>(&self, tables: &T, buf: &mut String) -> Result<(), AllocError>
-        ensures ok { OnOk result ((text : Text) × IsDump (T.tables tables.now) self.now text × (string_bytes buf.new ≡ string_bytes buf.old ++ text)) }
+        ensures ok { OnOk result
+            ((text : Text) × IsDump (T.tables tables.now) self.now text
+            × (string_bytes buf.new ≡ string_bytes buf.old ++ text)) }
 
         // A scope has one dump: it is this text that is added.
-        ensures exact { (text : Text) → IsDump (T.tables tables.now) self.now text → OnOk result (string_bytes buf.new ≡ string_bytes buf.old ++ text) }
+        ensures exact { (text : Text) → IsDump (T.tables tables.now) self.now text
+            → OnOk result (string_bytes buf.new ≡ string_bytes buf.old ++ text) }
         ensures err { OnErr result (string_bytes buf.new ≡ string_bytes buf.old) }
     {
         let names = self.sorted_names()?;
@@ -55,7 +58,8 @@ impl ItemScope {
         tables: &T,
         names: &[&Name],
     ) -> Result<(), AllocError>
-        ensures { Appends text.old text.new (flat_map (name_line (T.tables tables.now) self.now) (seen names.now)) result }
+        ensures { Appends text.old text.new
+            (flat_map (name_line (T.tables tables.now) self.now) (seen names.now)) result }
     {
         for name in names {
             self.write_name_line(text, tables, *name)?;
@@ -87,7 +91,8 @@ impl ItemScope {
         tables: &T,
         names: &[&Name],
     ) -> Result<(), AllocError>
-        ensures { Appends text.old text.new (flat_map (legacy_line (T.tables tables.now) self.now) (seen names.now)) result }
+        ensures { Appends text.old text.new
+            (flat_map (legacy_line (T.tables tables.now) self.now) (seen names.now)) result }
     {
         for name in names {
             self.write_legacy_line(text, tables, *name)?;

@@ -21,7 +21,8 @@ impl ItemScope {
     pub fn fully_resolve_import<T: ScopeTables>(&self, tables: &T, import: ImportId) -> PerNs
         ensures types { IsFound Namespace.Types (T.tables tables.now) (self.now, import) (λ d. d) result.types }
         ensures values { IsFound Namespace.Values (T.tables tables.now) (self.now, import) (λ d. d) result.values }
-        ensures macros { IsFound Namespace.Macros (T.tables tables.now) (self.now, import) widened_macro result.macros }
+        ensures macros { IsFound Namespace.Macros (T.tables tables.now) (self.now, import) widened_macro
+            result.macros }
     {
         let types = self.chain_end(tables, Namespace::Types, import);
         let values = self.chain_end(tables, Namespace::Values, import);

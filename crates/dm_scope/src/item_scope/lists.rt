@@ -156,7 +156,9 @@ impl ItemScope {
     /// The traits among the types, in order of first binding, then the unnamed ones, in order of import. Takes no
     /// memory.
     pub fn traits(&self) -> Traits<'_>
-        ensures rest { result ≡ filter_map trait_of (map (λ e. e.1) self.now.types.items) ++ map (λ e. e.0) self.now.unnamed_traits }
+        ensures rest { result
+            ≡ filter_map trait_of (map (λ e. e.1) self.now.types.items)
+            ++ map (λ e. e.0) self.now.unnamed_traits }
         ensures runs { ShowsInOrder (λ (x : TraitId). x) }
     {
         Traits::new(self.types.items(), self.rare.unnamed_traits())

@@ -20,7 +20,8 @@ use std::alloc::AllocError;
 impl ItemScope {
     /// Declares a definition. Where an allocation fails, nothing changes.
     pub fn declare(&mut self, def: ModuleDefId) -> Result<(), AllocError>
-        ensures ok { OnOk result (self.new ≡ record self.old { declarations = self.old.declarations ++ def ∷ [] }) }
+        ensures ok { OnOk result
+            (self.new ≡ record self.old { declarations = self.old.declarations ++ def ∷ [] }) }
         ensures err { OnErr result (self.new ≡ self.old) }
     {
         self.declarations.push(def)?;
@@ -29,7 +30,8 @@ impl ItemScope {
 
     /// Defines an `impl` block, of a trait or of none. Where an allocation fails, nothing changes.
     pub fn define_impl(&mut self, imp: ImplId, is_trait_impl: bool) -> Result<(), AllocError>
-        ensures ok { OnOk result (self.new ≡ record self.old { impls = self.old.impls ++ (imp, is_trait_impl) ∷ [] }) }
+        ensures ok { OnOk result
+            (self.new ≡ record self.old { impls = self.old.impls ++ (imp, is_trait_impl) ∷ [] }) }
         ensures err { OnErr result (self.new ≡ self.old) }
     {
         let mut tables = self.rare.taken()?;
@@ -41,7 +43,10 @@ impl ItemScope {
 
     /// Defines an `impl` block that a builtin derive writes. Where an allocation fails, nothing changes.
     pub fn define_builtin_derive_impl(&mut self, imp: BuiltinDeriveImplId) -> Result<(), AllocError>
-        ensures ok { OnOk result (self.new ≡ record self.old { builtin_derive_impls = self.old.builtin_derive_impls ++ imp ∷ [] }) }
+        ensures ok { OnOk result
+            (self.new
+            ≡ record self.old
+            { builtin_derive_impls = self.old.builtin_derive_impls ++ imp ∷ [] }) }
         ensures err { OnErr result (self.new ≡ self.old) }
     {
         let mut tables = self.rare.taken()?;
@@ -53,7 +58,9 @@ impl ItemScope {
 
     /// Defines an `extern` block. Where an allocation fails, nothing changes.
     pub fn define_extern_block(&mut self, extern_block: ExternBlockId) -> Result<(), AllocError>
-        ensures ok { OnOk result (self.new ≡ record self.old { extern_blocks = self.old.extern_blocks ++ extern_block ∷ [] }) }
+        ensures ok { OnOk result
+            (self.new
+            ≡ record self.old { extern_blocks = self.old.extern_blocks ++ extern_block ∷ [] }) }
         ensures err { OnErr result (self.new ≡ self.old) }
     {
         let mut tables = self.rare.taken()?;
@@ -68,7 +75,10 @@ impl ItemScope {
         &mut self,
         extern_crate: ExternCrateId,
     ) -> Result<(), AllocError>
-        ensures ok { OnOk result (self.new ≡ record self.old { extern_crate_decls = self.old.extern_crate_decls ++ extern_crate ∷ [] }) }
+        ensures ok { OnOk result
+            (self.new
+            ≡ record self.old
+            { extern_crate_decls = self.old.extern_crate_decls ++ extern_crate ∷ [] }) }
         ensures err { OnErr result (self.new ≡ self.old) }
     {
         let mut tables = self.rare.taken()?;
@@ -80,7 +90,9 @@ impl ItemScope {
 
     /// Defines a constant without a name. Where an allocation fails, nothing changes.
     pub fn define_unnamed_const(&mut self, konst: ConstId) -> Result<(), AllocError>
-        ensures ok { OnOk result (self.new ≡ record self.old { unnamed_consts = self.old.unnamed_consts ++ konst ∷ [] }) }
+        ensures ok { OnOk result
+            (self.new
+            ≡ record self.old { unnamed_consts = self.old.unnamed_consts ++ konst ∷ [] }) }
         ensures err { OnErr result (self.new ≡ self.old) }
     {
         let mut tables = self.rare.taken()?;
@@ -97,7 +109,10 @@ impl ItemScope {
         vis: Visibility,
         import: Option<ImportId>,
     ) -> Result<(), AllocError>
-        ensures ok { OnOk result (self.new ≡ record self.old { unnamed_traits = self.old.unnamed_traits ++ (tr, vis, import) ∷ [] }) }
+        ensures ok { OnOk result
+            (self.new
+            ≡ record self.old
+            { unnamed_traits = self.old.unnamed_traits ++ (tr, vis, import) ∷ [] }) }
         ensures err { OnErr result (self.new ≡ self.old) }
     {
         let mut tables = self.rare.taken()?;
@@ -110,7 +125,10 @@ impl ItemScope {
     /// Sets the call of an attribute macro on an item, in place of one that was set. Where an allocation fails, nothing
     /// changes.
     pub fn add_attr_macro_invoc(&mut self, item: AstId, call: MacroCallId) -> Result<(), AllocError>
-        ensures ok { OnOk result (self.new ≡ record self.old { attr_macros = insert_entry same_ast self.old.attr_macros item call }) }
+        ensures ok { OnOk result
+            (self.new
+            ≡ record self.old
+            { attr_macros = insert_entry same_ast self.old.attr_macros item call }) }
         ensures err { OnErr result (self.new ≡ self.old) }
     {
         let mut tables = self.rare.taken()?;
@@ -123,7 +141,12 @@ impl ItemScope {
     /// Sets the call of a function-like macro, in place of one that was set. Where an allocation fails, nothing
     /// changes.
     pub fn add_macro_invoc(&mut self, call: AstId, call_id: MacroCallId) -> Result<(), AllocError>
-        ensures ok { OnOk result (self.new ≡ record self.old { macro_invocations = insert_entry same_ast self.old.macro_invocations call call_id }) }
+        ensures ok { OnOk result
+            (self.new
+            ≡ record self.old {
+              macro_invocations =
+                  insert_entry same_ast self.old.macro_invocations call call_id;
+            }) }
         ensures err { OnErr result (self.new ≡ self.old) }
     {
         let mut tables = self.rare.taken()?;
@@ -136,7 +159,10 @@ impl ItemScope {
     /// Defines a legacy macro (one in textual scope) after those of its name, which it shadows from there on. Where an
     /// allocation fails, nothing changes.
     pub fn define_legacy_macro(&mut self, name: Name, mac: MacroId) -> Result<(), AllocError>
-        ensures ok { OnOk result (self.new ≡ record self.old { legacy_macros = add_to_list same_name self.old.legacy_macros name mac }) }
+        ensures ok { OnOk result
+            (self.new
+            ≡ record self.old
+            { legacy_macros = add_to_list same_name self.old.legacy_macros name mac }) }
         ensures err { OnErr result (self.new ≡ self.old) }
     {
         let mut tables = self.rare.taken()?;

@@ -33,11 +33,13 @@ impl ItemScope {
         def: PerNs,
         import: Option<ImportOrExternCrate>,
     ) -> Result<bool, AllocError>
-        ensures gives { PushGives self.old glob_imports.old self.new glob_imports.new lookup.0 (push_of lookup.1 def import) result }
+        ensures gives { PushGives self.old glob_imports.old self.new glob_imports.new lookup.0
+            (push_of lookup.1 def import) result }
 
         // Where scope and table show a list of pushes under the module, they show it with this push after it, and the
         // answer is as that list says. After an allocation failure, and under another module, what was shown is shown.
-        ensures shown { PushShows self.old glob_imports.old self.new glob_imports.new lookup.0 (push_of lookup.1 def import) result }
+        ensures shown { PushShows self.old glob_imports.old self.new glob_imports.new lookup.0
+            (push_of lookup.1 def import) result }
         ensures shown_answer { PushAnswers self.old glob_imports.old lookup.0 (push_of lookup.1 def import) result }
         ensures refused { (k : ModuleId) → StillShows self.old glob_imports.old self.new glob_imports.new k result }
 
@@ -49,7 +51,9 @@ impl ItemScope {
         // What it leaves of other pushes, as a worklist of imports needs it: one that answers false changes nothing,
         // none writes twice, and what a named import would not write it would not write after this push, if that came
         // by another import, by a glob or by none.
-        ensures law { OnOk result (PushLaw itself self.old glob_imports.old self.new glob_imports.new lookup.0 (push_of lookup.1 def import)) }
+        ensures law { OnOk result
+            (PushLaw itself self.old glob_imports.old self.new glob_imports.new lookup.0
+            (push_of lookup.1 def import)) }
     {
         let (m, name) = lookup;
         let answer = self.push_named(glob_imports, m, name, &def, import)?;
@@ -95,7 +99,8 @@ impl ItemScope {
         def: &PerNs,
         import: Option<ImportOrExternCrate>,
     ) -> Result<bool, AllocError>
-        ensures { PushGives self.old globs.old self.new globs.new m (push_of name.now def.now import) result }
+        ensures { PushGives self.old globs.old self.new globs.new m (push_of name.now def.now import)
+            result }
     {
         let new = self
             .types
@@ -122,9 +127,22 @@ impl ItemScope {
         def: &PerNs,
         import: Option<ImportOrExternCrate>,
     ) -> Result<bool, AllocError>
-        ensures answer { IfOk result (λ answer. answer ≡ (is_effective_at values_reading self.old.values globs.old.values m name.now def.now.values import || (is_effective_at macros_reading self.old.macros globs.old.macros m name.now def.now.macros import || is_new_unresolved self.old.unresolved name.now def.now))) }
-        ensures scope { OnOk result (self.new ≡ record (scope_after self.old globs.old m name.now def.now import) { types = self.old.types }) }
-        ensures globs { OnOk result (globs.new ≡ record (globs_after self.old globs.old m name.now def.now import) { types = globs.old.types }) }
+        ensures answer { IfOk result
+            (λ answer.
+            answer
+            ≡ (is_effective_at values_reading self.old.values globs.old.values m name.now
+            def.now.values import
+            || (is_effective_at macros_reading self.old.macros globs.old.macros m
+            name.now def.now.macros import
+            || is_new_unresolved self.old.unresolved name.now def.now))) }
+        ensures scope { OnOk result
+            (self.new
+            ≡ record (scope_after self.old globs.old m name.now def.now import)
+            { types = self.old.types }) }
+        ensures globs { OnOk result
+            (globs.new
+            ≡ record (globs_after self.old globs.old m name.now def.now import)
+            { types = globs.old.types }) }
         ensures err { OnErr result (self.new ≡ self.old) }
         ensures err_globs { OnErr result (globs.new ≡ globs.old) }
     {
@@ -153,9 +171,27 @@ impl ItemScope {
         def: &PerNs,
         import: Option<ImportOrExternCrate>,
     ) -> Result<bool, AllocError>
-        ensures answer { IfOk result (λ answer. answer ≡ (is_effective_at macros_reading self.old.macros globs.old.macros m name.now def.now.macros import || is_new_unresolved self.old.unresolved name.now def.now)) }
-        ensures scope { OnOk result (self.new ≡ record self.old { macros = bound_after macros_reading self.old.macros globs.old.macros m name.now def.now.macros import; unresolved = unresolved_after self.old.unresolved name.now def.now }) }
-        ensures globs { OnOk result (globs.new ≡ record globs.old { macros = flags_after macros_reading self.old.macros globs.old.macros m name.now def.now.macros import }) }
+        ensures answer { IfOk result
+            (λ answer.
+            answer
+            ≡ (is_effective_at macros_reading self.old.macros globs.old.macros m name.now
+            def.now.macros import
+            || is_new_unresolved self.old.unresolved name.now def.now)) }
+        ensures scope { OnOk result
+            (self.new
+            ≡ record self.old {
+              macros =
+                  bound_after macros_reading self.old.macros globs.old.macros m
+                  name.now def.now.macros import;
+              unresolved = unresolved_after self.old.unresolved name.now def.now;
+            }) }
+        ensures globs { OnOk result
+            (globs.new
+            ≡ record globs.old {
+              macros =
+                  flags_after macros_reading self.old.macros globs.old.macros m
+                  name.now def.now.macros import;
+            }) }
         ensures err { OnErr result (self.new ≡ self.old) }
         ensures err_globs { OnErr result (globs.new ≡ globs.old) }
     {
@@ -178,7 +214,10 @@ impl ItemScope {
     /// Puts the name of an empty push among the unresolved ones.
     fn push_unresolved(&mut self, name: &Name, def: &PerNs) -> Result<bool, AllocError>
         ensures answer { IfOk result (λ answer. answer ≡ is_new_unresolved self.old.unresolved name.now def.now) }
-        ensures scope { OnOk result (self.new ≡ record self.old { unresolved = unresolved_after self.old.unresolved name.now def.now }) }
+        ensures scope { OnOk result
+            (self.new
+            ≡ record self.old
+            { unresolved = unresolved_after self.old.unresolved name.now def.now }) }
         ensures err { OnErr result (self.new ≡ self.old) }
     {
         if !def.is_none() || self.rare.is_unresolved(name) {

@@ -39,7 +39,8 @@ impl ItemScope {
 
     /// Each name with what it is bound to.
     fn paired<'a>(&'a self, names: &[&'a Name]) -> Result<Vec<(&'a Name, PerNs)>, AllocError>
-        ensures { IfOk result (λ v. map deref_entry v.items ≡ map (λ n. (n, bound_in self.now n)) (seen names.now)) }
+        ensures { IfOk result
+            (λ v. map deref_entry v.items ≡ map (λ n. (n, bound_in self.now n)) (seen names.now)) }
     {
         let mut entries = Vec::new(self.alloc);
         for name in names {
@@ -87,7 +88,10 @@ fn add_entries<'a>(
     resolutions: &mut Vec<(Option<&'a Name>, PerNs)>,
     entries: &[(&'a Name, PerNs)],
 ) -> Result<(), AllocError>
-    ensures { OnOk result (map deref_resolution resolutions.new.items ≡ map deref_resolution resolutions.old.items ++ map named_resolution (map deref_entry entries.now)) }
+    ensures { OnOk result
+        (map deref_resolution resolutions.new.items
+        ≡ map deref_resolution resolutions.old.items
+        ++ map named_resolution (map deref_entry entries.now)) }
 {
     for (name, res) in entries {
         resolutions.push((Some(*name), *res))?;
@@ -100,7 +104,9 @@ fn add_unnamed(
     resolutions: &mut Vec<(Option<&Name>, PerNs)>,
     traits: &[(TraitId, Visibility, Option<ImportId>)],
 ) -> Result<(), AllocError>
-    ensures { OnOk result (map deref_resolution resolutions.new.items ≡ map deref_resolution resolutions.old.items ++ map unnamed_resolution traits.now) }
+    ensures { OnOk result
+        (map deref_resolution resolutions.new.items
+        ≡ map deref_resolution resolutions.old.items ++ map unnamed_resolution traits.now) }
 {
     for unnamed in traits {
         add_without_name(resolutions, resolution_of(unnamed))?;
@@ -113,7 +119,9 @@ fn add_without_name(
     resolutions: &mut Vec<(Option<&Name>, PerNs)>,
     res: PerNs,
 ) -> Result<(), AllocError>
-    ensures { OnOk result (map deref_resolution resolutions.new.items ≡ map deref_resolution resolutions.old.items ++ (None, res) ∷ []) }
+    ensures { OnOk result
+        (map deref_resolution resolutions.new.items
+        ≡ map deref_resolution resolutions.old.items ++ (None, res) ∷ []) }
 {
     resolutions.push((None, res))?;
     Ok(())
@@ -129,7 +137,9 @@ pub(super) fn resolution_of(unnamed: &(TraitId, Visibility, Option<ImportId>)) -
 
 /// Adds the named imports among the imports of a namespace.
 fn add_imports<I: ImportSource>(imports: &mut Vec<ImportId>, more: &[I]) -> Result<(), AllocError>
-    ensures { OnOk result (imports.new.items ≡ imports.old.items ++ filter_map (λ i. named_import (I.widened i)) more.now) }
+    ensures { OnOk result
+        (imports.new.items
+        ≡ imports.old.items ++ filter_map (λ i. named_import (I.widened i)) more.now) }
 {
     for import in more {
         if let ImportOrExternCrate::Import(id) = import.widen() {

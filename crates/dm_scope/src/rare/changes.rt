@@ -15,7 +15,9 @@ use std::alloc::AllocError;
 impl Rare {
     /// Puts a name last among the unresolved ones, unless it is there. Where an allocation fails, nothing changes.
     pub(crate) fn add_unresolved(&mut self, name: Name) -> Result<(), AllocError>
-        ensures ok { OnOk result (self.new ≡ record self.old { unresolved = insert_key same_name self.old.unresolved name }) }
+        ensures ok { OnOk result
+            (self.new
+            ≡ record self.old { unresolved = insert_key same_name self.old.unresolved name }) }
         ensures err { OnErr result (self.new ≡ self.old) }
     {
         let mut tables = self.taken()?;
@@ -27,7 +29,9 @@ impl Rare {
 
     /// Restricts each unnamed trait to the crate.
     pub(crate) fn censor_traits(&mut self, krate: Crate)
-        ensures { self.new ≡ record self.old { unnamed_traits = map (censored_trait krate) self.old.unnamed_traits } }
+        ensures { self.new
+            ≡ record self.old
+            { unnamed_traits = map (censored_trait krate) self.old.unnamed_traits } }
     {
         if let Some(tables) = &mut self.tables {
             censor_traits(&mut tables.unnamed_traits, krate);

@@ -14,7 +14,8 @@ use smallvec::SmallVec;
 impl Rare {
     /// The first entry of an item's derive attribute. Takes no memory.
     pub(crate) fn first_derive(&self, adt: AstId, attr_id: AttrId) -> Option<&DeriveMacroInvocation>
-        ensures { option_map derive_of (option_copied result) ≡ derive_at adt attr_id self.now.derive_macros }
+        ensures { option_map derive_of (option_copied result)
+            ≡ derive_at adt attr_id self.now.derive_macros }
     {
         let tables = self.tables()?;
         let derives = tables.derive_macros.get(&adt)?;
@@ -31,7 +32,9 @@ impl Rare {
         idx: usize,
     )
         requires { ForSome (derive_at adt attr_id self.old.derive_macros) (λ d. idx < length d.slots) }
-        ensures { self.new ≡ record self.old { derive_macros = fill_slot adt attr_id idx call self.old.derive_macros } }
+        ensures { self.new
+            ≡ record self.old
+            { derive_macros = fill_slot adt attr_id idx call self.old.derive_macros } }
     {
         if let Some(tables) = &mut self.tables {
             fill_slot(&mut tables.derive_macros, adt, call, attr_id, idx);
