@@ -22,7 +22,6 @@ mod names;
 
 use crate::glob_imports::GlobFlags;
 use crate::import_records::Records;
-use crate::keys::{add_key, add_name, add_vacant};
 use crate::lazy_map::LazyMap;
 use crate::reads::Reads;
 use crate::steps::NewKeys;
@@ -41,7 +40,6 @@ use std::marker::Model;
 pub struct Bindings<D: Definition, I: ImportSource> {
     items: LazyMap<Name, Item<D, I>>,
     records: LazyMap<I, ImportOrDef>,
-    alloc: Global,
 }
 
 impl<D: Definition, I: ImportSource> Model for Bindings<D, I> {
@@ -101,7 +99,6 @@ impl<D: Definition, I: ImportSource> Bindings<D, I> {
         Bindings {
             items: LazyMap::new(alloc),
             records: LazyMap::new(alloc),
-            alloc,
         }
     }
 
@@ -205,7 +202,7 @@ impl<D: Definition, I: ImportSource> Bindings<D, I> {
         ensures ok { OnOk result (self.new ≡ bound ⟦<D as Reads<I>>⟧.reading self.old name item.now import) }
         ensures err { OnErr result (self.new ≡ self.old) }
     {
-        add_vacant(&mut self.items, name, stored(item, import))?;
+        self.items.add_vacant(name, stored(item, import))?;
         match put_record(&mut self.records, item, import) {
             Ok(()) => Ok(()),
             Err(refused) => {
@@ -358,7 +355,7 @@ impl<D: Definition, I: ImportSource> Bindings<D, I> {
             (self.new ≡ with_keys ⟦<D as Reads<I>>⟧.reading self.old name.now item.now import) }
         ensures err { OnErr result (self.new ≡ self.old) }
     {
-        let item_is_new = add_name(&mut self.items, name, stored(item, import), self.alloc)?;
+        let item_is_new = self.items.add_name(name, stored(item, import))?;
         match add_record(&mut self.records, import, recorded(item)) {
             Ok(record_is_new) => Ok(NewKeys {
                 writes: true,
@@ -441,7 +438,7 @@ fn add_record<I: ImportSource>(
 {
     match import {
         None => Ok(false),
-        Some(i) => add_key(records, i, value),
+        Some(i) => records.add_key(i, value),
     }
 }
 

@@ -1,11 +1,13 @@
 //! A lazily allocated `IndexMap`.
-ghost use Rattle.std.specs.Prelude.{◌≡◌, [], length, is_some, IfOk, OnOk, OnErr};
+ghost use Rattle.std.specs.Prelude.{◌≡◌, [], length, is_some, None, true, IfOk, OnOk, OnErr};
 ghost use Rattle.std.specs.Option.{option_copied};
 ghost use Rattle.std.specs.Map.{lookup, set_value, remove_entry};
 ghost use Rattle.indexmap.specs.IndexMap.{insert_entry};
-ghost use Rattle.dm_scope.specs.Entries.{without_new};
+ghost use Rattle.dm_ids.specs.Names.{same_name};
+ghost use Rattle.dm_scope.specs.Entries.{add_entry, is_new, without_new};
 ghost use Rattle.dm_scope.specs.LazyMaps.{entries_of};
 
+use dm_base::name::Name;
 use indexmap::IndexMap;
 use indexmap::map::Slice;
 use std::alloc::{AllocError, Global};
@@ -99,6 +101,30 @@ impl<K: Eq + Hash + Drop, V: Drop> LazyMap<K, V> {
         Ok(())
     }
 
+    /// Puts a key last, unless it is there already. Answers whether it is new.
+    pub(crate) fn add_key(&mut self, key: K, value: V) -> Result<bool, AllocError>
+        ensures new { IfOk result (λ new. new ≡ is_new K.eq self.old key) }
+        ensures entries { OnOk result (self.new ≡ add_entry K.eq self.old key value) }
+        ensures err { OnErr result (self.new ≡ self.old) }
+    {
+        if self.contains_key(&key) {
+            return Ok(false);
+        }
+        self.insert(key, value)?;
+        Ok(true)
+    }
+
+    /// Puts a key last that is not there yet.
+    pub(crate) fn add_vacant(&mut self, key: K, value: V) -> Result<(), AllocError>
+        requires { lookup (K.eq key) self.old ≡ None }
+        ensures entries { OnOk result (self.new ≡ insert_entry K.eq self.old key value) }
+        ensures undo { OnOk result (without_new true self.new ≡ self.old) }
+        ensures err { OnErr result (self.new ≡ self.old) }
+    {
+        self.insert(key, value)?;
+        Ok(())
+    }
+
     /// Writes the value at a key, where it is there. Takes no memory.
     pub(crate) fn set(&mut self, key: &K, value: V)
         ensures { self.new ≡ set_value (K.eq key.now) self.old value }
@@ -155,6 +181,22 @@ impl<K: Eq + Hash + Drop, V: Drop> LazyMap<K, V> {
         ensures { self.new ≡ map.value.entries }
     {
         self.map = Some(map);
+    }
+}
+
+impl<V: Drop> LazyMap<Name, V> {
+    /// Puts a copy of a name last, unless the name is there already, which takes no memory. Answers whether it is new.
+    pub(crate) fn add_name(&mut self, name: &Name, value: V) -> Result<bool, AllocError>
+        ensures new { IfOk result (λ new. new ≡ is_new same_name self.old name.now) }
+        ensures entries { OnOk result (self.new ≡ add_entry same_name self.old name.now value) }
+        ensures err { OnErr result (self.new ≡ self.old) }
+    {
+        if self.contains_key(name) {
+            return Ok(false);
+        }
+        let key = name.copy(self.alloc)?;
+        self.insert(key, value)?;
+        Ok(true)
     }
 }
 
