@@ -1,5 +1,5 @@
 //! Derive helpers: the helper attributes of derives, by the items that the derives stand on.
-ghost use Rattle.std.specs.Prelude.{◌≡◌, ◌++◌, ◌∷◌, [], OnOk, OnErr};
+ghost use Rattle.std.specs.Prelude.{◌≡◌, ◌<◌, ◌++◌, ◌∷◌, [], length, OnOk, OnErr};
 ghost use Rattle.dm_def_map.specs.HelperChanges.{helpers_with, helpers_with_at};
 
 use crate::item_tables::keyed_tables::{place_of_helpers, put_helpers};
@@ -82,11 +82,12 @@ fn add_helper_at(
     i: usize,
     helper: DeriveHelper,
 ) -> Result<(), AllocError>
+    requires { i < length table.old.entries }
     ensures ok { OnOk result (table.new.entries ≡ helpers_with_at table.old.entries i helper) }
     ensures err { OnErr result (table.new.entries ≡ table.old.entries) }
 {
     match table.get_index_mut(i) {
-        None => Ok(()),
         Some(helpers) => helpers.push(helper),
+        None => unreachable!(),
     }
 }

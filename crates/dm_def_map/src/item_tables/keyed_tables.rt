@@ -82,10 +82,8 @@ pub(crate) fn place_of_helpers(table: &IndexMap<AstId, DeriveHelpers>, ast: AstI
 pub fn helpers_of(table: &IndexMap<AstId, DeriveHelpers>, ast: AstId) -> Option<&[DeriveHelper]>
     ensures { option_copied result ≡ lookup (same_ast ast) table.now.entries }
 {
-    match table.get(&ast) {
-        None => None,
-        Some(helpers) => Some(helpers.as_slice()),
-    }
+    let helpers = table.get(&ast)?;
+    Some(helpers.as_slice())
 }
 
 /// The macro that an AST item defines.

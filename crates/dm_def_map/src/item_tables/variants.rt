@@ -1,5 +1,5 @@
 //! The variants of an enum, by name.
-ghost use Rattle.std.specs.Prelude.{◌≡◌, ◌++◌, ◌∷◌, [], None, OnOk, OnErr, is_some};
+ghost use Rattle.std.specs.Prelude.{◌≡◌, ◌<◌, ◌++◌, ◌∷◌, [], None, length, OnOk, OnErr, is_some};
 ghost use Rattle.std.specs.Option.{option_copied};
 ghost use Rattle.dm_ids.specs.Names.{find_name};
 ghost use Rattle.dm_def_map.specs.Variants.{variants_in, enums_with_variant, IsFreeAt, enums_with_variant_at};
@@ -99,12 +99,13 @@ fn add_to_nth(
     name: Name,
     variant: (EnumVariantId, FieldsShape),
 ) -> Result<(), AllocError>
-    requires { IsFreeAt enums.old.entries i name }
+    requires within { i < length enums.old.entries }
+    requires free { IsFreeAt enums.old.entries i name }
     ensures ok { OnOk result (enums.new.entries ≡ enums_with_variant_at enums.old.entries i name variant) }
     ensures err { OnErr result (enums.new.entries ≡ enums.old.entries) }
 {
     match enums.get_index_mut(i) {
-        None => Ok(()),
         Some(variants) => variants.push(name, variant),
+        None => unreachable!(),
     }
 }
