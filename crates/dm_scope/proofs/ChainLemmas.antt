@@ -6,9 +6,11 @@ use Rattle.std.specs.Cmp.{IsEquivalence}
 use Rattle.std.specs.Option.{option_and_then, option_or}
 use Rattle.std.proofs.lemmas.Map.Made.{length-le_from_is_member}
 use Rattle.std.proofs.lemmas.List.{length-map, length-append}
-use Rattle.std.proofs.Math.Option.{some-injective}
 use Rattle.dm_scope.specs.Chains.{last_from, IsChain, EndsIn}
 use Rattle.dm_scope.specs.ChainSteps.{found_within}
+
+pub some_is : {X : Type 0} (x y : X) → Some x ≡ Some y → x ≡ y
+some_is x y e = cc
 
 module _ {X D : Type 0} (leads : X → Option X) (ends : X → Option D) where
   -- what a walk finds is the end of a chain
@@ -41,7 +43,7 @@ module _ {X D : Type 0} (leads : X → Option X) (ends : X → Option D) where
   same_length apart x [] (z ∷ zs) d c e f k = absurd (apart x z d f.0 e)
   same_length apart x (y ∷ ys) [] d c e f k = absurd (apart x y d c.0 k)
   same_length apart x (y ∷ ys) (z ∷ zs) d c e f k =
-      let one : y ≡ z = some-injective y z (sym c.0 ∙ f.0) in
+      let one : y ≡ z = some_is y z (sym c.0 ∙ f.0) in
       ap suc (same_length apart y ys zs d c.1 e (subst (λ w. IsChain leads w zs) (sym one) f.1) (subst (λ w. ends (last_from w zs) ≡ Some d) (sym one) k))
 
   pub chain_append : (x y : X) (ys zs : List X) → IsChain leads x ys → leads (last_from x ys) ≡ Some y → IsChain leads y zs → IsChain leads x (ys ++ y ∷ zs)

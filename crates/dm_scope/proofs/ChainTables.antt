@@ -30,8 +30,7 @@ use Rattle.dm_scope.specs.Chains.{Pair, EndsIn, IsFound, import_of, def_of, home
 use Rattle.dm_scope.specs.ChainSteps.{WasPassed, found_within, found_from, record_count, macro_of}
 use Rattle.dm_scope.specs.Records.{records_in}
 use Rattle.dm_scope.specs.Tables.{Tables, all_records}
-use Rattle.std.proofs.Math.Option.{some-injective}
-use Rattle.dm_scope.proofs.ChainLemmas.{found_within-ends, found_within-keys, found_within-round, chain_append, last_append}
+use Rattle.dm_scope.proofs.ChainLemmas.{some_is, found_within-ends, found_within-keys, found_within-round, chain_append, last_append}
 
 -- an import of values is looked up as it is seen among all imports
 same_widened : (i : ImportId) (x : ImportOrGlob) → same_value_import (narrow.Import i) x ≡ same_import (wide.Import i) (widened x)
@@ -69,7 +68,7 @@ known_in test f (x ∷ xs) n s v at is = ap (list_any test) (map-append (λ e. e
     by : (n : ℕ) → slice_get (x ∷ xs) n ≡ Some s → ((m : ℕ) → slice_get xs m ≡ Some s → lookup test (f s) ≡ Some v → list_any test (keys_of (flat_map f xs)) ≡ true)
         → (list_any test (keys_of (f x)) || list_any test (keys_of (flat_map f xs))) ≡ true
     by zero at rest =
-        let here : list_any test (keys_of (f x)) ≡ true = sym (is_some-lookup test (f x)) ∙ ap (λ t. is_some (lookup test (f t))) (some-injective x s at) ∙ ap is_some is in
+        let here : list_any test (keys_of (f x)) ≡ true = sym (is_some-lookup test (f x)) ∙ ap (λ t. is_some (lookup test (f t))) (some_is x s at) ∙ ap is_some is in
         ap (λ b. b || list_any test (keys_of (flat_map f xs))) here
     by (suc n) at rest = ap (λ b. list_any test (keys_of (f x)) || b) (rest n at is) ∙ or_true (list_any test (keys_of (f x)))
 
@@ -79,7 +78,7 @@ module _ (ns : Namespace) (t : Tables) where
   led_home x y h =
       let i = from_some (home t) (option_and_then import_of (record_of ns x)) y h in
       let s = from_some (λ s. Some (s, i.0)) (option_and_then (λ m. slice_get t.scopes m.0) (t.container i.0.use_)) y i.2 in
-      subst (λ z. home t z.1 ≡ Some z) (some-injective _ y s.2) (ap (option_map (λ s. (s, i.0))) s.1)
+      subst (λ z. home t z.1 ≡ Some z) (some_is _ y s.2) (ap (option_map (λ s. (s, i.0))) s.1)
 
   -- no pair both leads on and ends
   apart : (x y : Pair) (d : ModuleDefId) → leads ns t x ≡ Some y → ends ns x ≡ Some d → ⊥
@@ -94,7 +93,7 @@ module _ (ns : Namespace) (t : Tables) where
 
   -- pairs that are led to are one where their imports are
   one : (x y z w : Pair) → leads ns t x ≡ Some y → leads ns t z ≡ Some w → same_import (wide.Import y.1) (wide.Import w.1) ≡ true → y ≡ w
-  one x y z w h k same = some-injective y w (sym (led_home x y h) ∙ ap (home t) (import_is y.1 w.1 same) ∙ led_home z w k)
+  one x y z w h k same = some_is y w (sym (led_home x y h) ∙ ap (home t) (import_is y.1 w.1 same) ∙ led_home z w k)
 
   leads_on : (q p : Pair) (i : ImportId) → record_of ns q ≡ Some (Import i) → home t i ≡ Some p → leads ns t q ≡ Some p
   leads_on q p i is there = ap (λ o. option_and_then (home t) (option_and_then import_of o)) is ∙ there
@@ -128,7 +127,7 @@ module _ (ns : Namespace) (t : Tables) where
   known x y v h is =
       let s = from_some (λ s. Some (s, y.1)) (option_and_then (λ m. slice_get t.scopes m.0) (t.container y.1.use_)) y (led_home x y h) in
       let m = from_some (λ m. slice_get t.scopes m.0) (t.container y.1.use_) s.0 s.1 in
-      let same : s.0 ≡ y.0 = ap (λ p. p.0) (some-injective _ y s.2) in
+      let same : s.0 ≡ y.0 = ap (λ p. p.0) (some_is _ y s.2) in
       known_in (same_import (wide.Import y.1)) (records_in ns) t.scopes m.0.0 y.0 v (m.2 ∙ ap Some same) is
 
   -- a walk through one pair more than there are records finds what some chain ends in
@@ -159,7 +158,7 @@ module _ (ns : Namespace) (t : Tables) where
 
 -- the macro that a definition is
 pub macro_of-back : (e : ModuleDefId) (m : MacroId) → macro_of e ≡ Some m → widened_macro m ≡ e
-macro_of-back (def.MacroId n) m is = ap def.MacroId (sym (some-injective n m is))
+macro_of-back (def.MacroId n) m is = ap def.MacroId (sym (some_is n m is))
 macro_of-back e m is = absurd (let f : ⊥ = cc in f)
 
 pub option_and_then-some : {X : Type 0} (o : Option X) → option_and_then (λ x. Some x) o ≡ o
