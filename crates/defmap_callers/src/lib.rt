@@ -4,6 +4,7 @@
 
 pub mod base;
 pub mod building;
+pub mod collecting;
 pub mod finding;
 pub mod maps;
 pub mod modules;
