@@ -11,7 +11,7 @@ use Rattle.dm_def_map.specs.Maps.{Map}
 use Rattle.dm_maps.specs.BlockLists.{entry_with, crates_of, HasBlock, HoldsAll, AreNumbered}
 use Rattle.dm_maps.specs.BuildCrateData.{map_with_shared}
 use Rattle.dm_maps.proofs.EntryChanges.{entry-set}
-use Rattle.dm_maps.proofs.EntryLemmas.{get-set, get-set_same}
+use Rattle.dm_maps.proofs.EntryLemmas.{at-set, get-set_same}
 use Rattle.dm_maps.proofs.ModuleGrowth.{map-set_own}
 
 module _ {X : Type 0} (f : X → X) (again : (x : X) → f (f x) ≡ f x) where
@@ -47,7 +47,13 @@ module _ {X : Type 0} (f : X → X) (again : (x : X) → f (f x) ≡ f x) where
     where
       by : (o : Option X) → slice_get xs k ≡ o → slice_get (option_map_or (λ x. set xs k (f x)) o xs) j ≡ Some y → f y ≡ y
       by None e g = h y g
-      by (Some x) e g = elim (get-set xs k j x (f x) y e g) [ inl new ↦ ap f new.1 ∙ again x ∙ sym new.1 | inr old ↦ h y old ]
+      by (Some x) e g = elim (at-set xs k j x (f x) e) [
+        | inl same ↦ h y (sym same ∙ g)
+        | inr own ↦
+            let written : Some (f x) ≡ Some y = sym own.2 ∙ g in
+            let same : f x ≡ y = cc in
+            ap f (sym same) ∙ again x ∙ same
+      ]
 
 module _ (k : Crate) (d : CrateData) where
   abbrev given : Map → Map

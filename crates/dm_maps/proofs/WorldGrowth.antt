@@ -21,7 +21,7 @@ use Rattle.dm_maps.proofs.GrowthLemmas.{get-within, longer, place_below}
 use Rattle.dm_maps.proofs.MapWrites.{put-cases, with-there}
 use Rattle.dm_maps.proofs.ModuleGrowth.{entry, map-set_own, outline-map_with_child, longer_crate, longer_block}
 use Rattle.dm_maps.proofs.SoundLemmas.{map-lawful}
-use Rattle.dm_maps.proofs.CrateGrowth.{IsWorldOf-crate}
+use Rattle.dm_maps.proofs.RootGrowth.{IsWorldOf-crate}
 
 -- ---- The number of the next module is free.
 
@@ -48,7 +48,7 @@ numbered-outlines w id = elim id.block as (λ block. elim block [ None ↦ slice
   | Some b ↦ slice_get-map outline w.block_maps b.0
 ]
 
-IsWorld-at_place : (w : World) (q : ModuleId) (at : Place) (n : Name) (d : Module) → IsWorld w → slice_get w.places q.0 ≡ Some at → d.parent ≡ Some q → length w.places < 4294967295 → IsWorld (with_child_at_place w q at n d)
+pub IsWorld-at_place : (w : World) (q : ModuleId) (at : Place) (n : Name) (d : Module) → IsWorld w → slice_get w.places q.0 ≡ Some at → d.parent ≡ Some q → length w.places < 4294967295 → IsWorld (with_child_at_place w q at n d)
 IsWorld-at_place w q at n d is e up room = by (numbered_map w at.map) refl (sym (numbered-outlines w at.map) ∙ (is.stands q at e).is_map)
   where
     by : (o : Option Map) → numbered_map w at.map ≡ o → option_map outline o ≡ Some (is.stands q at e).there → IsWorld (with_child_at_place w q at n d)
@@ -71,11 +71,6 @@ IsWorld-at_place w q at n d is e up room = by (numbered_map w at.map) refl (sym 
         (longer_crate w.places (outlines w.crate_maps) (outlines w.block_maps) (containers_of w.block_maps) (length w.local_maps) is q at e room (outline x) of_id none (found w.crate_maps at.map.krate.0 there)))
         (λ b some there. subst (λ (z : Place × List Outline × List (Option ModuleId)). Q z.0 (outlines w.crate_maps) z.1 z.2) (λ i. (place i, written w.block_maps b.0 i, sym (map-set_own (λ (z : Map). z.parent) w.block_maps b.0 x y there refl) i))
         (longer_block w.places (outlines w.crate_maps) (outlines w.block_maps) (containers_of w.block_maps) (length w.local_maps) is q at e room (outline x) of_id b some (found w.block_maps b.0 there))))
-
-pub IsWorld-child : (w : World) (q : ModuleId) (n : Name) (d : Module) → IsWorld w → q.0 < length w.places → d.parent ≡ Some q → length w.places < 4294967295 → IsWorld (with_child_of w q n d)
-IsWorld-child w q n d is known up room =
-    let at = get-within w.places q.0 known in
-    subst IsWorld (sym (ap (λ o. option_map_or (λ p. with_child_at_place w q p n d) o w) at.1)) (IsWorld-at_place w q at.0 n d is at.1 up room)
 
 -- ---- A crate more.
 
