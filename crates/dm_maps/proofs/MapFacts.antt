@@ -27,27 +27,6 @@ use Rattle.dm_maps.proofs.MapLemmas.{map-lists}
 use Rattle.dm_maps.proofs.SoundLemmas.{lies-there, map-lawful, placed-known}
 use Rattle.dm_maps.proofs.WorldFacts.{module-there}
 
--- what holds of all entries holds of the one that a look-up by number finds
-all-at : (P : ModuleId × Module → Type 0) (es : Modules) (m : ModuleId) (d : Module) → AllByRecursion P es → module_at es m ≡ Some d → P (m, d)
-all-at P [] m d h e = cc
-all-at P (x ∷ es) m d h e = by (nat_eq m.0 x.0.0) refl e (all-at P es m d h.1)
-  where
-    by : (b : Bool) → nat_eq m.0 x.0.0 ≡ b → cond b (Some x.1) (module_at es m) ≡ Some d → (module_at es m ≡ Some d → P (m, d)) → P (m, d)
-    by true t g rest =
-        let same : x.1 ≡ d = cc in
-        let number : x.0.0 ≡ m.0 = sym (eqb-true m.0 x.0.0 t) in
-        subst P (λ i. (record { 0 = number i }, same i)) h.0
-    by false t g rest = rest g
-
--- and of a list of names, of the one that a look-up by name finds
-by-name : {X : Type 0} (P : X → Type 0) (es : List (Name × X)) (n : Name) → AllByRecursion (λ e. P e.1) es → ForSome (find_name n es) P
-by-name P [] n h x e = cc
-by-name {X} P (y ∷ es) n h x e = by (same_name n y.0) e (by-name P es n h.1 x)
-  where
-    by : (b : Bool) → cond b (Some y.1) (find_name n es) ≡ Some x → (find_name n es ≡ Some x → P x) → P x
-    by true g rest = let same : y.1 ≡ x = cc in subst P same h.0
-    by false g rest = rest g
-
 module _ (w : World) (is : IsWorld w) (fam : IsFamily w) (own : Map) (there : numbered_map w own.id ≡ Some own) where
   family : HaveFamilies w.places w.crate_maps w.block_maps
   family = families w.places w.crate_maps w.block_maps fam

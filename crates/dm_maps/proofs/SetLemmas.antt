@@ -1,5 +1,5 @@
 -- What is set in a builder leaves what is known, and scopes; so does another scope for one module, but for that one.
-use Rattle.std.proofs.Common.{◌≡◌, ◌∙◌, ℕ, Bool, true, false, cond, List, Option, None, Some, length, map, set, slice_get, nat_eq, refl, sym, ap, subst, arith, inl, inr, true≢false, IsSome, IsTrue}
+use Rattle.std.proofs.Common.{◌≡◌, ◌∙◌, ℕ, List, Option, None, Some, length, map, set, slice_get, refl, sym, ap, subst, arith, inl, inr, true≢false, IsSome, IsTrue}
 use Rattle.std.proofs.lemmas.List.{length-map}
 use Rattle.std.proofs.lemmas.Option.{slice_get-map}
 use Rattle.std.specs.Option.{option_map, option_map_or}
@@ -22,6 +22,7 @@ use Rattle.dm_maps.specs.Maps.{map_at}
 use Rattle.dm_maps.specs.ScopeTables.{scope_at_place}
 use Rattle.dm_maps.specs.Trees.{IsWorld}
 use Rattle.dm_maps.specs.World.{World, maps_of, module_of, scope_if_known, scope_of, with_scope}
+use Rattle.dm_maps.proofs.MapsKept.{given-keeps}
 use Rattle.dm_maps.proofs.MapWrites.{put-other, with-cases}
 use Rattle.dm_maps.proofs.ScopeWrites.{knows-scoped, scope_of-other, scope_of-own}
 use Rattle.dm_maps.proofs.WorldFacts.{scope-there}
@@ -34,7 +35,7 @@ use Rattle.dm_maps.proofs.GrownLemmas.{grows, scope_in, scope_by, scopes-kept, c
 pub scoped : (w : World) → IsWorld w → (m : ModuleId) → IsTrue (knows w (held.Module m)) → (s : Scope) → IsScoped w (with_scope w m s) m s
 scoped w is m known s = record { id = knows-scoped w m s; own = scope_of-own s w m (scope-there w is m known); others = scope_of-other s w is m }
 
-scope-read : (o : Option Module) → IsSome (option_map (λ (d : Module). d.scope) o) → option_map (λ (d : Module). d.scope) o ≡ Some (option_map_or (λ (d : Module). d.scope) o no_scope)
+pub scope-read : (o : Option Module) → IsSome (option_map (λ (d : Module). d.scope) o) → option_map (λ (d : Module). d.scope) o ≡ Some (option_map_or (λ (d : Module). d.scope) o no_scope)
 scope-read None e = absurd (true≢false (sym e))
 scope-read (Some d) e = refl
 
@@ -72,16 +73,9 @@ set-maps w id f keeps = set-beside w (with_map w id f) refl (count-with (maps_of
 pub set-data : (w : World) (k : Crate) (d : CrateData) → IsGrown w (sharing w k d)
 set-data w k d = set-beside w (sharing w k d) refl (length-map w.crate_maps (map_with_shared k d)) refl refl refl refl (scopes-kept w (sharing w k d) same refl)
   where
-    kept : (x : Map) (j : ℕ) → scope_in (map_with_shared k d x).modules j ≡ scope_in x.modules j
-    kept x j = by (nat_eq x.id.krate.0 k.0)
-      where
-        by : (b : Bool) → scope_in (cond b (record x { shared = d }) x).modules j ≡ scope_in x.modules j
-        by true = refl
-        by false = refl
-
     mapped : (o : Option Map) (j : ℕ) → scope_by (option_map (map_with_shared k d) o) j ≡ scope_by o j
     mapped None j = refl
-    mapped (Some x) j = kept x j
+    mapped (Some x) j = given-keeps (λ (y : Map). scope_in y.modules j) (λ y e. refl) k d x
 
     same : (q : Place) → scope_at_place (sharing w k d) q ≡ scope_at_place w q
     same q = by q.map.block

@@ -12,6 +12,7 @@ use Rattle.dm_maps.specs.BlockLists.{entry_with, crates_of, HasBlock, HoldsAll, 
 use Rattle.dm_maps.specs.BuildCrateData.{map_with_shared}
 use Rattle.dm_maps.proofs.EntryChanges.{entry-set}
 use Rattle.dm_maps.proofs.EntryLemmas.{at-set, get-set_same}
+use Rattle.dm_maps.proofs.MapsKept.{given-keeps, all-given-keep}
 use Rattle.dm_maps.proofs.ModuleGrowth.{map-set_own}
 
 module _ {X : Type 0} (f : X → X) (again : (x : X) → f (f x) ≡ f x) where
@@ -62,16 +63,9 @@ module _ (k : Crate) (d : CrateData) where
   abbrev one : Bool → Map → Map
   one b m = cond b (record m { shared = d }) m
 
-  id-given : (m : Map) → (given m).id ≡ m.id
-  id-given m = by (nat_eq m.id.krate.0 k.0)
-    where
-      by : (b : Bool) → (one b m).id ≡ m.id
-      by true = refl
-      by false = refl
-
   -- of data given twice the last counts
   pub given-again : (e : CrateData) (m : Map) → map_with_shared k e (given m) ≡ map_with_shared k e m
-  given-again e m = ap (λ (i : MapId). cond (nat_eq i.krate.0 k.0) (record (given m) { shared = e }) (given m)) (id-given m) ∙ by (nat_eq m.id.krate.0 k.0)
+  given-again e m = ap (λ (i : MapId). cond (nat_eq i.krate.0 k.0) (record (given m) { shared = e }) (given m)) (given-keeps (λ (x : Map). x.id) (λ x c. refl) k d m) ∙ by (nat_eq m.id.krate.0 k.0)
     where
       by : (b : Bool) → cond b (record (one b m) { shared = e }) (one b m) ≡ cond b (record m { shared = e }) m
       by true = refl
@@ -85,8 +79,7 @@ module _ (k : Crate) (d : CrateData) where
   given-none m e = ap (λ b. one b m) e
 
   crates-given : (ms : List Map) → crates_of (map given ms) ≡ crates_of ms
-  crates-given [] = refl
-  crates-given (m ∷ ms) = (λ i. (id-given m i).krate ∷ crates-given ms i)
+  crates-given = all-given-keep (λ m. m.id.krate) (λ m e. refl) k d
 
   -- the maps ms became ns, of which each of the crate's blocks has the data
   pub all-given : (ms ns : List Map) (own : List BlockId) → HoldsAll k ms own → map given ns ≡ map given ms

@@ -11,7 +11,7 @@ use Rattle.dm_ids.specs.declared.ids.MapId.{MapId}
 use Rattle.dm_ids.specs.declared.ids.ExternCrateId.{ExternCrateId}
 use Rattle.dm_ids.specs.declared.ids.UseId.{UseId}
 use Rattle.dm_ids.specs.declared.item_ids.MacroId.{MacroId}
-use Rattle.dm_ids.specs.Names.{Name, find_name}
+use Rattle.dm_ids.specs.Names.{Name, same_name, find_name}
 use Rattle.dm_scope.specs.Scope.{Scope, no_scope, bound_in, legacy_in, last_of}
 use Rattle.dm_check.specs.declared.held.HeldId.{HeldId}
 use Rattle.dm_check.specs.declared.held.HeldId.TheVariants as held
@@ -114,7 +114,7 @@ module _ (w : World) where
           where
             by : (o : Option X) → find_name n es ≡ o → KnowsAll w (option_map_or holds o [])
             by None e = tt
-            by (Some x) e = found (λ (y : X). KnowsAll w (holds y)) n es x (all-flat_map Known holds (map (λ e. e.1) es) all) e
+            by (Some x) e = found (λ (y : X). KnowsAll w (holds y)) (same_name n) es x (all-map (λ (y : X). KnowsAll w (holds y)) (λ e. e.1) es (all-flat_map Known holds (map (λ e. e.1) es) all)) e
 
     last-known : (ms : List MacroId) → KnowsAll w (map held.Macro ms) → ForSome (last_of ms) (λ m. IsTrue (knows w (held.Macro m)))
     last-known [] h = for_none (λ m. IsTrue (knows w (held.Macro m)))
@@ -124,6 +124,9 @@ module _ (w : World) where
     legacy_in-known : (s : Scope) → KnowsAll w (scope_holds s) → (n : Name) → ForSome (legacy_in s n) (λ m. IsTrue (knows w (held.Macro m)))
     legacy_in-known s holds n = by (find_name n s.legacy_macros) refl
       where
+        Fine_all : List MacroId → Type 0
+        Fine_all ms = KnowsAll w (map held.Macro ms)
+
         legacies : KnowsAll w (legacies_hold s.legacy_macros)
         legacies =
             let beside = legacies_hold s.legacy_macros ++ lists_hold s in
@@ -131,7 +134,7 @@ module _ (w : World) where
 
         by : (o : Option (List MacroId)) → find_name n s.legacy_macros ≡ o → ForSome (elim o [ None ↦ None | Some ms ↦ last_of ms ]) (λ m. IsTrue (knows w (held.Macro m)))
         by None e = for_none (λ m. IsTrue (knows w (held.Macro m)))
-        by (Some ms) e = last-known ms (found (λ (x : List MacroId). KnowsAll w (map held.Macro x)) n s.legacy_macros ms (all-flat_map Known (map held.Macro) (map (λ e. e.1) s.legacy_macros) legacies) e)
+        by (Some ms) e = last-known ms (found Fine_all (same_name n) s.legacy_macros ms (all-map Fine_all (λ e. e.1) s.legacy_macros (all-flat_map Known (map held.Macro) (map (λ e. e.1) s.legacy_macros) legacies)) e)
 
     -- what is said of a module's scope, where that of no module is fine
     pub of_scope : (Q : Scope → Type 0) → Q no_scope → ((s : Scope) → KnowsAll w (scope_holds s) → Q s) → (m : ModuleId) → Q (scope_of w m)
@@ -154,9 +157,12 @@ module _ (w : World) where
         Q : Option Entry → Type 0
         Q o = ForSome o (λ e. IsTrue (knows w (held.Macro e.0)))
 
+        Known_entry : Entry → Type 0
+        Known_entry e = IsTrue (knows w (held.Macro e.0))
+
         at : (m : Map) → KnowsAll w (macro_uses_hold m.macro_use) → (o : Option Entry) → find_name n m.macro_use ≡ o → Q o
         at m all None e = for_none (λ y. IsTrue (knows w (held.Macro y.0)))
-        at m all (Some x) e = for_some (λ (y : Entry). IsTrue (knows w (held.Macro y.0))) x (found (λ (y : Entry). IsTrue (knows w (held.Macro y.0))) n m.macro_use x (all-map Known (λ (y : Entry). held.Macro y.0) (map (λ e. e.1) m.macro_use) all) e)
+        at m all (Some x) e = for_some (λ (y : Entry). IsTrue (knows w (held.Macro y.0))) x (found Known_entry (same_name n) m.macro_use x (all-map Known_entry (λ e. e.1) m.macro_use (all-map Known (λ (y : Entry). held.Macro y.0) (map (λ e. e.1) m.macro_use) all)) e)
 
         by : (o : Option Map) → numbered_map w id ≡ o → Q (find_name n (option_map_or (λ (m : Map). m.macro_use) o []))
         by None e = for_none (λ y. IsTrue (knows w (held.Macro y.0)))
