@@ -1,5 +1,5 @@
 -- What holds of all of a list, by its parts.
-use Rattle.std.proofs.Common.{◌≡◌, ℕ, zero, suc, Bool, true, false, cond, List, [], ◌∷◌, ◌++◌, None, Some, map, set, slice_get, refl, subst}
+use Rattle.std.proofs.Common.{◌≡◌, ℕ, zero, suc, Bool, true, false, cond, List, [], ◌∷◌, ◌++◌, Option, None, Some, IsSome, map, set, slice_get, refl, subst, sym, true≢false}
 use Rattle.std.specs.Option.{ForSome}
 use Rattle.std.specs.List.{AllByRecursion, flat_map}
 use Rattle.std.specs.Map.{lookup}
@@ -67,3 +67,7 @@ for_none P x e = cc
 
 pub for_some : {X : Type 0} (P : X → Type 0) (y : X) → P y → ForSome (Some y) P
 for_some P y p x e = let same : y ≡ x = cc in subst P same p
+
+pub some-is : {X : Type 0} (o : Option X) → IsSome o → (x : X) × (o ≡ Some x)
+some-is None h = absurd (true≢false (sym h))
+some-is (Some x) h = (x, refl)

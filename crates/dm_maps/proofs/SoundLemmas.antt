@@ -16,7 +16,7 @@ use Rattle.dm_scope.specs.Scope.{Scope, no_scope, bound_in, legacy_in, last_of}
 use Rattle.dm_check.specs.declared.held.HeldId.{HeldId}
 use Rattle.dm_check.specs.declared.held.HeldId.TheVariants as held
 use Rattle.dm_maps.specs.declared.place.Place.{Place}
-use Rattle.dm_def_map.specs.Maps.{Map, Module, Modules, LocalMap, module_at}
+use Rattle.dm_def_map.specs.Maps.{Map, Module, Modules, LocalMap, module_at, nth_module}
 use Rattle.dm_maps.specs.World.{World, scope_of, placed_module, numbered_map, map_of}
 use Rattle.dm_maps.specs.Known.{knows, KnowsAll}
 use Rattle.dm_check.specs.Holding.{res_holds, local_holds, type_holds, value_holds, macro_holds, vis_holds}
@@ -29,7 +29,7 @@ use Rattle.dm_maps.specs.Built.{IsBuilt}
 use Rattle.dm_maps.specs.Trees.{tree_of, outline, outlines, IsWorld, IsMap, AreMaps, is_crate_id, is_block_id}
 use Rattle.dm_maps.specs.Sound.{IsSound}
 use Rattle.dm_maps.proofs.ModuleGrowth.{entry}
-use Rattle.dm_maps.proofs.AllLemmas.{all-left, all-right, all-append, all-get, all-map, all-flat_map, found, for_none, for_some}
+use Rattle.dm_maps.proofs.AllLemmas.{all-left, all-right, all-append, all-get, all-map, all-flat_map, found, for_none, for_some, some-is}
 use Rattle.dm_maps.proofs.ListLemmas.{use-among, def-among, macro-among, variant-enum, variant-own, variant-known}
 
 -- ---- The holders of a checked world.
@@ -195,15 +195,19 @@ root-known own w ms k are = by (slice_get ms k) refl
 
 -- ---- The modules of a map.
 
-listed-there : (es : Modules) (m : ModuleId) → IsSome (module_at es m) → (i : ℕ) × (q : Option ModuleId) × (slice_get (map entry es) i ≡ Some (m, q))
-listed-there [] m h = absurd (true≢false (sym h))
-listed-there (e ∷ es) m h = by (nat_eq m.0 e.0.0) refl h (listed-there es m)
+-- what a look-up by number finds stands at a place
+pub found-at : (es : Modules) (m : ModuleId) (d : Module) → module_at es m ≡ Some d → (i : ℕ) × (nth_module es i ≡ Some d) × (slice_get (map entry es) i ≡ Some (m, d.parent))
+found-at [] m d h = cc
+found-at (e ∷ es) m d h = by (nat_eq m.0 e.0.0) refl h (found-at es m d)
   where
     Found : Type 0
-    Found = (i : ℕ) × (q : Option ModuleId) × (slice_get (map entry (e ∷ es)) i ≡ Some (m, q))
+    Found = (i : ℕ) × (nth_module (e ∷ es) i ≡ Some d) × (slice_get (map entry (e ∷ es)) i ≡ Some (m, d.parent))
 
-    by : (b : Bool) → nat_eq m.0 e.0.0 ≡ b → IsSome (cond b (Some e.1) (module_at es m)) → (IsSome (module_at es m) → (i : ℕ) × (q : Option ModuleId) × (slice_get (map entry es) i ≡ Some (m, q))) → Found
-    by true t g rest = let same : e.0.0 ≡ m.0 = sym (eqb-true m.0 e.0.0 t) in (0, e.1.parent, λ i. Some (record { 0 = same i }, e.1.parent))
+    by : (b : Bool) → nat_eq m.0 e.0.0 ≡ b → cond b (Some e.1) (module_at es m) ≡ Some d → (module_at es m ≡ Some d → (i : ℕ) × (nth_module es i ≡ Some d) × (slice_get (map entry es) i ≡ Some (m, d.parent))) → Found
+    by true t g rest =
+        let same : e.1 ≡ d = cc in
+        let number : e.0.0 ≡ m.0 = sym (eqb-true m.0 e.0.0 t) in
+        (0, ap Some same, λ i. Some (record { 0 = number i }, (same i).parent))
     by false t g rest = let r = rest g in (suc r.0, r.1, r.2)
 
 pub map-lawful : (w : World) → IsWorld w → (id : MapId) (m : Map) → numbered_map w id ≡ Some m → IsMap w.places (outline m)
@@ -215,8 +219,9 @@ map-lawful w is id m e = by id.block e
 
 pub lies-there : (w : World) → IsWorld w → (map : Map) (m : ModuleId) → numbered_map w map.id ≡ Some map → IsSome (module_at map.modules m) → map_of w m ≡ Some map
 lies-there w is map m e some =
-    let at = listed-there map.modules m some in
-    ap (option_and_then (λ (p : Place). numbered_map w p.map)) ((map-lawful w is map.id map e).listed at.0 m at.1 at.2) ∙ e
+    let d = some-is (module_at map.modules m) some in
+    let at = found-at map.modules m d.0 d.1 in
+    ap (option_and_then (λ (p : Place). numbered_map w p.map)) ((map-lawful w is map.id map e).listed at.0 m d.0.parent at.2) ∙ e
 
 pub placed-known : (w : World) (m : ModuleId) → IsSome (map_of w m) → IsTrue (knows w (held.Module m))
 placed-known w m some = by (slice_get w.places m.0) refl some
