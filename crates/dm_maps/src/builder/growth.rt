@@ -34,6 +34,15 @@ pub(crate) struct NewBlock {
     pub(crate) map: DefMap,
 }
 
+/// Adds an element, the last. Where an allocation fails, nothing changes.
+pub(crate) fn add_last<T: Drop>(list: &mut Vec<T>, item: T) -> Result<(), AllocError>
+    ensures ok { OnOk result (list.new.items ≡ list.old.items ++ item ∷ []) }
+    ensures err { OnErr result (list.new.items ≡ list.old.items) }
+{
+    list.push(item)?;
+    Ok(())
+}
+
 /// Adds an element, the last, for which there is room.
 fn put<T: Drop>(list: &mut Vec<T>, item: T)
     requires { vec_len list.old < vec_capacity list.old }
