@@ -6,6 +6,7 @@ use Rattle.std.proofs.lemmas.List.{map_push}
 use Rattle.std.proofs.lemmas.Option.{slice_get_past}
 use Rattle.std.specs.Option.{option_and_then, option_map_or}
 use Rattle.dm_ids.specs.declared.ids.Crate.{Crate}
+use Rattle.dm_ids.specs.declared.ids.EnumId.{EnumId}
 use Rattle.dm_ids.specs.declared.ids.MapId.{MapId}
 use Rattle.dm_ids.specs.declared.ids.ModuleId.{ModuleId}
 use Rattle.dm_ids.specs.declared.item_ids.ItemKind.{ItemKind}
@@ -63,6 +64,17 @@ pub record Widens (w v : World) : Type 0 where
   pub items : Longer w.items v.items
   pub variants : length w.variants ≤ length v.variants
   pub macros : Longer w.macros v.macros
+
+-- where uses, items, variants and macros stay
+pub widens : (w v : World) → length w.places ≤ length v.places → length w.crate_maps ≤ length v.crate_maps → v.uses ≡ w.uses → v.items ≡ w.items → v.variants ≡ w.variants → v.macros ≡ w.macros → Widens w v
+widens w v places crates uses items variants macros = record {
+  places = places;
+  crates = crates;
+  uses = let e = ap (λ (l : List ModuleId). length l) uses in omega arith;
+  items = subst (Longer w.items) (sym items) (longer-same w.items);
+  variants = let e = ap (λ (l : List EnumId). length l) variants in omega arith;
+  macros = subst (Longer w.macros) (sym macros) (longer-same w.macros);
+}
 
 known-on : (w v : World) → Widens w v → (h : HeldId) → IsTrue (knows w h) → IsTrue (knows v h)
 known-on w v more (held.Module m) h = among-more (length w.places) (length v.places) m.0 more.places h

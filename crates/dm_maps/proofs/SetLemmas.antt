@@ -28,7 +28,7 @@ use Rattle.dm_maps.proofs.ScopeWrites.{knows-scoped, scope_of-other, scope_of-ow
 use Rattle.dm_maps.proofs.WorldFacts.{scope-there}
 use Rattle.dm_maps.specs.declared.rules.Rules.{Rules}
 use Rattle.dm_def_map.specs.ItemTables.{ItemTables}
-use Rattle.dm_maps.proofs.GrownLemmas.{grows, scope_in, scope_by, scopes-kept, count-with, Longer, longer-same}
+use Rattle.dm_maps.proofs.GrownLemmas.{grows, widens, scope_in, scope_by, scopes-kept, count-with}
 
 -- ---- Another scope for a module.
 
@@ -48,14 +48,9 @@ scope-lent w is m known = scope-read (module_of w m) (scope-there w is m known)
 -- where the lists by which ids are known stay, and the scopes
 set-beside : (w v : World) → v.places ≡ w.places → length v.crate_maps ≡ length w.crate_maps → v.uses ≡ w.uses → v.items ≡ w.items → v.variants ≡ w.variants → v.macros ≡ w.macros
     → ((k : ModuleId) → scope_of v k ≡ scope_of w k) → IsGrown w v
-set-beside w v places crates uses items variants macros scopes = grows w v (record {
-  places = let e = ap (λ (l : List Place). length l) places in omega arith;
-  crates = omega arith;
-  uses = let e = ap (λ (l : List ModuleId). length l) uses in omega arith;
-  items = subst (Longer w.items) (sym items) (longer-same w.items);
-  variants = let e = ap (λ (l : List EnumId). length l) variants in omega arith;
-  macros = subst (Longer w.macros) (sym macros) (longer-same w.macros);
-}) scopes (λ k h. ap (λ l. slice_get l k.0) places)
+set-beside w v places crates uses items variants macros scopes =
+    let at = ap (λ (l : List Place). length l) places in
+    grows w v (widens w v (omega arith) (omega arith) uses items variants macros) scopes (λ k h. ap (λ l. slice_get l k.0) places)
 
 -- maps, but for their modules
 pub set-maps : (w : World) (id : MapId) (f : Map → Map) → ((x : Map) → (f x).modules ≡ x.modules) → IsGrown w (with_map w id f)
