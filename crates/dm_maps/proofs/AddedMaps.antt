@@ -2,17 +2,9 @@
 use Rattle.std.proofs.Common.{◌≡◌, ◌<◌, ◌+◌, ◌∙◌, ℕ, zero, suc, List, [], ◌∷◌, ◌++◌, Option, None, Some, length, map, slice_get, refl, sym, ap, subst, arith}
 use Rattle.std.proofs.lemmas.List.{length-map}
 use Rattle.std.specs.Option.{option_and_then, option_map, option_map_or}
-use Rattle.dm_ids.specs.declared.ids.BlockId.{BlockId}
-use Rattle.dm_ids.specs.declared.ids.Crate.{Crate}
-use Rattle.dm_ids.specs.declared.ids.MapId.{MapId}
-use Rattle.dm_ids.specs.declared.ids.ModuleId.{ModuleId}
-use Rattle.dm_ids.specs.declared.source.AstId.{AstId}
-use Rattle.dm_ids.specs.declared.source.Edition.{Edition}
-use Rattle.dm_ids.specs.declared.source.EditionedFileId.{EditionedFileId}
-use Rattle.dm_ids.specs.Names.{Name}
+use Rattle.dm_maps.proofs.Ids.{AstId, BlockId, Crate, Edition, EditionedFileId, MapId, ModuleId, Name, Place}
 use Rattle.dm_scope.specs.Scope.{no_scope}
 use Rattle.dm_def_map.specs.Maps.{Map, Module, Modules, nth_module, map_with_child}
-use Rattle.dm_maps.specs.declared.place.Place.{Place}
 use Rattle.dm_maps.specs.Added.{IsAddedModule, IsAddedCrate, IsAddedBlock}
 use Rattle.dm_maps.specs.Build.{fresh_crate, next_crate, next_module, next_place, with_child_at_place, with_child_of, with_crate}
 use Rattle.dm_maps.specs.BuildBlocks.{crate_in, fresh_block, next_block, with_block, with_block_of}

@@ -5,9 +5,7 @@ use Rattle.std.proofs.Math.Seq.{set-set}
 use Rattle.std.proofs.lemmas.List.{length-map}
 use Rattle.std.proofs.lemmas.Option.{slice_get-map}
 use Rattle.std.specs.Option.{option_map, option_map_or}
-use Rattle.dm_ids.specs.declared.ids.BlockId.{BlockId}
-use Rattle.dm_ids.specs.declared.ids.Crate.{Crate}
-use Rattle.dm_ids.specs.declared.ids.MapId.{MapId}
+use Rattle.dm_maps.proofs.Ids.{BlockId, Crate, MapId}
 use Rattle.dm_def_map.specs.CrateData.{CrateData}
 use Rattle.dm_def_map.specs.Maps.{Map}
 use Rattle.dm_maps.specs.BlockLists.{entry_with, crates_of, list_at, HasBlock, AreGathered, AreNumbered}

@@ -3,11 +3,7 @@ use Rattle.std.proofs.Common.{◌≡◌, ◌<◌, ℕ, List, [], ◌∷◌, ◌+
 use Rattle.std.proofs.lemmas.List.{map_push}
 use Rattle.std.specs.Option.{option_map_or}
 use Rattle.std.proofs.lemmas.List.{length-map}
-use Rattle.dm_ids.specs.declared.ids.ModuleId.{ModuleId}
-use Rattle.dm_ids.specs.declared.ids.BlockId.{BlockId}
-use Rattle.dm_ids.specs.declared.ids.Crate.{Crate}
-use Rattle.dm_ids.specs.declared.source.AstId.{AstId}
-use Rattle.dm_maps.specs.declared.place.Place.{Place}
+use Rattle.dm_maps.proofs.Ids.{AstId, BlockId, Crate, ModuleId, Place}
 use Rattle.dm_def_map.specs.Maps.{Map}
 use Rattle.dm_maps.specs.Maps.{Maps, maps_and}
 use Rattle.dm_maps.specs.World.{World, crate_map, maps_of, with_maps}

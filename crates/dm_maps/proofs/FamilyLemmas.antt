@@ -5,20 +5,13 @@ use Rattle.std.specs.Option.{option_map, option_and_then}
 use Rattle.std.proofs.lemmas.List.{map_push}
 use Rattle.std.proofs.lemmas.Option.{slice_get-map}
 use Rattle.indexmap.specs.IndexMap.{insert_entry, set_value_at}
-use Rattle.dm_ids.specs.declared.ids.Crate.{Crate}
-use Rattle.dm_ids.specs.declared.ids.MapId.{MapId}
-use Rattle.dm_ids.specs.declared.ids.ModuleId.{ModuleId}
-use Rattle.dm_ids.specs.declared.source.AstId.{AstId}
-use Rattle.dm_ids.specs.declared.source.Edition.{Edition}
-use Rattle.dm_ids.specs.declared.source.EditionedFileId.{EditionedFileId}
-use Rattle.dm_ids.specs.Names.{Name, same_name}
+use Rattle.dm_maps.proofs.Ids.{AstId, Crate, Edition, EditionedFileId, MapId, ModuleId, Name, Place, same_name}
 use Rattle.dm_def_map.specs.declared.map_change.MapChange.{MapChange}
 use Rattle.dm_def_map.specs.declared.map_change.MapChange.TheVariants.{Prelude, MacroUse, MacroDef, Helper, Diagnostic}
 use Rattle.dm_def_map.specs.MapChanges.{changed}
 use Rattle.dm_scope.specs.Scope.{Scope}
 use Rattle.dm_def_map.specs.CrateData.{CrateData}
 use Rattle.dm_def_map.specs.Maps.{Map, Module, Modules, nth_module, put_scope, put_child, map_with_child, map_with_scope, with_child, with_new_child, with_scope_at}
-use Rattle.dm_maps.specs.declared.place.Place.{Place}
 use Rattle.dm_maps.specs.Maps.{Maps, map_at, maps_with}
 use Rattle.dm_maps.specs.World.{World, crate_map, maps_of, numbered_map}
 use Rattle.dm_maps.specs.Build.{with_crate, with_child_at_place, next_module, next_place}

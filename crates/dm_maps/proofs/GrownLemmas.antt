@@ -5,13 +5,7 @@ use Rattle.std.proofs.lemmas.Bool.{eqb-true, ltb-true, lt-ltb}
 use Rattle.std.proofs.lemmas.List.{map_push}
 use Rattle.std.proofs.lemmas.Option.{slice_get_past}
 use Rattle.std.specs.Option.{option_and_then, option_map_or}
-use Rattle.dm_ids.specs.declared.ids.Crate.{Crate}
-use Rattle.dm_ids.specs.declared.ids.EnumId.{EnumId}
-use Rattle.dm_ids.specs.declared.ids.MapId.{MapId}
-use Rattle.dm_ids.specs.declared.ids.ModuleId.{ModuleId}
-use Rattle.dm_ids.specs.declared.item_ids.ItemKind.{ItemKind}
-use Rattle.dm_ids.specs.declared.macros.MacroLoc.{MacroLoc}
-use Rattle.dm_ids.specs.Names.{Name}
+use Rattle.dm_maps.proofs.Ids.{Crate, EnumId, ItemKind, MacroLoc, MapId, ModuleId, Name, Place}
 use Rattle.dm_base.specs.Tree.{same_module}
 use Rattle.dm_scope.specs.Scope.{Scope, no_scope}
 use Rattle.dm_scope.specs.Shows.{Shows}
@@ -19,7 +13,6 @@ use Rattle.dm_check.specs.declared.held.HeldId.{HeldId}
 use Rattle.dm_check.specs.declared.held.HeldId.TheVariants as held
 use Rattle.dm_check.specs.Kinds.{same_kind, is_of_kind, macro_number}
 use Rattle.dm_def_map.specs.Maps.{Map, Module, Modules, nth_module, put_child, with_child, with_new_child, map_with_child}
-use Rattle.dm_maps.specs.declared.place.Place.{Place}
 use Rattle.dm_maps.specs.Added.{IsGrown, IsAddedModule}
 use Rattle.dm_maps.specs.Build.{next_module}
 use Rattle.dm_maps.specs.Known.{knows}

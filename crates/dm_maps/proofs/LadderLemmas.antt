@@ -4,14 +4,11 @@ use Rattle.std.specs.Option.{option_map, option_map_or, option_and_then, option_
 use Rattle.std.proofs.lemmas.Bool.{ltb-true, lt-ltb}
 use Rattle.std.proofs.lemmas.List.{map_push, length-map}
 use Rattle.std.proofs.lemmas.Option.{slice_get-map}
-use Rattle.dm_ids.specs.declared.ids.ModuleId.{ModuleId}
-use Rattle.dm_ids.specs.declared.ids.BlockId.{BlockId}
-use Rattle.dm_ids.specs.declared.ids.MapId.{MapId}
+use Rattle.dm_maps.proofs.Ids.{BlockId, Crate, MapId, ModuleId, Place}
 use Rattle.dm_base.specs.Tree.{IsTree, IsKnown, containing, chain, is_among}
 use Rattle.dm_ladders.specs.Ancestry.{moves}
 use Rattle.dm_ladders.specs.Ladders.{tree_above}
 use Rattle.dm_ladders.proofs.ChainLemmas.{chains-agree, moves-agree, among-known}
-use Rattle.dm_ids.specs.declared.ids.Crate.{Crate}
 use Rattle.dm_def_map.specs.CrateData.{CrateData}
 use Rattle.dm_def_map.specs.Maps.{Map}
 use Rattle.dm_maps.specs.BuildCrateData.{sharing}
@@ -19,7 +16,6 @@ use Rattle.dm_maps.specs.Ladders.{above_place, AreLaddered}
 use Rattle.dm_maps.specs.Maps.{maps_with}
 use Rattle.dm_maps.specs.Trees.{container_in, containers_of, tree_of, IsPlaced, IsWorld}
 use Rattle.dm_maps.specs.World.{World, maps_of}
-use Rattle.dm_maps.specs.declared.place.Place.{Place}
 use Rattle.dm_maps.proofs.EntryLemmas.{get-last}
 use Rattle.dm_maps.proofs.GrowthLemmas.{get-within, container_in-append}
 use Rattle.dm_maps.proofs.MapWrites.{put-cases, with-cases}

@@ -1,6 +1,6 @@
 -- What one push into a world leaves of the others, from what it leaves in the scope of its module.
 use Rattle.std.proofs.Common.{◌≡◌, ◌∙◌, Bool, true, false, IsSome, ap, refl, subst, sym}
-use Rattle.dm_ids.specs.declared.ids.ModuleId.{ModuleId}
+use Rattle.dm_maps.proofs.Ids.{ModuleId}
 use Rattle.dm_base.specs.IdLaws.{same_module-true}
 use Rattle.dm_base.specs.Tree.{same_module}
 use Rattle.dm_scope.specs.Flags.{Globs}

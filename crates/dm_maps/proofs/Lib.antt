@@ -1,3 +1,4 @@
+pub mod Ids
 pub mod EntryLemmas
 pub mod EntryChanges
 pub mod GrowthLemmas

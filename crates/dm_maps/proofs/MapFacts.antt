@@ -5,15 +5,12 @@ use Rattle.std.specs.Option.{ForSome, option_map, option_map_or, option_and_then
 use Rattle.std.proofs.lemmas.Bool.{lt-ltb}
 use Rattle.std.proofs.lemmas.List.Elements.{All-from_recursion}
 use Rattle.std.proofs.lemmas.Option.{slice_get-map, slice_get_within}
-use Rattle.dm_ids.specs.declared.ids.BlockId.{BlockId}
-use Rattle.dm_ids.specs.declared.ids.ModuleId.{ModuleId}
-use Rattle.dm_ids.specs.Names.{Name, same_name, find_name}
+use Rattle.dm_maps.proofs.Ids.{BlockId, ModuleId, Name, Place, find_name, same_name}
 use Rattle.dm_base.specs.IdLaws.{same_module-true}
 use Rattle.dm_base.specs.Tree.{containing, same_module}
 use Rattle.dm_check.specs.declared.held.HeldId.TheVariants as held
 use Rattle.dm_def_map.specs.Maps.{Map, Module, Modules, module_at}
 use Rattle.dm_def_map.specs.Queries.{containing_in}
-use Rattle.dm_maps.specs.declared.place.Place.{Place}
 use Rattle.dm_maps.specs.Family.{IsParent, AreParents, common, HaveFamilies, IsFamily}
 use Rattle.dm_maps.specs.Known.{knows}
 use Rattle.dm_maps.specs.MapFacts.{IsAscending, HasContainer, IsChild, IsMapOf}

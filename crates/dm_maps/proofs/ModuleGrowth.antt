@@ -5,11 +5,7 @@ use Rattle.std.specs.Option.{option_map, option_map_or}
 use Rattle.std.proofs.lemmas.List.{map-set, map_push}
 use Rattle.std.proofs.lemmas.Option.{slice_get_within, slice_get-map}
 use Rattle.indexmap.specs.IndexMap.{set_value_at}
-use Rattle.dm_ids.specs.declared.ids.ModuleId.{ModuleId}
-use Rattle.dm_ids.specs.declared.ids.BlockId.{BlockId}
-use Rattle.dm_ids.specs.declared.ids.MapId.{MapId}
-use Rattle.dm_ids.specs.Names.{Name}
-use Rattle.dm_maps.specs.declared.place.Place.{Place}
+use Rattle.dm_maps.proofs.Ids.{BlockId, MapId, ModuleId, Name, Place}
 use Rattle.dm_def_map.specs.Maps.{Map, Module, Modules, nth_module, put_child, with_child_at, map_with_child}
 use Rattle.dm_maps.specs.Trees.{no_map, Outline, outline, IsPlaced, IsWorldOf, AreMaps, is_crate_id, is_block_id, map_id_in, numbered_outline}
 use Rattle.dm_maps.proofs.EntryLemmas.{get-last, get-set_same, set-own}

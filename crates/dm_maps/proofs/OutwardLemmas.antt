@@ -2,8 +2,7 @@
 use Rattle.std.proofs.Common.{◌≡◌, ◌<◌, ◌≤◌, ℕ, zero, suc, List, [], ◌∷◌, Option, Some, None, Bor, length, refl, sym, ap, subst, ◌∙◌, arith, IsSome}
 use Rattle.std.specs.Option.{option_map, option_map_or, option_and_then}
 use Rattle.std.proofs.lemmas.Bool.{ltb-true}
-use Rattle.dm_ids.specs.declared.ids.BlockId.{BlockId}
-use Rattle.dm_ids.specs.declared.ids.ModuleId.{ModuleId}
+use Rattle.dm_maps.proofs.Ids.{BlockId, ModuleId}
 use Rattle.dm_def_map.specs.Maps.{Map, module_at}
 use Rattle.dm_maps.specs.Outwards.{container_of, next_outwards, outwards_within, maps_outwards, AsksMaps, IsHandedOut, MayAskMaps, MayAskNext}
 use Rattle.dm_maps.specs.Trees.{IsWorld}

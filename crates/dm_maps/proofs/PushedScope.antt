@@ -3,16 +3,12 @@ use Rattle.std.proofs.Common.{Bool, true, false, cond, List, [], ◌∷◌, ◌+
 use Rattle.std.specs.List.{AllByRecursion, flat_map}
 use Rattle.std.specs.Option.{option_map_or, option_and_then}
 use Rattle.indexmap.specs.IndexMap.{insert_entry}
-use Rattle.dm_ids.specs.declared.ids.ModuleId.{ModuleId}
-use Rattle.dm_ids.specs.declared.imports.ImportOrExternCrate.{ImportOrExternCrate}
+use Rattle.dm_maps.proofs.Ids.{ImportOrDef, ImportOrExternCrate, ImportOrGlob, ModuleId, Name, find_name, same_name}
 use Rattle.dm_ids.specs.declared.imports.ImportOrExternCrate.TheVariants as wide
-use Rattle.dm_ids.specs.declared.imports.ImportOrDef.{ImportOrDef}
-use Rattle.dm_ids.specs.declared.imports.ImportOrGlob.{ImportOrGlob}
 use Rattle.dm_ids.specs.declared.imports.ImportOrGlob.TheVariants as narrow
 use Rattle.dm_base.specs.declared.per_ns.Item.{Item}
 use Rattle.dm_base.specs.declared.per_ns.PerNs.{PerNs}
 use Rattle.dm_ids.specs.Imports.{narrowed, target_of, widened}
-use Rattle.dm_ids.specs.Names.{Name, same_name, find_name}
 use Rattle.dm_scope.specs.Bindings.{Bound, Reading, recorded_from, recorded, with_record, stored, import_of, writes, bound, bound_after}
 use Rattle.dm_scope.specs.Flags.{Flags, Globs, has_flag}
 use Rattle.dm_scope.specs.Push.{types_reading, values_reading, macros_reading, scope_after}

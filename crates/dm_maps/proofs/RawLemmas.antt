@@ -1,10 +1,7 @@
 -- What the tables of a checked world hold of visibilities as they are written is the world's.
 use Rattle.std.proofs.Common.{◌≡◌, List, [], ◌∷◌, ◌++◌, Some, map, IsTrue}
 use Rattle.std.specs.List.{AllByRecursion, flat_map}
-use Rattle.dm_ids.specs.declared.ids.TraitId.{TraitId}
-use Rattle.dm_ids.specs.declared.item_ids.AssocItemId.{AssocItemId}
-use Rattle.dm_ids.specs.declared.item_ids.ItemContainerId.{ItemContainerId}
-use Rattle.dm_ids.specs.declared.item_ids.VariantId.{VariantId}
+use Rattle.dm_maps.proofs.Ids.{AssocItemId, ItemContainerId, TraitId, VariantId}
 use Rattle.dm_base.specs.declared.visibility.RawVisibility.{RawVisibility}
 use Rattle.dm_check.specs.declared.held.HeldId.{HeldId}
 use Rattle.dm_check.specs.TablesHold.{raw_holds, container_holds, field_list_holds, assoc_holds, trait_holds, tables_hold}

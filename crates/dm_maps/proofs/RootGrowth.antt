@@ -1,10 +1,7 @@
 -- Invariants of every world still hold with a crate or a block more.
 use Rattle.std.proofs.Common.{◌≡◌, ◌<◌, ◌+◌, ℕ, zero, suc, List, [], ◌∷◌, ◌++◌, Option, Some, None, length, slice_get, inl, inr, sym, ap, ◌∙◌, refl, subst, arith, length-append}
 use Rattle.std.specs.Option.{option_and_then, option_map_or}
-use Rattle.dm_ids.specs.declared.ids.Crate.{Crate}
-use Rattle.dm_ids.specs.declared.ids.MapId.{MapId}
-use Rattle.dm_ids.specs.declared.ids.ModuleId.{ModuleId}
-use Rattle.dm_maps.specs.declared.place.Place.{Place}
+use Rattle.dm_maps.proofs.Ids.{Crate, MapId, ModuleId, Place}
 use Rattle.dm_maps.specs.Trees.{no_map, Outline, IsMap, IsPlaced, IsWithin, IsWorldOf, AreMaps, is_crate_id, is_block_id, map_id_in}
 use Rattle.dm_maps.proofs.EntryLemmas.{get-push, get-last}
 use Rattle.dm_maps.proofs.GrowthLemmas.{after, get-within, map_id_in-append, container_in-append, AreMaps-append, Grows-same, Grows-append, IsWorldOf-next}

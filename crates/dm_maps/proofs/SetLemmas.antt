@@ -3,16 +3,11 @@ use Rattle.std.proofs.Common.{◌≡◌, ◌∙◌, ℕ, List, Option, None, Som
 use Rattle.std.proofs.lemmas.List.{length-map}
 use Rattle.std.proofs.lemmas.Option.{slice_get-map}
 use Rattle.std.specs.Option.{option_map, option_map_or}
-use Rattle.dm_ids.specs.declared.ids.BlockId.{BlockId}
-use Rattle.dm_ids.specs.declared.ids.Crate.{Crate}
-use Rattle.dm_ids.specs.declared.ids.EnumId.{EnumId}
-use Rattle.dm_ids.specs.declared.ids.MapId.{MapId}
-use Rattle.dm_ids.specs.declared.ids.ModuleId.{ModuleId}
+use Rattle.dm_maps.proofs.Ids.{BlockId, Crate, EnumId, MapId, ModuleId, Place}
 use Rattle.dm_scope.specs.Scope.{Scope, no_scope}
 use Rattle.dm_check.specs.declared.held.HeldId.TheVariants as held
 use Rattle.dm_def_map.specs.CrateData.{CrateData}
 use Rattle.dm_def_map.specs.Maps.{LocalMap, Map, Module}
-use Rattle.dm_maps.specs.declared.place.Place.{Place}
 use Rattle.dm_maps.specs.Added.{IsGrown, IsScoped}
 use Rattle.dm_maps.specs.Build.{with_rules}
 use Rattle.dm_maps.specs.BuildCrateData.{map_with_shared, sharing, with_shared}

@@ -5,13 +5,7 @@ use Rattle.std.specs.Option.{option_map, option_map_or}
 use Rattle.std.proofs.lemmas.Option.{slice_get_within, slice_get-map}
 use Rattle.std.proofs.lemmas.List.{length-map}
 use Rattle.std.proofs.lemmas.Bool.{eqb-true}
-use Rattle.dm_ids.specs.declared.ids.ModuleId.{ModuleId}
-use Rattle.dm_ids.specs.declared.ids.Crate.{Crate}
-use Rattle.dm_ids.specs.declared.ids.MapId.{MapId}
-use Rattle.dm_ids.specs.declared.source.Edition.{Edition}
-use Rattle.dm_ids.specs.declared.source.EditionedFileId.{EditionedFileId}
-use Rattle.dm_ids.specs.Names.{Name}
-use Rattle.dm_maps.specs.declared.place.Place.{Place}
+use Rattle.dm_maps.proofs.Ids.{Crate, Edition, EditionedFileId, MapId, ModuleId, Name, Place}
 use Rattle.dm_def_map.specs.Maps.{Map, Module, Modules, LocalMap, module_at, map_with_child}
 use Rattle.dm_maps.specs.Maps.{Maps, IsFree, maps_and, maps_with_child}
 use Rattle.dm_maps.specs.World.{World, maps_of, with_maps, numbered_map}

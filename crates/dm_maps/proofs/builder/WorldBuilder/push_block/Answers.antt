@@ -1,5 +1,5 @@
 use Rattle.std.proofs.Common.{◌≡◌, ◌∙◌, ◌++◌, ◌∷◌, [], Some, ap, sym, subst, ◌<◌, length}
-use Rattle.dm_ids.specs.declared.ids.MapId.{MapId}
+use Rattle.dm_maps.proofs.Ids.{MapId}
 use Rattle.dm_maps.specs.BlockLists.{entry_with}
 use Rattle.dm_maps.specs.World.{World, crate_map, with_maps}
 use Rattle.dm_maps.specs.Build.{next_module}

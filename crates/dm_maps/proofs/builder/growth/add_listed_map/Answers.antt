@@ -1,5 +1,5 @@
 use Rattle.std.proofs.Common.{◌∙◌, ◌-◌, List, ap, length, take}
-use Rattle.dm_ids.specs.declared.ids.BlockId.{BlockId}
+use Rattle.dm_maps.proofs.Ids.{BlockId}
 use Rattle.dm_maps.specs.BlockLists.{entry_with}
 use Rattle.dm_maps.proofs.BlockListLemmas.{listed-back}
 use Rattle.dm_maps.proofs.builder.growth.add_listed_map.Goals as goal
