@@ -1,5 +1,5 @@
 -- What holds of a builder, of its tables and of what it keeps beside them, still holds as they grow and as maps change.
-use Rattle.std.proofs.Common.{◌≡◌, ◌<◌, ◌∙◌, ℕ, List, [], ◌∷◌, ◌++◌, Option, None, Some, length, refl, sym, ap, subst, length-append}
+use Rattle.std.proofs.Common.{◌≡◌, ◌<◌, ℕ, List, [], ◌∷◌, ◌++◌, Option, None, Some, length, refl, sym, ap, subst, length-append}
 use Rattle.std.proofs.lemmas.List.{map_push, length-map}
 use Rattle.std.proofs.lemmas.Option.{slice_get_within}
 use Rattle.std.specs.Option.{option_map_or}
@@ -18,7 +18,7 @@ use Rattle.dm_maps.specs.Built.{IsBuilt}
 use Rattle.dm_maps.specs.Family.{IsFamily}
 use Rattle.dm_maps.specs.Indexes.{AreIndexed}
 use Rattle.dm_maps.specs.Trees.{Outline}
-use Rattle.dm_maps.specs.World.{World, crate_map, maps_of, place_of}
+use Rattle.dm_maps.specs.World.{World, crate_map, place_of}
 use Rattle.dm_maps.proofs.BlockListLemmas.{AreGathered-crate, AreGathered-block, AreGathered-with, AreGathered-sharing}
 use Rattle.dm_maps.proofs.BlockMade.{IsWorld-block_of}
 use Rattle.dm_maps.proofs.FamilyLemmas.{IsFamily-crate, IsFamily-block, IsFamily-child, IsFamily-changed, IsFamily-scoped, IsFamily-shared}

@@ -1,11 +1,11 @@
 -- What was known stays known, and scopes stay, where something without a binding is added.
-use Rattle.std.proofs.Common.{◌≡◌, ◌<◌, ◌≤◌, ◌+◌, ◌∙◌, ℕ, zero, suc, Bool, true, false, List, [], ◌∷◌, ◌++◌, Option, None, Some, length, map, set, slice_get, nat_eq, nat_lt, refl, sym, ap, subst, arith, inl, inr, IsTrue, length-append, true≢false}
+use Rattle.std.proofs.Common.{◌≡◌, ◌<◌, ◌≤◌, ◌∙◌, ℕ, zero, suc, Bool, true, false, List, [], ◌∷◌, ◌++◌, Option, None, Some, length, map, set, slice_get, nat_eq, nat_lt, refl, sym, ap, subst, arith, inl, inr, IsTrue, length-append, true≢false}
 use Rattle.std.proofs.Math.ListN.{length-set}
 use Rattle.std.proofs.lemmas.Bool.{eqb-true, ltb-true, lt-ltb}
 use Rattle.std.proofs.lemmas.List.{map_push}
 use Rattle.std.proofs.lemmas.Option.{slice_get_past}
 use Rattle.std.specs.Option.{option_and_then, option_map_or}
-use Rattle.dm_maps.proofs.Ids.{Crate, EnumId, ItemKind, MacroLoc, MapId, ModuleId, Name, Place}
+use Rattle.dm_maps.proofs.Ids.{EnumId, ItemKind, MacroLoc, MapId, ModuleId, Name, Place}
 use Rattle.dm_base.specs.Tree.{same_module}
 use Rattle.dm_scope.specs.Scope.{Scope, no_scope}
 use Rattle.dm_scope.specs.Shows.{Shows}

@@ -1,22 +1,21 @@
 -- What holds of each map of a checked world.
-use Rattle.std.proofs.Common.{◌≡◌, ◌↔◌, ◌<◌, ◌∙◌, Bool, true, false, cond, List, [], ◌∷◌, Option, None, Some, length, map, slice_get, nat_eq, is_some, refl, sym, ap, subst, true≢false, IsTrue, IsSome}
+use Rattle.std.proofs.Common.{◌≡◌, ◌<◌, ◌∙◌, Option, None, Some, map, slice_get, is_some, refl, sym, ap, subst, true≢false, IsTrue, IsSome}
 use Rattle.std.specs.List.{AllByRecursion}
-use Rattle.std.specs.Option.{ForSome, option_map, option_map_or, option_and_then, option_or}
-use Rattle.std.proofs.lemmas.Bool.{lt-ltb}
+use Rattle.std.specs.Option.{option_map, option_map_or, option_and_then, option_or}
 use Rattle.std.proofs.lemmas.List.Elements.{All-from_recursion}
 use Rattle.std.proofs.lemmas.Option.{slice_get-map, slice_get_within}
-use Rattle.dm_maps.proofs.Ids.{BlockId, ModuleId, Name, Place, find_name, same_name}
+use Rattle.dm_maps.proofs.Ids.{BlockId, ModuleId, Name, Place, same_name}
 use Rattle.dm_base.specs.IdLaws.{same_module-true}
 use Rattle.dm_base.specs.Tree.{containing, same_module}
 use Rattle.dm_check.specs.declared.held.HeldId.TheVariants as held
-use Rattle.dm_def_map.specs.Maps.{Map, Module, Modules, module_at}
+use Rattle.dm_def_map.specs.Maps.{Map, Module, module_at}
 use Rattle.dm_def_map.specs.Queries.{containing_in}
 use Rattle.dm_maps.specs.Family.{IsParent, AreParents, common, HaveFamilies, IsFamily}
 use Rattle.dm_maps.specs.Known.{knows}
-use Rattle.dm_maps.specs.MapFacts.{IsAscending, HasContainer, IsChild, IsMapOf}
+use Rattle.dm_maps.specs.MapFacts.{HasContainer, IsChild, IsMapOf}
 use Rattle.dm_maps.specs.Sound.{IsCheckedWorld}
 use Rattle.dm_maps.specs.Trees.{no_map, outline, containers_of, container_in, parent_in, map_id_in, tree_of, IsMap, IsWorld}
-use Rattle.dm_maps.specs.World.{World, crate_map, map_of, placed_module, module_of, numbered_map}
+use Rattle.dm_maps.specs.World.{World, crate_map, map_of, module_of, numbered_map}
 use Rattle.dm_maps.proofs.AllLemmas.{all-get, all-weaker, found, found-entry, some-is}
 use Rattle.dm_maps.proofs.FamilyLemmas.{families}
 use Rattle.dm_maps.proofs.InOrder.{ascending, lies-in, its-id, its-parent, its-module, parent-lies, one-root, contained}

@@ -1,9 +1,9 @@
 -- What is set in a builder leaves what is known, and scopes; so does another scope for one module, but for that one.
-use Rattle.std.proofs.Common.{◌≡◌, ◌∙◌, ℕ, List, Option, None, Some, length, map, set, slice_get, refl, sym, ap, subst, arith, inl, inr, true≢false, IsSome, IsTrue}
+use Rattle.std.proofs.Common.{◌≡◌, ◌∙◌, ℕ, List, Option, None, Some, length, slice_get, refl, sym, ap, arith, inl, inr, true≢false, IsSome, IsTrue}
 use Rattle.std.proofs.lemmas.List.{length-map}
 use Rattle.std.proofs.lemmas.Option.{slice_get-map}
 use Rattle.std.specs.Option.{option_map, option_map_or}
-use Rattle.dm_maps.proofs.Ids.{BlockId, Crate, EnumId, MapId, ModuleId, Place}
+use Rattle.dm_maps.proofs.Ids.{BlockId, Crate, MapId, ModuleId, Place}
 use Rattle.dm_scope.specs.Scope.{Scope, no_scope}
 use Rattle.dm_check.specs.declared.held.HeldId.TheVariants as held
 use Rattle.dm_def_map.specs.CrateData.{CrateData}

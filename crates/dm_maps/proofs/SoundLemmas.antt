@@ -15,7 +15,7 @@ use Rattle.dm_maps.specs.Known.{knows, KnowsAll}
 use Rattle.dm_check.specs.Holding.{res_holds, local_holds, type_holds, value_holds, macro_holds, vis_holds}
 use Rattle.dm_maps.specs.Holds.{map_holds, preludes_hold, module_holds}
 use Rattle.dm_check.specs.Holds.{scope_holds, prelude_holds, macro_uses_hold, types_hold, values_hold, macros_hold, legacies_hold, bindings_hold, records_hold, lists_hold}
-use Rattle.dm_check.specs.TablesHold.{macro_defs_hold, helpers_hold, diagnostics_hold, data_holds}
+use Rattle.dm_check.specs.TablesHold.{macro_defs_hold, helpers_hold, diagnostics_hold, data_holds, tables_hold}
 use Rattle.dm_maps.specs.First.{Held, each_from, crate_holder, block_holder, module_holder, tables_holder, local_at, IsChecked}
 use Rattle.dm_maps.specs.Readings.{macro_uses_of, prelude_of}
 use Rattle.dm_maps.specs.Built.{IsBuilt}
@@ -56,6 +56,9 @@ module _ (w : World) where
 
     after_crates : AllByRecursion Fine (blocks ++ (modules ++ tables_holder w ∷ []))
     after_crates = all-right Fine crates (blocks ++ (modules ++ tables_holder w ∷ [])) checked
+
+    pub fine_tables : KnowsAll w (tables_hold w.item_tables)
+    fine_tables = (all-right Fine modules (tables_holder w ∷ []) (all-right Fine blocks (modules ++ tables_holder w ∷ []) after_crates)).0
 
     fine_crate : (k : ℕ) (m : Map) → slice_get w.crate_maps k ≡ Some m → KnowsAll w (map_holds m)
     fine_crate k m e =

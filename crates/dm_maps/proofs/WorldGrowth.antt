@@ -11,7 +11,7 @@ use Rattle.dm_maps.specs.Maps.{Maps, IsFree, maps_and, maps_with_child}
 use Rattle.dm_maps.specs.World.{World, maps_of, with_maps, numbered_map}
 use Rattle.dm_maps.specs.Build.{with_child_of, with_child_at_place, next_module, next_crate, next_place, with_crate, fresh_crate}
 use Rattle.dm_maps.specs.Trees.{Outline, outline, outlines, containers_of, IsWorldOf, IsWorld, numbered_outline}
-use Rattle.dm_maps.proofs.GrowthLemmas.{get-within, longer, place_below}
+use Rattle.dm_maps.proofs.GrowthLemmas.{longer, place_below}
 use Rattle.dm_maps.proofs.MapWrites.{put-cases, with-there}
 use Rattle.dm_maps.proofs.ModuleGrowth.{entry, map-set_own, outline-map_with_child, longer_crate, longer_block}
 use Rattle.dm_maps.proofs.SoundLemmas.{map-lawful}

@@ -67,7 +67,8 @@ pub(crate) fn add_child_in(
     requires free { IsFree maps.old child.at.map child.m }
     ensures ladders { OnOk result (ladders.new ≡ ladders.old ++ Some parent ∷ []) }
     ensures places { OnOk result (places.new.items ≡ places.old.items ++ child.place ∷ []) }
-    ensures maps { OnOk result (maps.new ≡ maps_with_child maps.old child.at.map child.at.index child.name child.m child.added) }
+    ensures maps { OnOk result (maps.new
+        ≡ maps_with_child maps.old child.at.map child.at.index child.name child.m child.added) }
     ensures old_ladders { OnErr result (ladders.new ≡ ladders.old) }
     ensures old_places { OnErr result (places.new.items ≡ places.old.items) }
     ensures old_maps { OnErr result (maps.new ≡ maps.old) }
@@ -125,7 +126,8 @@ pub(crate) fn add_map_in(
     requires room { length ladders.old < 4294967295 }
     requires known { container.0 < length ladders.old }
     ensures ladders { OnOk result (ladders.new ≡ ladders.old ++ Some container ∷ []) }
-    ensures lists { OnOk result (lists.new.items ≡ entry_with lists.old.items block.krate.0 (λ l. l ++ block.b ∷ [])) }
+    ensures lists { OnOk result (lists.new.items
+        ≡ entry_with lists.old.items block.krate.0 (λ l. l ++ block.b ∷ [])) }
     ensures places { OnOk result (places.new.items ≡ places.old.items ++ block.place ∷ []) }
     ensures maps { OnOk result (maps.new ≡ maps_and maps.old block.map) }
     ensures old_ladders { OnErr result (ladders.new ≡ ladders.old) }

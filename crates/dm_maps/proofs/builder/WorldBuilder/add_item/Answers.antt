@@ -1,5 +1,4 @@
-use Rattle.std.proofs.Common.{◌≡◌, ◌++◌, ◌∷◌, ◌∙◌, [], length, rules, ap, subst, sym}
-use Rattle.dm_maps.specs.Build.{with_item}
+use Rattle.std.proofs.Common.{◌≡◌, ◌++◌, ◌∷◌, [], length, rules, subst, sym}
 use Rattle.dm_maps.specs.Lists.{IsAmong, IsListed}
 use Rattle.dm_maps.specs.Tables.{tables_of}
 use Rattle.dm_maps.specs.World.{World}
