@@ -1,18 +1,9 @@
 -- An item, a use, a variant or a macro that a builder adds is known, and what was there stays.
 use Rattle.std.proofs.Common.{◌≡◌, ◌∙◌, ℕ, true, false, [], ◌∷◌, length, slice_get, refl, sym, ap, subst, arith, IsTrue}
 use Rattle.std.specs.Option.{option_map_or}
-use Rattle.dm_ids.specs.declared.ids.EnumId.{EnumId}
-use Rattle.dm_ids.specs.declared.ids.EnumVariantId.{EnumVariantId}
-use Rattle.dm_ids.specs.declared.ids.ModuleId.{ModuleId}
-use Rattle.dm_ids.specs.declared.ids.UseId.{UseId}
-use Rattle.dm_ids.specs.declared.fields_shape.FieldsShape.{FieldsShape}
-use Rattle.dm_ids.specs.declared.item_ids.ItemKind.{ItemKind}
+use Rattle.dm_maps.proofs.Ids.{EnumId, EnumVariantId, FieldsShape, ItemKind, MacroId, MacroLoc, ModuleDefId, ModuleId, Name, UseId}
 use Rattle.dm_ids.specs.declared.item_ids.ItemKind.TheVariants as item
-use Rattle.dm_ids.specs.declared.item_ids.MacroId.{MacroId}
-use Rattle.dm_ids.specs.declared.item_ids.ModuleDefId.{ModuleDefId}
-use Rattle.dm_ids.specs.declared.macros.MacroLoc.{MacroLoc}
 use Rattle.dm_ids.specs.declared.macros.MacroLoc.TheVariants as loc
-use Rattle.dm_ids.specs.Names.{Name}
 use Rattle.dm_check.specs.declared.held.HeldId.{HeldId}
 use Rattle.dm_check.specs.declared.held.HeldId.TheVariants as held
 use Rattle.dm_check.specs.Holding.{def_holds}

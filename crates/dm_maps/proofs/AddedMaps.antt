@@ -1,18 +1,10 @@
 -- A module, a crate or a block that a builder adds is there, and what was there stays.
-use Rattle.std.proofs.Common.{◌≡◌, ◌<◌, ◌+◌, ◌∙◌, ℕ, zero, suc, List, [], ◌∷◌, ◌++◌, Option, None, Some, length, map, slice_get, refl, sym, ap, subst, arith}
+use Rattle.std.proofs.Common.{◌≡◌, ◌<◌, ◌∙◌, ℕ, zero, suc, List, [], ◌∷◌, ◌++◌, Option, None, Some, length, map, slice_get, refl, sym, ap, subst, arith}
 use Rattle.std.proofs.lemmas.List.{length-map}
 use Rattle.std.specs.Option.{option_and_then, option_map, option_map_or}
-use Rattle.dm_ids.specs.declared.ids.BlockId.{BlockId}
-use Rattle.dm_ids.specs.declared.ids.Crate.{Crate}
-use Rattle.dm_ids.specs.declared.ids.MapId.{MapId}
-use Rattle.dm_ids.specs.declared.ids.ModuleId.{ModuleId}
-use Rattle.dm_ids.specs.declared.source.AstId.{AstId}
-use Rattle.dm_ids.specs.declared.source.Edition.{Edition}
-use Rattle.dm_ids.specs.declared.source.EditionedFileId.{EditionedFileId}
-use Rattle.dm_ids.specs.Names.{Name}
+use Rattle.dm_maps.proofs.Ids.{AstId, BlockId, Crate, Edition, EditionedFileId, MapId, ModuleId, Name, Place}
 use Rattle.dm_scope.specs.Scope.{no_scope}
 use Rattle.dm_def_map.specs.Maps.{Map, Module, Modules, nth_module, map_with_child}
-use Rattle.dm_maps.specs.declared.place.Place.{Place}
 use Rattle.dm_maps.specs.Added.{IsAddedModule, IsAddedCrate, IsAddedBlock}
 use Rattle.dm_maps.specs.Build.{fresh_crate, next_crate, next_module, next_place, with_child_at_place, with_child_of, with_crate}
 use Rattle.dm_maps.specs.BuildBlocks.{crate_in, fresh_block, next_block, with_block, with_block_of}
@@ -21,7 +13,7 @@ use Rattle.dm_maps.specs.Trees.{map_id_in, no_map, outlines, outline, IsWorld}
 use Rattle.dm_maps.specs.World.{World, maps_of, numbered_map}
 use Rattle.dm_maps.proofs.EntryLemmas.{get-last}
 use Rattle.dm_maps.proofs.GrowthLemmas.{get-within}
-use Rattle.dm_maps.proofs.GrownLemmas.{Widens, at-end, end-among, more-push, end-past, pushed-none, through, scope_in, scope_by, scopes-child, added, count-with, longer-same}
+use Rattle.dm_maps.proofs.GrownLemmas.{widens, at-end, end-among, more-push, end-past, pushed-none, through, scope_in, scope_by, scopes-child, added, count-with}
 
 -- ---- A module more.
 
@@ -43,14 +35,8 @@ child-added w q n d known none =
     let v = with_child_at_place w q at.0 n d in
     let p = next_place w at.0.map q in
     let own : at.0.map ≡ map_id_in w.places q = sym (ap (λ o. option_map_or (λ (x : Place). x.map) o no_map) at.1) in
-    let more : Widens w v = record {
-      places = more-push w.places p;
-      crates = let e = count-with (maps_of w) at.0.map (λ x. map_with_child x at.0.index n (next_module w) d) in omega arith;
-      uses = omega arith;
-      items = longer-same w.items;
-      variants = omega arith;
-      macros = longer-same w.macros;
-    } in
+    let count = count-with (maps_of w) at.0.map (λ x. map_with_child x at.0.index n (next_module w) d) in
+    let more = widens w v (more-push w.places p) (omega arith) refl refl refl refl in
     subst (λ (u : World). IsAddedModule w u (map_id_in w.places q) (Some q) (next_module w)) (sym (ap (λ o. option_map_or (λ x. with_child_at_place w q x n d) o w) at.1))
     (subst (λ id. IsAddedModule w v id (Some q) (next_module w)) own
     (added w v p refl (λ x. scopes-child w at.0 n (next_module w) d x none) (next-none w at.0.map q) more))
@@ -78,14 +64,7 @@ crate-added w e f =
     let v = with_crate w e f in
     let x = fresh_crate (next_crate w) e f (next_module w) in
     let p : Place = record { map = record { krate = next_crate w; block = None }; index = 0; parent = None } in
-    let more : Widens w v = record {
-      places = more-push w.places p;
-      crates = more-push w.crate_maps x;
-      uses = omega arith;
-      items = longer-same w.items;
-      variants = omega arith;
-      macros = longer-same w.macros;
-    } in record {
+    let more = widens w v (more-push w.places p) (more-push w.crate_maps x) refl refl refl refl in record {
       known = end-among w.crate_maps x;
       fresh = end-past (length w.crate_maps);
       is_root = ap (option_map (λ (y : Map). y.root)) (get-last w.crate_maps x);
@@ -119,14 +98,7 @@ module _ (w : World) (m : ModuleId) (a : AstId) (c : Map) where
   added-block_of =
       let v = with_block_of w (crate_in w m) m a c in
       let p : Place = record { map = record { krate = crate_in w m; block = Some (next_block w) }; index = 0; parent = None } in
-      let more : Widens w v = record {
-        places = more-push w.places p;
-        crates = omega arith;
-        uses = omega arith;
-        items = longer-same w.items;
-        variants = omega arith;
-        macros = longer-same w.macros;
-      } in record {
+      let more = widens w v (more-push w.places p) (omega arith) refl refl refl refl in record {
         known = end-among w.block_maps of_block;
         fresh = end-past (length w.block_maps);
         container = ap (option_and_then (λ x. x)) (container-last w.block_maps);

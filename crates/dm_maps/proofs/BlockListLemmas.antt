@@ -1,13 +1,11 @@
 -- The lists of the blocks of crates: they grow with the crates and blocks, and stay as maps change.
-use Rattle.std.proofs.Common.{◌≡◌, ◌<◌, ◌+◌, ◌-◌, ◌∙◌, ℕ, Bool, true, false, cond, nat_eq, List, [], ◌∷◌, ◌++◌, Option, None, Some, inl, inr, length, take, set, slice_get, refl, sym, ap, subst, arith, length-append}
+use Rattle.std.proofs.Common.{◌≡◌, ◌<◌, ◌+◌, ◌-◌, ◌∙◌, ℕ, List, [], ◌∷◌, ◌++◌, Option, None, Some, inl, inr, length, take, set, slice_get, refl, sym, ap, subst, arith, length-append}
 use Rattle.std.proofs.Math.ListN.{length-set}
 use Rattle.std.proofs.Math.Seq.{set-set}
 use Rattle.std.proofs.lemmas.List.{length-map}
 use Rattle.std.proofs.lemmas.Option.{slice_get-map}
 use Rattle.std.specs.Option.{option_map, option_map_or}
-use Rattle.dm_ids.specs.declared.ids.BlockId.{BlockId}
-use Rattle.dm_ids.specs.declared.ids.Crate.{Crate}
-use Rattle.dm_ids.specs.declared.ids.MapId.{MapId}
+use Rattle.dm_maps.proofs.Ids.{BlockId, Crate, MapId}
 use Rattle.dm_def_map.specs.CrateData.{CrateData}
 use Rattle.dm_def_map.specs.Maps.{Map}
 use Rattle.dm_maps.specs.BlockLists.{entry_with, crates_of, list_at, HasBlock, AreGathered, AreNumbered}
@@ -18,6 +16,7 @@ use Rattle.dm_maps.specs.World.{World, maps_of}
 use Rattle.dm_maps.proofs.EntryLemmas.{take-push, set-own, get-push, get-append, get-last, get-set_same, at-set}
 use Rattle.dm_maps.proofs.GrowthLemmas.{get-within}
 use Rattle.dm_maps.proofs.MapWrites.{put-cases, with-cases}
+use Rattle.dm_maps.proofs.MapsKept.{all-given-keep}
 use Rattle.dm_maps.proofs.ModuleGrowth.{map-set_own}
 
 -- a block taken from the list that it was added to
@@ -99,18 +98,7 @@ module _ (w : World) (ls : List (List BlockId)) (is : AreGathered (length w.crat
   pub AreGathered-sharing : (k : Crate) (d : CrateData) → AreGathered (length (with_shared k d w.crate_maps)) (crates_of (with_shared k d w.block_maps)) ls
   AreGathered-sharing k d =
       let Table : ℕ × List Crate → Type 0 = λ z. AreGathered z.0 z.1 ls in
-      subst Table (λ i. (sym (length-map w.crate_maps (map_with_shared k d)) i, sym (crates w.block_maps) i)) is
-    where
-      id-given : (m : Map) → (map_with_shared k d m).id ≡ m.id
-      id-given m = by (nat_eq m.id.krate.0 k.0)
-        where
-          by : (b : Bool) → (cond b (record m { shared = d }) m).id ≡ m.id
-          by true = refl
-          by false = refl
-
-      crates : (ms : List Map) → crates_of (with_shared k d ms) ≡ crates_of ms
-      crates [] = refl
-      crates (m ∷ ms) = (λ i. (id-given m i).krate ∷ crates ms i)
+      subst Table (λ i. (sym (length-map w.crate_maps (map_with_shared k d)) i, sym (all-given-keep (λ (m : Map). m.id.krate) (λ m e. refl) k d w.block_maps) i)) is
 
 -- the map of each crate of a world is that of its number
 pub world-numbered : (w : World) → IsWorld w → AreNumbered w.crate_maps

@@ -3,18 +3,14 @@ use Rattle.std.proofs.Common.{◌≡◌, ◌<◌, ℕ, List, [], ◌∷◌, ◌+
 use Rattle.std.proofs.lemmas.List.{map_push}
 use Rattle.std.specs.Option.{option_map_or}
 use Rattle.std.proofs.lemmas.List.{length-map}
-use Rattle.dm_ids.specs.declared.ids.ModuleId.{ModuleId}
-use Rattle.dm_ids.specs.declared.ids.BlockId.{BlockId}
-use Rattle.dm_ids.specs.declared.ids.Crate.{Crate}
-use Rattle.dm_ids.specs.declared.source.AstId.{AstId}
-use Rattle.dm_maps.specs.declared.place.Place.{Place}
+use Rattle.dm_maps.proofs.Ids.{AstId, BlockId, Crate, ModuleId, Place}
 use Rattle.dm_def_map.specs.Maps.{Map}
 use Rattle.dm_maps.specs.Maps.{Maps, maps_and}
 use Rattle.dm_maps.specs.World.{World, crate_map, maps_of, with_maps}
 use Rattle.dm_maps.specs.Build.{next_module}
 use Rattle.dm_maps.specs.BuildBlocks.{next_block, crate_in, fresh_block, with_block_of, with_block}
 use Rattle.dm_maps.specs.Trees.{Outline, outline, outlines, containers_of, IsWorldOf, IsWorld}
-use Rattle.dm_maps.proofs.BlockGrowth.{IsWorldOf-block}
+use Rattle.dm_maps.proofs.RootGrowth.{IsWorldOf-block}
 
 -- the world of a block more is lawful
 pub IsWorld-block_of : (w : World) (m : ModuleId) (a : AstId) (c : Map) → IsWorld w → m.0 < length w.places → length w.places < 4294967295 → IsWorld (with_block_of w (crate_in w m) m a c)
@@ -42,11 +38,3 @@ block-made w m a c k b root map maps places kk bb rr is there p q =
     ∙ (λ i. record (with_maps w (maps_and (maps_of w) (is i))) { places = w.places ++ (record { map = record { krate = k; block = Some b }; index = 0; parent = None }) ∷ [] })
     ∙ (λ i. record w { block_maps = w.block_maps ++ fresh_block c (kk i) (bb i) m a (rr i) ∷ []; places = w.places ++ (record { map = record { krate = kk i; block = Some (bb i) }; index = 0; parent = None }) ∷ [] })
     ∙ sym (ap (λ o. option_map_or (with_block_of w (crate_in w m) m a) o w) (ap (crate_map w) (sym kk) ∙ there))
-
--- where the crate has a map
-pub IsWorld-block : (w : World) (m : ModuleId) (a : AstId) → IsWorld w → m.0 < length w.places → length w.places < 4294967295 → IsWorld (with_block w m a)
-IsWorld-block w m a is known room = by (crate_map w (crate_in w m))
-  where
-    by : (o : Option Map) → IsWorld (option_map_or (with_block_of w (crate_in w m) m a) o w)
-    by None = is
-    by (Some c) = IsWorld-block_of w m a c is known room

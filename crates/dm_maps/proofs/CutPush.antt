@@ -5,12 +5,10 @@ use Rattle.std.specs.List.{cons_option}
 use Rattle.std.specs.Option.{option_map, option_map_or, option_and_then}
 use Rattle.std.proofs.lemmas.Bool.{or_parts}
 use Rattle.indexmap.specs.IndexMap.{set_value_at, insert_entry}
-use Rattle.dm_ids.specs.declared.ids.ModuleId.{ModuleId}
-use Rattle.dm_ids.specs.declared.imports.ImportOrExternCrate.{ImportOrExternCrate}
+use Rattle.dm_maps.proofs.Ids.{ImportOrExternCrate, ModuleId, Name, Place, find_name, same_name}
 use Rattle.dm_base.specs.declared.per_ns.Item.{Item}
 use Rattle.dm_base.specs.declared.per_ns.PerNs.{PerNs}
 use Rattle.dm_base.specs.declared.visibility.Visibility.TheVariants.{Public}
-use Rattle.dm_ids.specs.Names.{Name, same_name, find_name}
 use Rattle.dm_scope.specs.Bindings as b
 use Rattle.dm_scope.specs.Bindings.{Bound}
 use Rattle.dm_scope.specs.Flags.{Flags, Globs, has_flag}
@@ -19,7 +17,6 @@ use Rattle.dm_scope.specs.Scope.{Scope, no_scope}
 use Rattle.dm_def_map.specs.Maps.{Map, Module, Modules, fresh_module, nth_module, put_scope, map_with_scope}
 use Rattle.dm_maps.proofs.MapWrites.{put-cases, with-cases}
 use Rattle.dm_maps.proofs.ModuleGrowth.{map-set_own}
-use Rattle.dm_maps.specs.declared.place.Place.{Place}
 use Rattle.dm_maps.specs.PushRes.{with_push}
 use Rattle.dm_maps.specs.Maps.{Maps}
 use Rattle.dm_maps.specs.World.{World, maps_of, with_maps, place_of, scope_of, with_scope, with_scope_in, placed_module}

@@ -32,26 +32,11 @@ pub get-last : {X : Type 0} (xs : List X) (x : X) → slice_get (xs ++ x ∷ [])
 get-last [] x = refl
 get-last (y ∷ ys) x = get-last ys x
 
--- what was written stands at its place, and the others stay
+-- what was written stands at its place
 pub get-set_same : {X : Type 0} (xs : List X) (i : ℕ) (x y : X) → slice_get xs i ≡ Some x → slice_get (set xs i y) i ≡ Some y
 get-set_same [] i x y h = cc
 get-set_same (z ∷ zs) zero x y h = refl
 get-set_same (z ∷ zs) (suc i) x y h = get-set_same zs i x y h
-
-pub get-set_other : {X : Type 0} (xs : List X) (i j : ℕ) (y : X) → (j ≡ i → ⊥) → slice_get (set xs i y) j ≡ slice_get xs j
-get-set_other [] i j y h = refl
-get-set_other (z ∷ zs) zero zero y h = absurd (h refl)
-get-set_other (z ∷ zs) zero (suc j) y h = refl
-get-set_other (z ∷ zs) (suc i) zero y h = refl
-get-set_other (z ∷ zs) (suc i) (suc j) y h = get-set_other zs i j y (λ e. h (ap suc e))
-
--- an element after a write is the one that was written, or one of the list
-pub get-set : {X : Type 0} (xs : List X) (i j : ℕ) (x y z : X) → slice_get xs i ≡ Some x → slice_get (set xs i y) j ≡ Some z → ((j ≡ i) × (z ≡ y)) ⊎ (slice_get xs j ≡ Some z)
-get-set [] i j x y z h g = inr g
-get-set (w ∷ ws) zero zero x y z h g = inl (refl, cc)
-get-set (w ∷ ws) zero (suc j) x y z h g = inr g
-get-set (w ∷ ws) (suc i) zero x y z h g = inr g
-get-set (w ∷ ws) (suc i) (suc j) x y z h g = elim (get-set ws i j x y z h g) [ inl e ↦ inl (ap suc e.0, e.1) | inr e ↦ inr e ]
 
 -- an element after a write is the one that was there, or at the place of the write the one that was written
 pub at-set : {X : Type 0} (xs : List X) (i j : ℕ) (x y : X) → slice_get xs i ≡ Some x

@@ -5,21 +5,13 @@ use Rattle.std.specs.Option.{option_map, option_and_then}
 use Rattle.std.proofs.lemmas.List.{map_push}
 use Rattle.std.proofs.lemmas.Option.{slice_get-map}
 use Rattle.indexmap.specs.IndexMap.{insert_entry, set_value_at}
-use Rattle.dm_ids.specs.declared.ids.Crate.{Crate}
-use Rattle.dm_ids.specs.declared.ids.MapId.{MapId}
-use Rattle.dm_ids.specs.declared.ids.ModuleId.{ModuleId}
-use Rattle.dm_ids.specs.declared.source.AstId.{AstId}
-use Rattle.dm_ids.specs.declared.source.Edition.{Edition}
-use Rattle.dm_ids.specs.declared.source.EditionedFileId.{EditionedFileId}
-use Rattle.dm_ids.specs.Names.{Name, same_name}
+use Rattle.dm_maps.proofs.Ids.{AstId, Crate, Edition, EditionedFileId, MapId, ModuleId, Name, Place, same_name}
 use Rattle.dm_def_map.specs.declared.map_change.MapChange.{MapChange}
 use Rattle.dm_def_map.specs.declared.map_change.MapChange.TheVariants.{Prelude, MacroUse, MacroDef, Helper, Diagnostic}
 use Rattle.dm_def_map.specs.MapChanges.{changed}
-use Rattle.dm_maps.proofs.AllLemmas.{all-weaker}
 use Rattle.dm_scope.specs.Scope.{Scope}
 use Rattle.dm_def_map.specs.CrateData.{CrateData}
 use Rattle.dm_def_map.specs.Maps.{Map, Module, Modules, nth_module, put_scope, put_child, map_with_child, map_with_scope, with_child, with_new_child, with_scope_at}
-use Rattle.dm_maps.specs.declared.place.Place.{Place}
 use Rattle.dm_maps.specs.Maps.{Maps, map_at, maps_with}
 use Rattle.dm_maps.specs.World.{World, crate_map, maps_of, numbered_map}
 use Rattle.dm_maps.specs.Build.{with_crate, with_child_at_place, next_module, next_place}
@@ -28,23 +20,13 @@ use Rattle.dm_maps.specs.BuildCrateData.{map_with_shared, with_shared}
 use Rattle.dm_maps.specs.BuildMaps.{with_map}
 use Rattle.dm_maps.specs.Family.{IsParent, AreParents, common, HaveFamilies, AreFamilies, IsFamily}
 use Rattle.dm_maps.specs.Trees.{Outline, outline, parent_in, IsWorld}
-use Rattle.dm_maps.proofs.AllLemmas.{all-append, all-get}
+use Rattle.dm_maps.proofs.AllLemmas.{all-get, all-push, all-set, all-weaker, map-all}
+use Rattle.dm_maps.proofs.BlockListLemmas.{world-numbered}
 use Rattle.dm_maps.proofs.EntryLemmas.{get-append, get-last}
+use Rattle.dm_maps.proofs.MapsKept.{given-keeps}
 use Rattle.dm_maps.proofs.MapWrites.{put-cases, with-cases}
 use Rattle.dm_maps.proofs.ModuleGrowth.{entry, map-set_own}
 use Rattle.dm_maps.proofs.WorldGrowth.{numbered-outlines}
-
-all-push : {X : Type 0} (P : X → Type 0) (xs : List X) (x : X) → AllByRecursion P xs → P x → AllByRecursion P (xs ++ x ∷ [])
-all-push P xs x h p = all-append P xs (x ∷ []) h (p, tt)
-
-all-set : {X : Type 0} (P : X → Type 0) (xs : List X) (k : ℕ) (y : X) → AllByRecursion P xs → P y → AllByRecursion P (set xs k y)
-all-set P [] k y h g = tt
-all-set P (x ∷ xs) zero y h g = (g, h.1)
-all-set P (x ∷ xs) (suc k) y h g = (h.0, all-set P xs k y h.1 g)
-
-map-all : {X Y : Type 0} (P : Y → Type 0) (f : X → Y) (xs : List X) → AllByRecursion (λ x. P (f x)) xs → AllByRecursion P (map f xs)
-map-all P f [] h = tt
-map-all P f (x ∷ xs) h = (h.0, map-all P f xs h.1)
 
 -- ---- Parents, where places come after theirs.
 
@@ -264,40 +246,25 @@ module _ (w : World) (fam : IsFamily w) where
         one b m = cond b (record m { shared = d }) m
 
         children : (m : Map) → AreParents w.places m → AreParents w.places (given m)
-        children m g = by (nat_eq m.id.krate.0 k.0)
-          where
-            by : (b : Bool) → AreParents w.places (one b m)
-            by true = g
-            by false = g
+        children m g = subst (λ es. AllByRecursion (IsParent w.places) es) (sym (given-keeps (λ (x : Map). x.modules) (λ x e. refl) k d m)) g
 
         around : (m : Map) → m.parent ≡ None → (given m).parent ≡ None
-        around m g = by (nat_eq m.id.krate.0 k.0)
-          where
-            by : (b : Bool) → (one b m).parent ≡ None
-            by true = g
-            by false = g
+        around m g = given-keeps (λ (x : Map). x.parent) (λ x e. refl) k d m ∙ g
 
         both : (b : Bool) (c m : Map) → common c ≡ common m → common (one b c) ≡ common (one b m)
         both true c m g = ap (λ (x : Edition × CrateData). (x.0, d)) g
         both false c m g = g
 
-        numbered : (j : ℕ) (c : Map) → slice_get w.crate_maps j ≡ Some c → c.id.krate.0 ≡ j
-        numbered j c e = ap (λ (id : MapId). id.krate.0) (is.crates j (outline c) (slice_get-map outline w.crate_maps j ∙ ap (option_map outline) e)).0
-
         alike : (m : Map) → slice_get (map common w.crate_maps) m.id.krate.0 ≡ Some (common m) → slice_get (map common new) (given m).id.krate.0 ≡ Some (common (given m))
         alike m g = by (slice_get w.crate_maps m.id.krate.0) refl (sym (slice_get-map common w.crate_maps m.id.krate.0) ∙ g)
           where
-            same_id : (b : Bool) → (one b m).id.krate.0 ≡ m.id.krate.0
-            same_id true = refl
-            same_id false = refl
-
             by : (o : Option Map) → slice_get w.crate_maps m.id.krate.0 ≡ o → option_map common o ≡ Some (common m) → slice_get (map common new) (given m).id.krate.0 ≡ Some (common (given m))
             by None e f = cc
             by (Some c) e f =
                 let same : common c ≡ common m = cc in
                 let b = nat_eq m.id.krate.0 k.0 in
-                let its : given c ≡ one b c = ap (λ j. one (nat_eq j k.0) c) (numbered m.id.krate.0 c e) in
-                ap (slice_get (map common new)) (same_id b)
+                let its : given c ≡ one b c = ap (λ j. one (nat_eq j k.0) c) (world-numbered w is m.id.krate.0 c e) in
+                ap (slice_get (map common new)) (given-keeps (λ (x : Map). x.id.krate.0) (λ x y. refl) k d m)
                 ∙ slice_get-map common new m.id.krate.0
                 ∙ ap (option_map common) (slice_get-map given w.crate_maps m.id.krate.0 ∙ ap (option_map given) e)
                 ∙ ap (λ x. Some (common x)) its

@@ -2,8 +2,7 @@
 use Rattle.std.proofs.Common.{◌≡◌, ◌<◌, ℕ, Bool, true, false, cond, not, Option, Some, None, length, refl}
 use Rattle.std.specs.Prelude.{nat_lt}
 use Rattle.std.proofs.lemmas.Bool.{ltb-true}
-use Rattle.dm_ids.specs.declared.ids.ModuleId.{ModuleId}
-use Rattle.dm_ids.specs.Names.{Name}
+use Rattle.dm_maps.proofs.Ids.{ModuleId, Name}
 use Rattle.dm_maps.specs.declared.build_fault.BuildFault.{BuildFault}
 use Rattle.dm_maps.specs.declared.build_fault.BuildFault.TheVariants.{NoSuchModule, TakenChild, OutOfNumbers}
 use Rattle.dm_maps.specs.World.{World}

@@ -1,16 +1,11 @@
 -- What was known stays known, and scopes stay, where something without a binding is added.
-use Rattle.std.proofs.Common.{◌≡◌, ◌<◌, ◌≤◌, ◌+◌, ◌∙◌, ℕ, zero, suc, Bool, true, false, List, [], ◌∷◌, ◌++◌, Option, None, Some, length, map, set, slice_get, nat_eq, nat_lt, refl, sym, ap, subst, arith, inl, inr, IsTrue, length-append, true≢false}
+use Rattle.std.proofs.Common.{◌≡◌, ◌<◌, ◌≤◌, ◌∙◌, ℕ, zero, suc, Bool, true, false, List, [], ◌∷◌, ◌++◌, Option, None, Some, length, map, set, slice_get, nat_eq, nat_lt, refl, sym, ap, subst, arith, inl, inr, IsTrue, length-append, true≢false}
 use Rattle.std.proofs.Math.ListN.{length-set}
 use Rattle.std.proofs.lemmas.Bool.{eqb-true, ltb-true, lt-ltb}
 use Rattle.std.proofs.lemmas.List.{map_push}
 use Rattle.std.proofs.lemmas.Option.{slice_get_past}
 use Rattle.std.specs.Option.{option_and_then, option_map_or}
-use Rattle.dm_ids.specs.declared.ids.Crate.{Crate}
-use Rattle.dm_ids.specs.declared.ids.MapId.{MapId}
-use Rattle.dm_ids.specs.declared.ids.ModuleId.{ModuleId}
-use Rattle.dm_ids.specs.declared.item_ids.ItemKind.{ItemKind}
-use Rattle.dm_ids.specs.declared.macros.MacroLoc.{MacroLoc}
-use Rattle.dm_ids.specs.Names.{Name}
+use Rattle.dm_maps.proofs.Ids.{EnumId, ItemKind, MacroLoc, MapId, ModuleId, Name, Place}
 use Rattle.dm_base.specs.Tree.{same_module}
 use Rattle.dm_scope.specs.Scope.{Scope, no_scope}
 use Rattle.dm_scope.specs.Shows.{Shows}
@@ -18,7 +13,6 @@ use Rattle.dm_check.specs.declared.held.HeldId.{HeldId}
 use Rattle.dm_check.specs.declared.held.HeldId.TheVariants as held
 use Rattle.dm_check.specs.Kinds.{same_kind, is_of_kind, macro_number}
 use Rattle.dm_def_map.specs.Maps.{Map, Module, Modules, nth_module, put_child, with_child, with_new_child, map_with_child}
-use Rattle.dm_maps.specs.declared.place.Place.{Place}
 use Rattle.dm_maps.specs.Added.{IsGrown, IsAddedModule}
 use Rattle.dm_maps.specs.Build.{next_module}
 use Rattle.dm_maps.specs.Known.{knows}
@@ -63,6 +57,17 @@ pub record Widens (w v : World) : Type 0 where
   pub items : Longer w.items v.items
   pub variants : length w.variants ≤ length v.variants
   pub macros : Longer w.macros v.macros
+
+-- where uses, items, variants and macros stay
+pub widens : (w v : World) → length w.places ≤ length v.places → length w.crate_maps ≤ length v.crate_maps → v.uses ≡ w.uses → v.items ≡ w.items → v.variants ≡ w.variants → v.macros ≡ w.macros → Widens w v
+widens w v places crates uses items variants macros = record {
+  places = places;
+  crates = crates;
+  uses = let e = ap (λ (l : List ModuleId). length l) uses in omega arith;
+  items = subst (Longer w.items) (sym items) (longer-same w.items);
+  variants = let e = ap (λ (l : List EnumId). length l) variants in omega arith;
+  macros = subst (Longer w.macros) (sym macros) (longer-same w.macros);
+}
 
 known-on : (w v : World) → Widens w v → (h : HeldId) → IsTrue (knows w h) → IsTrue (knows v h)
 known-on w v more (held.Module m) h = among-more (length w.places) (length v.places) m.0 more.places h

@@ -1,15 +1,12 @@
 -- What holds of every world still holds where a map has a module more, or a list a map.
-use Rattle.std.proofs.Common.{◌≡◌, ◌<◌, ◌≤◌, ℕ, zero, suc, Bool, true, false, List, [], ◌∷◌, ◌++◌, Option, Some, None, length, set, slice_get, nat_eq, inl, inr, sym, ap, ◌∙◌, refl, subst, arith, is_some, true≢false, eq-eqb}
+use Rattle.std.proofs.Common.{◌≡◌, ◌<◌, ◌≤◌, ◌+◌, ℕ, zero, suc, List, [], ◌∷◌, ◌++◌, Option, Some, None, length, set, slice_get, inl, inr, sym, ap, ◌∙◌, refl, subst, arith, is_some, length-append}
 use Rattle.std.specs.Option.{option_map_or, option_and_then, option_or}
 use Rattle.std.proofs.lemmas.Option.{slice_get_within}
-use Rattle.std.proofs.lemmas.Bool.{eqb-true, ltb-true, lt-ltb}
-use Rattle.dm_ids.specs.declared.ids.ModuleId.{ModuleId}
-use Rattle.dm_ids.specs.declared.ids.BlockId.{BlockId}
-use Rattle.dm_ids.specs.declared.ids.MapId.{MapId}
+use Rattle.std.proofs.lemmas.Bool.{ltb-true, lt-ltb}
+use Rattle.dm_maps.proofs.Ids.{BlockId, MapId, ModuleId, Place}
 use Rattle.dm_base.specs.Tree.{IsTree, IsKnown, containing, outside, in_block_map, crate_of}
-use Rattle.dm_maps.specs.declared.place.Place.{Place}
-use Rattle.dm_maps.specs.Trees.{no_map, Outline, IsMap, IsPlaced, Stands, AreMaps, map_id_in, parent_in, container_in, tree_by, numbered_outline}
-use Rattle.dm_maps.proofs.EntryLemmas.{get-push, get-append, get-last, get-set, get-set_same, get-set_other}
+use Rattle.dm_maps.specs.Trees.{no_map, Outline, IsMap, IsPlaced, IsWorldOf, Stands, AreMaps, is_crate_id, is_block_id, map_id_in, parent_in, container_in, tree_by, numbered_outline}
+use Rattle.dm_maps.proofs.EntryLemmas.{get-push, get-append, get-last, at-set}
 
 -- the outline with a module more
 abbrev pub longer : Outline → ModuleId → Option ModuleId → Outline
@@ -163,12 +160,13 @@ IsMap-longer ps o q is = record {
     ]
 
 pub AreMaps-longer : (own : ℕ → MapId → Type 0) (ps : List Place) (os : List Outline) (k : ℕ) (o : Outline) (q : ModuleId) → slice_get os k ≡ Some o → AreMaps own ps os → AreMaps own (ps ++ place_below o q ∷ []) (set os k (longer o (after ps) (Some q)))
-AreMaps-longer own ps os k o q at are j x e = elim (get-set os k j o (longer o (after ps) (Some q)) x at e) [
-  | inl g ↦
-      let h = are k o at in
-      let P : ℕ → Outline → Type 0 = λ n y. own n y.id × IsMap (ps ++ place_below o q ∷ []) y in
-      subst (λ n. P n x) (sym g.0) (subst (P k) (sym g.1) (h.0, IsMap-longer ps o q h.1))
-  | inr g ↦ AreMaps-append own ps (place_below o q ∷ []) os are j x g
+AreMaps-longer own ps os k o q at are j x e = elim (at-set os k j o (longer o (after ps) (Some q)) at) [
+  | inl g ↦ AreMaps-append own ps (place_below o q ∷ []) os are j x (sym g ∙ e)
+  | inr g ↦
+      let written : Some (longer o (after ps) (Some q)) ≡ Some x = sym g.2 ∙ e in
+      let same : longer o (after ps) (Some q) ≡ x = cc in
+      let h = are j o g.1 in
+      subst (λ (y : Outline). own j y.id × IsMap (ps ++ place_below o q ∷ []) y) same (h.0, IsMap-longer ps o q h.1)
 ]
 
 -- the maps, where the one at k may have a module more
@@ -182,21 +180,13 @@ pub Grows-append : (os : List Outline) (o : Outline) → Grows os (os ++ o ∷ [
 Grows-append os o k x e = (x, get-append os (o ∷ []) k x e, refl, λ i y h. h)
 
 pub Grows-longer : (os : List Outline) (k : ℕ) (o : Outline) (m : ModuleId) (q : Option ModuleId) → slice_get os k ≡ Some o → Grows os (set os k (longer o m q))
-Grows-longer os k o m q at j x e = by (nat_eq j k) refl
-  where
-    Found : Type 0
-    Found = (n : Outline) × (slice_get (set os k (longer o m q)) j ≡ Some n) × (n.id ≡ x.id) × ((i : ℕ) (y : ModuleId × Option ModuleId) → slice_get x.modules i ≡ Some y → slice_get n.modules i ≡ Some y)
-
-    by : (b : Bool) → nat_eq j k ≡ b → Found
-    by true t =
-        let same : j ≡ k = eqb-true j k t in
-        let one : o ≡ x = let n : Some o ≡ Some x = sym at ∙ (λ i. slice_get os (sym same i)) ∙ e in cc in (
-          longer o m q,
-          (λ i. slice_get (set os k (longer o m q)) (same i)) ∙ get-set_same os k o (longer o m q) at,
-          ap (λ (y : Outline). y.id) one,
-          λ i y h. get-append o.modules ((m, q) ∷ []) i y ((λ l. slice_get (one l).modules i) ∙ h),
-        )
-    by false f = (x, get-set_other os k j (longer o m q) (λ same. true≢false (sym (eq-eqb j k same) ∙ f)) ∙ e, refl, λ i y h. h)
+Grows-longer os k o m q at j x e = elim (at-set os k j o (longer o m q) at) [
+  | inl g ↦ (x, g ∙ e, refl, λ i y h. h)
+  | inr g ↦
+      let there : Some o ≡ Some x = sym g.1 ∙ e in
+      let one : o ≡ x = cc in
+      (longer o m q, g.2, ap (λ (y : Outline). y.id) one, λ i y h. get-append o.modules ((m, q) ∷ []) i y ((λ l. slice_get (one l).modules i) ∙ h))
+]
 
 pub numbered-grows : (cs bs ds es : List Outline) → Grows cs ds → Grows bs es → (id : MapId) (o : Outline) → numbered_outline cs bs id ≡ Some o → (n : Outline) × (numbered_outline ds es id ≡ Some n) × (n.id ≡ o.id) × ((i : ℕ) (x : ModuleId × Option ModuleId) → slice_get o.modules i ≡ Some x → slice_get n.modules i ≡ Some x)
 numbered-grows cs bs ds es crates blocks id o e = at id.block e
@@ -219,3 +209,57 @@ Stands-grows cs bs ds es m p crates blocks is =
       of_id = n.2 ∙ is.of_id;
       is_module = n.3 p.index (m, p.parent) is.is_module;
     }
+
+-- ---- A place more.
+
+-- What stands at the place p, which comes after all, stands rightly, in maps that are those of before, of which one may
+-- have a module more, or with one more.
+pub record IsNext (ps : List Place) (cs bs ds es : List Outline) (inside inner : List (Option ModuleId)) (locals : ℕ) (p : Place) : Type 0 where
+  pub placed : IsPlaced (ps ++ p ∷ []) inner (length ps) p
+  pub stands : Stands ds es (after ps) p
+  pub in_crate : p.map.krate.0 < length ds
+  pub keeps : Keeps inside inner
+  pub crates : Grows cs ds
+  pub blocks : Grows bs es
+  pub crate_maps : AreMaps is_crate_id (ps ++ p ∷ []) ds
+  pub block_maps : AreMaps is_block_id (ps ++ p ∷ []) es
+  pub externs : locals ≡ length ds
+  pub more_crates : length cs ≤ length ds
+  pub crate_count : length ds ≤ length ps + 1
+  pub block_count : length es ≤ length ps + 1
+
+pub IsWorldOf-next : (ps : List Place) (cs bs ds es : List Outline) (inside inner : List (Option ModuleId)) (n k : ℕ) (p : Place) → length ps < 4294967295 → IsWorldOf ps cs bs inside n
+    → IsNext ps cs bs ds es inside inner k p → IsWorldOf (ps ++ p ∷ []) ds es inner k
+IsWorldOf-next ps cs bs ds es inside inner n k p room w new =
+    let more : length (ps ++ p ∷ []) ≡ length ps + 1 = length-append ps (p ∷ []) in record {
+      tree = IsTree-placed (ps ++ p ∷ []) inner placed;
+      placed = placed;
+      stands = stands;
+      crates = new.crate_maps;
+      blocks = new.block_maps;
+      in_crates = in_crates;
+      externs = new.externs;
+      crate_count = let l = new.crate_count in omega arith;
+      block_count = let l = new.block_count in omega arith;
+      numbers = omega arith;
+    }
+  where
+    placed : (m : ModuleId) (q : Place) → slice_get (ps ++ p ∷ []) m.0 ≡ Some q → IsPlaced (ps ++ p ∷ []) inner m.0 q
+    placed m q e = elim (get-push ps p m.0 q e) [
+      | inl g ↦
+          let l : m.0 ≤ length ps = let h = slice_get_within ps m.0 q g in omega arith in
+          IsPlaced-append ps (p ∷ []) inside inner m.0 q new.keeps l (w.placed m q g)
+      | inr g ↦ subst (IsPlaced (ps ++ p ∷ []) inner m.0) g.1 (subst (λ i. IsPlaced (ps ++ p ∷ []) inner i p) (sym g.0) new.placed)
+    ]
+
+    stands : (m : ModuleId) (q : Place) → slice_get (ps ++ p ∷ []) m.0 ≡ Some q → Stands ds es m q
+    stands m q e = elim (get-push ps p m.0 q e) [
+      | inl g ↦ Stands-grows cs bs ds es m q new.crates new.blocks (w.stands m q g)
+      | inr g ↦ subst (Stands ds es m) g.1 (subst (λ i. Stands ds es (record { 0 = i }) p) (sym g.0) new.stands)
+    ]
+
+    in_crates : (m : ModuleId) (q : Place) → slice_get (ps ++ p ∷ []) m.0 ≡ Some q → q.map.krate.0 < length ds
+    in_crates m q e = elim (get-push ps p m.0 q e) [
+      | inl g ↦ let l = w.in_crates m q g in let c = new.more_crates in omega arith
+      | inr g ↦ subst (λ (x : Place). x.map.krate.0 < length ds) g.1 new.in_crate
+    ]

@@ -1,31 +1,21 @@
 -- The table of ladders (jump pointers) of a world: it grows with the modules, and says what their tree says.
-use Rattle.std.proofs.Common.{◌≡◌, ◌<◌, ℕ, suc, Bool, true, false, List, [], ◌∷◌, ◌++◌, Option, Some, None, length, map, slice_get, nat_lt, refl, sym, ap, ◌∙◌, subst}
+use Rattle.std.proofs.Common.{◌≡◌, ◌<◌, ℕ, suc, Bool, true, false, List, [], ◌∷◌, ◌++◌, Option, Some, None, length, map, slice_get, nat_lt, refl, sym, ap, ◌∙◌}
 use Rattle.std.specs.Option.{option_map, option_map_or, option_and_then, option_or}
 use Rattle.std.proofs.lemmas.Bool.{ltb-true, lt-ltb}
 use Rattle.std.proofs.lemmas.List.{map_push, length-map}
 use Rattle.std.proofs.lemmas.Option.{slice_get-map}
-use Rattle.dm_ids.specs.declared.ids.ModuleId.{ModuleId}
-use Rattle.dm_ids.specs.declared.ids.BlockId.{BlockId}
-use Rattle.dm_ids.specs.declared.ids.MapId.{MapId}
+use Rattle.dm_maps.proofs.Ids.{BlockId, Crate, MapId, ModuleId, Place}
 use Rattle.dm_base.specs.Tree.{IsTree, IsKnown, containing, chain, is_among}
 use Rattle.dm_ladders.specs.Ancestry.{moves}
 use Rattle.dm_ladders.specs.Ladders.{tree_above}
 use Rattle.dm_ladders.proofs.ChainLemmas.{chains-agree, moves-agree, among-known}
-use Rattle.dm_ids.specs.declared.ids.Crate.{Crate}
-use Rattle.dm_ids.specs.Names.{Name}
-use Rattle.dm_ids.specs.declared.source.AstId.{AstId}
-use Rattle.dm_ids.specs.declared.source.Edition.{Edition}
-use Rattle.dm_ids.specs.declared.source.EditionedFileId.{EditionedFileId}
 use Rattle.dm_def_map.specs.CrateData.{CrateData}
-use Rattle.dm_def_map.specs.Maps.{Map, Module, map_with_child}
-use Rattle.dm_maps.specs.Build.{fresh_crate}
-use Rattle.dm_maps.specs.BuildBlocks.{next_block, fresh_block}
+use Rattle.dm_def_map.specs.Maps.{Map}
 use Rattle.dm_maps.specs.BuildCrateData.{sharing}
 use Rattle.dm_maps.specs.Ladders.{above_place, AreLaddered}
-use Rattle.dm_maps.specs.Maps.{Maps, maps_and, maps_with, maps_with_child}
+use Rattle.dm_maps.specs.Maps.{maps_with}
 use Rattle.dm_maps.specs.Trees.{container_in, containers_of, tree_of, IsPlaced, IsWorld}
 use Rattle.dm_maps.specs.World.{World, maps_of}
-use Rattle.dm_maps.specs.declared.place.Place.{Place}
 use Rattle.dm_maps.proofs.EntryLemmas.{get-last}
 use Rattle.dm_maps.proofs.GrowthLemmas.{get-within, container_in-append}
 use Rattle.dm_maps.proofs.MapWrites.{put-cases, with-cases}
@@ -81,43 +71,11 @@ AreLaddered-block w is ups p c m outmost of_block around table =
           ∙ sym (map_push (above_place ds) w.places p);
     }
 
--- ---- The table with what is made.
-
-abbrev Table : List Place × List Map × List (Option ModuleId) → Type 0
-Table z = AreLaddered z.0 z.1 z.2
-
-pub AreLaddered-crate_made : (w : World) (ups now : List (Option ModuleId)) (e : Edition) (f : EditionedFileId) (k : Crate) (root : ModuleId) (map : Map) (maps : Maps) (places : List Place)
-    → map ≡ fresh_crate k e f root → now ≡ ups ++ None ∷ []
-    → places ≡ w.places ++ (record { map = record { krate = k; block = None }; index = 0; parent = None }) ∷ [] → maps ≡ maps_and (maps_of w) map
-    → AreLaddered w.places w.block_maps ups → AreLaddered places maps.blocks now
-AreLaddered-crate_made w ups now e f k root map maps places is n p m table =
-    let blocks : maps.blocks ≡ w.block_maps = ap (λ (x : Maps). x.blocks) m ∙ ap (λ x. (maps_and (maps_of w) x).blocks) is in
-    let place : Place = record { map = record { krate = k; block = None }; index = 0; parent = None } in
-    subst Table (λ i. (sym p i, sym blocks i, sym n i)) (AreLaddered-push w.places w.block_maps ups place table)
-
-pub AreLaddered-block_made : (w : World) → IsWorld w → (ups now : List (Option ModuleId)) (m : ModuleId) (a : AstId) (c : Map) (k : Crate) (b : BlockId) (root : ModuleId) (map : Map) (maps : Maps) (places : List Place)
-    → b ≡ next_block w → map ≡ fresh_block c k b m a root → now ≡ ups ++ Some m ∷ []
-    → places ≡ w.places ++ (record { map = record { krate = k; block = Some b }; index = 0; parent = None }) ∷ [] → maps ≡ maps_and (maps_of w) map
-    → AreLaddered w.places w.block_maps ups → AreLaddered places maps.blocks now
-AreLaddered-block_made w lawful ups now m a c k b root map maps places next is n p q table =
-    let blocks : maps.blocks ≡ w.block_maps ++ fresh_block c k b m a root ∷ [] = ap (λ (x : Maps). x.blocks) q ∙ ap (λ x. (maps_and (maps_of w) x).blocks) is in
-    let place : Place = record { map = record { krate = k; block = Some b }; index = 0; parent = None } in
-    subst Table (λ i. (sym p i, sym blocks i, sym n i)) (AreLaddered-block w lawful ups place (fresh_block c k b m a root) m refl (ap Some next) refl table)
-
 -- what leaves the modules that contain blocks
 pub containers-with : (w : World) (id : MapId) (f : Map → Map) → ((m : Map) → (f m).parent ≡ m.parent) → containers_of (maps_with (maps_of w) id f).blocks ≡ containers_of w.block_maps
 containers-with w id f around =
     with-cases (maps_of w) id f (λ ms. containers_of ms.blocks ≡ containers_of w.block_maps) refl
     (λ x e. put-cases (maps_of w) id x (f x) (λ ms. containers_of ms.blocks ≡ containers_of w.block_maps) e (λ none g. refl) (λ b some g. map-set_own (λ (y : Map). y.parent) w.block_maps b.0 x (f x) g (around x)))
-
-pub AreLaddered-child_made : (w : World) (ups now : List (Option ModuleId)) (q : ModuleId) (id : MapId) (i at : ℕ) (n : Name) (m : ModuleId) (d : Module) (maps : Maps) (places : List Place)
-    → now ≡ ups ++ Some q ∷ [] → places ≡ w.places ++ (record { map = id; index = i; parent = Some q }) ∷ [] → maps ≡ maps_with_child (maps_of w) id at n m d
-    → AreLaddered w.places w.block_maps ups → AreLaddered places maps.blocks now
-AreLaddered-child_made w ups now q id i at n m d maps places e p g table =
-    let place : Place = record { map = id; index = i; parent = Some q } in
-    let blocks : maps.blocks ≡ (maps_with_child (maps_of w) id at n m d).blocks = ap (λ (x : Maps). x.blocks) g in
-    subst Table (λ j. (sym p j, sym blocks j, sym e j))
-    (AreLaddered-same (w.places ++ place ∷ []) w.block_maps _ (ups ++ Some q ∷ []) (containers-with w id (λ map. map_with_child map at n m d) (λ map. refl)) (AreLaddered-push w.places w.block_maps ups place table))
 
 pub AreLaddered-with : (w : World) (ups : List (Option ModuleId)) (id : MapId) (f : Map → Map) → ((m : Map) → (f m).parent ≡ m.parent) → AreLaddered w.places w.block_maps ups → AreLaddered w.places (maps_with (maps_of w) id f).blocks ups
 AreLaddered-with w ups id f around = AreLaddered-same w.places w.block_maps _ ups (containers-with w id f around)

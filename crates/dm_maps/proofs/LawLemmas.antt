@@ -1,24 +1,19 @@
 -- What one push into a world leaves of the others, from what it leaves in the scope of its module.
-use Rattle.std.proofs.Common.{◌≡◌, ◌∙◌, Bool, true, false, IsSome, Option, None, Some, ap, refl, subst, sym, true≢false}
-use Rattle.std.specs.Option.{option_map, option_map_or}
-use Rattle.dm_ids.specs.declared.ids.ModuleId.{ModuleId}
+use Rattle.std.proofs.Common.{◌≡◌, ◌∙◌, Bool, true, false, IsSome, ap, refl, subst, sym}
+use Rattle.dm_maps.proofs.Ids.{ModuleId}
 use Rattle.dm_base.specs.IdLaws.{same_module-true}
 use Rattle.dm_base.specs.Tree.{same_module}
-use Rattle.dm_def_map.specs.Maps.{Module}
 use Rattle.dm_scope.specs.Flags.{Globs}
 use Rattle.dm_scope.specs.PushLaw.{PushLaw, have_one_import, is_named, itself, would_write}
-use Rattle.dm_scope.specs.Scope.{Scope, no_scope}
+use Rattle.dm_scope.specs.Scope.{Scope}
 use Rattle.dm_scope.specs.Shows.{ScopePush}
 use Rattle.dm_maps.specs.World.{World, module_of, scope_if_known, scope_of, with_scope}
 use Rattle.dm_maps.proofs.ScopeWrites.{with_scope-own}
+use Rattle.dm_maps.proofs.SetLemmas.{scope-read}
 
 -- a world in which a module gets its own scope is that world
 scope-again : (w : World) (m : ModuleId) → IsSome (scope_if_known w m) → with_scope w m (scope_of w m) ≡ w
-scope-again w m there = with_scope-own (scope_of w m) w m (known (module_of w m) there)
-  where
-    known : (o : Option Module) → IsSome (option_map (λ (d : Module). d.scope) o) → option_map (λ (d : Module). d.scope) o ≡ Some (option_map_or (λ (d : Module). d.scope) o no_scope)
-    known None e = absurd (true≢false (sym e))
-    known (Some d) e = refl
+scope-again w m there = with_scope-own (scope_of w m) w m (scope-read (module_of w m) there)
 
 module _ (w v : World) (g h : Globs) (m : ModuleId) (t : Scope) (p : ScopePush) where
   pub world_law : IsSome (scope_if_known w m) → v ≡ with_scope w m t → scope_of v m ≡ t → ((k : ModuleId) → same_module m k ≡ false → scope_of v k ≡ scope_of w k)

@@ -1,9 +1,9 @@
+pub mod Ids
 pub mod EntryLemmas
 pub mod EntryChanges
 pub mod GrowthLemmas
 pub mod ModuleGrowth
-pub mod CrateGrowth
-pub mod BlockGrowth
+pub mod RootGrowth
 pub mod BlockMade
 pub mod MapWrites
 pub mod MapsKept
@@ -33,7 +33,7 @@ pub mod TreeLemmas
 pub mod ListLemmas
 pub mod FamilyLemmas
 pub mod MapFacts
-pub mod BuiltGrowth
+pub mod BuilderGrowth
 pub mod RecordLemmas
 pub mod RecordGrowth
 pub mod LadderLemmas
@@ -41,5 +41,4 @@ pub mod LawLemmas
 pub mod BlockListLemmas
 pub mod SharedMaps
 pub mod SettingLemmas
-pub mod IndexLemmas
 pub mod Pops

@@ -4,23 +4,13 @@ use Rattle.std.specs.List.{AllByRecursion}
 use Rattle.std.specs.Map.{lookup}
 use Rattle.std.proofs.lemmas.Bool.{ltb-true, lt-ltb}
 use Rattle.indexmap.specs.IndexMap.{insert_entry}
-use Rattle.dm_ids.specs.declared.ids.EnumId.{EnumId}
-use Rattle.dm_ids.specs.declared.ids.EnumVariantId.{EnumVariantId}
-use Rattle.dm_ids.specs.declared.ids.ModuleId.{ModuleId}
-use Rattle.dm_ids.specs.declared.ids.UseId.{UseId}
-use Rattle.dm_ids.specs.declared.fields_shape.FieldsShape.{FieldsShape}
-use Rattle.dm_ids.specs.declared.item_ids.ItemKind.{ItemKind}
+use Rattle.dm_maps.proofs.Ids.{EnumId, EnumVariantId, FieldsShape, ItemKind, MacroId, MacroLoc, ModuleDefId, ModuleId, Name, UseId, find_name, same_name}
 use Rattle.dm_ids.specs.declared.item_ids.ItemKind.TheVariants as item
-use Rattle.dm_ids.specs.declared.macros.MacroLoc.{MacroLoc}
-use Rattle.dm_maps.proofs.AllLemmas.{all-weaker}
 use Rattle.dm_def_map.specs.Variants.{same_enum, Enums, Variants, variants_in, enums_with_variant}
 use Rattle.dm_check.specs.declared.held.HeldId.TheVariants as held
 use Rattle.dm_check.specs.Kinds.{same_kind, macro_number, is_of_kind}
-use Rattle.dm_ids.specs.declared.item_ids.MacroId.{MacroId}
-use Rattle.dm_ids.specs.declared.item_ids.ModuleDefId.{ModuleDefId}
 use Rattle.dm_ids.specs.declared.item_ids.ModuleDefId.TheVariants as def
 use Rattle.dm_ids.specs.declared.item_ids.AdtId.TheVariants as adt
-use Rattle.dm_ids.specs.Names.{Name, same_name, find_name}
 use Rattle.std.specs.Option.{ForSome, option_map_or, option_and_then}
 use Rattle.std.proofs.lemmas.Option.{slice_get_within}
 use Rattle.dm_maps.specs.CutLaws.{same-enum}
@@ -31,11 +21,8 @@ use Rattle.dm_maps.specs.ItemHomes.{module_of_item, module_of_def, module_of_mac
 use Rattle.dm_maps.specs.Known.{knows}
 use Rattle.dm_maps.specs.Readings.{variants_of}
 use Rattle.dm_maps.specs.Lists.{Items, IsAmong, HaveModules, IsEnum, HaveEnums, AreListed, IsListed}
-use Rattle.dm_maps.proofs.AllLemmas.{all-append, all-get, for_none, for_some}
+use Rattle.dm_maps.proofs.AllLemmas.{all-get, all-push, all-weaker, found, for_none, for_some}
 use Rattle.dm_maps.proofs.EntryLemmas.{get-append, get-last}
-
-all-push : {X : Type 0} (P : X → Type 0) (xs : List X) (x : X) → AllByRecursion P xs → P x → AllByRecursion P (xs ++ x ∷ [])
-all-push P xs x h p = all-append P xs (x ∷ []) h (p, tt)
 
 -- ---- Modules.
 
@@ -193,15 +180,8 @@ module _ (w : World) (h : IsListed w) where
   -- a variant that an enum has under a name
   pub variant-own : (e : EnumId) (n : Name) → ForSome (find_name n (variants_of w e)) (λ x. slice_get w.variants x.0.0 ≡ Some e)
   unfolding AreListed
-  variant-own e n x g = at (variants_of w e) (variants_in-own w.variants w.enums e h.1.own) g
-    where
-      at : (vs : Variants) → AllByRecursion (IsOf w.variants e) vs → find_name n vs ≡ Some x → slice_get w.variants x.0.0 ≡ Some e
-      at [] all f = cc
-      at (v ∷ vs) all f = by (same_name n v.0) f (at vs all.1)
-        where
-          by : (b : Bool) → cond b (Some v.1) (find_name n vs) ≡ Some x → (find_name n vs ≡ Some x → slice_get w.variants x.0.0 ≡ Some e) → slice_get w.variants x.0.0 ≡ Some e
-          by true k rest = let same : v.1 ≡ x = cc in subst (λ (y : EnumVariantId × FieldsShape). slice_get w.variants y.0.0 ≡ Some e) same all.0
-          by false k rest = rest k
+  variant-own e n x g =
+      found (λ (y : EnumVariantId × FieldsShape). slice_get w.variants y.0.0 ≡ Some e) (same_name n) (variants_of w e) x (variants_in-own w.variants w.enums e h.1.own) g
 
   pub variant-known : (e : EnumId) (n : Name) → ForSome (find_name n (variants_of w e)) (λ x. IsTrue (knows w (held.Variant x.0)))
   variant-known e n x g = lt-ltb x.0.0 (length w.variants) (slice_get_within w.variants x.0.0 e (variant-own e n x g))

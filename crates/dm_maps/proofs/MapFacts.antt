@@ -1,52 +1,26 @@
 -- What holds of each map of a checked world.
-use Rattle.std.proofs.Common.{◌≡◌, ◌↔◌, ◌<◌, ◌∙◌, Bool, true, false, cond, List, [], ◌∷◌, Option, None, Some, length, map, slice_get, nat_eq, is_some, refl, sym, ap, subst, true≢false, IsTrue, IsSome}
+use Rattle.std.proofs.Common.{◌≡◌, ◌<◌, ◌∙◌, Option, None, Some, map, slice_get, is_some, refl, sym, ap, subst, true≢false, IsTrue, IsSome}
 use Rattle.std.specs.List.{AllByRecursion}
-use Rattle.std.specs.Option.{ForSome, option_map, option_map_or, option_and_then, option_or}
-use Rattle.std.proofs.lemmas.Bool.{eqb-true, lt-ltb}
+use Rattle.std.specs.Option.{option_map, option_map_or, option_and_then, option_or}
 use Rattle.std.proofs.lemmas.List.Elements.{All-from_recursion}
 use Rattle.std.proofs.lemmas.Option.{slice_get-map, slice_get_within}
-use Rattle.dm_ids.specs.declared.ids.BlockId.{BlockId}
-use Rattle.dm_ids.specs.declared.ids.ModuleId.{ModuleId}
-use Rattle.dm_ids.specs.Names.{Name, same_name, find_name}
-use Rattle.dm_base.specs.Tree.{containing}
+use Rattle.dm_maps.proofs.Ids.{BlockId, ModuleId, Name, Place, same_name}
+use Rattle.dm_base.specs.IdLaws.{same_module-true}
+use Rattle.dm_base.specs.Tree.{containing, same_module}
 use Rattle.dm_check.specs.declared.held.HeldId.TheVariants as held
-use Rattle.dm_maps.proofs.AllLemmas.{all-weaker}
-use Rattle.dm_def_map.specs.Maps.{Map, Module, Modules, module_at}
+use Rattle.dm_def_map.specs.Maps.{Map, Module, module_at}
 use Rattle.dm_def_map.specs.Queries.{containing_in}
-use Rattle.dm_maps.specs.declared.place.Place.{Place}
 use Rattle.dm_maps.specs.Family.{IsParent, AreParents, common, HaveFamilies, IsFamily}
 use Rattle.dm_maps.specs.Known.{knows}
-use Rattle.dm_maps.specs.MapFacts.{IsAscending, HasContainer, IsChild, IsMapOf}
+use Rattle.dm_maps.specs.MapFacts.{HasContainer, IsChild, IsMapOf}
 use Rattle.dm_maps.specs.Sound.{IsCheckedWorld}
 use Rattle.dm_maps.specs.Trees.{no_map, outline, containers_of, container_in, parent_in, map_id_in, tree_of, IsMap, IsWorld}
-use Rattle.dm_maps.specs.World.{World, crate_map, map_of, placed_module, module_of, numbered_map}
-use Rattle.dm_maps.proofs.AllLemmas.{all-get}
+use Rattle.dm_maps.specs.World.{World, crate_map, map_of, module_of, numbered_map}
+use Rattle.dm_maps.proofs.AllLemmas.{all-get, all-weaker, found, found-entry, some-is}
 use Rattle.dm_maps.proofs.FamilyLemmas.{families}
-use Rattle.dm_maps.proofs.InOrder.{Standing, found-at, in_order}
+use Rattle.dm_maps.proofs.InOrder.{ascending, lies-in, its-id, its-parent, its-module, parent-lies, one-root, contained}
 use Rattle.dm_maps.proofs.MapLemmas.{map-lists}
 use Rattle.dm_maps.proofs.SoundLemmas.{lies-there, map-lawful, placed-known}
-use Rattle.dm_maps.proofs.WorldFacts.{module-there}
-
--- what holds of all entries holds of the one that a look-up by number finds
-all-at : (P : ModuleId × Module → Type 0) (es : Modules) (m : ModuleId) (d : Module) → AllByRecursion P es → module_at es m ≡ Some d → P (m, d)
-all-at P [] m d h e = cc
-all-at P (x ∷ es) m d h e = by (nat_eq m.0 x.0.0) refl e (all-at P es m d h.1)
-  where
-    by : (b : Bool) → nat_eq m.0 x.0.0 ≡ b → cond b (Some x.1) (module_at es m) ≡ Some d → (module_at es m ≡ Some d → P (m, d)) → P (m, d)
-    by true t g rest =
-        let same : x.1 ≡ d = cc in
-        let number : x.0.0 ≡ m.0 = sym (eqb-true m.0 x.0.0 t) in
-        subst P (λ i. (record { 0 = number i }, same i)) h.0
-    by false t g rest = rest g
-
--- and of a list of names, of the one that a look-up by name finds
-by-name : {X : Type 0} (P : X → Type 0) (es : List (Name × X)) (n : Name) → AllByRecursion (λ e. P e.1) es → ForSome (find_name n es) P
-by-name P [] n h x e = cc
-by-name {X} P (y ∷ es) n h x e = by (same_name n y.0) e (by-name P es n h.1 x)
-  where
-    by : (b : Bool) → cond b (Some y.1) (find_name n es) ≡ Some x → (find_name n es ≡ Some x → P x) → P x
-    by true g rest = let same : y.1 ≡ x = cc in subst P same h.0
-    by false g rest = rest g
 
 module _ (w : World) (is : IsWorld w) (fam : IsFamily w) (own : Map) (there : numbered_map w own.id ≡ Some own) where
   family : HaveFamilies w.places w.crate_maps w.block_maps
@@ -66,54 +40,20 @@ module _ (w : World) (is : IsWorld w) (fam : IsFamily w) (own : Map) (there : nu
   known : (m : ModuleId) → IsSome (module_at own.modules m) → IsTrue (knows w (held.Module m))
   known m some = placed-known w m (ap is_some (lies m some))
 
-  -- how a module of the map stands
-  stands : (m : ModuleId) → IsSome (module_at own.modules m) → Standing w m
-  stands m some = in_order w is m (known m some)
-
-  its-own : (m : ModuleId) (s : Standing w m) → map_of w m ≡ Some own → s.map ≡ own
-  its-own m s e = let n : Some s.map ≡ Some own = sym s.lies ∙ e in cc
-
   lawful : IsMap w.places (outline own)
   lawful = map-lawful w is own.id own there
 
   root-lies : IsSome (module_at own.modules own.root)
   root-lies = map-lists w is own.root own (ap (option_and_then (λ (p : Place). numbered_map w p.map)) (lawful.listed 0 own.root None lawful.root) ∙ there)
 
-  -- the standing of a module, said of this map
-  own-standing : (m : ModuleId) → IsSome (module_at own.modules m) → (s : Standing w m) × (s.map ≡ own)
-  own-standing m some = (stands m some, its-own m (stands m some) (lies m some))
-
-  found : (m : ModuleId) → IsSome (module_at own.modules m) → module_of w m ≡ module_at own.modules m
-  found m some =
-      let s = own-standing m some in
-      s.0.is ∙ sym (ap (λ (x : Map). module_at x.modules m) (sym s.1) ∙ s.0.listed)
-
-  ascending : IsAscending own.modules
-  ascending =
-      let s = own-standing own.root root-lies in
-      subst (λ (x : Map). IsAscending x.modules) s.1 s.0.ascending
+  found-by : (m : ModuleId) → IsSome (module_at own.modules m) → module_of w m ≡ module_at own.modules m
+  found-by m some = let d = some-is (module_at own.modules m) some in its-module w is own there m d.0 d.1 ∙ sym d.1
 
   block : (m : ModuleId) → IsSome (module_at own.modules m) → (b : BlockId) → own.id.block ≡ Some b → HasContainer w m own
-  block m some b e =
-      let s = own-standing m some in
-      subst (HasContainer w m) s.1 (s.0.block b (ap (λ (x : Map). x.id.block) s.1 ∙ e))
+  block m some = let d = some-is (module_at own.modules m) some in contained w is own there m d.0 d.1
 
   above : (m q : ModuleId) (d : Module) → module_at own.modules m ≡ Some d → d.parent ≡ Some q → (q.0 < m.0) × IsSome (module_at own.modules q)
-  above m q d e up =
-      let s = own-standing m (ap is_some e) in
-      let same : Some s.0.there ≡ Some d = sym s.0.listed ∙ ap (λ (x : Map). module_at x.modules m) s.1 ∙ e in
-      let is_there : s.0.there ≡ d = cc in
-      let over = s.0.parent q (ap (λ (x : Module). x.parent) is_there ∙ up) in
-      (over.0, map-lists w is q own (over.1 ∙ ap Some s.1))
-
-  one-root : (m : ModuleId) (d : Module) → module_at own.modules m ≡ Some d → (d.parent ≡ None) ↔ (m ≡ own.root)
-  one-root m d e =
-      let some : IsSome (module_at own.modules m) = ap is_some e in
-      let s = stands m some in
-      let map_is : s.map ≡ own = its-own m s (lies m some) in
-      let found : Some s.there ≡ Some d = sym s.listed ∙ ap (λ (x : Map). module_at x.modules m) map_is ∙ e in
-      let is_there : s.there ≡ d = cc in
-      subst (λ (x : Map × Module). (x.1.parent ≡ None) ↔ (m ≡ x.0.root)) (λ i. (map_is i, is_there i)) s.root
+  above m q d e up = let over = parent-lies w is own there m d e q up in (over.0, map-lists w is q own over.1)
 
   -- a module whose parent is m
   is-child : (m : ModuleId) → IsSome (module_at own.modules m) → (c : ModuleId) → parent_in w.places c ≡ Some m → IsChild own m c
@@ -122,19 +62,14 @@ module _ (w : World) (is : IsWorld w) (fam : IsFamily w) (own : Map) (there : nu
       by : (o : Option Place) → slice_get w.places c.0 ≡ o → option_and_then (λ (p : Place). p.parent) o ≡ Some m → IsChild own m c
       by None e g = cc
       by (Some p) e g =
-          let s = in_order w is c (lt-ltb c.0 (length w.places) (slice_get_within w.places c.0 p e)) in
-          let d = module-there w is c p e in
-          let found : Some d.0 ≡ Some s.there = sym d.1 ∙ ap (option_and_then (placed_module w)) (sym e) ∙ s.is in
-          let is_there : d.0 ≡ s.there = cc in
-          let parent : s.there.parent ≡ Some m = ap (λ (x : Module). x.parent) (sym is_there) ∙ d.2 ∙ g in
-          let above = s.parent m parent in
-          let maps : Some s.map ≡ Some own = sym above.1 ∙ lies m some in
-          let map_is : s.map ≡ own = cc in
-          let listed : module_at own.modules c ≡ Some s.there = ap (λ (x : Map). module_at x.modules c) (sym map_is) ∙ s.listed in
+          let d = some-is (module_at own.modules m) some in
+          let over = (is.placed c p e).parent m g in
+          let id : map_id_in w.places c ≡ own.id = ap (λ o. option_map_or (λ (y : Place). y.map) o no_map) e ∙ sym over.1 ∙ its-id w is own there m d.0 d.1 in
+          let child = some-is (module_at own.modules c) (map-lists w is c own (lies-in w is own there c (slice_get_within w.places c.0 p e) id)) in
           record {
-            lies = ap is_some listed;
-            parent = ap (option_and_then (λ (x : Module). x.parent)) listed ∙ parent;
-            greater = above.0;
+            lies = ap is_some child.1;
+            parent = ap (option_and_then (λ (x : Module). x.parent)) child.1 ∙ sym (its-parent w is own there c child.0 child.1) ∙ up;
+            greater = over.0;
           }
 
   parents : AreParents w.places own
@@ -142,8 +77,10 @@ module _ (w : World) (is : IsWorld w) (fam : IsFamily w) (own : Map) (there : nu
 
   listed-children : (m : ModuleId) (d : Module) → module_at own.modules m ≡ Some d → AllByRecursion (λ x. IsChild own m x.1) d.children
   listed-children m d e =
+      let x = found-entry (IsParent w.places) (same_module m) own.modules d parents e in
+      let children = subst (λ (k : ModuleId). IsParent w.places (k, d)) (sym (same_module-true m x.0 x.1)) x.2 in
       all-weaker (λ (x : Name × ModuleId). parent_in w.places x.1 ≡ Some m) (λ x. IsChild own m x.1) (λ x g. is-child m (ap is_some e) x.1 g) d.children
-      (all-at (IsParent w.places) own.modules m d parents e)
+      children
 
   outermost : own.id.block ≡ None → own.parent ≡ None
   outermost none =
@@ -164,11 +101,7 @@ module _ (w : World) (is : IsWorld w) (fam : IsFamily w) (own : Map) (there : nu
       by : (o : Option Module) → module_at own.modules m ≡ o → IsSome o → option_or (option_and_then (λ (d : Module). d.parent) o) own.parent ≡ containing (tree_of w) m
       by None e g = absurd (true≢false (sym g))
       by (Some d) e g =
-          let at = found-at own.modules m d e in
-          let place : slice_get w.places m.0 ≡ Some (record { map = own.id; index = at.0; parent = d.parent }) = lawful.listed at.0 m d.parent at.2 in
-          let up : parent_in w.places m ≡ d.parent = ap (option_and_then (λ (p : Place). p.parent)) place in
-          let id : map_id_in w.places m ≡ own.id = ap (λ o. option_map_or (λ (p : Place). p.map) o no_map) place in
-          sym ((λ i. option_or (up i) (option_and_then (λ b. container_in (containers_of w.block_maps) (Some b)) (id i).block)) ∙ ap (option_or d.parent) around)
+          sym ((λ i. option_or (its-parent w is own there m d e i) (option_and_then (λ b. container_in (containers_of w.block_maps) (Some b)) (its-id w is own there m d e i).block)) ∙ ap (option_or d.parent) around)
 
   shared : option_map common (crate_map w own.id.krate) ≡ Some (common own)
   shared =
@@ -179,13 +112,13 @@ module _ (w : World) (is : IsWorld w) (fam : IsFamily w) (own : Map) (there : nu
   whole = record {
     known = known;
     its_map = lies;
-    found = found;
-    ascending = ascending;
+    found = found-by;
+    ascending = ascending w is own there;
     root = root-lies;
-    one_root = one-root;
+    one_root = one-root w is own there;
     parent = above;
     children = λ m d e. All-from_recursion (λ (x : Name × ModuleId). IsChild own m x.1) d.children (listed-children m d e);
-    child = λ m d e n. by-name (IsChild own m) d.children n (listed-children m d e);
+    child = λ m d e n x. found (IsChild own m) (same_name n) d.children x (listed-children m d e);
     contains = contains;
     block = block;
     outermost = outermost;

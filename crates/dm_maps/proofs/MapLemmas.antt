@@ -5,13 +5,9 @@ use Rattle.std.specs.Option.{option_map, option_and_then, option_copied, IfSome}
 use Rattle.std.proofs.lemmas.Option.{slice_get-map}
 use Rattle.std.proofs.lemmas.List.{length-map}
 use Rattle.std.proofs.lemmas.Bool.{lt-ltb, ltb-true}
-use Rattle.dm_ids.specs.declared.ids.BlockId.{BlockId}
-use Rattle.dm_ids.specs.declared.ids.Crate.{Crate}
-use Rattle.dm_ids.specs.declared.ids.MapId.{MapId}
-use Rattle.dm_ids.specs.declared.ids.ModuleId.{ModuleId}
+use Rattle.dm_maps.proofs.Ids.{BlockId, Crate, MapId, ModuleId, Place}
 use Rattle.dm_check.specs.declared.held.HeldId.TheVariants as held
 use Rattle.dm_maps.specs.Known.{knows}
-use Rattle.dm_maps.specs.declared.place.Place.{Place}
 use Rattle.dm_def_map.specs.Maps.{Map, Modules, module_at}
 use Rattle.dm_maps.specs.World.{World, numbered_map, crate_map, map_of}
 use Rattle.dm_maps.specs.Trees.{Outline, outline, outlines, IsWorld}

@@ -1,8 +1,7 @@
 -- Maps, of which one is written.
 use Rattle.std.proofs.Common.{◌≡◌, ◌⊎◌, inl, inr, Option, None, Some, set, slice_get, refl, ap}
 use Rattle.std.specs.Option.{option_map_or}
-use Rattle.dm_ids.specs.declared.ids.BlockId.{BlockId}
-use Rattle.dm_ids.specs.declared.ids.MapId.{MapId}
+use Rattle.dm_maps.proofs.Ids.{BlockId, MapId}
 use Rattle.dm_def_map.specs.Maps.{Map}
 use Rattle.dm_maps.specs.Maps.{Maps, map_at, put_map, maps_with}
 use Rattle.dm_maps.proofs.EntryLemmas.{set-own, get-set_same, at-set}

@@ -1,8 +1,6 @@
 -- What is set in maps, beside their modules, keeps what holds of every world.
 use Rattle.std.proofs.Common.{◌≡◌, ℕ, Bool, true, false, cond, nat_eq, List, [], ◌∷◌, Option, Some, None, length, map, set, slice_get, refl, subst, sym, ap}
-use Rattle.dm_ids.specs.declared.ids.Crate.{Crate}
-use Rattle.dm_ids.specs.declared.ids.MapId.{MapId}
-use Rattle.dm_ids.specs.declared.ids.ModuleId.{ModuleId}
+use Rattle.dm_maps.proofs.Ids.{Crate, MapId, ModuleId}
 use Rattle.dm_def_map.specs.declared.map_change.MapChange.{MapChange}
 use Rattle.dm_def_map.specs.declared.map_change.MapChange.TheVariants.{Prelude, MacroUse, MacroDef, Helper, Diagnostic}
 use Rattle.dm_maps.specs.BuildCrateData.{map_with_shared, with_shared, sharing}
@@ -50,29 +48,23 @@ Keeps-scoped i s = record { shape = λ m. ap (λ es. record (outline m) { module
 
 -- ---- New data of a crate.
 
-outline-shared : (k : Crate) (d : CrateData) (m : Map) → outline (map_with_shared k d m) ≡ outline m
-outline-shared k d m = by (nat_eq m.id.krate.0 k.0)
+-- it leaves what each map has beside its data
+pub given-keeps : {A : Type 0} (f : Map → A) → ((m : Map) (d : CrateData) → f (record m { shared = d }) ≡ f m) → (k : Crate) (d : CrateData) (m : Map) → f (map_with_shared k d m) ≡ f m
+given-keeps f same k d m = by (nat_eq m.id.krate.0 k.0)
   where
-    by : (b : Bool) → outline (cond b (record m { shared = d }) m) ≡ outline m
-    by true = refl
+    by : (b : Bool) → f (cond b (record m { shared = d }) m) ≡ f m
+    by true = same m d
     by false = refl
 
-parent-shared : (k : Crate) (d : CrateData) (m : Map) → (map_with_shared k d m).parent ≡ m.parent
-parent-shared k d m = by (nat_eq m.id.krate.0 k.0)
-  where
-    by : (b : Bool) → (cond b (record m { shared = d }) m).parent ≡ m.parent
-    by true = refl
-    by false = refl
-
-outlines-shared : (k : Crate) (d : CrateData) (ms : List Map) → outlines (with_shared k d ms) ≡ outlines ms
-outlines-shared k d [] = refl
-outlines-shared k d (m ∷ ms) = (λ i. outline-shared k d m i ∷ outlines-shared k d ms i)
+pub all-given-keep : {A : Type 0} (f : Map → A) → ((m : Map) (d : CrateData) → f (record m { shared = d }) ≡ f m) → (k : Crate) (d : CrateData) (ms : List Map) → map f (with_shared k d ms) ≡ map f ms
+all-given-keep f same k d [] = refl
+all-given-keep f same k d (m ∷ ms) = λ i. given-keeps f same k d m i ∷ all-given-keep f same k d ms i
 
 pub containers-shared : (k : Crate) (d : CrateData) (ms : List Map) → containers_of (with_shared k d ms) ≡ containers_of ms
-containers-shared k d [] = refl
-containers-shared k d (m ∷ ms) = (λ i. parent-shared k d m i ∷ containers-shared k d ms i)
+containers-shared = all-given-keep (λ m. m.parent) (λ m d. refl)
 
 pub IsWorld-sharing : (w : World) (k : Crate) (d : CrateData) → IsWorld w → IsWorld (sharing w k d)
 IsWorld-sharing w k d is =
     let P : (List Outline × List Outline × List (Option ModuleId)) → Type 0 = λ z. IsWorldOf w.places z.0 z.1 z.2 (length w.local_maps) in
-    subst P (λ i. (sym (outlines-shared k d w.crate_maps) i, sym (outlines-shared k d w.block_maps) i, sym (containers-shared k d w.block_maps) i)) is
+    let outlines_stay = all-given-keep outline (λ m e. refl) k d in
+    subst P (λ i. (sym (outlines_stay w.crate_maps) i, sym (outlines_stay w.block_maps) i, sym (containers-shared k d w.block_maps) i)) is

@@ -1,19 +1,15 @@
--- Invariants of every world still hold with a module more, and with a crate more.
-use Rattle.std.proofs.Common.{◌≡◌, ◌<◌, ◌≤◌, ◌+◌, ℕ, zero, suc, List, [], ◌∷◌, ◌++◌, Option, Some, None, length, map, set, slice_get, inl, inr, sym, ap, ◌∙◌, refl, subst, arith, length-append}
+-- Invariants of every world still hold with a module more.
+use Rattle.std.proofs.Common.{◌≡◌, ◌<◌, ℕ, zero, suc, List, [], ◌∷◌, ◌++◌, Option, Some, None, length, map, set, slice_get, sym, ap, ◌∙◌, refl, subst, arith}
 use Rattle.std.proofs.Math.ListN.{length-set}
 use Rattle.std.specs.Option.{option_map, option_map_or}
 use Rattle.std.proofs.lemmas.List.{map-set, map_push}
 use Rattle.std.proofs.lemmas.Option.{slice_get_within, slice_get-map}
 use Rattle.indexmap.specs.IndexMap.{set_value_at}
-use Rattle.dm_ids.specs.declared.ids.ModuleId.{ModuleId}
-use Rattle.dm_ids.specs.declared.ids.BlockId.{BlockId}
-use Rattle.dm_ids.specs.declared.ids.MapId.{MapId}
-use Rattle.dm_ids.specs.Names.{Name}
-use Rattle.dm_maps.specs.declared.place.Place.{Place}
+use Rattle.dm_maps.proofs.Ids.{BlockId, MapId, ModuleId, Name, Place}
 use Rattle.dm_def_map.specs.Maps.{Map, Module, Modules, nth_module, put_child, with_child_at, map_with_child}
-use Rattle.dm_maps.specs.Trees.{no_map, Outline, outline, IsPlaced, IsWorldOf, Stands, AreMaps, is_crate_id, is_block_id, map_id_in, numbered_outline}
-use Rattle.dm_maps.proofs.EntryLemmas.{get-push, get-last, get-set_same, set-own}
-use Rattle.dm_maps.proofs.GrowthLemmas.{longer, place_below, after, map_id_in-append, IsPlaced-append, IsTree-placed, AreMaps-append, AreMaps-longer, Grows, Grows-same, Grows-longer, Stands-grows}
+use Rattle.dm_maps.specs.Trees.{no_map, Outline, outline, IsPlaced, IsWorldOf, AreMaps, is_crate_id, is_block_id, map_id_in, numbered_outline}
+use Rattle.dm_maps.proofs.EntryLemmas.{get-last, get-set_same, set-own}
+use Rattle.dm_maps.proofs.GrowthLemmas.{longer, place_below, after, map_id_in-append, AreMaps-append, AreMaps-longer, Grows, Grows-same, Grows-longer, IsWorldOf-next}
 
 -- ---- The outline of a map with a module more.
 
@@ -63,55 +59,35 @@ module _ (ps : List Place) (cs bs : List Outline) (inside : List (Option ModuleI
         };
   }
 
-  placed : (m : ModuleId) (p : Place) → slice_get (ps ++ place_below o q ∷ []) m.0 ≡ Some p → IsPlaced (ps ++ place_below o q ∷ []) inside m.0 p
-  placed m p e = elim (get-push ps (place_below o q) m.0 p e) [
-    | inl g ↦
-        let l : m.0 ≤ length ps = let k = slice_get_within ps m.0 p g in omega arith in
-        IsPlaced-append ps (place_below o q ∷ []) inside inside m.0 p (λ b c h. h) l (w.placed m p g)
-    | inr g ↦ subst (λ x. IsPlaced (ps ++ place_below o q ∷ []) inside m.0 x) g.1 (subst (λ i. IsPlaced (ps ++ place_below o q ∷ []) inside i (place_below o q)) (sym g.0) new_placed)
-  ]
-
   module _ (ds es : List Outline) (crates : Grows cs ds) (blocks : Grows bs es)
       (there : numbered_outline ds es at.map ≡ Some (longer o (after ps) (Some q)))
       (crate_maps : AreMaps is_crate_id (ps ++ place_below o q ∷ []) ds) (block_maps : AreMaps is_block_id (ps ++ place_below o q ∷ []) es)
       (crate_count : length ds ≡ length cs) (block_count : length es ≡ length bs) where
-    new_stands : Stands ds es (after ps) (place_below o q)
-    new_stands = record {
-      there = longer o (after ps) (Some q);
-      is_map = ap (numbered_outline ds es) of_id ∙ there;
-      of_id = refl;
-      is_module = get-last o.modules (after ps, Some q);
-    }
-
-    stands : (m : ModuleId) (p : Place) → slice_get (ps ++ place_below o q ∷ []) m.0 ≡ Some p → Stands ds es m p
-    stands m p e = elim (get-push ps (place_below o q) m.0 p e) [
-      | inl g ↦ Stands-grows cs bs ds es m p crates blocks (w.stands m p g)
-      | inr g ↦ subst (Stands ds es m) g.1 (subst (λ i. Stands ds es (record { 0 = i }) (place_below o q)) (sym g.0) new_stands)
-    ]
-
-    in_crates : (m : ModuleId) (p : Place) → slice_get (ps ++ place_below o q ∷ []) m.0 ≡ Some p → p.map.krate.0 < length ds
-    in_crates m p e = elim (get-push ps (place_below o q) m.0 p e) [
-      | inl g ↦ let l = w.in_crates m p g in omega arith
-      | inr g ↦
-          let l = w.in_crates q at is in
-          let same : at.map.krate.0 ≡ p.map.krate.0 = ap (λ (id : MapId). id.krate.0) (sym of_id) ∙ ap (λ (x : Place). x.map.krate.0) g.1 in
-          omega arith
-    ]
-
     longer_world : IsWorldOf (ps ++ place_below o q ∷ []) ds es inside n
     longer_world =
-        let more : length (ps ++ place_below o q ∷ []) ≡ length ps + 1 = length-append ps (place_below o q ∷ []) in record {
-          tree = IsTree-placed (ps ++ place_below o q ∷ []) inside placed;
-          placed = placed;
-          stands = stands;
-          crates = crate_maps;
-          blocks = block_maps;
-          in_crates = in_crates;
+        let crates_before = w.crate_count in
+        let blocks_before = w.block_count in
+        let its_crate = w.in_crates q at is in
+        let same : at.map.krate.0 ≡ o.id.krate.0 = ap (λ (id : MapId). id.krate.0) (sym of_id) in
+        IsWorldOf-next ps cs bs ds es inside inside n n (place_below o q) room w (record {
+          placed = new_placed;
+          stands = record {
+            there = longer o (after ps) (Some q);
+            is_map = ap (numbered_outline ds es) of_id ∙ there;
+            of_id = refl;
+            is_module = get-last o.modules (after ps, Some q);
+          };
+          in_crate = omega arith;
+          keeps = λ b c h. h;
+          crates = crates;
+          blocks = blocks;
+          crate_maps = crate_maps;
+          block_maps = block_maps;
           externs = w.externs ∙ sym crate_count;
-          crate_count = let k = w.crate_count in omega arith;
-          block_count = let k = w.block_count in omega arith;
-          numbers = omega arith;
-        }
+          more_crates = omega arith;
+          crate_count = omega arith;
+          block_count = omega arith;
+        })
 
   -- in a crate's map, and in a block's
   pub longer_crate : at.map.block ≡ None → slice_get cs at.map.krate.0 ≡ Some o → IsWorldOf (ps ++ place_below o q ∷ []) (set cs at.map.krate.0 (longer o (after ps) (Some q))) bs inside n

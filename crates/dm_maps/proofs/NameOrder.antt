@@ -7,7 +7,7 @@ use Rattle.std.specs.List.Sorted.{IsStrictlySortedBy}
 use Rattle.std.specs.Ordering.{nat_cmp, ordering_reverse}
 use Rattle.std.specs.declared.cmp.Ordering.{Ordering}
 use Rattle.std.specs.declared.cmp.Ordering.TheVariants.{Less, Equal, Greater}
-use Rattle.dm_ids.specs.Names.{Name}
+use Rattle.dm_maps.proofs.Ids.{Name}
 use Rattle.dm_scope.specs.Dumps.{IsDump}
 use Rattle.dm_scope.specs.OrderLaws.{AreInOrder-one, in_either, in_front, in_back}
 use Rattle.dm_scope.specs.Scope.{Scope}

@@ -2,14 +2,14 @@
 use Rattle.std.proofs.Common.{◌≡◌, ◌<◌, ◌≤◌, ℕ, zero, suc, List, [], ◌∷◌, Option, Some, None, Bor, length, refl, sym, ap, subst, ◌∙◌, arith, IsSome}
 use Rattle.std.specs.Option.{option_map, option_map_or, option_and_then}
 use Rattle.std.proofs.lemmas.Bool.{ltb-true}
-use Rattle.dm_ids.specs.declared.ids.BlockId.{BlockId}
-use Rattle.dm_ids.specs.declared.ids.ModuleId.{ModuleId}
-use Rattle.dm_def_map.specs.Maps.{Map}
-use Rattle.dm_maps.specs.MapFacts.{HasContainer}
+use Rattle.dm_maps.proofs.Ids.{BlockId, ModuleId}
+use Rattle.dm_def_map.specs.Maps.{Map, module_at}
 use Rattle.dm_maps.specs.Outwards.{container_of, next_outwards, outwards_within, maps_outwards, AsksMaps, IsHandedOut, MayAskMaps, MayAskNext}
 use Rattle.dm_maps.specs.Trees.{IsWorld}
 use Rattle.dm_maps.specs.World.{World, map_of}
-use Rattle.dm_maps.proofs.InOrder.{Standing, in_order}
+use Rattle.dm_maps.proofs.AllLemmas.{some-is}
+use Rattle.dm_maps.proofs.InOrder.{contained}
+use Rattle.dm_maps.proofs.MapLemmas.{map-lists, map-own}
 use Rattle.dm_maps.proofs.SoundLemmas.{placed-known}
 
 abbrev none : Map → ModuleId → List (Map × ModuleId)
@@ -32,9 +32,6 @@ pub may-first : {F T : Type 0} (w : World) (may : F → Bor Map → ModuleId →
 may-first w may step M m f h = (subst (λ xs. MayAskMaps w may step xs f) (outwards-first w M.now m).1 h).0 M refl
 
 module _ (w : World) (is : IsWorld w) where
-  known-of : (p : ModuleId) (P : Map) → map_of w p ≡ Some P → Standing w p
-  known-of p P e = in_order w is p (placed-known w p (subst IsSome (sym e) refl))
-
   -- what contains the block of a module's map has a smaller number than the module
   smaller : (p q : ModuleId) (P : Map) → map_of w p ≡ Some P → container_of P ≡ Some q → q.0 < p.0
   smaller p q P e h = by P.id.block refl h
@@ -42,9 +39,8 @@ module _ (w : World) (is : IsWorld w) where
       by : (b : Option BlockId) → P.id.block ≡ b → elim b as (λ x. Option ModuleId) [ None ↦ None | Some x ↦ P.parent ] ≡ Some q → q.0 < p.0
       by None i g = cc
       by (Some b) i g =
-          let s = known-of p P e in
-          let same : s.map ≡ P = cc in
-          let has : HasContainer w p s.map = s.block b (ap (λ (m : Map). m.id.block) same ∙ i) in
+          let d = some-is (module_at P.modules p) (map-lists w is p P e) in
+          let has = contained w is P (map-own w is p P e) p d.0 d.1 b i in
           let it : has.container ≡ q = cc in
           subst (λ (x : ModuleId). x.0 < p.0) it has.smaller
 

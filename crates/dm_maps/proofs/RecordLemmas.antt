@@ -5,12 +5,11 @@ use Rattle.std.specs.Option.{option_copied, option_map, option_map_or, option_an
 use Rattle.std.proofs.lemmas.List.{length-map}
 use Rattle.std.proofs.lemmas.Option.{slice_get-map, slice_get_cases}
 use Rattle.std.proofs.lemmas.Bool.{lt-ltb, le-ltb}
-use Rattle.dm_ids.specs.declared.ids.ModuleId.{ModuleId}
+use Rattle.dm_maps.proofs.Ids.{ModuleId, Place}
 use Rattle.dm_base.specs.declared.per_ns.Namespace.{Namespace}
 use Rattle.dm_base.specs.declared.per_ns.Namespace.TheVariants.{Types, Values, Macros}
 use Rattle.dm_scope.specs.Records.{records_in}
 use Rattle.dm_scope.specs.Scope.{no_scope}
-use Rattle.dm_maps.specs.declared.place.Place.{Place}
 use Rattle.dm_def_map.specs.Maps.{Module}
 use Rattle.dm_maps.specs.ScopeTables.{scope_at_place}
 use Rattle.dm_maps.specs.Trees.{IsWorld}

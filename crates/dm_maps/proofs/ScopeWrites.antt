@@ -4,12 +4,11 @@ use Rattle.std.proofs.Math.ListN.{length-set}
 use Rattle.std.specs.List.{AllByRecursion}
 use Rattle.std.specs.Option.{option_map, option_map_or, option_and_then}
 use Rattle.indexmap.specs.IndexMap.{set_value_at}
-use Rattle.dm_ids.specs.declared.ids.ModuleId.{ModuleId}
+use Rattle.dm_maps.proofs.Ids.{ModuleId, Place}
 use Rattle.dm_base.specs.Tree.{same_module}
 use Rattle.dm_scope.specs.Scope.{Scope, no_scope}
 use Rattle.dm_check.specs.declared.held.HeldId.{HeldId}
 use Rattle.dm_check.specs.declared.held.HeldId.TheVariants as held
-use Rattle.dm_maps.specs.declared.place.Place.{Place}
 use Rattle.dm_def_map.specs.Maps.{Map, Module, Modules, nth_module, put_scope, with_scope_at, map_with_scope}
 use Rattle.dm_maps.specs.Maps.{Maps, map_at, put_map, maps_with_scope}
 use Rattle.dm_maps.specs.World.{World, maps_of, with_maps, place_of, placed_module, module_of, scope_of, scope_if_known, numbered_map, with_scope_in, with_scope}

@@ -1,18 +1,13 @@
 -- What is set in a builder leaves what is known, and scopes; so does another scope for one module, but for that one.
-use Rattle.std.proofs.Common.{◌≡◌, ◌∙◌, ℕ, Bool, true, false, cond, List, Option, None, Some, length, map, set, slice_get, nat_eq, refl, sym, ap, subst, arith, inl, inr, true≢false, IsSome, IsTrue}
+use Rattle.std.proofs.Common.{◌≡◌, ◌∙◌, ℕ, List, Option, None, Some, length, slice_get, refl, sym, ap, arith, inl, inr, true≢false, IsSome, IsTrue}
 use Rattle.std.proofs.lemmas.List.{length-map}
 use Rattle.std.proofs.lemmas.Option.{slice_get-map}
 use Rattle.std.specs.Option.{option_map, option_map_or}
-use Rattle.dm_ids.specs.declared.ids.BlockId.{BlockId}
-use Rattle.dm_ids.specs.declared.ids.Crate.{Crate}
-use Rattle.dm_ids.specs.declared.ids.EnumId.{EnumId}
-use Rattle.dm_ids.specs.declared.ids.MapId.{MapId}
-use Rattle.dm_ids.specs.declared.ids.ModuleId.{ModuleId}
+use Rattle.dm_maps.proofs.Ids.{BlockId, Crate, MapId, ModuleId, Place}
 use Rattle.dm_scope.specs.Scope.{Scope, no_scope}
 use Rattle.dm_check.specs.declared.held.HeldId.TheVariants as held
 use Rattle.dm_def_map.specs.CrateData.{CrateData}
 use Rattle.dm_def_map.specs.Maps.{LocalMap, Map, Module}
-use Rattle.dm_maps.specs.declared.place.Place.{Place}
 use Rattle.dm_maps.specs.Added.{IsGrown, IsScoped}
 use Rattle.dm_maps.specs.Build.{with_rules}
 use Rattle.dm_maps.specs.BuildCrateData.{map_with_shared, sharing, with_shared}
@@ -22,19 +17,20 @@ use Rattle.dm_maps.specs.Maps.{map_at}
 use Rattle.dm_maps.specs.ScopeTables.{scope_at_place}
 use Rattle.dm_maps.specs.Trees.{IsWorld}
 use Rattle.dm_maps.specs.World.{World, maps_of, module_of, scope_if_known, scope_of, with_scope}
+use Rattle.dm_maps.proofs.MapsKept.{given-keeps}
 use Rattle.dm_maps.proofs.MapWrites.{put-other, with-cases}
 use Rattle.dm_maps.proofs.ScopeWrites.{knows-scoped, scope_of-other, scope_of-own}
 use Rattle.dm_maps.proofs.WorldFacts.{scope-there}
 use Rattle.dm_maps.specs.declared.rules.Rules.{Rules}
 use Rattle.dm_def_map.specs.ItemTables.{ItemTables}
-use Rattle.dm_maps.proofs.GrownLemmas.{grows, scope_in, scope_by, scopes-kept, count-with, Longer, longer-same}
+use Rattle.dm_maps.proofs.GrownLemmas.{grows, widens, scope_in, scope_by, scopes-kept, count-with}
 
 -- ---- Another scope for a module.
 
 pub scoped : (w : World) → IsWorld w → (m : ModuleId) → IsTrue (knows w (held.Module m)) → (s : Scope) → IsScoped w (with_scope w m s) m s
 scoped w is m known s = record { id = knows-scoped w m s; own = scope_of-own s w m (scope-there w is m known); others = scope_of-other s w is m }
 
-scope-read : (o : Option Module) → IsSome (option_map (λ (d : Module). d.scope) o) → option_map (λ (d : Module). d.scope) o ≡ Some (option_map_or (λ (d : Module). d.scope) o no_scope)
+pub scope-read : (o : Option Module) → IsSome (option_map (λ (d : Module). d.scope) o) → option_map (λ (d : Module). d.scope) o ≡ Some (option_map_or (λ (d : Module). d.scope) o no_scope)
 scope-read None e = absurd (true≢false (sym e))
 scope-read (Some d) e = refl
 
@@ -47,14 +43,9 @@ scope-lent w is m known = scope-read (module_of w m) (scope-there w is m known)
 -- where the lists by which ids are known stay, and the scopes
 set-beside : (w v : World) → v.places ≡ w.places → length v.crate_maps ≡ length w.crate_maps → v.uses ≡ w.uses → v.items ≡ w.items → v.variants ≡ w.variants → v.macros ≡ w.macros
     → ((k : ModuleId) → scope_of v k ≡ scope_of w k) → IsGrown w v
-set-beside w v places crates uses items variants macros scopes = grows w v (record {
-  places = let e = ap (λ (l : List Place). length l) places in omega arith;
-  crates = omega arith;
-  uses = let e = ap (λ (l : List ModuleId). length l) uses in omega arith;
-  items = subst (Longer w.items) (sym items) (longer-same w.items);
-  variants = let e = ap (λ (l : List EnumId). length l) variants in omega arith;
-  macros = subst (Longer w.macros) (sym macros) (longer-same w.macros);
-}) scopes (λ k h. ap (λ l. slice_get l k.0) places)
+set-beside w v places crates uses items variants macros scopes =
+    let at = ap (λ (l : List Place). length l) places in
+    grows w v (widens w v (omega arith) (omega arith) uses items variants macros) scopes (λ k h. ap (λ l. slice_get l k.0) places)
 
 -- maps, but for their modules
 pub set-maps : (w : World) (id : MapId) (f : Map → Map) → ((x : Map) → (f x).modules ≡ x.modules) → IsGrown w (with_map w id f)
@@ -72,16 +63,9 @@ set-maps w id f keeps = set-beside w (with_map w id f) refl (count-with (maps_of
 pub set-data : (w : World) (k : Crate) (d : CrateData) → IsGrown w (sharing w k d)
 set-data w k d = set-beside w (sharing w k d) refl (length-map w.crate_maps (map_with_shared k d)) refl refl refl refl (scopes-kept w (sharing w k d) same refl)
   where
-    kept : (x : Map) (j : ℕ) → scope_in (map_with_shared k d x).modules j ≡ scope_in x.modules j
-    kept x j = by (nat_eq x.id.krate.0 k.0)
-      where
-        by : (b : Bool) → scope_in (cond b (record x { shared = d }) x).modules j ≡ scope_in x.modules j
-        by true = refl
-        by false = refl
-
     mapped : (o : Option Map) (j : ℕ) → scope_by (option_map (map_with_shared k d) o) j ≡ scope_by o j
     mapped None j = refl
-    mapped (Some x) j = kept x j
+    mapped (Some x) j = given-keeps (λ (y : Map). scope_in y.modules j) (λ y e. refl) k d x
 
     same : (q : Place) → scope_at_place (sharing w k d) q ≡ scope_at_place w q
     same q = by q.map.block

@@ -4,7 +4,7 @@ use Rattle.std.specs.Option.{option_map, option_map_or, option_or}
 use Rattle.std.proofs.lemmas.Bool.{eq-eqb, lt-ltb}
 use Rattle.std.proofs.lemmas.List.{length-map}
 use Rattle.std.proofs.lemmas.Option.{slice_get-map, slice_get_within}
-use Rattle.dm_ids.specs.declared.ids.Crate.{Crate}
+use Rattle.dm_maps.proofs.Ids.{Crate}
 use Rattle.dm_def_map.specs.CrateData.{CrateData, fresh_data, with_setting, with_settings}
 use Rattle.dm_def_map.specs.declared.crate_data.crate_setting.CrateSetting.{CrateSetting}
 use Rattle.dm_def_map.specs.Maps.{Map}

@@ -3,15 +3,14 @@ use Rattle.std.proofs.Common.{◌≡◌, ◌<◌, ◌+◌, ◌∙◌, ℕ, zero,
 use Rattle.std.specs.Option.{option_map, option_map_or}
 use Rattle.std.proofs.lemmas.Bool.{eqb-true, eq-eqb, ltb-true, ltb-false}
 use Rattle.std.proofs.lemmas.Option.{slice_get-map, get_or_from_slice_get}
-use Rattle.dm_ids.specs.declared.ids.BlockId.{BlockId}
-use Rattle.dm_ids.specs.declared.ids.Crate.{Crate}
-use Rattle.dm_ids.specs.declared.ids.MapId.{MapId}
+use Rattle.dm_maps.proofs.Ids.{BlockId, Crate, MapId}
 use Rattle.dm_def_map.specs.CrateData.{CrateData}
 use Rattle.dm_def_map.specs.Maps.{Map}
 use Rattle.dm_maps.specs.BlockLists.{entry_with, crates_of, HasBlock, HoldsAll, AreNumbered}
 use Rattle.dm_maps.specs.BuildCrateData.{map_with_shared}
 use Rattle.dm_maps.proofs.EntryChanges.{entry-set}
-use Rattle.dm_maps.proofs.EntryLemmas.{get-set, get-set_same}
+use Rattle.dm_maps.proofs.EntryLemmas.{at-set, get-set_same}
+use Rattle.dm_maps.proofs.MapsKept.{given-keeps, all-given-keep}
 use Rattle.dm_maps.proofs.ModuleGrowth.{map-set_own}
 
 module _ {X : Type 0} (f : X → X) (again : (x : X) → f (f x) ≡ f x) where
@@ -47,7 +46,13 @@ module _ {X : Type 0} (f : X → X) (again : (x : X) → f (f x) ≡ f x) where
     where
       by : (o : Option X) → slice_get xs k ≡ o → slice_get (option_map_or (λ x. set xs k (f x)) o xs) j ≡ Some y → f y ≡ y
       by None e g = h y g
-      by (Some x) e g = elim (get-set xs k j x (f x) y e g) [ inl new ↦ ap f new.1 ∙ again x ∙ sym new.1 | inr old ↦ h y old ]
+      by (Some x) e g = elim (at-set xs k j x (f x) e) [
+        | inl same ↦ h y (sym same ∙ g)
+        | inr own ↦
+            let written : Some (f x) ≡ Some y = sym own.2 ∙ g in
+            let same : f x ≡ y = cc in
+            ap f (sym same) ∙ again x ∙ same
+      ]
 
 module _ (k : Crate) (d : CrateData) where
   abbrev given : Map → Map
@@ -56,16 +61,9 @@ module _ (k : Crate) (d : CrateData) where
   abbrev one : Bool → Map → Map
   one b m = cond b (record m { shared = d }) m
 
-  id-given : (m : Map) → (given m).id ≡ m.id
-  id-given m = by (nat_eq m.id.krate.0 k.0)
-    where
-      by : (b : Bool) → (one b m).id ≡ m.id
-      by true = refl
-      by false = refl
-
   -- of data given twice the last counts
   pub given-again : (e : CrateData) (m : Map) → map_with_shared k e (given m) ≡ map_with_shared k e m
-  given-again e m = ap (λ (i : MapId). cond (nat_eq i.krate.0 k.0) (record (given m) { shared = e }) (given m)) (id-given m) ∙ by (nat_eq m.id.krate.0 k.0)
+  given-again e m = ap (λ (i : MapId). cond (nat_eq i.krate.0 k.0) (record (given m) { shared = e }) (given m)) (given-keeps (λ (x : Map). x.id) (λ x c. refl) k d m) ∙ by (nat_eq m.id.krate.0 k.0)
     where
       by : (b : Bool) → cond b (record (one b m) { shared = e }) (one b m) ≡ cond b (record m { shared = e }) m
       by true = refl
@@ -79,8 +77,7 @@ module _ (k : Crate) (d : CrateData) where
   given-none m e = ap (λ b. one b m) e
 
   crates-given : (ms : List Map) → crates_of (map given ms) ≡ crates_of ms
-  crates-given [] = refl
-  crates-given (m ∷ ms) = (λ i. (id-given m i).krate ∷ crates-given ms i)
+  crates-given = all-given-keep (λ m. m.id.krate) (λ m e. refl) k d
 
   -- the maps ms became ns, of which each of the crate's blocks has the data
   pub all-given : (ms ns : List Map) (own : List BlockId) → HoldsAll k ms own → map given ns ≡ map given ms

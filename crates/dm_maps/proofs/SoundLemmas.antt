@@ -5,31 +5,24 @@ use Rattle.std.specs.Option.{ForSome, option_map, option_map_or, option_and_then
 use Rattle.std.proofs.lemmas.Option.{slice_get-map, slice_get_within}
 use Rattle.std.proofs.lemmas.Bool.{lt-ltb, eqb-true}
 use Rattle.std.proofs.lemmas.List.{length-map}
-use Rattle.dm_ids.specs.declared.ids.ModuleId.{ModuleId}
-use Rattle.dm_ids.specs.declared.ids.BlockId.{BlockId}
-use Rattle.dm_ids.specs.declared.ids.MapId.{MapId}
-use Rattle.dm_ids.specs.declared.ids.ExternCrateId.{ExternCrateId}
-use Rattle.dm_ids.specs.declared.ids.UseId.{UseId}
-use Rattle.dm_ids.specs.declared.item_ids.MacroId.{MacroId}
-use Rattle.dm_ids.specs.Names.{Name, find_name}
+use Rattle.dm_maps.proofs.Ids.{BlockId, ExternCrateId, MacroId, MapId, ModuleId, Name, Place, UseId, find_name, same_name}
 use Rattle.dm_scope.specs.Scope.{Scope, no_scope, bound_in, legacy_in, last_of}
 use Rattle.dm_check.specs.declared.held.HeldId.{HeldId}
 use Rattle.dm_check.specs.declared.held.HeldId.TheVariants as held
-use Rattle.dm_maps.specs.declared.place.Place.{Place}
-use Rattle.dm_def_map.specs.Maps.{Map, Module, Modules, LocalMap, module_at}
+use Rattle.dm_def_map.specs.Maps.{Map, Module, Modules, LocalMap, module_at, nth_module}
 use Rattle.dm_maps.specs.World.{World, scope_of, placed_module, numbered_map, map_of}
 use Rattle.dm_maps.specs.Known.{knows, KnowsAll}
 use Rattle.dm_check.specs.Holding.{res_holds, local_holds, type_holds, value_holds, macro_holds, vis_holds}
 use Rattle.dm_maps.specs.Holds.{map_holds, preludes_hold, module_holds}
 use Rattle.dm_check.specs.Holds.{scope_holds, prelude_holds, macro_uses_hold, types_hold, values_hold, macros_hold, legacies_hold, bindings_hold, records_hold, lists_hold}
-use Rattle.dm_check.specs.TablesHold.{macro_defs_hold, helpers_hold, diagnostics_hold, data_holds}
+use Rattle.dm_check.specs.TablesHold.{macro_defs_hold, helpers_hold, diagnostics_hold, data_holds, tables_hold}
 use Rattle.dm_maps.specs.First.{Held, each_from, crate_holder, block_holder, module_holder, tables_holder, local_at, IsChecked}
 use Rattle.dm_maps.specs.Readings.{macro_uses_of, prelude_of}
 use Rattle.dm_maps.specs.Built.{IsBuilt}
 use Rattle.dm_maps.specs.Trees.{tree_of, outline, outlines, IsWorld, IsMap, AreMaps, is_crate_id, is_block_id}
 use Rattle.dm_maps.specs.Sound.{IsSound}
 use Rattle.dm_maps.proofs.ModuleGrowth.{entry}
-use Rattle.dm_maps.proofs.AllLemmas.{all-left, all-right, all-append, all-get, all-map, all-flat_map, found, for_none, for_some}
+use Rattle.dm_maps.proofs.AllLemmas.{all-left, all-right, all-append, all-get, all-map, all-flat_map, found, for_none, for_some, some-is}
 use Rattle.dm_maps.proofs.ListLemmas.{use-among, def-among, macro-among, variant-enum, variant-own, variant-known}
 
 -- ---- The holders of a checked world.
@@ -63,6 +56,9 @@ module _ (w : World) where
 
     after_crates : AllByRecursion Fine (blocks ++ (modules ++ tables_holder w ∷ []))
     after_crates = all-right Fine crates (blocks ++ (modules ++ tables_holder w ∷ [])) checked
+
+    pub fine_tables : KnowsAll w (tables_hold w.item_tables)
+    fine_tables = (all-right Fine modules (tables_holder w ∷ []) (all-right Fine blocks (modules ++ tables_holder w ∷ []) after_crates)).0
 
     fine_crate : (k : ℕ) (m : Map) → slice_get w.crate_maps k ≡ Some m → KnowsAll w (map_holds m)
     fine_crate k m e =
@@ -114,7 +110,7 @@ module _ (w : World) where
           where
             by : (o : Option X) → find_name n es ≡ o → KnowsAll w (option_map_or holds o [])
             by None e = tt
-            by (Some x) e = found (λ (y : X). KnowsAll w (holds y)) n es x (all-flat_map Known holds (map (λ e. e.1) es) all) e
+            by (Some x) e = found (λ (y : X). KnowsAll w (holds y)) (same_name n) es x (all-map (λ (y : X). KnowsAll w (holds y)) (λ e. e.1) es (all-flat_map Known holds (map (λ e. e.1) es) all)) e
 
     last-known : (ms : List MacroId) → KnowsAll w (map held.Macro ms) → ForSome (last_of ms) (λ m. IsTrue (knows w (held.Macro m)))
     last-known [] h = for_none (λ m. IsTrue (knows w (held.Macro m)))
@@ -124,6 +120,9 @@ module _ (w : World) where
     legacy_in-known : (s : Scope) → KnowsAll w (scope_holds s) → (n : Name) → ForSome (legacy_in s n) (λ m. IsTrue (knows w (held.Macro m)))
     legacy_in-known s holds n = by (find_name n s.legacy_macros) refl
       where
+        Fine_all : List MacroId → Type 0
+        Fine_all ms = KnowsAll w (map held.Macro ms)
+
         legacies : KnowsAll w (legacies_hold s.legacy_macros)
         legacies =
             let beside = legacies_hold s.legacy_macros ++ lists_hold s in
@@ -131,7 +130,7 @@ module _ (w : World) where
 
         by : (o : Option (List MacroId)) → find_name n s.legacy_macros ≡ o → ForSome (elim o [ None ↦ None | Some ms ↦ last_of ms ]) (λ m. IsTrue (knows w (held.Macro m)))
         by None e = for_none (λ m. IsTrue (knows w (held.Macro m)))
-        by (Some ms) e = last-known ms (found (λ (x : List MacroId). KnowsAll w (map held.Macro x)) n s.legacy_macros ms (all-flat_map Known (map held.Macro) (map (λ e. e.1) s.legacy_macros) legacies) e)
+        by (Some ms) e = last-known ms (found Fine_all (same_name n) s.legacy_macros ms (all-map Fine_all (λ e. e.1) s.legacy_macros (all-flat_map Known (map held.Macro) (map (λ e. e.1) s.legacy_macros) legacies)) e)
 
     -- what is said of a module's scope, where that of no module is fine
     pub of_scope : (Q : Scope → Type 0) → Q no_scope → ((s : Scope) → KnowsAll w (scope_holds s) → Q s) → (m : ModuleId) → Q (scope_of w m)
@@ -154,9 +153,12 @@ module _ (w : World) where
         Q : Option Entry → Type 0
         Q o = ForSome o (λ e. IsTrue (knows w (held.Macro e.0)))
 
+        Known_entry : Entry → Type 0
+        Known_entry e = IsTrue (knows w (held.Macro e.0))
+
         at : (m : Map) → KnowsAll w (macro_uses_hold m.macro_use) → (o : Option Entry) → find_name n m.macro_use ≡ o → Q o
         at m all None e = for_none (λ y. IsTrue (knows w (held.Macro y.0)))
-        at m all (Some x) e = for_some (λ (y : Entry). IsTrue (knows w (held.Macro y.0))) x (found (λ (y : Entry). IsTrue (knows w (held.Macro y.0))) n m.macro_use x (all-map Known (λ (y : Entry). held.Macro y.0) (map (λ e. e.1) m.macro_use) all) e)
+        at m all (Some x) e = for_some (λ (y : Entry). IsTrue (knows w (held.Macro y.0))) x (found Known_entry (same_name n) m.macro_use x (all-map Known_entry (λ e. e.1) m.macro_use (all-map Known (λ (y : Entry). held.Macro y.0) (map (λ e. e.1) m.macro_use) all)) e)
 
         by : (o : Option Map) → numbered_map w id ≡ o → Q (find_name n (option_map_or (λ (m : Map). m.macro_use) o []))
         by None e = for_none (λ y. IsTrue (knows w (held.Macro y.0)))
@@ -189,15 +191,19 @@ root-known own w ms k are = by (slice_get ms k) refl
 
 -- ---- The modules of a map.
 
-listed-there : (es : Modules) (m : ModuleId) → IsSome (module_at es m) → (i : ℕ) × (q : Option ModuleId) × (slice_get (map entry es) i ≡ Some (m, q))
-listed-there [] m h = absurd (true≢false (sym h))
-listed-there (e ∷ es) m h = by (nat_eq m.0 e.0.0) refl h (listed-there es m)
+-- what a look-up by number finds stands at a place
+pub found-at : (es : Modules) (m : ModuleId) (d : Module) → module_at es m ≡ Some d → (i : ℕ) × (nth_module es i ≡ Some d) × (slice_get (map entry es) i ≡ Some (m, d.parent))
+found-at [] m d h = cc
+found-at (e ∷ es) m d h = by (nat_eq m.0 e.0.0) refl h (found-at es m d)
   where
     Found : Type 0
-    Found = (i : ℕ) × (q : Option ModuleId) × (slice_get (map entry (e ∷ es)) i ≡ Some (m, q))
+    Found = (i : ℕ) × (nth_module (e ∷ es) i ≡ Some d) × (slice_get (map entry (e ∷ es)) i ≡ Some (m, d.parent))
 
-    by : (b : Bool) → nat_eq m.0 e.0.0 ≡ b → IsSome (cond b (Some e.1) (module_at es m)) → (IsSome (module_at es m) → (i : ℕ) × (q : Option ModuleId) × (slice_get (map entry es) i ≡ Some (m, q))) → Found
-    by true t g rest = let same : e.0.0 ≡ m.0 = sym (eqb-true m.0 e.0.0 t) in (0, e.1.parent, λ i. Some (record { 0 = same i }, e.1.parent))
+    by : (b : Bool) → nat_eq m.0 e.0.0 ≡ b → cond b (Some e.1) (module_at es m) ≡ Some d → (module_at es m ≡ Some d → (i : ℕ) × (nth_module es i ≡ Some d) × (slice_get (map entry es) i ≡ Some (m, d.parent))) → Found
+    by true t g rest =
+        let same : e.1 ≡ d = cc in
+        let number : e.0.0 ≡ m.0 = sym (eqb-true m.0 e.0.0 t) in
+        (0, ap Some same, λ i. Some (record { 0 = number i }, (same i).parent))
     by false t g rest = let r = rest g in (suc r.0, r.1, r.2)
 
 pub map-lawful : (w : World) → IsWorld w → (id : MapId) (m : Map) → numbered_map w id ≡ Some m → IsMap w.places (outline m)
@@ -209,8 +215,9 @@ map-lawful w is id m e = by id.block e
 
 pub lies-there : (w : World) → IsWorld w → (map : Map) (m : ModuleId) → numbered_map w map.id ≡ Some map → IsSome (module_at map.modules m) → map_of w m ≡ Some map
 lies-there w is map m e some =
-    let at = listed-there map.modules m some in
-    ap (option_and_then (λ (p : Place). numbered_map w p.map)) ((map-lawful w is map.id map e).listed at.0 m at.1 at.2) ∙ e
+    let d = some-is (module_at map.modules m) some in
+    let at = found-at map.modules m d.0 d.1 in
+    ap (option_and_then (λ (p : Place). numbered_map w p.map)) ((map-lawful w is map.id map e).listed at.0 m d.0.parent at.2) ∙ e
 
 pub placed-known : (w : World) (m : ModuleId) → IsSome (map_of w m) → IsTrue (knows w (held.Module m))
 placed-known w m some = by (slice_get w.places m.0) refl some

@@ -4,8 +4,7 @@ use Rattle.std.specs.List.{flat_map}
 use Rattle.std.specs.Option.{option_map_or}
 use Rattle.std.proofs.lemmas.Bool.{ltb-true}
 use Rattle.std.proofs.lemmas.List.{append_assoc, append-nil, length-append}
-use Rattle.dm_ids.specs.declared.ids.ModuleId.{ModuleId}
-use Rattle.dm_ids.specs.Names.{Name, find_name}
+use Rattle.dm_maps.proofs.Ids.{ModuleId, Name, find_name}
 use Rattle.dm_scope.specs.Dumps.{Text}
 use Rattle.dm_def_map.specs.Maps.{Map, Module, module_at}
 use Rattle.dm_maps.specs.Branches.{children_text, branch_text, left_text}

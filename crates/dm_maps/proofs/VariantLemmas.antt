@@ -1,7 +1,6 @@
 -- Where adding a variant finds no fault.
 use Rattle.std.proofs.Common.{◌≡◌, ◌<◌, Bool, not, true, false, true≢false, is_some, Option, Some, None, length, refl}
-use Rattle.dm_ids.specs.declared.ids.EnumId.{EnumId}
-use Rattle.dm_ids.specs.Names.{Name, find_name}
+use Rattle.dm_maps.proofs.Ids.{EnumId, Name, find_name}
 use Rattle.dm_maps.specs.declared.build_fault.BuildFault.TheVariants.{NoSuchEnum, TakenVariant, OutOfNumbers}
 use Rattle.dm_maps.specs.Faults.{is_full}
 use Rattle.dm_maps.specs.ItemFaults.{variant_fault, lacks_enum, has_variant}

@@ -5,23 +5,17 @@ use Rattle.std.specs.Option.{option_map, option_map_or}
 use Rattle.std.proofs.lemmas.Option.{slice_get_within, slice_get-map}
 use Rattle.std.proofs.lemmas.List.{length-map}
 use Rattle.std.proofs.lemmas.Bool.{eqb-true}
-use Rattle.dm_ids.specs.declared.ids.ModuleId.{ModuleId}
-use Rattle.dm_ids.specs.declared.ids.Crate.{Crate}
-use Rattle.dm_ids.specs.declared.ids.MapId.{MapId}
-use Rattle.dm_ids.specs.declared.source.Edition.{Edition}
-use Rattle.dm_ids.specs.declared.source.EditionedFileId.{EditionedFileId}
-use Rattle.dm_ids.specs.Names.{Name}
-use Rattle.dm_maps.specs.declared.place.Place.{Place}
+use Rattle.dm_maps.proofs.Ids.{Crate, Edition, EditionedFileId, MapId, ModuleId, Name, Place}
 use Rattle.dm_def_map.specs.Maps.{Map, Module, Modules, LocalMap, module_at, map_with_child}
 use Rattle.dm_maps.specs.Maps.{Maps, IsFree, maps_and, maps_with_child}
 use Rattle.dm_maps.specs.World.{World, maps_of, with_maps, numbered_map}
 use Rattle.dm_maps.specs.Build.{with_child_of, with_child_at_place, next_module, next_crate, next_place, with_crate, fresh_crate}
 use Rattle.dm_maps.specs.Trees.{Outline, outline, outlines, containers_of, IsWorldOf, IsWorld, numbered_outline}
-use Rattle.dm_maps.proofs.GrowthLemmas.{get-within, longer, place_below}
+use Rattle.dm_maps.proofs.GrowthLemmas.{longer, place_below}
 use Rattle.dm_maps.proofs.MapWrites.{put-cases, with-there}
 use Rattle.dm_maps.proofs.ModuleGrowth.{entry, map-set_own, outline-map_with_child, longer_crate, longer_block}
 use Rattle.dm_maps.proofs.SoundLemmas.{map-lawful}
-use Rattle.dm_maps.proofs.CrateGrowth.{IsWorldOf-crate}
+use Rattle.dm_maps.proofs.RootGrowth.{IsWorldOf-crate}
 
 -- ---- The number of the next module is free.
 
@@ -48,7 +42,7 @@ numbered-outlines w id = elim id.block as (λ block. elim block [ None ↦ slice
   | Some b ↦ slice_get-map outline w.block_maps b.0
 ]
 
-IsWorld-at_place : (w : World) (q : ModuleId) (at : Place) (n : Name) (d : Module) → IsWorld w → slice_get w.places q.0 ≡ Some at → d.parent ≡ Some q → length w.places < 4294967295 → IsWorld (with_child_at_place w q at n d)
+pub IsWorld-at_place : (w : World) (q : ModuleId) (at : Place) (n : Name) (d : Module) → IsWorld w → slice_get w.places q.0 ≡ Some at → d.parent ≡ Some q → length w.places < 4294967295 → IsWorld (with_child_at_place w q at n d)
 IsWorld-at_place w q at n d is e up room = by (numbered_map w at.map) refl (sym (numbered-outlines w at.map) ∙ (is.stands q at e).is_map)
   where
     by : (o : Option Map) → numbered_map w at.map ≡ o → option_map outline o ≡ Some (is.stands q at e).there → IsWorld (with_child_at_place w q at n d)
@@ -71,11 +65,6 @@ IsWorld-at_place w q at n d is e up room = by (numbered_map w at.map) refl (sym 
         (longer_crate w.places (outlines w.crate_maps) (outlines w.block_maps) (containers_of w.block_maps) (length w.local_maps) is q at e room (outline x) of_id none (found w.crate_maps at.map.krate.0 there)))
         (λ b some there. subst (λ (z : Place × List Outline × List (Option ModuleId)). Q z.0 (outlines w.crate_maps) z.1 z.2) (λ i. (place i, written w.block_maps b.0 i, sym (map-set_own (λ (z : Map). z.parent) w.block_maps b.0 x y there refl) i))
         (longer_block w.places (outlines w.crate_maps) (outlines w.block_maps) (containers_of w.block_maps) (length w.local_maps) is q at e room (outline x) of_id b some (found w.block_maps b.0 there))))
-
-pub IsWorld-child : (w : World) (q : ModuleId) (n : Name) (d : Module) → IsWorld w → q.0 < length w.places → d.parent ≡ Some q → length w.places < 4294967295 → IsWorld (with_child_of w q n d)
-IsWorld-child w q n d is known up room =
-    let at = get-within w.places q.0 known in
-    subst IsWorld (sym (ap (λ o. option_map_or (λ p. with_child_at_place w q p n d) o w) at.1)) (IsWorld-at_place w q at.0 n d is at.1 up room)
 
 -- ---- A crate more.
 

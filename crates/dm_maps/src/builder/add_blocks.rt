@@ -7,8 +7,7 @@ ghost use Rattle.dm_maps.specs.Faults.{Answers};
 
 use crate::build_fault::BuildFault;
 use crate::builder::WorldBuilder;
-use crate::builder::block_growth::NewBlock;
-use crate::builder::ladder_growth::add_map_in;
+use crate::builder::growth::{NewBlock, add_map_in};
 use crate::maps::share::shared_of;
 use crate::place::Place;
 use dm_base::ids::{BlockId, Crate, MapId, ModuleId};

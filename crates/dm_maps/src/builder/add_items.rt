@@ -4,16 +4,15 @@ ghost use Rattle.dm_check.specs.Holding.{def_holds};
 ghost use Rattle.dm_maps.specs.Added.{AreAdded};
 ghost use Rattle.dm_maps.specs.Build.{with_item, item_def};
 ghost use Rattle.dm_maps.specs.Faults.{Answers, item_fault, is_full};
-ghost use Rattle.dm_maps.specs.Lists.{IsAmong};
 
 use crate::build_fault::BuildFault;
 use crate::builder::WorldBuilder;
 use crate::builder::add_modules::LAST_NUMBER;
+use crate::builder::growth::add_last;
 use dm_base::ids::{
     ConstId, EnumId, FunctionId, ModuleId, StaticId, StructId, TraitId, TypeAliasId, UnionId,
 };
 use dm_base::item_ids::{AdtId, ItemKind, ModuleDefId};
-use std::alloc::AllocError;
 
 impl WorldBuilder {
     /// Adds an item of that kind in a module, and answers it. Items of all kinds are numbered together.
@@ -34,17 +33,8 @@ impl WorldBuilder {
             return Err(BuildFault::OutOfNumbers);
         }
         let def = item_def(kind, self.items.len() as u32);
-        self.push_item(kind, m)?;
+        add_last(&mut self.items, (kind, m))?;
         Ok(def)
-    }
-
-    fn push_item(&mut self, kind: ItemKind, m: ModuleId) -> Result<(), AllocError>
-        requires known { IsAmong (length self.old.places) m }
-        ensures ok { OnOk result (self.new ≡ with_item self.old kind m) }
-        ensures err { OnErr result (self.new ≡ self.old) }
-    {
-        self.items.push((kind, m))?;
-        Ok(())
     }
 }
 

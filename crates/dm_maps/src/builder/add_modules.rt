@@ -8,8 +8,7 @@ ghost use Rattle.dm_def_map.specs.Origins.{is_child};
 
 use crate::build_fault::BuildFault;
 use crate::builder::WorldBuilder;
-use crate::builder::growth::NewChild;
-use crate::builder::ladder_growth::{add_child_in, add_outmost_map};
+use crate::builder::growth::{NewChild, add_child_in, add_outmost_map};
 use crate::maps::share::share;
 use crate::place::Place;
 use dm_base::ids::{Crate, MapId, ModuleId};

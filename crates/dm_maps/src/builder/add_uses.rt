@@ -5,15 +5,14 @@ ghost use Rattle.dm_maps.specs.Added.{AreAdded};
 ghost use Rattle.dm_maps.specs.BuildItems.{with_use, with_macro, next_use, macro_id};
 ghost use Rattle.dm_maps.specs.Faults.{Answers};
 ghost use Rattle.dm_maps.specs.ItemFaults.{use_fault, macro_fault};
-ghost use Rattle.dm_maps.specs.Lists.{IsAmong};
 
 use crate::build_fault::BuildFault;
 use crate::builder::WorldBuilder;
 use crate::builder::add_modules::LAST_NUMBER;
+use crate::builder::growth::add_last;
 use dm_base::ids::{Macro2Id, MacroRulesId, ModuleId, ProcMacroId, UseId};
 use dm_base::item_ids::MacroId;
 use dm_base::macros::MacroLoc;
-use std::alloc::AllocError;
 
 impl WorldBuilder {
     /// Adds a use in a module, and answers its number.
@@ -34,17 +33,8 @@ impl WorldBuilder {
             return Err(BuildFault::OutOfNumbers);
         }
         let id = UseId(self.uses.len() as u32);
-        self.push_use(m)?;
+        add_last(&mut self.uses, m)?;
         Ok(id)
-    }
-
-    fn push_use(&mut self, m: ModuleId) -> Result<(), AllocError>
-        requires known { IsAmong (length self.old.places) m }
-        ensures ok { OnOk result (self.new ≡ with_use self.old m) }
-        ensures err { OnErr result (self.new ≡ self.old) }
-    {
-        self.uses.push(m)?;
-        Ok(())
     }
 
     /// Adds a macro in a module, and answers it. Macros of all kinds are numbered together.
@@ -65,17 +55,8 @@ impl WorldBuilder {
             return Err(BuildFault::OutOfNumbers);
         }
         let id = macro_id(loc, self.macros.len() as u32);
-        self.push_macro(m, loc)?;
+        add_last(&mut self.macros, (m, loc))?;
         Ok(id)
-    }
-
-    fn push_macro(&mut self, m: ModuleId, loc: MacroLoc) -> Result<(), AllocError>
-        requires known { IsAmong (length self.old.places) m }
-        ensures ok { OnOk result (self.new ≡ with_macro self.old m loc) }
-        ensures err { OnErr result (self.new ≡ self.old) }
-    {
-        self.macros.push((m, loc))?;
-        Ok(())
     }
 }
 

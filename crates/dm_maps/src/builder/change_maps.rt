@@ -123,21 +123,8 @@ impl WorldBuilder {
         if !self.knows(HeldId::Crate(krate)) {
             return Err(BuildFault::NoSuchCrate);
         }
-        self.put_extern(krate, name, m, named_by)?;
+        put_extern_at(&mut self.local_maps, krate.0 as usize, name, m, named_by)?;
         Ok(())
-    }
-
-    fn put_extern(
-        &mut self,
-        krate: Crate,
-        name: Name,
-        m: ModuleId,
-        named_by: Option<ExternCrateId>,
-    ) -> Result<(), AllocError>
-        ensures ok { OnOk result (self.new ≡ with_extern_of self.old krate name m named_by) }
-        ensures err { OnErr result (self.new ≡ self.old) }
-    {
-        put_extern_at(&mut self.local_maps, krate.0 as usize, name, m, named_by)
     }
 
     /// Whether there is no map of that number, or it is another crate's.

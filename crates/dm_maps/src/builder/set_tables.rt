@@ -10,7 +10,6 @@ use dm_base::item_ids::{AssocItemId, ItemContainerId, VariantId};
 use dm_base::name::Name;
 use dm_base::visibility::RawVisibility;
 use dm_def_map::item_tables::field_list::FieldList;
-use std::alloc::AllocError;
 
 /// The only error of each call is `OutOfMemory`; the builder is then as it was. An entry that is there is replaced. The
 /// ids that are handed in may not be the builder's: `check` finds that.
@@ -21,7 +20,7 @@ impl WorldBuilder {
         ensures fault { Answers None result }
         ensures err { OnErr result (self.new ≡ self.old) }
     {
-        self.put_raw_name(name)?;
+        self.item_tables.add_raw_name(name)?;
         Ok(())
     }
 
@@ -35,7 +34,8 @@ impl WorldBuilder {
         ensures fault { Answers None result }
         ensures err { OnErr result (self.new ≡ self.old) }
     {
-        self.put_field_list(variant, FieldList::new(fields))?;
+        let list = FieldList::new(fields);
+        self.item_tables.set_fields(variant, list)?;
         Ok(())
     }
 
@@ -50,7 +50,7 @@ impl WorldBuilder {
         ensures fault { Answers None result }
         ensures err { OnErr result (self.new ≡ self.old) }
     {
-        self.put_assoc_item(id, container, vis)?;
+        self.item_tables.set_assoc(id, container, vis)?;
         Ok(())
     }
 
@@ -64,40 +64,7 @@ impl WorldBuilder {
         ensures fault { Answers None result }
         ensures err { OnErr result (self.new ≡ self.old) }
     {
-        self.put_trait(id, vis)?;
+        self.item_tables.set_trait(id, vis)?;
         Ok(())
-    }
-
-    fn put_raw_name(&mut self, name: Name) -> Result<(), AllocError>
-        ensures ok { OnOk result (self.new ≡ with_raw self.old name) }
-        ensures err { OnErr result (self.new ≡ self.old) }
-    {
-        self.item_tables.add_raw_name(name)
-    }
-
-    fn put_field_list(&mut self, variant: VariantId, fields: FieldList) -> Result<(), AllocError>
-        ensures ok { OnOk result (self.new ≡ with_fields self.old variant fields) }
-        ensures err { OnErr result (self.new ≡ self.old) }
-    {
-        self.item_tables.set_fields(variant, fields)
-    }
-
-    fn put_assoc_item(
-        &mut self,
-        id: AssocItemId,
-        container: ItemContainerId,
-        vis: RawVisibility,
-    ) -> Result<(), AllocError>
-        ensures ok { OnOk result (self.new ≡ with_assoc_item self.old id container vis) }
-        ensures err { OnErr result (self.new ≡ self.old) }
-    {
-        self.item_tables.set_assoc(id, container, vis)
-    }
-
-    fn put_trait(&mut self, id: TraitId, vis: RawVisibility) -> Result<(), AllocError>
-        ensures ok { OnOk result (self.new ≡ with_trait_visibility self.old id vis) }
-        ensures err { OnErr result (self.new ≡ self.old) }
-    {
-        self.item_tables.set_trait(id, vis)
     }
 }

@@ -44,29 +44,20 @@ impl WorldBuilder {
     pub(crate) fn map_of(&self, m: ModuleId) -> Option<&DefMap>
         ensures { option_copied result ≡ map_of self.now m }
     {
-        match self.place_of(m) {
-            None => None,
-            Some(place) => self.numbered_map(place.map),
-        }
+        self.numbered_map(self.place_of(m)?.map)
     }
 
     /// A module, by its number.
     pub(crate) fn module_of(&self, m: ModuleId) -> Option<&ModuleData>
         ensures { option_copied result ≡ module_of self.now m }
     {
-        match self.place_of(m) {
-            None => None,
-            Some(place) => self.placed_module(place),
-        }
+        self.placed_module(self.place_of(m)?)
     }
 
     pub(crate) fn placed_module(&self, place: Place) -> Option<&ModuleData>
         ensures { option_copied result ≡ placed_module self.now place }
     {
-        match self.numbered_map(place.map) {
-            None => None,
-            Some(map) => building::nth(map, place.index),
-        }
+        building::nth(self.numbered_map(place.map)?, place.index)
     }
 
     /// Whether the module is one of the world's.
@@ -103,13 +94,7 @@ impl WorldBuilder {
         ensures world { IsWorld self.now }
     {
         let _maps = &self.maps;
-        match block {
-            None => None,
-            Some(b) => match self.maps.blocks().get(b.0 as usize) {
-                None => None,
-                Some(map) => map.parent(),
-            },
-        }
+        self.maps.blocks().get(block?.0 as usize)?.parent()
     }
 
     /// What a module's scope binds under a name; nothing where there is no such module.
@@ -126,19 +111,13 @@ impl WorldBuilder {
     pub(crate) fn type_in(&self, m: ModuleId, name: &Name) -> Option<&TypesItem>
         ensures { option_copied result ≡ (bound_in (scope_of self.now m) name.now).types }
     {
-        match self.module_of(m) {
-            None => None,
-            Some(data) => data.scope().type_item(name),
-        }
+        self.module_of(m)?.scope().type_item(name)
     }
 
     /// The variant of an enum under a name, with its shape.
     pub(crate) fn variant_of(&self, e: EnumId, name: &Name) -> Option<(EnumVariantId, FieldsShape)>
         ensures { result ≡ find_name name.now (variants_of self.now e) }
     {
-        match self.enums.get(&e) {
-            None => None,
-            Some(variants) => variants.get(name),
-        }
+        self.enums.get(&e)?.get(name)
     }
 }

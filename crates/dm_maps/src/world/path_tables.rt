@@ -27,33 +27,21 @@ impl WorldBuilder {
     pub(crate) fn root_of(&self, krate: Crate) -> Option<ModuleId>
         ensures { result ≡ root_of self.now krate }
     {
-        match self.crate_map(krate) {
-            None => None,
-            Some(map) => Some(map.root_module_id()),
-        }
+        Some(self.crate_map(krate)?.root_module_id())
     }
 
     /// The root of a block's map.
     pub(crate) fn block_root_of(&self, block: BlockId) -> Option<ModuleId>
         ensures { result ≡ block_root_of self.now block }
     {
-        match self.block_map(block) {
-            None => None,
-            Some(map) => Some(map.root_module_id()),
-        }
+        Some(self.block_map(block)?.root_module_id())
     }
 
     /// The prelude module of a map.
     pub(crate) fn prelude_of(&self, id: MapId) -> Option<ModuleId>
         ensures { result ≡ prelude_of self.now id }
     {
-        match self.numbered_map(id) {
-            None => None,
-            Some(map) => match map.prelude() {
-                None => None,
-                Some(prelude) => Some(prelude.0),
-            },
-        }
+        Some(self.numbered_map(id)?.prelude()?.0)
     }
 
     /// The macro of that name in the `macro_use` prelude of a map.
@@ -64,23 +52,14 @@ impl WorldBuilder {
     ) -> Option<(MacroId, Option<ExternCrateId>)>
         ensures { result ≡ find_name name.now (macro_uses_of self.now id) }
     {
-        match self.numbered_map(id) {
-            None => None,
-            Some(map) => map.macro_use_prelude(name),
-        }
+        self.numbered_map(id)?.macro_use_prelude(name)
     }
 
     /// The last legacy macro of a module under a name: in textual scope the last definition shadows those before it.
     pub(crate) fn legacy_of(&self, m: ModuleId, name: &Name) -> Option<MacroId>
         ensures { result ≡ legacy_in (scope_of self.now m) name.now }
     {
-        match self.module_of(m) {
-            None => None,
-            Some(data) => match data.scope().get_legacy_macro(name) {
-                None => None,
-                Some(macros) => last_of(macros),
-            },
-        }
+        last_of(self.module_of(m)?.scope().get_legacy_macro(name)?)
     }
 
     /// The styles of a macro: none for one that is not there.

@@ -60,10 +60,7 @@ impl WorldBuilder {
     fn raw_fields_of(&self, variant: VariantId) -> Option<&[RawVisibility]>
         ensures { option_copied result ≡ fields_in self.now variant }
     {
-        match self.item_tables.fields().get(&variant) {
-            None => None,
-            Some(fields) => Some(fields.as_slice()),
-        }
+        Some(self.item_tables.fields().get(&variant)?.as_slice())
     }
 
     fn raw_assoc_of(&self, id: AssocItemId) -> Option<&(ItemContainerId, RawVisibility)>

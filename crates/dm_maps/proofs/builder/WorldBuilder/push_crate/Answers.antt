@@ -1,10 +1,8 @@
 use Rattle.std.proofs.Common.{◌≡◌, ◌∙◌, ap, sym, subst, ◌<◌, length}
 use Rattle.dm_maps.specs.World.{World, with_maps}
 use Rattle.dm_maps.specs.Build.{next_crate, next_module, with_crate}
-use Rattle.dm_maps.specs.Built.{IsBuilt}
 use Rattle.dm_maps.specs.Tables.{tables_of}
-use Rattle.dm_maps.proofs.IndexLemmas.{AreIndexed-crate_made}
-use Rattle.dm_maps.proofs.BuiltGrowth.{IsBuilt-crate}
+use Rattle.dm_maps.proofs.BuilderGrowth.{IsKept, IsKept-crate}
 use Rattle.dm_maps.proofs.WorldGrowth.{crate-made}
 use Rattle.dm_maps.proofs.builder.WorldBuilder.push_crate.Goals as goal
 
@@ -20,10 +18,11 @@ grown c =
 pub invariant_of-self-2 : goal.invariant_of-self-2
 invariant_of-self-2 c =
     let w : World = tables_of c.self.inside in
+    let ups = c.self.inside.ladders in
+    let ls = c.self.inside.block_lists.items in
     let h = c.in_ok-add_outmost_map.ensures in
     let room : length w.places < 4294967295 = subst (λ (x : World). length x.places < 4294967295) (sym c.self.view_is) c.requires.room in
-    let indexed = AreIndexed-crate_made w c.self.inside.ladders c.self.inside.block_lists.items c.self.invariant.1 c.add_outmost_map.new.ladders c.add_outmost_map.new.lists.items c.args.edition c.args.file c.args.krate c.next_module-root.result c.in_ok-map.map c.add_outmost_map.new.maps c.add_outmost_map.new.places.items c.in_ok-map.ensures h.ladders h.lists h.places h.maps in
-    (subst IsBuilt (sym (grown c)) (IsBuilt-crate w c.self.invariant.0 room c.args.edition c.args.file), indexed)
+    subst IsKept (λ i. (sym (grown c) i, sym h.ladders i, sym h.lists i)) (IsKept-crate w ups ls c.self.invariant room c.args.edition c.args.file)
 
 pub returns-clause-ok : goal.returns-clause-ok
 returns-clause-ok c = grown c ∙ ap (λ (w : World). with_crate w c.args.edition c.args.file) c.self.view_is

@@ -1,5 +1,5 @@
 use Rattle.std.proofs.Common.{◌≡◌, ◌++◌, ◌∷◌, [], List, length, rules, subst, sym, ap, ◌∙◌}
-use Rattle.dm_ids.specs.declared.ids.EnumId.{EnumId}
+use Rattle.dm_maps.proofs.Ids.{EnumId}
 use Rattle.dm_maps.specs.Lists.{IsEnum, IsListed}
 use Rattle.dm_maps.specs.World.{World}
 use Rattle.dm_def_map.specs.Variants.{Enums, enums_with_variant}

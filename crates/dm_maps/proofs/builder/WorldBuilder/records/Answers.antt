@@ -1,10 +1,8 @@
 use Rattle.std.proofs.Common.{◌∙◌, ◌-◌, ◌^◌, List, length, min, ap, sym}
 use Rattle.std.specs.List.{flat_map}
 use Rattle.std.proofs.lemmas.List.Folds.{flat_map-map}
-use Rattle.dm_ids.specs.declared.imports.ImportOrDef.{ImportOrDef}
-use Rattle.dm_ids.specs.declared.imports.ImportOrExternCrate.{ImportOrExternCrate}
+use Rattle.dm_maps.proofs.Ids.{ImportOrDef, ImportOrExternCrate, Place}
 use Rattle.dm_scope.specs.Records.{records_in}
-use Rattle.dm_maps.specs.declared.place.Place.{Place}
 use Rattle.dm_maps.specs.ScopeTables.{scope_at_place, scope_tables}
 use Rattle.dm_maps.specs.World.{World}
 use Rattle.dm_maps.proofs.builder.WorldBuilder.records.Goals as goal

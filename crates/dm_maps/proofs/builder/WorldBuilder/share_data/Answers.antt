@@ -1,20 +1,18 @@
 use Rattle.std.proofs.Common.{◌∙◌, sym, ap, subst}
 use Rattle.dm_maps.specs.BlockLists.{list_at, HasBlock}
-use Rattle.dm_maps.specs.Built.{IsBuilt}
 use Rattle.dm_maps.specs.World.{with_maps}
-use Rattle.dm_maps.proofs.BuiltGrowth.{IsBuilt-sharing}
+use Rattle.dm_maps.proofs.BuilderGrowth.{IsKept, IsKept-sharing}
 use Rattle.dm_maps.specs.Tables.{tables_of}
-use Rattle.dm_maps.specs.Indexes.{AreIndexed}
 use Rattle.dm_maps.specs.Maps.{Maps}
 use Rattle.dm_maps.proofs.BlockListLemmas.{world-numbered}
-use Rattle.dm_maps.proofs.IndexLemmas.{AreIndexed-sharing}
 use Rattle.dm_maps.proofs.builder.WorldBuilder.share_data.Goals as goal
 
 pub invariant_of-self-2 : goal.invariant_of-self-2
 invariant_of-self-2 c =
     let w = tables_of c.self.inside in
-    let P : Maps → Type 0 = λ ms. IsBuilt (with_maps w ms) × AreIndexed w.places ms.crates ms.blocks c.self.inside.ladders c.self.inside.block_lists.items in
-    subst P (sym c.in_ok-share.ensures.ok) (IsBuilt-sharing w c.args.krate c.args.new c.self.invariant.0, AreIndexed-sharing w c.self.inside.ladders c.self.inside.block_lists.items c.self.invariant.1 c.args.krate c.args.new)
+    let ups = c.self.inside.ladders in
+    let ls = c.self.inside.block_lists.items in
+    subst (λ (ms : Maps). IsKept (with_maps w ms, ups, ls)) (sym c.in_ok-share.ensures.ok) (IsKept-sharing w ups ls c.self.invariant c.args.krate c.args.new)
 
 pub share-requires-clause-own : goal.share-requires-clause-own
 share-requires-clause-own c = λ b e.

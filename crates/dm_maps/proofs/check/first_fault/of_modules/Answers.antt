@@ -1,5 +1,5 @@
 use Rattle.std.proofs.Common.{None, Some, ap, get_or, refl}
-use Rattle.dm_maps.specs.declared.place.Place.{Place}
+use Rattle.dm_maps.proofs.Ids.{Place}
 use Rattle.dm_maps.specs.First.{each_from, module_holder}
 use Rattle.dm_maps.proofs.FirstLemmas.{drop-entry, walk-ends, walk-goes_on}
 use Rattle.dm_maps.proofs.check.first_fault.of_modules.Goals as goal

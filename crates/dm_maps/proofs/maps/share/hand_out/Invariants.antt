@@ -1,5 +1,5 @@
 use Rattle.std.proofs.Common.{◌≡◌, ◌≤◌, ◌<◌, ◌+◌, ℕ, Some, length, map, slice_get, All}
-use Rattle.dm_ids.specs.declared.ids.BlockId.{BlockId}
+use Rattle.dm_maps.proofs.Ids.{BlockId}
 use Rattle.dm_maps.specs.BuildCrateData.{map_with_shared}
 use Rattle.dm_maps.proofs.SharedMaps.{Stays, given-twice}
 use Rattle.dm_maps.proofs.maps.share.hand_out.Given as goal

@@ -1,5 +1,5 @@
 use Rattle.std.proofs.Common.{IsTrue, subst, sym}
-use Rattle.dm_ids.specs.declared.ids.Crate.{Crate}
+use Rattle.dm_maps.proofs.Ids.{Crate}
 use Rattle.dm_check.specs.declared.held.HeldId.TheVariants as held
 use Rattle.dm_maps.specs.Known.{knows}
 use Rattle.dm_maps.proofs.MapLemmas.{crate-known}

@@ -1,6 +1,6 @@
 use Rattle.std.proofs.Common.{◌≡◌, ◌∙◌, ap}
 use Rattle.std.specs.Option.{option_copied}
-use Rattle.dm_ids.specs.declared.item_ids.ItemContainerId.{ItemContainerId}
+use Rattle.dm_maps.proofs.Ids.{ItemContainerId}
 use Rattle.dm_base.specs.declared.visibility.RawVisibility.{RawVisibility}
 use Rattle.dm_check.specs.TablesHold.{raw_holds, container_holds}
 use Rattle.dm_maps.specs.Known.{KnowsAll}

@@ -1,6 +1,6 @@
 use Rattle.std.proofs.Common.{◌++◌, ◌∙◌, [], Option, codes, ap}
 use Rattle.std.specs.Option.{option_map_or}
-use Rattle.dm_ids.specs.declared.ids.ModuleId.{ModuleId}
+use Rattle.dm_maps.proofs.Ids.{ModuleId}
 use Rattle.dm_maps.specs.ScopeTables.{scope_tables}
 use Rattle.dm_maps.specs.Branches.{left_text}
 use Rattle.dm_maps.specs.MapDumps.{path_and, tree}

@@ -1,6 +1,6 @@
 use Rattle.std.proofs.Common.{None}
 use Rattle.dm_maps.proofs.Pops.{without-last}
-use Rattle.dm_maps.proofs.builder.ladder_growth.add_outmost_map.Goals as goal
+use Rattle.dm_maps.proofs.builder.growth.add_outmost_map.Goals as goal
 
 pub returns-in-Err-clause-old_ladders : goal.returns-in-Err-clause-old_ladders
 returns-in-Err-clause-old_ladders c = without-last c.args.ladders.now c.push.new.self c.pop.new.self None c.in_ok-push.ensures.ok c.pop.ensures
