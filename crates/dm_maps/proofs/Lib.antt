@@ -43,3 +43,5 @@ pub mod SharedMaps
 pub mod SettingLemmas
 pub mod IndexLemmas
 pub mod Pops
+pub mod ScopeChanges
+pub mod MapChanges
