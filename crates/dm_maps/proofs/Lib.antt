@@ -45,3 +45,4 @@ pub mod IndexLemmas
 pub mod Pops
 pub mod ScopeChanges
 pub mod MapChanges
+pub mod EnumLists

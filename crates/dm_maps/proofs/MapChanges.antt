@@ -1,5 +1,5 @@
 -- A checked world goes on, where one of its maps has a macro more in its `macro_use` prelude, or a diagnostic more.
-use Rattle.std.proofs.Common.{◌≡◌, ◌∙◌, ◌^◌, ◌-◌, ◌+◌, min, ℕ, zero, suc, Bool, true, false, cond, List, [], ◌∷◌, ◌++◌, Option, None, Some, map, set, slice_get, length, refl, sym, ap, subst, IsTrue, inl, inr}
+use Rattle.std.proofs.Common.{◌≡◌, ◌∙◌, ◌^◌, ◌-◌, ◌+◌, min, ℕ, zero, suc, Bool, true, false, cond, List, [], ◌∷◌, ◌++◌, Option, Some, map, set, slice_get, length, refl, sym, ap, subst, IsTrue, inl, inr}
 use Rattle.std.specs.List.{AllByRecursion, flat_map}
 use Rattle.std.specs.Option.{option_and_then, option_map_or}
 use Rattle.indexmap.specs.IndexMap.{insert_entry}
@@ -22,12 +22,12 @@ use Rattle.dm_check.specs.TablesHold.{data_holds, diagnostic_holds, diagnostics_
 use Rattle.dm_def_map.specs.CrateData.{CrateData}
 use Rattle.dm_def_map.specs.declared.map_change.MapChange.TheVariants.{MacroUse, Diagnostic}
 use Rattle.dm_def_map.specs.MapChanges.{changed}
-use Rattle.dm_def_map.specs.Maps.{Map, Module, Modules, nth_module}
+use Rattle.dm_def_map.specs.Maps.{Map, Module, nth_module}
 use Rattle.dm_maps.specs.declared.place.Place.{Place}
 use Rattle.dm_maps.specs.declared.world.record_counts.RecordCounts.{RecordCounts}
 use Rattle.dm_maps.specs.BuildMaps.{with_map}
 use Rattle.dm_maps.specs.Built.{IsBuilt}
-use Rattle.dm_maps.specs.Cut.{among, kept, cut_map, cut}
+use Rattle.dm_maps.specs.Cut.{among, cut_map, cut}
 use Rattle.dm_maps.specs.First.{Held, each_from, local_at, crate_holder, block_holder, module_holder, tables_holder, IsChecked}
 use Rattle.dm_maps.specs.Holds.{map_holds, module_holds, preludes_hold}
 use Rattle.dm_maps.specs.Known.{knows, KnowsAll}

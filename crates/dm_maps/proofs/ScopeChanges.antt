@@ -1,6 +1,6 @@
 -- A checked world goes on, where a scope of it has a trait more that is imported without a name, or shows what it binds
 -- to others.
-use Rattle.std.proofs.Common.{◌≡◌, ◌∙◌, ◌^◌, ◌-◌, min, ℕ, Bool, true, false, true≢false, cond, List, [], ◌∷◌, ◌++◌, Option, None, Some, map, length, refl, sym, ap, subst, arith, IsSome, IsTrue}
+use Rattle.std.proofs.Common.{◌≡◌, ◌∙◌, ◌^◌, ◌-◌, min, ℕ, Bool, true, false, cond, List, [], ◌∷◌, ◌++◌, Option, None, Some, map, length, refl, sym, ap, subst, arith, IsSome, IsTrue}
 use Rattle.std.specs.Cmp.Lexicographic.{nat_list_eq_equiv}
 use Rattle.std.specs.List.{AllByRecursion, flat_map, cons_option}
 use Rattle.std.specs.Option.{option_map, option_map_or}
@@ -33,7 +33,7 @@ use Rattle.dm_check.specs.Holding.{def_holds, vis_holds, import_holds, value_imp
 use Rattle.dm_check.specs.Holds.{scope_holds, bindings_hold, records_hold, legacies_hold, lists_hold, types_hold, values_hold, macros_hold, unnamed_trait_holds, unnamed_const_holds}
 use Rattle.dm_maps.specs.declared.world.record_counts.RecordCounts.{RecordCounts}
 use Rattle.dm_maps.specs.Built.{IsBuilt}
-use Rattle.dm_maps.specs.Cut.{among, kept, cut_scope, cut}
+use Rattle.dm_maps.specs.Cut.{among, kept, cut_scope}
 use Rattle.dm_maps.specs.GoesOn.{and_trait, seen_type, seen_value, seen_macro, with_unnamed_trait}
 use Rattle.dm_maps.specs.Known.{knows, KnowsAll}
 use Rattle.dm_maps.specs.PushRes.{StaysShown}

@@ -30,6 +30,7 @@ mod record_counts;
 mod scope_tables;
 mod tree;
 mod update_visibilities;
+pub mod variants;
 
 use crate::builder::WorldBuilder;
 use crate::rules::Rules;

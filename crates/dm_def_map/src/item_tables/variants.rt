@@ -10,6 +10,7 @@ use dm_base::fields_shape::FieldsShape;
 use dm_base::ids::{EnumId, EnumVariantId};
 use dm_base::name::Name;
 use indexmap::IndexMap;
+use indexmap::map::Slice;
 use std::alloc::{AllocError, Global};
 use std::marker::Model;
 
@@ -67,6 +68,13 @@ impl EnumVariants {
         ensures { result ≡ is_some (find_name text.now self.now) }
     {
         has_text(&self.variants, text)
+    }
+
+    /// The variants in order, each under its name. Does not allocate.
+    pub fn entries(&self) -> Slice<'_, Name, (EnumVariantId, FieldsShape)>
+        ensures { result ≡ self.now }
+    {
+        self.variants.as_slice()
     }
 }
 

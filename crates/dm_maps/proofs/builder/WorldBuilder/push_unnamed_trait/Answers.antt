@@ -1,4 +1,4 @@
-use Rattle.std.proofs.Common.{◌≡◌, ◌∙◌, ap, sym}
+use Rattle.std.proofs.Common.{◌∙◌, ap, sym}
 use Rattle.std.specs.Option.{option_copied_mut}
 use Rattle.dm_scope.specs.Outcomes.{on-err}
 use Rattle.dm_maps.specs.GoesOn.{and_trait}

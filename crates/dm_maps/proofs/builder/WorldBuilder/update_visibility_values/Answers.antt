@@ -1,4 +1,4 @@
-use Rattle.std.proofs.Common.{◌≡◌, ◌∙◌, IsSome, ap, subst, sym}
+use Rattle.std.proofs.Common.{◌∙◌, IsSome, ap, subst, sym}
 use Rattle.std.specs.Option.{option_copied_mut}
 use Rattle.dm_ids.specs.Names.{find_name}
 use Rattle.dm_scope.specs.Scope.{Scope}

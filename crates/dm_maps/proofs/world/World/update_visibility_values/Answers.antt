@@ -1,4 +1,4 @@
-use Rattle.std.proofs.Common.{◌≡◌, ◌∙◌, IsSome, IsTrue, ap, refl, subst, sym, true≢false}
+use Rattle.std.proofs.Common.{◌≡◌, ◌∙◌, IsSome, IsTrue, ap, subst, sym, true≢false}
 use Rattle.dm_ids.specs.Names.{find_name}
 use Rattle.dm_scope.specs.Scope.{Scope}
 use Rattle.dm_check.specs.declared.held.HeldId.TheVariants as held
