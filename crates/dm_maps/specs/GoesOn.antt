@@ -1,6 +1,7 @@
 -- What a checked world's calls change beside pushes of names, and which ids they take.
-use Rattle.std.specs.Prelude.{List, [], ◌∷◌, ◌++◌, Option, Some, None, if◌then◌else◌}
+use Rattle.std.specs.Prelude.{◌≡◌, false, IsTrue, List, [], ◌∷◌, ◌++◌, Option, Some, None, if◌then◌else◌, slice_get}
 use Rattle.std.specs.Borrow.{Bor}
+use Rattle.std.specs.List.{AllByRecursion}
 use Rattle.dm_ids.specs.declared.fields_shape.FieldsShape.{FieldsShape}
 use Rattle.dm_ids.specs.declared.ids.EnumId.{EnumId}
 use Rattle.dm_ids.specs.declared.ids.EnumVariantId.{EnumVariantId}
@@ -16,9 +17,15 @@ use Rattle.dm_check.specs.declared.held.HeldId.{HeldId}
 use Rattle.dm_check.specs.declared.held.HeldId.TheVariants as held
 use Rattle.dm_check.specs.Holds.{unnamed_trait_holds}
 use Rattle.dm_def_map.specs.Variants.{Variants}
+use Rattle.dm_maps.specs.Added.{IsScoped}
+use Rattle.dm_maps.specs.Cut.{among, cut}
 use Rattle.dm_maps.specs.Known.{knows}
 use Rattle.dm_maps.specs.Readings.{variants_of}
 use Rattle.dm_maps.specs.World.{World, scope_of, with_scope}
+
+-- what a world has under other names than n is as before
+abbrev pub StaysBeside : World → World → Name → Type 0
+StaysBeside w v n = (N : List Name) → among N n ≡ false → cut v N ≡ cut w N
 
 -- ---- A trait that is imported without a name.
 
@@ -28,6 +35,10 @@ and_trait s t v i = record s { unnamed_traits = s.unnamed_traits ++ (t, v, i) �
 
 abbrev pub with_unnamed_trait : World → ModuleId → TraitId → Visibility → Option ImportId → World
 with_unnamed_trait w m t v i = with_scope w m (and_trait (scope_of w m) t v i)
+
+-- the module's scope has the trait more, what was known is known, and each other scope is as before
+abbrev pub HasTraitMore : World → World → ModuleId → TraitId → Visibility → Option ImportId → Type 0
+HasTraitMore w u m t v i = IsScoped w u m (and_trait (scope_of w m) t v i)
 
 -- such an import holds the module that it goes to, the trait, its visibility and its use
 abbrev pub trait_import_holds : ModuleId → TraitId → Visibility → Option ImportId → List HeldId
@@ -58,6 +69,13 @@ with_macro_seen w m n v = with_scope w m (seen_macro (scope_of w m) n v)
 -- those of what is an enum of the world's, which may be none; of anything else not even none
 abbrev pub variants_if_known : World → EnumId → Option Variants
 variants_if_known w e = if knows w (held.Item item.Enum e.0) then Some (variants_of w e) else None
+
+-- each of them is the world's, and one of that enum
+abbrev pub AreKnown : World → Variants → Type 0
+AreKnown w vs = AllByRecursion (λ v. IsTrue (knows w (held.Variant v.1.0))) vs
+
+abbrev pub AreVariantsOf : World → EnumId → Variants → Type 0
+AreVariantsOf w e vs = AllByRecursion (λ v. slice_get w.variants v.1.0.0 ≡ Some e) vs
 
 -- an entry behind a reference
 abbrev pub deref_variant : Bor Name × (EnumVariantId × FieldsShape) → Name × (EnumVariantId × FieldsShape)

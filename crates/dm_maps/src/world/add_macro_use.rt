@@ -1,12 +1,11 @@
 //! Macros, added to the `macro_use` preludes of a checked world.
-ghost use Rattle.std.specs.Prelude.{◌≡◌, false, List, OnOk, OnErr};
+ghost use Rattle.std.specs.Prelude.{◌≡◌, false, OnOk, OnErr};
 ghost use Rattle.dm_check.specs.Holding.{def_holds};
 ghost use Rattle.dm_ids.specs.declared.item_ids.ModuleDefId.TheVariants as def;
-ghost use Rattle.dm_ids.specs.Names.{Name};
 ghost use Rattle.dm_maps.specs.Added.{IsGrown};
 ghost use Rattle.dm_maps.specs.BuildMaps.{lacks_map, with_macro_use};
-ghost use Rattle.dm_maps.specs.Cut.{among, cut};
 ghost use Rattle.dm_maps.specs.First.{IsChecked};
+ghost use Rattle.dm_maps.specs.GoesOn.{StaysBeside};
 ghost use Rattle.dm_maps.specs.Known.{KnowsAll};
 ghost use Rattle.dm_maps.specs.Stays.{StaysKnown};
 
@@ -42,7 +41,7 @@ impl World {
         // shows. So is what the world has under other names than this one.
         ensures stays_known { StaysKnown self.old self.new }
         ensures grown { IsGrown self.old self.new }
-        ensures others_stay { (N : List Name) → among N name ≡ false → cut self.new N ≡ cut self.old N }
+        ensures others_stay { StaysBeside self.old self.new name }
     {
         self.tables
             .change_map(map, MapChange::MacroUse(name, (m, brought_by)))?;

@@ -3,14 +3,13 @@ ghost use Rattle.std.specs.Prelude.{◌≡◌, List, IsSome, OnOk, OnErr};
 ghost use Rattle.dm_ids.specs.declared.ids.ModuleId.{ModuleId};
 ghost use Rattle.dm_ids.specs.Names.{Name};
 ghost use Rattle.dm_scope.specs.Flags.{Globs};
-ghost use Rattle.dm_maps.specs.Added.{IsScoped};
 ghost use Rattle.dm_maps.specs.Cut.{cut};
 ghost use Rattle.dm_maps.specs.First.{IsChecked};
-ghost use Rattle.dm_maps.specs.GoesOn.{and_trait, trait_import_holds, with_unnamed_trait};
+ghost use Rattle.dm_maps.specs.GoesOn.{HasTraitMore, trait_import_holds, with_unnamed_trait};
 ghost use Rattle.dm_maps.specs.Known.{KnowsAll};
 ghost use Rattle.dm_maps.specs.PushRes.{StaysShown};
 ghost use Rattle.dm_maps.specs.Stays.{StaysKnown};
-ghost use Rattle.dm_maps.specs.World.{scope_if_known, scope_of};
+ghost use Rattle.dm_maps.specs.World.{scope_if_known};
 
 use crate::builder::WorldBuilder;
 use crate::world::World;
@@ -39,7 +38,7 @@ impl World {
         ensures checked { IsChecked self.new }
 
         // The module's scope has the trait more, and each other scope is as before.
-        ensures scopes { OnOk result (IsScoped self.old self.new m (and_trait (scope_of self.old m) tr vis import)) }
+        ensures scopes { OnOk result (HasTraitMore self.old self.new m tr vis import) }
 
         // What was known is known, and the name-independent part of the world is as before. Each scope shows the
         // pushes that it showed, and what the world has under any names is as before.

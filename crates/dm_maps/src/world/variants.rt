@@ -1,12 +1,9 @@
 //! The variants of the enums of a checked world. Contracts see an iterator over them as the list of what it has left.
-ghost use Rattle.std.specs.Prelude.{◌≡◌, IfSome, IsTrue, Some, length, slice_get};
+ghost use Rattle.std.specs.Prelude.{◌≡◌, IfSome, Some, length};
 ghost use Rattle.std.specs.Iterator.{at_most, UpTo};
 ghost use Rattle.std.specs.Iterator.SizeHint.{IsWithinCount};
-ghost use Rattle.std.specs.List.{AllByRecursion};
 ghost use Rattle.std.specs.Map.Iter.{TakesFirst, ShowsInOrder};
-ghost use Rattle.dm_check.specs.declared.held.HeldId.TheVariants as held;
-ghost use Rattle.dm_maps.specs.GoesOn.{deref_variant, variants_if_known};
-ghost use Rattle.dm_maps.specs.Known.{knows};
+ghost use Rattle.dm_maps.specs.GoesOn.{AreKnown, AreVariantsOf, deref_variant, variants_if_known};
 ghost use Rattle.dm_maps.specs.Readings.{variants_of};
 
 use crate::builder::WorldBuilder;
@@ -73,8 +70,8 @@ impl World {
         ensures runs { ShowsInOrder deref_variant }
 
         // Each is the world's, and that enum's.
-        ensures known { IfSome result (AllByRecursion (λ v. IsTrue (knows self.now (held.Variant v.1.0)))) }
-        ensures own { IfSome result (AllByRecursion (λ v. slice_get self.now.variants v.1.0.0 ≡ Some e)) }
+        ensures known { IfSome result (AreKnown self.now) }
+        ensures own { IfSome result (AreVariantsOf self.now e) }
     {
         let tables = self.tables();
         if !tables.knows(HeldId::Item(ItemKind::Enum, e.0)) {

@@ -51,8 +51,8 @@ invariant_of-self c = goes_on c
 pub returns-clause-checked : goal.returns-clause-checked
 returns-clause-checked c = (goes_on c).0.checked
 
-pub returns-clause-scopes : goal.returns-clause-scopes
-returns-clause-scopes c =
+pub returns-clause-own : goal.returns-clause-own
+returns-clause-own c =
     subst (λ (v : World). IsScoped c.args.self.now v c.args.m (left c)) (sym (world_is c)) (scoped c.args.self.now (was_checked c).lawful c.args.m (there c) (left c))
 
 pub returns-clause-stays_known : goal.returns-clause-stays_known
