@@ -23,7 +23,7 @@ use Rattle.dm_maps.specs.World.{World, maps_of, with_maps, place_of, scope_of, w
 use Rattle.dm_maps.specs.Cut.{among, kept, cut_bound, cut_scope, cut_module, cut_map, cut, no_origin}
 use Rattle.dm_maps.specs.CutLaws.{find-other}
 
-kept-insert : {A : Type 0} (N : List Name) (n : Name) (v : A) → among N n ≡ false → (es : List (Name × A)) → kept N (insert_entry same_name es n v) ≡ kept N es
+pub kept-insert : {A : Type 0} (N : List Name) (n : Name) (v : A) → among N n ≡ false → (es : List (Name × A)) → kept N (insert_entry same_name es n v) ≡ kept N es
 kept-insert [] n v h es = refl
 kept-insert (k ∷ N) n v h es =
     let parts = or_parts (same_name n k) (among N n) h in
@@ -75,7 +75,7 @@ world-cut w N p s same =
     (λ b some g. ap (λ l. record (cut w N) { block_maps = l }) (map-set_own (cut_map N) w.block_maps b.0 x y g stays)))
 
 -- a change of one scope that leaves what is cut of it leaves what is cut of the world
-with_scope-cut : (w : World) (N : List Name) (m : ModuleId) (s : Scope) → cut_scope N s ≡ cut_scope N (scope_of w m) → cut (with_scope w m s) N ≡ cut w N
+pub with_scope-cut : (w : World) (N : List Name) (m : ModuleId) (s : Scope) → cut_scope N s ≡ cut_scope N (scope_of w m) → cut (with_scope w m s) N ≡ cut w N
 with_scope-cut w N m s same = go (place_of w m) same
   where
     go : (o : Option Place) → cut_scope N s ≡ cut_scope N (scope_of_module (option_and_then (placed_module w) o)) → cut (with_scope_in w o s) N ≡ cut w N

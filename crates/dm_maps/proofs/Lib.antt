@@ -42,3 +42,6 @@ pub mod BlockListLemmas
 pub mod SharedMaps
 pub mod SettingLemmas
 pub mod Pops
+pub mod ScopeChanges
+pub mod MapChanges
+pub mod EnumLists

@@ -232,7 +232,7 @@ Holds-scoped w q s =
     (λ none g. record { count = length-set w.crate_maps k y; crates = each-set (crate_holder w.local_maps) 0 k w.crate_maps x y g (λ j. refl); blocks = refl })
     (λ b some g. record { count = refl; crates = refl; blocks = map-set_own block_holder w.block_maps b.0 x y g refl }))
 
-knows-kept : (w : World) (ms : Maps) → length ms.crates ≡ length w.crate_maps → (h : HeldId) → knows (with_maps w ms) h ≡ knows w h
+pub knows-kept : (w : World) (ms : Maps) → length ms.crates ≡ length w.crate_maps → (h : HeldId) → knows (with_maps w ms) h ≡ knows w h
 knows-kept w ms count (held.Module m) = refl
 knows-kept w ms count (held.Crate k) = ap (nat_lt k.0) count
 knows-kept w ms count (held.Use u) = refl

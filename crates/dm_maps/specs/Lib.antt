@@ -38,3 +38,4 @@ pub mod RecordCounts
 pub mod Ladders
 pub mod BlockLists
 pub mod Indexes
+pub mod GoesOn

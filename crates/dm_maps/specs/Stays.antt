@@ -3,6 +3,7 @@ use Rattle.std.specs.Prelude.{◌≡◌, List, length}
 use Rattle.std.specs.Option.{option_map}
 use Rattle.dm_ids.specs.declared.ids.MapId.{MapId}
 use Rattle.dm_check.specs.declared.held.HeldId.{HeldId}
+use Rattle.dm_maps.specs.BuildMaps.{lacks_map}
 use Rattle.dm_maps.specs.Known.{knows, KnowsAll}
 use Rattle.dm_maps.specs.Readings.{setting_of}
 use Rattle.dm_maps.specs.Trees.{outline}
@@ -17,6 +18,7 @@ pub record StaysKnown (w v : World) : Type 0 where
   pub setting : setting_of v ≡ setting_of w
   -- each map is there, with its id, its root and its modules
   pub maps : (id : MapId) → option_map outline (numbered_map v id) ≡ option_map outline (numbered_map w id)
+  pub lacks : (id : MapId) → lacks_map v id ≡ lacks_map w id
   -- there are as many blocks, and each crate has its extern prelude
   pub blocks : length v.block_maps ≡ length w.block_maps
   pub locals : v.local_maps ≡ w.local_maps

@@ -12,19 +12,25 @@ ghost use Rattle.dm_def_map.specs.Maps.{module_at};
 ghost use Rattle.dm_maps.specs.MapFacts.{IsMapOf};
 ghost use Rattle.dm_maps.specs.Sound.{IsCheckedWorld};
 
+mod add_diagnostic;
+mod add_macro_use;
 mod ancestry;
 mod item_modules;
 mod knows;
+mod knows_changes;
 mod map_dump;
 pub mod maps_of;
 mod outwards;
 mod path_look_ups;
 mod path_tables;
 mod push_res;
+mod push_unnamed_trait;
 mod raw_visibilities;
 mod record_counts;
 mod scope_tables;
 mod tree;
+mod update_visibilities;
+pub mod variants;
 
 use crate::builder::WorldBuilder;
 use crate::rules::Rules;
