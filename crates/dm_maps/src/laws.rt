@@ -25,7 +25,8 @@ pub fn scope_is_dumped()
 /// Setters for maps, for the data of a crate, for extern preludes, for tables that belong to no map, and for the
 /// version of the rules leave what was known, and each scope.
 pub fn settings_keep_scopes()
-    ensures maps { (w : worlds.World) (id : MapId) (f : Map → Map) → ((m : Map) → (f m).modules ≡ m.modules) → IsGrown w (with_map w id f) }
+    ensures maps { (w : worlds.World) (id : MapId) (f : Map → Map) → ((m : Map) → (f m).modules ≡ m.modules)
+        → IsGrown w (with_map w id f) }
     ensures crate_data { (w : worlds.World) (k : Crate) (d : CrateData) → IsGrown w (sharing w k d) }
     ensures externs { (w : worlds.World) (ls : List LocalMap) → IsGrown w (record w { local_maps = ls }) }
     ensures tables { (w : worlds.World) (t : ItemTables) → IsGrown w (record w { item_tables = t }) }

@@ -104,7 +104,10 @@ impl WorldBuilder {
         ensures err { OnErr result (self.new ≡ self.old) }
 
         // The module was added in the map of its parent, without a binding, and what was there stays.
-        ensures added { IfOk result (λ m. IsAddedModule self.old self.new (map_id_in self.old.places parent) (Some parent) m) }
+        ensures added { IfOk result
+            (λ m.
+            IsAddedModule self.old self.new (map_id_in self.old.places parent)
+            (Some parent) m) }
     {
         match self.named_child_fault(parent, &name) {
             Some(fault) => Err(fault),
@@ -147,7 +150,13 @@ impl WorldBuilder {
 
     /// The first fault of a new child, where it is known whether the parent has a child of its name.
     fn fault_of_child(&self, parent: ModuleId, is_taken: bool) -> Option<BuildFault>
-        ensures { result ≡ first_fault (record none_found { no_module = lacks_module self.now parent; taken_child = is_taken; full = is_full self.now.places }) }
+        ensures { result
+            ≡ first_fault
+            (record none_found {
+              no_module = lacks_module self.now parent;
+              taken_child = is_taken;
+              full = is_full self.now.places;
+            }) }
     {
         if !self.has(parent) {
             return Some(BuildFault::NoSuchModule);

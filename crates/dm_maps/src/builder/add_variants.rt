@@ -77,7 +77,13 @@ impl WorldBuilder {
 
     /// The first fault of a new variant, where it is known whether the enum has one of its name.
     fn fault_of_variant(&self, e: EnumId, is_taken: bool) -> Option<BuildFault>
-        ensures { result ≡ first_fault (record none_found { no_enum = lacks_enum self.now e; taken_variant = is_taken; full = is_full self.now.variants }) }
+        ensures { result
+            ≡ first_fault
+            (record none_found {
+              no_enum = lacks_enum self.now e;
+              taken_variant = is_taken;
+              full = is_full self.now.variants;
+            }) }
     {
         if !self.knows(HeldId::Item(ItemKind::Enum, e.0)) {
             return Some(BuildFault::NoSuchEnum);

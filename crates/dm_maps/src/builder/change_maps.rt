@@ -156,7 +156,8 @@ fn put_extern_at(
     m: ModuleId,
     named_by: Option<ExternCrateId>,
 ) -> Result<(), AllocError>
-    ensures ok { OnOk result (locals.new.items ≡ locals_with locals.old.items k (λ L. with_extern L name m named_by)) }
+    ensures ok { OnOk result
+        (locals.new.items ≡ locals_with locals.old.items k (λ L. with_extern L name m named_by)) }
     ensures err { OnErr result (locals.new.items ≡ locals.old.items) }
 {
     match locals.get_mut(k) {

@@ -39,7 +39,8 @@ impl WorldBuilder {
 
     /// Marks a crate as `#![rustc_coherence_is_core]`: it counts as `core` where traits are implemented.
     pub fn set_coherence_is_core(&mut self, krate: Crate) -> Result<(), BuildFault>
-        ensures ok { OnOk result (self.new ≡ with_data self.old krate (λ d. record d { coherence_is_core = true })) }
+        ensures ok { OnOk result
+            (self.new ≡ with_data self.old krate (λ d. record d { coherence_is_core = true })) }
         ensures fault { Answers (crate_fault self.old krate) result }
         ensures err { OnErr result (self.new ≡ self.old) }
     {
@@ -48,7 +49,9 @@ impl WorldBuilder {
 
     /// Sets the recursion limit of a crate: how deep its macros may expand.
     pub fn set_recursion_limit(&mut self, krate: Crate, limit: u32) -> Result<(), BuildFault>
-        ensures ok { OnOk result (self.new ≡ with_data self.old krate (λ d. record d { recursion_limit = Some limit })) }
+        ensures ok { OnOk result
+            (self.new
+            ≡ with_data self.old krate (λ d. record d { recursion_limit = Some limit })) }
         ensures fault { Answers (crate_fault self.old krate) result }
         ensures err { OnErr result (self.new ≡ self.old) }
     {
@@ -57,7 +60,9 @@ impl WorldBuilder {
 
     /// Adds a tool whose attributes a crate may have, the last.
     pub fn add_tool(&mut self, krate: Crate, tool: Symbol) -> Result<(), BuildFault>
-        ensures ok { OnOk result (self.new ≡ with_data self.old krate (λ d. record d { tools = d.tools ++ tool ∷ [] })) }
+        ensures ok { OnOk result
+            (self.new
+            ≡ with_data self.old krate (λ d. record d { tools = d.tools ++ tool ∷ [] })) }
         ensures fault { Answers (crate_fault self.old krate) result }
         ensures err { OnErr result (self.new ≡ self.old) }
     {

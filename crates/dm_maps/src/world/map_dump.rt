@@ -91,7 +91,10 @@ fn write_branch(
     requires facts { IsMapOf world.now map.now }
     requires lies { IsSome (module_at map.now.modules branch.child) }
     requires left { AllLie map.now left.old.items }
-    ensures text { OnOk result (string_bytes text.new ++ left_text world.now map.now left.new.items ≡ string_bytes text.old ++ branch_text world.now map.now branch ++ left_text world.now map.now left.old.items) }
+    ensures text { OnOk result
+        (string_bytes text.new ++ left_text world.now map.now left.new.items
+        ≡ string_bytes text.old ++ branch_text world.now map.now branch
+        ++ left_text world.now map.now left.old.items) }
     ensures grows { OnOk result (length (string_bytes text.old) < length (string_bytes text.new)) }
     ensures lie { OnOk result (AllLie map.now left.new.items) }
 {
@@ -112,7 +115,10 @@ fn write_module(
     requires facts { IsMapOf world.now map.now }
     requires lies { IsSome (module_at map.now.modules m) }
     requires left { AllLie map.now left.old.items }
-    ensures text { OnOk result (string_bytes text.new ++ left_text world.now map.now left.new.items ≡ string_bytes text.old ++ tree world.now map.now path.now m ++ left_text world.now map.now left.old.items) }
+    ensures text { OnOk result
+        (string_bytes text.new ++ left_text world.now map.now left.new.items
+        ≡ string_bytes text.old ++ tree world.now map.now path.now m
+        ++ left_text world.now map.now left.old.items) }
     ensures grows { OnOk result (length (string_bytes text.old) ≤ length (string_bytes text.new)) }
     ensures lie { OnOk result (AllLie map.now left.new.items) }
 {
@@ -144,7 +150,10 @@ fn add_children(
     requires facts { IsMapOf world.now map.now }
     requires is { module_at map.now.modules m ≡ Some parent.now }
     requires left { AllLie map.now left.old.items }
-    ensures text { OnOk result (left_text world.now map.now left.new.items ≡ children_text world.now map.now path.now parent.now ++ left_text world.now map.now left.old.items) }
+    ensures text { OnOk result
+        (left_text world.now map.now left.new.items
+        ≡ children_text world.now map.now path.now parent.now
+        ++ left_text world.now map.now left.old.items) }
     ensures lie { OnOk result (AllLie map.now left.new.items) }
 {
     let mut names = child_names(world, parent)?;
@@ -167,7 +176,10 @@ fn add_child(
     requires facts { IsMapOf world.now map.now }
     requires is { module_at map.now.modules m ≡ Some parent.now }
     requires left { AllLie map.now left.old.items }
-    ensures text { OnOk result (left_text world.now map.now left.new.items ≡ child_text world.now map.now path.now parent.now name.now ++ left_text world.now map.now left.old.items) }
+    ensures text { OnOk result
+        (left_text world.now map.now left.new.items
+        ≡ child_text world.now map.now path.now parent.now name.now
+        ++ left_text world.now map.now left.old.items) }
     ensures lie { OnOk result (AllLie map.now left.new.items) }
 {
     let Some(child) = parent.child(name) else {
@@ -180,7 +192,8 @@ fn add_child(
 
 /// A path with a name behind it.
 fn path_of(world: &World, path: &str, name: &Name) -> Result<String, AllocError>
-    ensures { IfOk result (λ whole. string_bytes whole ≡ path_and (scope_tables world.now) path.now name.now) }
+    ensures { IfOk result
+        (λ whole. string_bytes whole ≡ path_and (scope_tables world.now) path.now name.now) }
 {
     let mut whole = String::new(world.tables().alloc);
     whole.push_str(path)?;

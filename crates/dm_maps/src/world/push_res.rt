@@ -44,15 +44,18 @@ impl World {
         requires known { KnowsAll self.old (push_holds lookup.0 res import) }
 
         // What the push gives in the module's scope: its answer, and what scope and glob table are after it.
-        ensures gives { PushGives (scope_of self.old lookup.0) glob_imports.old (scope_of self.new lookup.0) glob_imports.new lookup.0 (push_of lookup.1 res import) result }
-        ensures world { OnOk result (self.new ≡ with_push self.old glob_imports.old lookup.0 lookup.1 res import) }
+        ensures gives { PushGives (scope_of self.old lookup.0) glob_imports.old (scope_of self.new lookup.0)
+            glob_imports.new lookup.0 (push_of lookup.1 res import) result }
+        ensures world { OnOk result
+            (self.new ≡ with_push self.old glob_imports.old lookup.0 lookup.1 res import) }
         ensures err { OnErr result (self.new ≡ self.old) }
 
         // All that the world's tables hold is the world's.
         ensures checked { IsChecked self.new }
 
         // The scope of each other module is as before.
-        ensures others { (k : ModuleId) → same_module lookup.0 k ≡ false → scope_of self.new k ≡ scope_of self.old k }
+        ensures others { (k : ModuleId) → same_module lookup.0 k ≡ false
+            → scope_of self.new k ≡ scope_of self.old k }
 
         // What the world has under other names than the pushed one is as before.
         ensures others_stay { (N : List Name) → among N lookup.1 ≡ false → cut self.new N ≡ cut self.old N }
@@ -62,15 +65,22 @@ impl World {
 
         // Where the module's scope and the table show a list of pushes, they show it with this push after it, and the
         // answer is as that list says. After an allocation failure, and in another module, what was shown is shown.
-        ensures shown { PushShows (scope_of self.old lookup.0) glob_imports.old (scope_of self.new lookup.0) glob_imports.new lookup.0 (push_of lookup.1 res import) result }
-        ensures shown_answer { PushAnswers (scope_of self.old lookup.0) glob_imports.old lookup.0 (push_of lookup.1 res import) result }
-        ensures refused { (k : ModuleId) → StillShows (scope_of self.old k) glob_imports.old (scope_of self.new k) glob_imports.new k result }
-        ensures elsewhere { (k : ModuleId) → same_module lookup.0 k ≡ false → StaysShown self.old glob_imports.old self.new glob_imports.new k }
+        ensures shown { PushShows (scope_of self.old lookup.0) glob_imports.old (scope_of self.new lookup.0)
+            glob_imports.new lookup.0 (push_of lookup.1 res import) result }
+        ensures shown_answer { PushAnswers (scope_of self.old lookup.0) glob_imports.old lookup.0
+            (push_of lookup.1 res import) result }
+        ensures refused { (k : ModuleId)
+            → StillShows (scope_of self.old k) glob_imports.old (scope_of self.new k)
+            glob_imports.new k result }
+        ensures elsewhere { (k : ModuleId) → same_module lookup.0 k ≡ false
+            → StaysShown self.old glob_imports.old self.new glob_imports.new k }
 
         // What it leaves of other pushes, into each module, as a worklist of imports needs it: one that answers false
         // changes nothing, none writes twice, and what a named import would not write it would not write after this
         // push, if that came by another import, by a glob or by none.
-        ensures law { OnOk result (PushLaw scope_of self.old glob_imports.old self.new glob_imports.new lookup.0 (push_of lookup.1 res import)) }
+        ensures law { OnOk result
+            (PushLaw scope_of self.old glob_imports.old self.new glob_imports.new lookup.0
+            (push_of lookup.1 res import)) }
     {
         let m = lookup.0;
         let before = RecordCounts::of_scope(&self.tables, m);
@@ -92,13 +102,23 @@ impl WorldBuilder {
         import: Option<ImportOrExternCrate>,
     ) -> Result<bool, AllocError>
         requires there { IsSome (scope_if_known self.old lookup.0) }
-        ensures gives { PushGives (scope_of self.old lookup.0) glob_imports.old (scope_of self.new lookup.0) glob_imports.new lookup.0 (push_of lookup.1 res import) result }
-        ensures world { OnOk result (self.new ≡ with_push self.old glob_imports.old lookup.0 lookup.1 res import) }
+        ensures gives { PushGives (scope_of self.old lookup.0) glob_imports.old (scope_of self.new lookup.0)
+            glob_imports.new lookup.0 (push_of lookup.1 res import) result }
+        ensures world { OnOk result
+            (self.new ≡ with_push self.old glob_imports.old lookup.0 lookup.1 res import) }
         ensures err { OnErr result (self.new ≡ self.old) }
-        ensures shown { PushShows (scope_of self.old lookup.0) glob_imports.old (scope_after (scope_of self.old lookup.0) glob_imports.old lookup.0 lookup.1 res import) glob_imports.new lookup.0 (push_of lookup.1 res import) result }
-        ensures shown_answer { PushAnswers (scope_of self.old lookup.0) glob_imports.old lookup.0 (push_of lookup.1 res import) result }
+        ensures shown { PushShows (scope_of self.old lookup.0) glob_imports.old
+            (scope_after (scope_of self.old lookup.0) glob_imports.old lookup.0 lookup.1 res
+            import)
+            glob_imports.new lookup.0 (push_of lookup.1 res import) result }
+        ensures shown_answer { PushAnswers (scope_of self.old lookup.0) glob_imports.old lookup.0
+            (push_of lookup.1 res import) result }
         ensures elsewhere { ShowsElsewhere glob_imports.old glob_imports.new lookup.0 }
-        ensures law { OnOk result (PushLaw itself (scope_of self.old lookup.0) glob_imports.old (scope_after (scope_of self.old lookup.0) glob_imports.old lookup.0 lookup.1 res import) glob_imports.new lookup.0 (push_of lookup.1 res import)) }
+        ensures law { OnOk result
+            (PushLaw itself (scope_of self.old lookup.0) glob_imports.old
+            (scope_after (scope_of self.old lookup.0) glob_imports.old lookup.0 lookup.1
+            res import)
+            glob_imports.new lookup.0 (push_of lookup.1 res import)) }
     {
         let scope = self.scope_mut(lookup.0).unwrap();
         let answer = scope.push_res_with_import(glob_imports, lookup, res, import)?;

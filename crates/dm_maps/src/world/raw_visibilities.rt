@@ -23,7 +23,8 @@ impl World {
     /// The visibilities of the fields of a variant, a struct or a union, in order, where they were set.
     pub fn raw_fields_of(&self, variant: VariantId) -> Option<&[RawVisibility]>
         ensures value { option_copied result ≡ fields_in self.now variant }
-        ensures known { IfSome result (λ fields. AllByRecursion (λ v. KnowsAll self.now (raw_holds v)) fields.now) }
+        ensures known { IfSome result
+            (λ fields. AllByRecursion (λ v. KnowsAll self.now (raw_holds v)) fields.now) }
     {
         self.tables().raw_fields_of(variant)
     }

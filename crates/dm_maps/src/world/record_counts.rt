@@ -93,7 +93,10 @@ impl WorldBuilder {
 
 /// The number of records of a namespace in the scopes at these places, or the greatest `usize` where it is more.
 fn counted(world: &WorldBuilder, places: &[Place], namespace: Namespace) -> usize
-    ensures { result ≡ min (length (flat_map (λ p. records_in namespace (scope_at_place world.now p)) places.now)) (2 ^ 64 - 1) }
+    ensures { result
+        ≡ min
+        (length (flat_map (λ p. records_in namespace (scope_at_place world.now p)) places.now))
+        (2 ^ 64 - 1) }
 {
     let mut count = 0usize;
     for place in places {
