@@ -1,4 +1,4 @@
--- The ids, names and places that most proofs cite, passed on from one place. Declares nothing.
+-- The ids, names and places that most proofs cite, re-exported from one place. Declares nothing.
 pub use Rattle.dm_ids.specs.Names.{Name, find_name, same_name}
 pub use Rattle.dm_ids.specs.declared.fields_shape.FieldsShape.{FieldsShape}
 pub use Rattle.dm_ids.specs.declared.ids.BlockId.{BlockId}
