@@ -1,6 +1,6 @@
 -- What an import resolves to is known to the world.
-use Rattle.std.proofs.Common.{◌≡◌, ◌<◌, ◌&&◌, ℕ, zero, suc, Bool, true, false, cond, not, List, [], ◌∷◌, ◌++◌, Option, None, Some, IsSome, IsTrue, ap, refl, arith, is_none, is_some, length, slice_get}
-use Rattle.std.specs.Option.{option_map, option_map_or}
+use Rattle.std.proofs.Common.{◌≡◌, ◌<◌, ◌&&◌, ℕ, zero, suc, Bool, true, false, cond, not, List, [], ◌∷◌, ◌++◌, Option, None, Some, IsSome, IfSome, IsTrue, ap, refl, arith, is_none, is_some, length, slice_get, subst}
+use Rattle.std.specs.Option.{option_and_then, option_map, option_map_or}
 use Rattle.std.proofs.lemmas.Bool.{ltb-true}
 use Rattle.dm_ids.specs.declared.ids.ModuleId.{ModuleId}
 use Rattle.dm_ids.specs.declared.imports.ImportOrExternCrate.{ImportOrExternCrate}
@@ -9,8 +9,12 @@ use Rattle.dm_ids.specs.declared.item_ids.MacroId.{MacroId}
 use Rattle.dm_ids.specs.declared.item_ids.ModuleDefId.{ModuleDefId}
 use Rattle.dm_base.specs.declared.per_ns.Item.{Item}
 use Rattle.dm_base.specs.declared.per_ns.PerNs.{PerNs}
+use Rattle.dm_ids.specs.declared.ids.MapId.{MapId}
 use Rattle.dm_base.specs.declared.visibility.Visibility.{Visibility}
+use Rattle.dm_base.specs.declared.visibility.Visibility.TheVariants.{Module, PubCrate, Public}
 use Rattle.dm_base.specs.PerNs.{is_empty, seen_as, seen_as_item}
+use Rattle.dm_base.specs.Tree.{Tree, IsKnown, same_module, same_crate, crate_of, is_ancestor}
+use Rattle.dm_base.specs.Visibility.{NamesKnown, both_lie_in, either_explicit, min_of}
 use Rattle.dm_check.specs.declared.held.HeldId.{HeldId}
 use Rattle.dm_check.specs.declared.held.HeldId.TheVariants as held
 use Rattle.dm_check.specs.Holding.{def_holds, vis_holds, import_holds, value_import_holds, type_holds, value_holds, macro_holds, res_holds, path_holds}
@@ -18,10 +22,14 @@ use Rattle.dm_check.specs.Pushes.{push_holds}
 use Rattle.dm_maps.specs.declared.place.Place.{Place}
 use Rattle.dm_maps.specs.ItemHomes.{homes_of}
 use Rattle.dm_maps.specs.Known.{knows, KnowsAll}
+use Rattle.dm_maps.specs.Trees.{tree_of}
 use Rattle.dm_maps.specs.World.{World}
 use Rattle.hir_def_map.specs.declared.result.ResolvePathResult.{ResolvePathResult}
 use Rattle.dm_retry.specs.Known.{parts}
-use Rattle.dm_retry.specs.Rounds.{Pending, brought, by_import, found, meaning}
+use Rattle.dm_retry.specs.declared.import_kind.ImportKind.{ImportKind}
+use Rattle.dm_retry.specs.declared.import_kind.ImportKind.TheVariants as kinds
+use Rattle.dm_retry.specs.Kinds.{by_kind, is_foreign, narrowed, narrowed_item, re_exported, types_alone}
+use Rattle.dm_retry.specs.Rounds.{Pending, brought, by_import, found, given, meaning}
 
 pub knows-left : (w : World) (hs ks : List HeldId) → KnowsAll w (hs ++ ks) → KnowsAll w hs
 knows-left w [] ks k = tt
@@ -34,6 +42,26 @@ knows-right w (h ∷ hs) ks k = knows-right w hs ks k.1
 pub knows-append : (w : World) (hs ks : List HeldId) → KnowsAll w hs → KnowsAll w ks → KnowsAll w (hs ++ ks)
 knows-append w [] ks k l = l
 knows-append w (h ∷ hs) ks k l = (k.0, knows-append w hs ks k.1 l)
+
+-- the middle part of three
+knows-middle : (w : World) (hs ks ls : List HeldId) → KnowsAll w (hs ++ ks ++ ls) → KnowsAll w ks
+knows-middle w hs ks ls k = knows-right w hs ks (knows-left w (hs ++ ks) ls k)
+
+-- the three namespaces of items, apart and together
+module _ (w : World) (x : PerNs) where
+  types-known : KnowsAll w (res_holds x) → KnowsAll w (option_map_or type_holds x.types [])
+  types-known k = knows-left w (option_map_or type_holds x.types []) (option_map_or value_holds x.values []) (knows-left w (option_map_or type_holds x.types [] ++ option_map_or value_holds x.values []) (option_map_or macro_holds x.macros []) k)
+
+  values-known : KnowsAll w (res_holds x) → KnowsAll w (option_map_or value_holds x.values [])
+  values-known k = knows-middle w (option_map_or type_holds x.types []) (option_map_or value_holds x.values []) (option_map_or macro_holds x.macros []) k
+
+  macros-known : KnowsAll w (res_holds x) → KnowsAll w (option_map_or macro_holds x.macros [])
+  macros-known k = knows-right w (option_map_or type_holds x.types [] ++ option_map_or value_holds x.values []) (option_map_or macro_holds x.macros []) k
+
+  together : KnowsAll w (option_map_or type_holds x.types []) → KnowsAll w (option_map_or value_holds x.values []) → KnowsAll w (option_map_or macro_holds x.macros []) → KnowsAll w (res_holds x)
+  together ts vs ms =
+      knows-append w (option_map_or type_holds x.types [] ++ option_map_or value_holds x.values []) (option_map_or macro_holds x.macros [])
+      (knows-append w (option_map_or type_holds x.types []) (option_map_or value_holds x.values []) ts vs) ms
 
 module _ (w : World) (v : Visibility) (seen : KnowsAll w (vis_holds v)) where
   -- an item under another visibility: its definition, the visibility, its import
@@ -54,17 +82,113 @@ module _ (w : World) (v : Visibility) (seen : KnowsAll w (vis_holds v)) where
 
   res-seen : (x : PerNs) → KnowsAll w (res_holds x) → KnowsAll w (res_holds (seen_as v x))
   res-seen x k =
-      let ts = option_map_or type_holds x.types [] in
-      let vs = option_map_or value_holds x.values [] in
-      let ms = option_map_or macro_holds x.macros [] in
-      let first = knows-left w (ts ++ vs) ms k in
-      knows-append w (option_map_or type_holds (seen_as_item v x.types) [] ++ option_map_or value_holds (seen_as_item v x.values) []) (option_map_or macro_holds (seen_as_item v x.macros) [])
-      (knows-append w (option_map_or type_holds (seen_as_item v x.types) []) (option_map_or value_holds (seen_as_item v x.values) []) (type-seen x.types (knows-left w ts vs first)) (value-seen x.values (knows-right w ts vs first)))
-      (macro-seen x.macros (knows-right w (ts ++ vs) ms k))
+      together w (seen_as v x) (type-seen x.types (types-known w x k)) (value-seen x.values (values-known w x k)) (macro-seen x.macros (macros-known w x k))
+
+-- ---- Re-exports
+
+module _ (w : World) where
+  -- what a visibility names that may not be there, or else the own one
+  abbrev Seen : Visibility → Option Visibility → Type 0
+  Seen own o = KnowsAll w (vis_holds (option_map_or (λ v. v) o own))
+
+  either : (own : Visibility) (b : Bool) (o p : Option Visibility) → Seen own o → Seen own p → Seen own (cond b o p)
+  either own true o p k l = k
+  either own false o p k l = l
+
+  -- the less permissive of two visibilities is one of them
+  least-known : (t : Tree) (map : MapId) (own v : Visibility) → KnowsAll w (vis_holds own) → KnowsAll w (vis_holds v) → Seen own (min_of t map own v)
+  least-known t map Public v k l = l
+  least-known t map (PubCrate a) Public k l = k
+  least-known t map (PubCrate a) (PubCrate b) k l = either (PubCrate a) (same_crate a b) (Some (PubCrate a)) None k k
+  least-known t map (PubCrate a) (Module m e) k l = either (PubCrate a) (same_crate (crate_of t m) a) (Some (Module m e)) None l k
+  least-known t map (Module m e) Public k l = k
+  least-known t map (Module m e) (PubCrate b) k l = either (Module m e) (same_crate (crate_of t m) b) (Some (Module m e)) None k k
+  least-known t map (Module a x) (Module b y) k l =
+      let own = Module a x in
+      either own (same_module a b) (Some (Module a (either_explicit x y))) _ k
+      (either own (not (both_lie_in t map a b)) None _ k
+      (either own (is_ancestor t b a) (Some (Module a x)) _ k
+      (either own (is_ancestor t a b) (Some (Module b y)) None l k)))
+
+  module _ (t : Tree) (m : ModuleId) (v : Visibility) (seen : KnowsAll w (vis_holds v)) where
+    type-narrowed : (o : Option (Item ModuleDefId ImportOrExternCrate)) → KnowsAll w (option_map_or type_holds o []) → KnowsAll w (option_map_or type_holds (narrowed_item t m v o) [])
+    type-narrowed None k = tt
+    type-narrowed (Some x) k = by (is_foreign t (crate_of t m) x.vis)
+      where
+        by : (b : Bool) → KnowsAll w (option_map_or type_holds (cond b None (Some (record x { vis = narrowed t m v x.vis }))) [])
+        by true = tt
+        by false =
+            let is = option_map_or import_holds x.import [] in
+            under w (narrowed t m v x.vis) (least-known t (t.map_of m) x.vis v (knows-middle w (def_holds x.def) (vis_holds x.vis) is k) seen) (def_holds x.def) (vis_holds x.vis) is k
+
+    value-narrowed : (o : Option (Item ModuleDefId ImportOrGlob)) → KnowsAll w (option_map_or value_holds o []) → KnowsAll w (option_map_or value_holds (narrowed_item t m v o) [])
+    value-narrowed None k = tt
+    value-narrowed (Some x) k = by (is_foreign t (crate_of t m) x.vis)
+      where
+        by : (b : Bool) → KnowsAll w (option_map_or value_holds (cond b None (Some (record x { vis = narrowed t m v x.vis }))) [])
+        by true = tt
+        by false =
+            let is = option_map_or value_import_holds x.import [] in
+            under w (narrowed t m v x.vis) (least-known t (t.map_of m) x.vis v (knows-middle w (def_holds x.def) (vis_holds x.vis) is k) seen) (def_holds x.def) (vis_holds x.vis) is k
+
+    macro-narrowed : (o : Option (Item MacroId ImportOrExternCrate)) → KnowsAll w (option_map_or macro_holds o []) → KnowsAll w (option_map_or macro_holds (narrowed_item t m v o) [])
+    macro-narrowed None k = tt
+    macro-narrowed (Some x) k = by (is_foreign t (crate_of t m) x.vis)
+      where
+        by : (b : Bool) → KnowsAll w (option_map_or macro_holds (cond b None (Some (record x { vis = narrowed t m v x.vis }))) [])
+        by true = tt
+        by false =
+            let is = option_map_or import_holds x.import [] in
+            under w (narrowed t m v x.vis) (least-known t (t.map_of m) x.vis v (knows-middle w (held.Macro x.def ∷ []) (vis_holds x.vis) is k) seen) (held.Macro x.def ∷ []) (vis_holds x.vis) is k
+
+    -- what an import brings of known items is known
+    kind-known : (kind : ImportKind) (x : PerNs) → KnowsAll w (res_holds x) → KnowsAll w (res_holds (by_kind t m v kind x))
+    kind-known kinds.Plain x k = res-seen w v seen x k
+    kind-known kinds.TypeOnly x k = res-seen w v seen (types_alone x) (together w (types_alone x) (types-known w x k) tt tt)
+    kind-known kinds.ReExport x k =
+        together w (re_exported t m v x) (type-narrowed x.types (types-known w x k)) (value-narrowed x.values (values-known w x k)) (macro-narrowed x.macros (macros-known w x k))
 
 -- What an import pushes, it may push: it is the world's, if the import's parts and the answer are.
-pub push-known : (w : World) (p : Pending) (x : PerNs) → KnowsAll w (parts p) → KnowsAll w (res_holds x) → KnowsAll w (push_holds p.origin (seen_as p.visibility x) (by_import p))
-push-known w p x k l = (k.0, (k.1.0, res-seen w p.visibility (knows-right w (path_holds p.path.kind) (vis_holds p.visibility) k.1.1) x l))
+pub given-known : (w : World) (p : Pending) (x : PerNs) → KnowsAll w (parts p) → KnowsAll w (res_holds x) → IfSome (given w p x) (λ y. KnowsAll w (push_holds p.origin y (by_import p)))
+given-known w p x k l = by (is_empty (by_kind (tree_of w) p.origin p.visibility p.kind x))
+  where
+    y : PerNs
+    y = by_kind (tree_of w) p.origin p.visibility p.kind x
+
+    by : (b : Bool) → IfSome (cond b None (Some y)) (λ y. KnowsAll w (push_holds p.origin y (by_import p)))
+    by true = tt
+    by false = (k.0, (k.1.0, kind-known w (tree_of w) p.origin p.visibility (knows-right w (path_holds p.path.kind) (vis_holds p.visibility) k.1.1) p.kind x l))
+
+-- its module, and what its visibility names
+pub home-known : (w : World) (p : Pending) → KnowsAll w (parts p) → IsKnown (tree_of w) p.origin
+unfolding tree_of
+home-known w p k = k.0
+
+pub names-known : (w : World) (v : Visibility) → KnowsAll w (vis_holds v) → NamesKnown (tree_of w) v
+unfolding tree_of
+names-known w (Module m e) k = k.0
+names-known w (PubCrate c) k = tt
+names-known w Public k = tt
+
+pub vis-known : (w : World) (p : Pending) → KnowsAll w (parts p) → NamesKnown (tree_of w) p.visibility
+vis-known w p k = names-known w p.visibility (knows-right w (path_holds p.path.kind) (vis_holds p.visibility) k.1.1)
+
+-- and what the visibilities of known items name
+module _ (w : World) (x : PerNs) (k : KnowsAll w (res_holds x)) where
+  pub type-named : (i : Item ModuleDefId ImportOrExternCrate) → x.types ≡ Some i → NamesKnown (tree_of w) i.vis
+  type-named i e =
+      let P : Option (Item ModuleDefId ImportOrExternCrate) → Type 0 = λ o. KnowsAll w (option_map_or type_holds o []) in
+      names-known w i.vis (knows-middle w (def_holds i.def) (vis_holds i.vis) (option_map_or import_holds i.import []) (subst P e (types-known w x k)))
+
+  pub value-named : (i : Item ModuleDefId ImportOrGlob) → x.values ≡ Some i → NamesKnown (tree_of w) i.vis
+  value-named i e =
+      let P : Option (Item ModuleDefId ImportOrGlob) → Type 0 = λ o. KnowsAll w (option_map_or value_holds o []) in
+      names-known w i.vis (knows-middle w (def_holds i.def) (vis_holds i.vis) (option_map_or value_import_holds i.import []) (subst P e (values-known w x k)))
+
+  pub macro-named : (i : Item MacroId ImportOrExternCrate) → x.macros ≡ Some i → NamesKnown (tree_of w) i.vis
+  macro-named i e =
+      let P : Option (Item MacroId ImportOrExternCrate) → Type 0 = λ o. KnowsAll w (option_map_or macro_holds o []) in
+      names-known w i.vis (knows-middle w (held.Macro i.def ∷ []) (vis_holds i.vis) (option_map_or import_holds i.import []) (subst P e (macros-known w x k)))
 
 -- ---- The extern prelude of a module's crate
 
@@ -80,9 +204,9 @@ krate-there w m k = map-there (λ (p : Place). p.map.krate) w.places m.0 (ltb-tr
 
 -- ---- What is found
 
-pub found-is : (w : World) (p : Pending) (a : ResolvePathResult) → a ≡ meaning w p → option_map (seen_as p.visibility) (brought a) ≡ found w p
+pub found-is : (w : World) (p : Pending) (a : ResolvePathResult) → a ≡ meaning w p → option_and_then (given w p) (brought a) ≡ found w p
 unfolding found
-found-is w p a is = ap (λ b. option_map (seen_as p.visibility) (brought b)) is
+found-is w p a is = ap (λ b. option_and_then (given w p) (brought b)) is
 
 pub brought-is : (a : ResolvePathResult) (x : PerNs) → brought a ≡ Some x → a.resolved_def ≡ x
 brought-is a x is = by (is_none a.segment_index && not (is_empty a.resolved_def)) is

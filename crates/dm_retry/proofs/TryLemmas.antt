@@ -12,7 +12,7 @@ use Rattle.dm_base.specs.declared.per_ns.Item.{Item}
 use Rattle.dm_base.specs.declared.per_ns.PerNs.{PerNs}
 use Rattle.dm_base.specs.declared.visibility.Visibility.{Visibility}
 use Rattle.dm_ids.specs.Names.{Name}
-use Rattle.dm_base.specs.PerNs.{is_empty, seen_as, seen_as_item}
+use Rattle.dm_base.specs.PerNs.{is_empty}
 use Rattle.dm_def_map.specs.declared.modules.modes.BuiltinShadowMode.TheVariants as shadow
 use Rattle.dm_def_map.specs.Maps.{LocalMap}
 use Rattle.dm_scope.specs.Flags.{Globs}
@@ -22,34 +22,32 @@ use Rattle.dm_scope.specs.PushLaw.{PushLaw}
 use Rattle.dm_scope.specs.Shows.{ScopePush, push_of}
 use Rattle.dm_maps.specs.Cut.{among, cut, cut_local}
 use Rattle.dm_maps.specs.ItemHomes.{homes_of}
+use Rattle.dm_maps.specs.CutLaws.{setting-cut}
 use Rattle.dm_maps.specs.PushRes.{with_push}
+use Rattle.dm_maps.specs.Readings.{Setting, setting_of}
+use Rattle.dm_maps.specs.Trees.{tree_of}
 use Rattle.dm_maps.specs.World.{World, scope_of, with_scope}
 use Rattle.hir_def_map.specs.declared.result.ResolveMode.TheVariants as mode
 use Rattle.hir_def_map.specs.declared.result.ResolvePathResult.{ResolvePathResult}
 use Rattle.hir_def_map.specs.Paths.{answer, asked}
-use Rattle.dm_retry.specs.Rounds.{Pending, answered, brings, brought, by_import, found, globs_with, local_of, marked, meaning, world_after}
+use Rattle.dm_retry.specs.Kinds.{by_kind, if_any}
+use Rattle.dm_retry.specs.Rounds.{Pending, answered, brings, brought, by_import, found, given, globs_with, local_of, marked, meaning, world_after}
 use Rattle.dm_retry.proofs.ScopeLemmas.{idle-scope, idle-globs}
 use Rattle.dm_retry.proofs.WorldLemmas.{scope-own, places-stay, locals-stay}
 
 -- ---- What is found is something
 
-item-seen : {D I : Type 0} (v : Visibility) (o : Option (Item D I)) → is_none (seen_as_item v o) ≡ is_none o
-item-seen v None = refl
-item-seen v (Some x) = refl
-
 found-some : (w : World) (p : Pending) (x : PerNs) → found w p ≡ Some x → is_empty x ≡ false
 unfolding found
-found-some w p x is = by (is_none a.segment_index && not (is_empty a.resolved_def)) refl is
+found-some w p x is = of (brought (meaning w p)) is
   where
-    a : ResolvePathResult
-    a = meaning w p
-
-    by : (b : Bool) → (is_none a.segment_index && not (is_empty a.resolved_def)) ≡ b → option_map (seen_as p.visibility) (cond b (Some a.resolved_def) None) ≡ Some x → is_empty x ≡ false
-    by true some is =
-        let same : seen_as p.visibility a.resolved_def ≡ x = cc in
-        let y = a.resolved_def in
-        ap is_empty (sym same) ∙ (λ i. item-seen p.visibility y.types i && item-seen p.visibility y.values i && item-seen p.visibility y.macros i) ∙ not-true (is_empty y) ((and_parts _ _ some).1)
-    by false none is = cc
+    of : (o : Option PerNs) → option_and_then (given w p) o ≡ Some x → is_empty x ≡ false
+    of None e = cc
+    of (Some y) e = by (is_empty (by_kind (tree_of w) p.origin p.visibility p.kind y)) refl e
+      where
+        by : (b : Bool) → is_empty (by_kind (tree_of w) p.origin p.visibility p.kind y) ≡ b → cond b None (Some (by_kind (tree_of w) p.origin p.visibility p.kind y)) ≡ Some x → is_empty x ≡ false
+        by true none e = cc
+        by false some e = let same : by_kind (tree_of w) p.origin p.visibility p.kind y ≡ x = cc in ap is_empty (sym same) ∙ some
 
 -- ---- A try that changes nothing
 
@@ -107,13 +105,17 @@ module _ (w v : World) (g h : Globs) (m : ModuleId) (n : Name) (x : PerNs) (by :
       let locals = ap (λ (u : World). u.local_maps) push.world ∙ locals-stay w m s in
       λ i. option_map_or (λ l. l) (option_and_then (λ k. slice_get (locals i) k.0) (option_map (λ p. p.map.krate) (slice_get (places i) k.0))) []
 
+  tree-stays : tree_of v ≡ tree_of w
+  unfolding setting_of
+  tree-stays = ap (λ (s : Setting). s.tree) (sym (setting-cut v []) ∙ ap setting_of (push.cuts [] refl) ∙ setting-cut w [])
+
   -- what an import finds that has no segment of the pushed name
   found-stays : (q : Pending) → among q.path.segments n ≡ false → found v q ≡ found w q
   unfolding found
   found-stays q other =
       let S = q.path.segments in
-      ap (λ a. option_map (seen_as q.visibility) (brought a))
-      (push.alike w v (local_of w q.origin) (local_of v q.origin) q.origin q.path.kind S (push.cuts S other) (ap (λ L. cut_local L S) (local-stays q.origin)))
+      let means = push.alike w v (local_of w q.origin) (local_of v q.origin) q.origin q.path.kind S (push.cuts S other) (ap (λ L. cut_local L S) (local-stays q.origin)) in
+      λ i. option_and_then (λ x. if_any (by_kind (tree-stays i) q.origin q.visibility q.kind x)) (brought (means i))
 
   -- another import that would bind nothing, and has no segment of the pushed name, binds nothing
   pub others-rest : (q : Pending) → is_same types_reading (by_import q) by ≡ false → among q.path.segments n ≡ false → brings w g q ≡ false → brings v h q ≡ false

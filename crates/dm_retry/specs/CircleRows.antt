@@ -9,6 +9,7 @@ use Rattle.dm_maps.specs.ItemHomes.{homes_of}
 use Rattle.dm_maps.specs.World.{World}
 use Rattle.hir_def_map.specs.Paths.{answer}
 use Rattle.hir_def_map.specs.Written.{a_map, a_module, an_item, binds_types, crate_id, leaf, module_with, number, place}
+use Rattle.dm_retry.specs.declared.import_kind.ImportKind.TheVariants as kind
 use Rattle.dm_retry.specs.Rounds.{Pending, State, found, round_answer, rounds}
 
 -- A glob brought the module 1 into the root as `a`. The modules 1 and 2 have each other as `b`.
@@ -33,6 +34,7 @@ turns = record {
   name = codes "a";
   path = record { kind = Plain; segments = codes "a" ∷ codes "b" ∷ [] };
   visibility = Public;
+  kind = kind.Plain;
   import = leaf 0 0;
   due = true;
 }

@@ -1,3 +1,4 @@
+pub mod Kinds
 pub mod Rounds
 pub mod Waiting
 pub mod Known
@@ -7,3 +8,4 @@ pub mod Settling
 pub mod Rows
 pub mod RoundRows
 pub mod CircleRows
+pub mod KindRows

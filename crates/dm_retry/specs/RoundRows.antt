@@ -11,6 +11,7 @@ use Rattle.dm_maps.specs.ItemHomes.{homes_of}
 use Rattle.dm_maps.specs.World.{World, scope_of}
 use Rattle.hir_def_map.specs.Paths.{answer}
 use Rattle.hir_def_map.specs.Written.{a_map, a_module, a_struct, an_item, binds_types, crate_id, leaf, module_with, named, number, place}
+use Rattle.dm_retry.specs.declared.import_kind.ImportKind.TheVariants as kind
 use Rattle.dm_retry.specs.Rounds.{Pending, State, found, round_answer, rounds, due_turns}
 
 -- the root has a module `a`, which has a struct `S`, and one use
@@ -32,6 +33,7 @@ needs = record {
   name = codes "X";
   path = record { kind = Plain; segments = codes "Y" ∷ [] };
   visibility = Public;
+  kind = kind.Plain;
   import = leaf 0 0;
   due = true;
 }
@@ -43,6 +45,7 @@ brings = record {
   name = codes "Y";
   path = record { kind = Crate; segments = codes "a" ∷ codes "S" ∷ [] };
   visibility = Public;
+  kind = kind.Plain;
   import = leaf 0 1;
   due = true;
 }

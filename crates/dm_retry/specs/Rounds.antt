@@ -9,7 +9,7 @@ use Rattle.dm_base.specs.declared.per_ns.PerNs.{PerNs}
 use Rattle.dm_base.specs.declared.visibility.Visibility.{Visibility}
 use Rattle.dm_ids.specs.Names.{Name}
 use Rattle.dm_base.specs.Path.{Path}
-use Rattle.dm_base.specs.PerNs.{is_empty, seen_as}
+use Rattle.dm_base.specs.PerNs.{is_empty}
 use Rattle.dm_def_map.specs.declared.modules.modes.BuiltinShadowMode.TheVariants as shadow
 use Rattle.dm_def_map.specs.Maps.{LocalMap}
 use Rattle.dm_scope.specs.Flags.{Globs}
@@ -17,18 +17,22 @@ use Rattle.dm_scope.specs.Push.{globs_after, push_answer}
 use Rattle.dm_maps.specs.Cut.{among}
 use Rattle.dm_maps.specs.ItemHomes.{homes_of}
 use Rattle.dm_maps.specs.PushRes.{with_push}
+use Rattle.dm_maps.specs.Trees.{tree_of}
 use Rattle.dm_maps.specs.World.{World, scope_of}
 use Rattle.hir_def_map.specs.declared.result.ResolveMode.TheVariants as mode
 use Rattle.hir_def_map.specs.declared.result.ResolvePathResult.{ResolvePathResult}
 use Rattle.hir_def_map.specs.Paths.{answer, asked}
+use Rattle.dm_retry.specs.declared.import_kind.ImportKind.{ImportKind}
+use Rattle.dm_retry.specs.Kinds.{by_kind, if_any}
 
 -- An unresolved import: the module that contains it, the name that it binds there, its path, the visibility of what it
--- binds, and whether it is due (dirty).
+-- binds, its kind, and whether it is due (dirty).
 pub record Pending : Type 0 where
   pub origin : ModuleId
   pub name : Name
   pub path : Path
   pub visibility : Visibility
+  pub kind : ImportKind
   pub import : ImportId
   pub due : Bool
 
@@ -52,9 +56,13 @@ meaning w p = answer w (local_of w p.origin) (asked p.origin mode.Import shadow.
 abbrev pub brought : ResolvePathResult → Option PerNs
 brought a = if is_none a.segment_index && not (is_empty a.resolved_def) then Some a.resolved_def else None
 
--- what a try pushes, if it pushes: what the path means, with the visibility of the import
+-- what an import brings of some items, if anything
+abbrev pub given : World → Pending → PerNs → Option PerNs
+given w p x = if_any (by_kind (tree_of w) p.origin p.visibility p.kind x)
+
+-- what a try pushes, if it pushes: what the import brings of what its path means
 unfoldable pub found : World → Pending → Option PerNs
-found w p = option_map (seen_as p.visibility) (brought (meaning w p))
+found w p = option_and_then (given w p) (brought (meaning w p))
 
 -- whether an import is unresolved: its path resolves to nothing, or a segment of it is left
 abbrev pub finds_nothing : World → Pending → Bool

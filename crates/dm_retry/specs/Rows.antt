@@ -4,6 +4,7 @@ use Rattle.dm_base.specs.declared.mod_path.PathKind.TheVariants.{Plain, Crate}
 use Rattle.dm_base.specs.declared.visibility.Visibility.TheVariants.{Public}
 use Rattle.dm_ids.specs.Names.{Name}
 use Rattle.dm_retry.specs.Known.{first_double}
+use Rattle.dm_retry.specs.declared.import_kind.ImportKind.TheVariants as kind
 use Rattle.dm_retry.specs.Rounds.{Pending, marked_after}
 
 abbrev x : Name
@@ -22,6 +23,7 @@ needs due = record {
   name = x;
   path = record { kind = Plain; segments = y ∷ [] };
   visibility = Public;
+  kind = kind.Plain;
   import = record { use_ = record { 0 = 0 }; idx = record { 0 = 0 } };
   due = due;
 }
@@ -33,6 +35,7 @@ brings due = record {
   name = y;
   path = record { kind = Crate; segments = a ∷ x ∷ [] };
   visibility = Public;
+  kind = kind.Plain;
   import = record { use_ = record { 0 = 0 }; idx = record { 0 = 1 } };
   due = due;
 }

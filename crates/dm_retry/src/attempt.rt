@@ -7,8 +7,9 @@ ghost use Rattle.dm_maps.specs.Cut.{among};
 ghost use Rattle.dm_maps.specs.Known.{knows, KnowsAll};
 ghost use Rattle.dm_retry.specs.Known.{parts, same_import};
 ghost use Rattle.dm_retry.specs.Rounds as rounds;
-ghost use Rattle.dm_retry.specs.Rounds.{brings, brought, by_import, found, globs_with, local_of, meaning, world_after};
+ghost use Rattle.dm_retry.specs.Rounds.{brings, brought, by_import, found, given, globs_with, local_of, meaning, world_after};
 
+use crate::kinds::{by_kind, if_any};
 use crate::pending::Pending;
 use dm_base::ids::ModuleId;
 use dm_base::imports::ImportOrExternCrate;
@@ -59,7 +60,18 @@ fn brought(answer: &ResolvePathResult) -> Option<PerNs>
     }
 }
 
-/// What an import resolves to in the current state of the world.
+/// What an import brings of some items of the world.
+fn given(world: &World, pending: &Pending, items: PerNs) -> Option<PerNs>
+    requires known { KnowsAll world.now (parts pending.now) }
+    requires items { KnowsAll world.now (res_holds items) }
+    ensures value { result ≡ given world.now pending.now items }
+    ensures known { IfSome result (λ x. KnowsAll world.now (push_holds pending.now.origin x (by_import pending.now))) }
+{
+    let kind = pending.kind();
+    if_any(by_kind(world, pending.origin(), pending.visibility(), kind, items))
+}
+
+/// What an import brings in the current state of the world.
 pub(crate) fn found(world: &World, pending: &Pending) -> Option<PerNs>
     requires known { KnowsAll world.now (parts pending.now) }
     ensures value { result ≡ found world.now pending.now }
@@ -68,7 +80,7 @@ pub(crate) fn found(world: &World, pending: &Pending) -> Option<PerNs>
     let answer = meaning(world, pending);
     match brought(&answer) {
         None => None,
-        Some(items) => Some(items.with_visibility(pending.visibility())),
+        Some(items) => given(world, pending, items),
     }
 }
 

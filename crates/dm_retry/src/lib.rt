@@ -2,7 +2,9 @@
 #![tactic(auto)]
 
 mod attempt;
+pub mod import_kind;
 mod imports;
+mod kinds;
 pub mod pending;
 pub mod retry;
 pub mod retry_fault;

@@ -5,7 +5,9 @@ ghost use Rattle.dm_check.specs.Holding.{vis_holds};
 ghost use Rattle.dm_maps.specs.Known.{KnowsAll};
 ghost use Rattle.dm_retry.specs.Known.{first_double, first_unknown, is_known, is_listed, parts, same_import};
 ghost use Rattle.dm_retry.specs.Waiting.{reading};
+ghost use Rattle.dm_retry.specs.declared.import_kind.ImportKind.TheVariants as kind;
 
+use crate::import_kind::ImportKind;
 use dm_base::ids::ModuleId;
 use dm_base::imports::{ImportId, ImportOrExternCrate};
 use dm_base::item_ids::ModuleDefId;
@@ -24,6 +26,7 @@ pub struct Pending {
     name: Name,
     path: ModPath,
     visibility: Visibility,
+    kind: ImportKind,
     import: ImportId,
     due: bool,
 }
@@ -33,11 +36,11 @@ impl Model for Pending {
 
     ghost Value = { Pending };
 
-    ghost view = { λ p. record { origin = p.origin; name = p.name; path = p.path; visibility = p.visibility; import = p.import; due = p.due } };
+    ghost view = { λ p. record { origin = p.origin; name = p.name; path = p.path; visibility = p.visibility; kind = p.kind; import = p.import; due = p.due } };
 }
 
 impl Pending {
-    /// The import of a name into a module, by a path, with `visibility`. It is due from `Retry::new` on.
+    /// The import of a name into a module, by a path, with `visibility`: a plain one. It is due from `Retry::new` on.
     pub fn new(
         origin: ModuleId,
         name: Name,
@@ -45,16 +48,33 @@ impl Pending {
         visibility: Visibility,
         import: ImportId,
     ) -> Pending
-        ensures { result ≡ record { origin = origin; name = name; path = path; visibility = visibility; import = import; due = false } }
+        ensures { result
+            ≡ record {
+              origin = origin;
+              name = name;
+              path = path;
+              visibility = visibility;
+              kind = kind.Plain;
+              import = import;
+              due = false;
+            } }
     {
         Pending {
             origin,
             name,
             path,
             visibility,
+            kind: ImportKind::Plain,
             import,
             due: false,
         }
+    }
+
+    /// The same import as one of another kind.
+    pub fn with_kind(self, kind: ImportKind) -> Pending
+        ensures { result ≡ record self { kind = kind } }
+    {
+        Pending { kind, ..self }
     }
 
     /// The module that contains the import.
@@ -83,6 +103,13 @@ impl Pending {
         ensures { result ≡ self.now.visibility }
     {
         self.visibility
+    }
+
+    /// What it brings of the items that its path means.
+    pub fn kind(&self) -> ImportKind
+        ensures { result ≡ self.now.kind }
+    {
+        self.kind
     }
 
     /// The import itself.
