@@ -1,10 +1,10 @@
 -- After a round that changed nothing no import is due, and a try of any would change nothing.
-use Rattle.std.proofs.Common.{◌≡◌, ◌∙◌, ◌<◌, ◌≤◌, ◌⊎◌, inl, inr, arith, ℕ, zero, suc, Bool, true, false, List, [], ◌∷◌, Option, None, Some, Result, Ok, ap, sym, refl, subst, slice_get, slice_set, length}
+use Rattle.std.proofs.Common.{◌≡◌, ◌∙◌, ◌<◌, ◌≤◌, ◌⊎◌, inl, inr, arith, ℕ, zero, suc, Bool, false, List, [], ◌∷◌, Option, None, Some, Result, Ok, ap, sym, refl, subst, slice_get, slice_set, length}
 use Rattle.std.specs.Option.{option_map_or}
 use Rattle.std.specs.declared.alloc.AllocError.{AllocError}
 use Rattle.std.proofs.lemmas.Bool.{cases_lt, or_parts}
 use Rattle.std.proofs.lemmas.Option.{slice_get_past}
-use Rattle.dm_retry.specs.Rounds.{Pending, State, after, any_brings, brings, is_due, marked, marked_after, marked_at, round, round_answer, tried, try_at}
+use Rattle.dm_retry.specs.Rounds.{Pending, State, after, any_brings, brings, is_due, marked, marked_after, round, round_answer, tried}
 use Rattle.dm_retry.specs.Retries.{RestsAt}
 use Rattle.dm_retry.specs.Settling.{IsFixedPoint}
 use Rattle.dm_retry.proofs.RoundLemmas.{length-tries}

@@ -7,6 +7,9 @@ pub mod SettleLemmas
 pub mod RoundLemmas
 pub mod TakeLemmas
 pub mod StartLemmas
+pub mod DoubleLemmas
+pub mod AddLemmas
+pub mod ListedLemmas
 pub mod FixedLemmas
 pub mod PushLemmas
 pub mod UnresolvedLemmas

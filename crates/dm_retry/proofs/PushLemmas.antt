@@ -2,7 +2,7 @@
 use Rattle.std.proofs.Common.{◌≡◌, ◌∙◌, ◌||◌, ℕ, zero, suc, Bool, true, false, cond, List, [], ◌∷◌, Option, None, Some, ap, refl, subst, sym, slice_get, map}
 use Rattle.std.specs.List.{list_any}
 use Rattle.std.specs.Option.{option_map}
-use Rattle.std.proofs.lemmas.Bool.{or_parts, true≢false}
+use Rattle.std.proofs.lemmas.Bool.{or_parts}
 use Rattle.std.proofs.lemmas.Option.{slice_get-map}
 use Rattle.dm_ids.specs.Names.{Name}
 use Rattle.dm_ids.specs.contracts.value_eq.ImportIdValueEq.TheImpl.Laws as import_value
@@ -17,7 +17,7 @@ use Rattle.dm_scope.specs.Push.{push_answer, types_reading}
 use Rattle.dm_maps.specs.Cut.{among}
 use Rattle.dm_maps.specs.Known.{KnowsAll}
 use Rattle.dm_maps.specs.World.{World, scope_of}
-use Rattle.dm_retry.specs.Known.{comes_by, is_listed, parts, same_import}
+use Rattle.dm_retry.specs.Known.{comes_by, parts, same_import}
 use Rattle.dm_retry.specs.Rounds.{Pending, State, awoken, brings, by_import}
 use Rattle.dm_retry.specs.Settled.{IsSettled}
 use Rattle.dm_retry.proofs.TryLemmas.{IsPushed, brings-marked, others-rest}

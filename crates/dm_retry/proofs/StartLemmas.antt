@@ -17,7 +17,7 @@ use Rattle.dm_retry.specs.Settled.{IsSettled}
 
 -- ---- Tests of all of a list
 
-any-at : {A : Type 0} (t : A → Bool) (xs : List A) (i : ℕ) (x : A) → list_any t xs ≡ false → slice_get xs i ≡ Some x → t x ≡ false
+pub any-at : {A : Type 0} (t : A → Bool) (xs : List A) (i : ℕ) (x : A) → list_any t xs ≡ false → slice_get xs i ≡ Some x → t x ≡ false
 any-at t [] i x none at = cc
 any-at t (y ∷ ys) zero x none at = let same : y ≡ x = cc in ap t (sym same) ∙ (or_parts (t y) (list_any t ys) none).0
 any-at t (y ∷ ys) (suc i) x none at = any-at t ys i x ((or_parts (t y) (list_any t ys) none).1) at
@@ -33,16 +33,16 @@ all-at t k [] i x all at = cc
 all-at t k (y ∷ ys) zero x all at = let same : y ≡ x = cc in ap t (sym same) ∙ not-false (t y) ((passed (not (t y)) k (position_from (λ z. not (t z)) (k + 1) ys) all).0)
 all-at t k (y ∷ ys) (suc i) x all at = all-at t (k + 1) ys i x ((passed (not (t y)) k (position_from (λ z. not (t z)) (k + 1) ys) all).1) at
 
-knows-from : (w : World) (hs : List HeldId) → list_all (knows w) hs ≡ true → KnowsAll w hs
+pub knows-from : (w : World) (hs : List HeldId) → list_all (knows w) hs ≡ true → KnowsAll w hs
 knows-from w [] all = tt
 knows-from w (h ∷ hs) all = ((and_parts (knows w h) (list_all (knows w) hs) all).0, knows-from w hs ((and_parts (knows w h) (list_all (knows w) hs) all).1))
 
 -- ---- Imports that are taken
 
-import-refl : (i : ImportId) → same_import i i ≡ true
+pub import-refl : (i : ImportId) → same_import i i ≡ true
 import-refl = Prim.search rules
 
-singles : (k : ℕ) (ps : List Pending) → double_from k ps ≡ None → (i j : ℕ) (p q : Pending) → slice_get ps i ≡ Some p → slice_get ps j ≡ Some q → p.import ≡ q.import → i ≡ j
+pub singles : (k : ℕ) (ps : List Pending) → double_from k ps ≡ None → (i j : ℕ) (p q : Pending) → slice_get ps i ≡ Some p → slice_get ps j ≡ Some q → p.import ≡ q.import → i ≡ j
 singles k [] none i j p q a b same = cc
 singles k (x ∷ xs) none zero zero p q a b same = refl
 singles k (x ∷ xs) none zero (suc j) p q a b same =

@@ -1,7 +1,7 @@
 -- Which imports a world can be asked about, and why imports are not taken.
 use Rattle.std.specs.Prelude.{ℕ, ◌+◌, Bool, false, not, List, [], ◌∷◌, ◌++◌, Option, Some, None, if◌then◌else◌}
 use Rattle.std.specs.List.{list_any, list_all, position_from}
-use Rattle.std.specs.Option.{option_map, option_or}
+use Rattle.std.specs.Option.{option_map, option_map_or, option_or}
 use Rattle.dm_ids.specs.declared.imports.ImportId.{ImportId}
 use Rattle.dm_ids.specs.declared.imports.ImportOrExternCrate.{ImportOrExternCrate}
 use Rattle.dm_ids.specs.declared.imports.ImportOrExternCrate.TheVariants as wide
@@ -12,6 +12,8 @@ use Rattle.dm_check.specs.Holding.{path_holds, vis_holds}
 use Rattle.dm_maps.specs.Known.{knows}
 use Rattle.dm_maps.specs.World.{World}
 use Rattle.dm_retry.specs.Rounds.{Pending}
+use Rattle.dm_retry.specs.declared.add_fault.AddFault.{AddFault}
+use Rattle.dm_retry.specs.declared.add_fault.AddFault.TheVariants as adding
 use Rattle.dm_retry.specs.declared.retry_fault.RetryFault.{RetryFault}
 use Rattle.dm_retry.specs.declared.retry_fault.RetryFault.TheVariants.{DoubleImport, UnknownPart}
 
@@ -51,6 +53,15 @@ refusal w ps = option_or (option_map (λ i. (DoubleImport, i)) (first_double ps)
 -- why they are not taken
 abbrev pub fault_of : World → List Pending → Option RetryFault
 fault_of w ps = option_map (λ r. r.0) (refusal w ps)
+
+-- Why an import is not added to these, where memory does not run out: it is one of them, or it holds an id that the world
+-- does not have; nothing where it is added.
+abbrev pub add_fault : World → List Pending → Pending → Option AddFault
+add_fault w ps p = if is_listed ps p.import then Some adding.Double else if is_known w p then None else Some adding.UnknownPart
+
+-- what is answered where it is not added: that fault, or where there is none that memory ran out
+abbrev pub unadded : World → List Pending → Pending → AddFault
+unadded w ps p = option_map_or (λ f. f) (add_fault w ps p) adding.OutOfMemory
 
 -- whether the import of a push is one of a list: a named import may be, and no other
 abbrev pub comes_by : List Pending → Option ImportOrExternCrate → Bool

@@ -2,6 +2,8 @@ pub mod Kinds
 pub mod Rounds
 pub mod Waiting
 pub mod Known
+pub mod Doubles
+pub mod Listed
 pub mod Settled
 pub mod Retries
 pub mod Settling

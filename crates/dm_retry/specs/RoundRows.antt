@@ -12,7 +12,7 @@ use Rattle.dm_maps.specs.World.{World, scope_of}
 use Rattle.hir_def_map.specs.Paths.{answer}
 use Rattle.hir_def_map.specs.Written.{a_map, a_module, a_struct, an_item, binds_types, crate_id, leaf, module_with, named, number, place}
 use Rattle.dm_retry.specs.declared.import_kind.ImportKind.TheVariants as kind
-use Rattle.dm_retry.specs.Rounds.{Pending, State, found, round_answer, rounds, due_turns}
+use Rattle.dm_retry.specs.Rounds.{Pending, State, added, found, round_answer, rounds, due_turns}
 
 -- the root has a module `a`, which has a struct `S`, and one use
 abbrev world_c : World
@@ -78,6 +78,23 @@ second_due = refl
 third_due : due_turns (rounds 2 start) 2 ≡ 0
 unfolding answer found homes_of
 third_due = refl
+
+-- Without the second the first round finds nothing. When it is added it is due, and the first is not; the round after
+-- that tries it alone, and the next one binds X.
+abbrev late : State
+late = added (rounds 1 (record start { pending = needs ∷ [] })) (record brings { due = false })
+
+late_are_due : due_turns late 2 ≡ 1
+unfolding answer found homes_of
+late_are_due = refl
+
+late_answer : round_answer (rounds 1 late) ≡ true
+unfolding answer found homes_of
+late_answer = refl
+
+late_bound : bound_in (scope_of (rounds 2 late).world (number 0)) (codes "X") ≡ record { types = Some (an_item (a_struct 0) Public (Some (named 0 0))); values = None; macros = None }
+unfolding answer found homes_of
+late_bound = refl
 
 -- what X is bound to in the end
 bound : bound_in (scope_of (rounds 2 start).world (number 0)) (codes "X") ≡ record { types = Some (an_item (a_struct 0) Public (Some (named 0 0))); values = None; macros = None }

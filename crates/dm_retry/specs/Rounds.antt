@@ -1,5 +1,5 @@
 -- Unresolved imports, and what a round of resolution makes of a world and its glob table.
-use Rattle.std.specs.Prelude.{ℕ, zero, suc, ◌+◌, ◌&&◌, ◌||◌, Bool, true, false, not, List, [], ◌∷◌, Option, Some, None, if◌then◌else◌, is_none, length, map, slice_get, slice_set}
+use Rattle.std.specs.Prelude.{ℕ, zero, suc, ◌+◌, ◌&&◌, ◌||◌, Bool, true, false, not, List, [], ◌∷◌, ◌++◌, Option, Some, None, if◌then◌else◌, is_none, length, map, slice_get, slice_set}
 use Rattle.std.specs.Option.{option_map, option_map_or, option_and_then}
 use Rattle.dm_ids.specs.declared.ids.ModuleId.{ModuleId}
 use Rattle.dm_ids.specs.declared.imports.ImportId.{ImportId}
@@ -167,6 +167,10 @@ rounds (suc n) s = round (rounds n s)
 -- What an allocation failure at the try of the import at place i leaves: the tries before it are kept, and it is due.
 abbrev pub refused_at : State → ℕ → State
 refused_at s i = record s { pending = marked_at s.pending i true }
+
+-- One import more between rounds: it is the last, and due.
+abbrev pub added : State → Pending → State
+added s p = record s { pending = s.pending ++ marked true p ∷ [] }
 
 -- A push between rounds; where it changes the scope, each import whose path has the pushed name as a segment is due.
 abbrev pub pushed_into : State → ModuleId → Name → PerNs → Option ImportOrExternCrate → State

@@ -3,9 +3,11 @@ use Rattle.std.specs.Prelude.{◌≡◌, Bool, true, false, None, Some, [], ◌�
 use Rattle.dm_base.specs.declared.mod_path.PathKind.TheVariants.{Plain, Crate}
 use Rattle.dm_base.specs.declared.visibility.Visibility.TheVariants.{Public}
 use Rattle.dm_ids.specs.Names.{Name}
-use Rattle.dm_retry.specs.Known.{first_double}
+use Rattle.dm_maps.specs.World.{World}
+use Rattle.dm_retry.specs.Known.{add_fault, first_double}
 use Rattle.dm_retry.specs.declared.import_kind.ImportKind.TheVariants as kind
 use Rattle.dm_retry.specs.Rounds.{Pending, marked_after}
+use Rattle.dm_retry.specs.declared.add_fault.AddFault.TheVariants as adding
 
 abbrev x : Name
 x = 120 ∷ []
@@ -58,6 +60,10 @@ twice = refl
 
 last_twice : first_double (needs true ∷ brings true ∷ brings false ∷ []) ≡ Some 1
 last_twice = refl
+
+-- an import of the list is not added
+added_twice : (w : World) → add_fault w (needs true ∷ brings true ∷ []) (brings false) ≡ Some adding.Double
+added_twice w = refl
 
 once : first_double (needs true ∷ brings true ∷ []) ≡ None
 once = refl

@@ -1,17 +1,19 @@
 //! A world, a glob table and its unresolved imports.
-ghost use Rattle.std.specs.Prelude.{◌≡◌, ◌<◌, ℕ, None, Some, false, true, if◌then◌else◌, IfOk, IfSome, OnErr, OnOk, length, map, option_copied, slice_get};
+ghost use Rattle.std.specs.Prelude.{◌≡◌, ◌<◌, ℕ, None, Some, false, true, if◌then◌else◌, IfErr, IfOk, IfSome, OnErr, OnOk, length, map, option_copied, slice_get};
 ghost use Rattle.std.specs.Option.{option_map};
-ghost use Rattle.dm_retry.specs.Rounds.{awoken, brings_at, finds_nothing, is_due, marked, name_at, pushed_into, refused_at, try_at, unresolved};
+ghost use Rattle.dm_retry.specs.Rounds.{added, awoken, brings_at, finds_nothing, is_due, marked, name_at, pushed_into, refused_at, try_at, unresolved};
 ghost use Rattle.dm_retry.specs.Retries.{RestsAt};
-ghost use Rattle.dm_retry.specs.Known.{comes_by, fault_of, is_listed};
+ghost use Rattle.dm_retry.specs.Known.{add_fault, comes_by, fault_of, is_listed, unadded};
 ghost use Rattle.dm_check.specs.Pushes.{push_holds};
 ghost use Rattle.dm_maps.specs.Known.{KnowsAll};
 ghost use Rattle.dm_maps.specs.World.{scope_of};
 ghost use Rattle.dm_scope.specs.Push.{push_answer};
 ghost use Rattle.dm_waiters.specs.Bits.{IsFirst};
 
+use crate::add_fault::AddFault;
 use crate::attempt::{attempt, found};
-use crate::pending::{Pending, has_import};
+use crate::pending::Pending;
+use crate::pendings::Pendings;
 use dm_base::ids::ModuleId;
 use dm_base::imports::{ImportId, ImportOrExternCrate};
 use dm_base::name::Name;
@@ -19,16 +21,16 @@ use dm_base::per_ns::PerNs;
 use dm_maps::world::World;
 use dm_scope::glob_imports::PerNsGlobImports;
 use dm_waiters::unresolved::Unresolved;
-use dm_waiters::worklist::Worklist;
 use hir_def_map::laws::answers_alike;
-use std::alloc::AllocError;
+use std::alloc::{AllocError, Global};
 use std::marker::Model;
 
 /// A world, a glob table and its unresolved imports: a try of one that is not due would change nothing.
 pub(crate) struct Imports {
     world: World,
     globs: PerNsGlobImports,
-    pendings: Worklist<Pending>,
+    pendings: Pendings,
+    alloc: Global,
 }
 
 impl Model for Imports {
@@ -49,6 +51,7 @@ impl Drop for Imports {
             world: _world,
             globs: _globs,
             pendings: _pendings,
+            alloc: _alloc,
         } = self;
     }
 }
@@ -59,10 +62,12 @@ impl Imports {
         requires { fault_of world pendings.items ≡ None }
         ensures { result ≡ record { world = world; globs = globs; pending = map (marked true) pendings.items } }
     {
+        let alloc = *pendings.allocator();
         Imports {
             world,
             globs,
-            pendings: Worklist::all_dirty(pendings),
+            pendings: Pendings::all_dirty(pendings),
+            alloc,
         }
     }
 
@@ -116,7 +121,7 @@ impl Imports {
     pub(crate) fn unresolved(&self) -> Result<Vec<usize>, AllocError>
         ensures { IfOk result (λ places. places.items ≡ unresolved self.now) }
     {
-        let mut places = Vec::new(self.pendings.allocator());
+        let mut places = Vec::new(self.alloc);
         for i in 0..self.len() {
             if self.is_unresolved(i) == Some(true) {
                 places.push(i)?;
@@ -132,10 +137,9 @@ impl Imports {
         ensures answer { IfOk result (λ answer. answer ≡ brings_at self.old i) }
         ensures err { OnErr result (self.new ≡ refused_at self.old i) }
     {
-        self.pendings.take(i)?;
-        let alloc = self.pendings.allocator();
+        self.pendings.take(i, self.alloc)?;
         let pending = &self.pendings.as_slice()[i];
-        match attempt(&mut self.world, &mut self.globs, pending, alloc) {
+        match attempt(&mut self.world, &mut self.globs, pending, self.alloc) {
             Err(refused) => {
                 self.pendings.put_back(i);
                 Err(refused)
@@ -162,17 +166,47 @@ impl Imports {
         ensures err { OnErr result (self.new ≡ self.old) }
     {
         answers_alike();
-        let name = lookup.1.copy(self.pendings.allocator())?;
+        let name = lookup.1.copy(self.alloc)?;
         let written = self.world.push_res(&mut self.globs, lookup, res, import)?;
         wake_all(&mut self.pendings, &name, written);
         Ok(written)
     }
 
-    /// Whether an import is one of these.
+    /// Adds an import as the last, which is due. Where it is not added, nothing changes, and it comes back.
+    pub(crate) fn add(&mut self, pending: Pending) -> Result<(), (AddFault, Pending)>
+        ensures ok { OnOk result (self.new ≡ added self.old pending) }
+        ensures none { OnOk result (add_fault self.old.world self.old.pending pending ≡ None) }
+        ensures fault { IfErr result (λ e. e.0 ≡ unadded self.old.world self.old.pending pending) }
+        ensures err { OnErr result (self.new ≡ self.old) }
+        ensures back { IfErr result (λ e. e.1 ≡ pending) }
+    {
+        match self.add_fault(&pending) {
+            Some(fault) => Err((fault, pending)),
+            None => match self.pendings.add(pending) {
+                Err((_refused, back)) => Err((AddFault::OutOfMemory, back)),
+                Ok(()) => Ok(()),
+            },
+        }
+    }
+
+    /// Why an import is not added to these, where memory does not run out.
+    fn add_fault(&self, pending: &Pending) -> Option<AddFault>
+        ensures { result ≡ add_fault self.now.world self.now.pending pending.now }
+    {
+        if self.waits_for(pending.import()) {
+            Some(AddFault::Double)
+        } else if pending.is_known(&self.world) {
+            None
+        } else {
+            Some(AddFault::UnknownPart)
+        }
+    }
+
+    /// Whether an import is one of these: by a look-up, once one of them was tried.
     pub(crate) fn waits_for(&self, import: ImportId) -> bool
         ensures { result ≡ is_listed self.now.pending import }
     {
-        has_import(self.pendings.as_slice(), import)
+        self.pendings.has(import)
     }
 
     /// The world.
@@ -192,6 +226,7 @@ impl Imports {
             world,
             globs,
             pendings,
+            alloc: _alloc,
         } = self;
         (world, globs, pendings.into_imports())
     }
@@ -205,7 +240,7 @@ fn mark_of(pendings: &[Pending], i: usize) -> Option<bool>
 }
 
 /// After a try of the import at place i that wrote, each import whose path has its name as a segment becomes due.
-fn wake_after(pendings: &mut Worklist<Pending>, i: usize, written: bool)
+fn wake_after(pendings: &mut Pendings, i: usize, written: bool)
     requires { i < length pendings.old }
     ensures { pendings.new ≡ (if written then map (awoken (name_at pendings.old i)) pendings.old else pendings.old) }
 {
@@ -215,7 +250,7 @@ fn wake_after(pendings: &mut Worklist<Pending>, i: usize, written: bool)
 }
 
 /// After a push of that name that wrote, each import whose path has it as a segment becomes due.
-fn wake_all(pendings: &mut Worklist<Pending>, name: &Name, written: bool)
+fn wake_all(pendings: &mut Pendings, name: &Name, written: bool)
     ensures { pendings.new ≡ (if written then map (awoken name.now) pendings.old else pendings.old) }
 {
     if !written {

@@ -1,11 +1,16 @@
 //! The fixed point over unresolved imports: rounds that resolve them again, all of them or the due (dirty) ones alone.
 #![tactic(auto)]
 
+pub mod add_fault;
 mod attempt;
+mod doubles;
 pub mod import_kind;
 mod imports;
 mod kinds;
+mod listing;
 pub mod pending;
+mod pendings;
+mod ranks;
 pub mod retry;
 pub mod retry_fault;
 pub mod round_kind;

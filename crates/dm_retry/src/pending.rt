@@ -4,6 +4,7 @@ ghost use Rattle.std.specs.List.{list_any};
 ghost use Rattle.dm_check.specs.Holding.{vis_holds};
 ghost use Rattle.dm_maps.specs.Known.{KnowsAll};
 ghost use Rattle.dm_retry.specs.Known.{first_double, first_unknown, is_known, is_listed, parts, same_import};
+ghost use Rattle.dm_retry.specs.Doubles.{number_of};
 ghost use Rattle.dm_retry.specs.Waiting.{reading};
 ghost use Rattle.dm_retry.specs.declared.import_kind.ImportKind.TheVariants as kind;
 
@@ -29,6 +30,7 @@ pub struct Pending {
     kind: ImportKind,
     import: ImportId,
     due: bool,
+    rank: usize,
 }
 
 impl Model for Pending {
@@ -67,6 +69,7 @@ impl Pending {
             kind: ImportKind::Plain,
             import,
             due: false,
+            rank: 0,
         }
     }
 
@@ -119,6 +122,26 @@ impl Pending {
         self.import
     }
 
+    /// The number of the import.
+    pub(crate) fn number(&self) -> u64
+        ensures { result ≡ number_of self.now.import }
+    {
+        let ImportId { use_, idx } = self.import;
+        use_.0 as u64 * 4_294_967_296 + idx.0 as u64
+    }
+
+    /// The rank that it was given last (`ranks`). No view shows it.
+    pub(crate) fn rank(&self) -> usize {
+        self.rank
+    }
+
+    /// Gives it a rank, which no view shows.
+    pub(crate) fn set_rank(&mut self, rank: usize)
+        ensures { self.new ≡ self.old }
+    {
+        self.rank = rank;
+    }
+
     /// Whether its module, its use, the `$crate` of its path and what its visibility names are the world's.
     pub(crate) fn is_known(&self, world: &World) -> bool
         ensures { result ≡ is_known world.now self.now }
@@ -164,7 +187,7 @@ fn knows_visibility(world: &World, visibility: Visibility) -> bool
     }
 }
 
-/// The index of the first import that is listed twice. Allocates nothing.
+/// The index of the first import that is listed twice, found by a comparison of each two. Allocates nothing.
 pub(crate) fn first_double(pendings: &[Pending]) -> Option<usize>
     ensures { result ≡ first_double pendings.now }
 {

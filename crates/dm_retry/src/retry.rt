@@ -5,11 +5,13 @@ ghost use Rattle.dm_check.specs.Pushes.{push_holds};
 ghost use Rattle.dm_maps.specs.Known.{KnowsAll};
 ghost use Rattle.dm_maps.specs.World.{scope_of};
 ghost use Rattle.dm_scope.specs.Push.{push_answer};
-ghost use Rattle.dm_retry.specs.Known.{comes_by, fault_of, refusal};
+ghost use Rattle.dm_retry.specs.Known.{add_fault, comes_by, fault_of, refusal, unadded};
 ghost use Rattle.dm_retry.specs.Retries.{NoneDue, RestsAt, StopsAt, StopsAtDue};
-ghost use Rattle.dm_retry.specs.Rounds.{due_turns, marked, pushed_into, round, round_answer};
+ghost use Rattle.dm_retry.specs.Rounds.{added, due_turns, marked, pushed_into, round, round_answer};
 ghost use Rattle.dm_retry.specs.Settling.{IsFixedPoint};
 
+use crate::add_fault::AddFault;
+use crate::doubles::find_fault;
 use crate::imports::Imports;
 use crate::pending::{Pending, first_double, first_unknown};
 use crate::retry_fault::RetryFault;
@@ -48,7 +50,8 @@ impl Drop for Retry {
 }
 
 impl Retry {
-    /// Unresolved imports, all of them due. Allocates nothing; rounds use the allocator of the list of imports.
+    /// Unresolved imports, all of them due, in n log n steps for n of them. Allocates nothing; rounds use the allocator of
+    /// the list of imports.
     ///
     /// Fails where an import is listed twice, and then where the module of one, its use, the `$crate` of its path or
     /// what its visibility names is not the world's; it hands all parts back unchanged. `refusal` tells which import is
@@ -63,10 +66,11 @@ impl Retry {
         ensures fault { IfErr result (λ e. fault_of world pendings.items ≡ Some e.0) }
         ensures parts { IfErr result (λ e. (e.1 ≡ world) × (e.2 ≡ globs) × (e.3.items ≡ pendings.items)) }
     {
-        match Retry::refusal(&world, &pendings) {
-            Some((fault, _place)) => Err((fault, world, globs, pendings)),
+        let mut listed = pendings;
+        match find_fault(&world, &mut listed) {
+            Some(fault) => Err((fault, world, globs, listed)),
             None => Ok(Retry {
-                imports: Imports::all_due(world, globs, pendings),
+                imports: Imports::all_due(world, globs, listed),
                 last_tries: 0,
             }),
         }
@@ -74,7 +78,7 @@ impl Retry {
 
     /// Why `new` fails on these imports in that world, and the index of the one that is meant: of the first that is
     /// listed twice, or else of the first that holds an id the world does not have. None where it takes them. Allocates
-    /// nothing.
+    /// nothing. It only reads, so it compares each two imports, which `new` does not.
     pub fn refusal(world: &World, pendings: &[Pending]) -> Option<(RetryFault, usize)>
         ensures { result ≡ refusal world.now pendings.now }
     {
@@ -145,6 +149,22 @@ impl Retry {
     {
         let written = self.imports.push_res(lookup, res, import)?;
         Ok(written)
+    }
+
+    /// Adds an import between rounds: it is the last, and due. Where a round was made, the index of names grows by one
+    /// look-up for each segment of its path.
+    ///
+    /// Fails where it is one of the imports, then where the world does not have what it holds, and then where an
+    /// allocation fails; then nothing changes, and the import comes back.
+    pub fn add(&mut self, pending: Pending) -> Result<(), (AddFault, Pending)>
+        ensures ok { OnOk result (self.new ≡ record self.old { state = added self.old.state pending }) }
+        ensures none { OnOk result (add_fault self.old.state.world self.old.state.pending pending ≡ None) }
+        ensures fault { IfErr result (λ e. e.0 ≡ unadded self.old.state.world self.old.state.pending pending) }
+        ensures err { OnErr result (self.new ≡ self.old) }
+        ensures back { IfErr result (λ e. e.1 ≡ pending) }
+    {
+        self.imports.add(pending)?;
+        Ok(())
     }
 
     /// Whether the import at an index is due (dirty); none past the last. A try of one that is not due would change

@@ -30,7 +30,8 @@ impl Retry {
         Ok(false)
     }
 
-    /// Whether an import is one of these.
+    /// Whether an import is one of these. A look-up, once a round was begun; before that, and where memory ran out for
+    /// look-ups, a walk over them.
     pub fn waits_for(&self, import: ImportId) -> bool
         ensures { result ≡ is_listed self.now.state.pending import }
     {

@@ -1,5 +1,5 @@
 //! An index of the names in paths.
-ghost use Rattle.std.specs.Prelude.{◌≡◌, ℕ, ◌&&◌, ◌||◌, nat_eq, None, [], ◌∷◌, ◌++◌, IfOk, OnOk};
+ghost use Rattle.std.specs.Prelude.{◌≡◌, ℕ, ◌&&◌, ◌||◌, false, filter, not, nat_eq, None, [], ◌∷◌, ◌++◌, IfOk, OnErr, OnOk};
 ghost use Rattle.dm_ids.specs.Names.{Name, same_name};
 ghost use Rattle.indexmap.specs.IndexMap.{get};
 ghost use Rattle.dm_waiters.specs.Index.{has_place, places_of};
@@ -49,10 +49,18 @@ impl Places {
 
     /// Adds a place.
     fn push(&mut self, k: u32) -> Result<(), AllocError>
-        ensures { OnOk result (self.new ≡ self.old ++ k ∷ []) }
+        ensures ok { OnOk result (self.new ≡ self.old ++ k ∷ []) }
+        ensures err { OnErr result (self.new ≡ self.old) }
     {
         self.places.push(k)?;
         Ok(())
+    }
+
+    /// Takes a place out.
+    fn remove(&mut self, k: u32)
+        ensures { self.new ≡ filter (λ place. not (nat_eq place k)) self.old }
+    {
+        self.places.retain(|place| *place != k);
     }
 }
 
@@ -66,6 +74,26 @@ pub(crate) fn places_of<'a>(index: &'a IndexMap<Name, Places>, name: &Name) -> &
     }
 }
 
+/// Adds a place that is new under each of these names. Where an allocation fails, the index has the places that it had.
+pub(crate) fn add_path(
+    index: &mut IndexMap<Name, Places>,
+    alloc: Global,
+    names: &[Name],
+    k: u32,
+) -> Result<(), AllocError>
+    requires { (n : Name) → has_place index.old.entries n k ≡ false }
+    ensures ok { OnOk result ((n : Name) (j : ℕ) → has_place index.new.entries n j ≡ (has_place index.old.entries n j || (among names.now n && nat_eq j k))) }
+    ensures err { OnErr result ((n : Name) (j : ℕ) → has_place index.new.entries n j ≡ has_place index.old.entries n j) }
+{
+    match add_names(index, alloc, names, k) {
+        Ok(()) => Ok(()),
+        Err(refused) => {
+            remove_names(index, names, k);
+            Err(refused)
+        }
+    }
+}
+
 /// Adds a place under each of these names; where an allocation fails, under some of them.
 pub(crate) fn add_names(
     index: &mut IndexMap<Name, Places>,
@@ -73,7 +101,8 @@ pub(crate) fn add_names(
     names: &[Name],
     k: u32,
 ) -> Result<(), AllocError>
-    ensures { OnOk result ((n : Name) (j : ℕ) → has_place index.new.entries n j ≡ (has_place index.old.entries n j || (among names.now n && nat_eq j k))) }
+    ensures ok { OnOk result ((n : Name) (j : ℕ) → has_place index.new.entries n j ≡ (has_place index.old.entries n j || (among names.now n && nat_eq j k))) }
+    ensures err { OnErr result ((n : Name) (j : ℕ) → (among names.now n && nat_eq j k) ≡ false → has_place index.new.entries n j ≡ has_place index.old.entries n j) }
 {
     let mut rest = names;
     'names: while let Some((first, after)) = rest.split_first() {
@@ -83,6 +112,17 @@ pub(crate) fn add_names(
     Ok(())
 }
 
+/// Takes a place out under each of these names.
+fn remove_names(index: &mut IndexMap<Name, Places>, names: &[Name], k: u32)
+    ensures { (n : Name) (j : ℕ) → has_place index.new.entries n j ≡ (has_place index.old.entries n j && not (among names.now n && nat_eq j k)) }
+{
+    let mut rest = names;
+    'names: while let Some((first, after)) = rest.split_first() {
+        remove_name(index, first, k);
+        rest = after;
+    }
+}
+
 /// Adds a place under a name.
 fn add_name(
     index: &mut IndexMap<Name, Places>,
@@ -90,7 +130,8 @@ fn add_name(
     name: &Name,
     k: u32,
 ) -> Result<(), AllocError>
-    ensures { OnOk result ((n : Name) (j : ℕ) → has_place index.new.entries n j ≡ (has_place index.old.entries n j || (same_name n name.now && nat_eq j k))) }
+    ensures ok { OnOk result ((n : Name) (j : ℕ) → has_place index.new.entries n j ≡ (has_place index.old.entries n j || (same_name n name.now && nat_eq j k))) }
+    ensures err { OnErr result ((n : Name) (j : ℕ) → has_place index.new.entries n j ≡ has_place index.old.entries n j) }
 {
     match index.get_mut(name) {
         Some(places) => {
@@ -109,10 +150,20 @@ fn add_new_name(
     k: u32,
 ) -> Result<(), AllocError>
     requires { get same_name index.old name.now ≡ None }
-    ensures { OnOk result (index.new.entries ≡ index.old.entries ++ (name.now, k ∷ []) ∷ []) }
+    ensures ok { OnOk result (index.new.entries ≡ index.old.entries ++ (name.now, k ∷ []) ∷ []) }
+    ensures err { OnErr result (index.new.entries ≡ index.old.entries) }
 {
     let key = name.copy(alloc)?;
     let places = Places::one(alloc, k)?;
     index.insert(key, places)?;
     Ok(())
+}
+
+/// Takes a place out under a name.
+fn remove_name(index: &mut IndexMap<Name, Places>, name: &Name, k: u32)
+    ensures { (n : Name) (j : ℕ) → has_place index.new.entries n j ≡ (has_place index.old.entries n j && not (same_name n name.now && nat_eq j k)) }
+{
+    if let Some(places) = index.get_mut(name) {
+        places.remove(k);
+    }
 }

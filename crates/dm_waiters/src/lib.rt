@@ -3,6 +3,7 @@
 
 mod bits;
 mod dirty_set;
+mod grow;
 mod index;
 pub mod unresolved;
 pub mod worklist;

@@ -1,10 +1,11 @@
 //! A worklist of unresolved imports.
-ghost use Rattle.std.specs.Prelude.{◌≡◌, ◌<◌, ◌++◌, ◌∷◌, [], List, false, length, map, true, IfOk, IfSome, OnErr, OnOk};
+ghost use Rattle.std.specs.Prelude.{◌≡◌, ◌<◌, ◌++◌, ◌∷◌, [], List, false, length, map, true, IfErr, IfOk, IfSome, OnErr, OnOk};
 ghost use Rattle.dm_waiters.specs.Bits.{IsFirst};
 ghost use Rattle.dm_waiters.specs.Index.{IsKept, IsReady, Marks, all_marked};
 ghost use Rattle.dm_waiters.specs.Unresolved.{AllDirty, awoken, is_dirty_at, marked_at, name_at};
 
 use crate::dirty_set::DirtySet;
+use crate::grow::{make_room, push_dirty};
 use crate::index::{Places, add_names, places_of};
 use crate::unresolved::Unresolved;
 use dm_ids::name::Name;
@@ -62,9 +63,28 @@ impl<I: Unresolved> Worklist<I> {
         }
     }
 
-    /// The allocator of the list.
-    pub fn allocator(&self) -> Global {
-        *self.imports.allocator()
+    /// Adds an import at the end, which is dirty. Where the index was made, it grows by one look-up for each segment of
+    /// the import's path; where it was not, the list alone grows.
+    ///
+    /// Where an allocation fails, nothing changes, and the import comes back.
+    pub fn add(&mut self, import: I) -> Result<(), (AllocError, I)>
+        ensures ok { OnOk result (self.new ≡ self.old ++ I.reading.marked true import ∷ []) }
+        ensures err { OnErr result (self.new ≡ self.old) }
+        ensures back { IfErr result (λ e. e.1 ≡ import) }
+    {
+        match make_room(
+            &mut self.imports,
+            &mut self.index,
+            &mut self.dirty,
+            self.ready,
+            &import,
+        ) {
+            Err(refused) => Err((refused, import)),
+            Ok(()) => {
+                push_dirty(&mut self.imports, import);
+                Ok(())
+            }
+        }
     }
 
     /// The imports in their current state.
@@ -248,7 +268,7 @@ fn index_one<I: Unresolved>(
 }
 
 /// A place as the index keeps it, if it fits: more imports than a `u32` counts end in an `AllocError`.
-fn as_place(k: usize) -> Result<u32, AllocError>
+pub(crate) fn as_place(k: usize) -> Result<u32, AllocError>
     ensures { IfOk result (λ place. place ≡ k) }
 {
     match u32::try_from(k) {

@@ -16,6 +16,6 @@ returns g c = λ xs is kept.
     let grown : length c.args.dirty.now ≤ length c.cover.new.self = c.cover.ensures.len in
     let same : length c.set.new.self ≡ length c.cover.new.self = c.set.ensures.len in
     kept-push r es c.add_names.new.index.entries c.args.dirty.now c.set.new.self xs x k (c.in_ok-place.ensures ∙ is) kept
-    (λ n j. c.in_ok-add_names.ensures n j ∙ ap (λ (names : List Name). has_place es n j || (among names n && nat_eq j k)) c.segments.ensures)
+    (λ n j. c.in_ok-add_names.ensures.ok n j ∙ ap (λ (names : List Name). has_place es n j || (among names n && nat_eq j k)) c.segments.ensures)
     (λ j. c.set.ensures.has j ∙ ap (λ d. if nat_eq j k then d else has c.cover.new.self j) c.is_dirty.ensures ∙ ap (λ b. if nat_eq j k then r.is_dirty x else b) (c.cover.ensures.has j))
     (omega arith) (omega arith)

@@ -1,6 +1,5 @@
 use Rattle.std.proofs.Common.{◌≡◌, ◌∙◌, List, None, false, ap, cond, map, subst, sym}
 use Rattle.dm_def_map.specs.declared.modules.modes.BuiltinShadowMode.TheVariants as shadow
-use Rattle.dm_maps.specs.World.{scope_of}
 use Rattle.hir_def_map.specs.declared.result.ResolveMode.TheVariants as mode
 use Rattle.hir_def_map.specs.Paths.{asked}
 use Rattle.dm_retry.specs.Known.{comes_by, parts}

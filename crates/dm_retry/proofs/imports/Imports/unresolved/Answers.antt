@@ -1,4 +1,4 @@
-use Rattle.std.proofs.Common.{◌≡◌, ◌∙◌, ◌++◌, ◌∷◌, [], ◌<◌, ℕ, List, Some, Vec, Global, append-nil, ap, arith, false, length, sym, true}
+use Rattle.std.proofs.Common.{◌∙◌, ◌++◌, ◌∷◌, [], ◌<◌, ℕ, Some, Vec, Global, append-nil, ap, arith, false, length, sym, true}
 use Rattle.std.proofs.Math.Bool.{beq}
 use Rattle.std.specs.Option.{option_eq}
 use Rattle.dm_retry.proofs.UnresolvedLemmas.{listed-more}
