@@ -9,8 +9,8 @@ use dm_base::ids::ModuleId;
 use dm_base::imports::{GlobId, ImportOrExternCrate};
 use dm_base::name::Name;
 use dm_base::per_ns::PerNs;
-use dm_maps::world::World;
 use dm_retry::retry::Retry;
+use dm_scope::item_scope::ItemScope;
 use dm_scope::scope_tables::ScopeTables;
 use std::alloc::{AllocError, Global};
 
@@ -56,7 +56,10 @@ fn fill_all(retry: &mut Retry, globs: &[Glob], alloc: Global) -> Result<bool, Re
 
 /// Binds in the module of a glob what is public in its source: a name that is bound already stays as it is.
 fn fill(retry: &mut Retry, glob: Glob, alloc: Global) -> Result<bool, Refused> {
-    let brought = exported(retry.world(), glob.from, alloc)?;
+    let Some(source) = retry.world().scope_of(glob.from) else {
+        return Err(Refused::Unknown);
+    };
+    let brought = exported(source, alloc)?;
     let import = Some(ImportOrExternCrate::Glob(glob.import));
     let mut written = false;
     for (name, items) in brought {
@@ -68,11 +71,8 @@ fn fill(retry: &mut Retry, glob: Glob, alloc: Global) -> Result<bool, Refused> {
     Ok(written)
 }
 
-/// What is public in a module, by name.
-fn exported(world: &World, from: ModuleId, alloc: Global) -> Result<Vec<(Name, PerNs)>, Refused> {
-    let Some(scope) = world.scope_of(from) else {
-        return Err(Refused::Unknown);
-    };
+/// What is public in a scope, by name.
+fn exported(scope: &ItemScope, alloc: Global) -> Result<Vec<(Name, PerNs)>, AllocError> {
     let mut exported = Vec::new(alloc);
     for (name, items) in scope.entries()? {
         let public = items.filter_visibility(|vis| vis.is_public());
