@@ -13,7 +13,7 @@ use Rattle.dm_ids.specs.declared.item_ids.ModuleDefId.{ModuleDefId}
 use Rattle.dm_ids.specs.declared.item_ids.ModuleDefId.TheVariants as def
 use Rattle.dm_ids.specs.declared.item_ids.AdtId.TheVariants as adt
 use Rattle.dm_ids.specs.declared.item_ids.MacroId.{MacroId}
-use Rattle.dm_ids.specs.declared.item_ids.MacroId.TheVariants.{MacroRulesId, Macro2Id, ProcMacroId}
+use Rattle.dm_ids.specs.declared.item_ids.MacroId.TheVariants.{MacroRulesId, ProcMacroId}
 use Rattle.dm_base.specs.declared.mod_path.PathKind.{PathKind}
 use Rattle.dm_base.specs.declared.per_ns.Item.{Item}
 use Rattle.dm_ids.specs.declared.source.Edition.{Edition}
@@ -45,9 +45,6 @@ a_module n = def.ModuleId (record { 0 = n })
 abbrev pub a_struct : ℕ → ModuleDefId
 a_struct n = def.AdtId (adt.StructId (record { 0 = n }))
 
-abbrev pub a_union : ℕ → ModuleDefId
-a_union n = def.AdtId (adt.UnionId (record { 0 = n }))
-
 abbrev pub a_function : ℕ → ModuleDefId
 a_function n = def.FunctionId (record { 0 = n })
 
@@ -57,26 +54,11 @@ an_enum n = def.AdtId (adt.EnumId (record { 0 = n }))
 abbrev pub a_variant : ℕ → ModuleDefId
 a_variant n = def.EnumVariantId (record { 0 = n })
 
-abbrev pub a_const : ℕ → ModuleDefId
-a_const n = def.ConstId (record { 0 = n })
-
-abbrev pub a_static : ℕ → ModuleDefId
-a_static n = def.StaticId (record { 0 = n })
-
-abbrev pub a_trait : ℕ → ModuleDefId
-a_trait n = def.TraitId (record { 0 = n })
-
-abbrev pub an_alias : ℕ → ModuleDefId
-an_alias n = def.TypeAliasId (record { 0 = n })
-
 abbrev pub a_builtin : BuiltinType → ModuleDefId
 a_builtin b = def.BuiltinType b
 
 abbrev pub by_rules : ℕ → MacroId
 by_rules n = MacroRulesId (record { 0 = n })
-
-abbrev pub by_macro : ℕ → MacroId
-by_macro n = Macro2Id (record { 0 = n })
 
 abbrev pub procedural : ℕ → MacroId
 procedural n = ProcMacroId (record { 0 = n })
@@ -102,9 +84,6 @@ extern_crate n = wide.ExternCrate (record { 0 = n })
 
 abbrev pub named_value : ℕ → ℕ → ImportOrGlob
 named_value u i = narrow.Import (leaf u i)
-
-abbrev pub glob_value : ℕ → ℕ → ImportOrGlob
-glob_value u i = narrow.Glob (record { use_ = record { 0 = u }; idx = record { 0 = i } })
 
 abbrev pub an_item : {D I : Type 0} → D → Visibility → Option I → Item D I
 an_item d v i = record { def = d; vis = v; import = i }

@@ -1,7 +1,6 @@
 //! The results that path resolution can end with.
 ghost use Rattle.std.specs.Prelude.{◌≡◌};
-ghost use Rattle.dm_base.specs.Overlays.{greatest};
-ghost use Rattle.hir_def_map.specs.Answers.{reached, nothing_yes, nothing_no, stopped, variant_answer, settled, over_answer, either_yes};
+ghost use Rattle.hir_def_map.specs.Answers.{reached, nothing_yes, nothing_no, stopped, variant_answer, settled};
 ghost use Rattle.hir_def_map.specs.Walk.{marked};
 
 use crate::result::{ReachedFixedPoint, ResolvePathResult, ResolvePathResultPrefixInfo};

@@ -1,14 +1,11 @@
 //! The layers of names that a first segment is looked up in.
-ghost use Rattle.std.specs.Prelude.{◌≡◌, IsTrue, None};
-ghost use Rattle.std.specs.Option.{ForSome};
+ghost use Rattle.std.specs.Prelude.{◌≡◌};
 ghost use Rattle.dm_base.specs.PerNs.{keep};
 ghost use Rattle.dm_base.specs.Tree.{IsKnown};
 ghost use Rattle.dm_maps.specs.Trees.{tree_of};
-ghost use Rattle.dm_check.specs.declared.held.HeldId.TheVariants as held;
-ghost use Rattle.dm_maps.specs.Known.{knows, KnowsAll};
+ghost use Rattle.dm_maps.specs.Known.{KnowsAll};
 ghost use Rattle.dm_check.specs.Holding.{res_holds, local_holds};
 ghost use Rattle.dm_def_map.specs.Maps.{LocalMap};
-ghost use Rattle.dm_maps.specs.World.{World};
 ghost use Rattle.dm_maps.specs.Readings.{setting_of, read};
 ghost use Rattle.hir_def_map.specs.Paths.{fits, fitting, by_crate, legacy, extern_prelude, macro_use_prelude, prelude, of_prelude, builtin, root_scope};
 
