@@ -24,8 +24,8 @@ use Rattle.dm_def_map.specs.Maps.{LocalMap}
 use Rattle.dm_maps.specs.Trees.{tree_of}
 use Rattle.dm_maps.specs.World.{World}
 use Rattle.hir_def_map.specs.declared.result.ResolvePathResult.{ResolvePathResult}
-use Rattle.hir_def_map.specs.Walk.{marked, in_types, module_in}
-use Rattle.hir_def_map.specs.Paths.{by_crate}
+use Rattle.hir_def_map.specs.Walk.{marked, in_types}
+use Rattle.hir_def_map.specs.Paths.{by_crate, module_in}
 
 pub knows-left : (w : World) (hs ks : List HeldId) → KnowsAll w (hs ++ ks) → KnowsAll w hs
 knows-left w [] ks k = tt
@@ -71,7 +71,7 @@ module _ (w : World) (x : PerNs) (k : KnowsAll w (res_holds x)) where
       knows-left w (def_holds i.def) (vis_holds i.vis) (knows-left w (def_holds i.def ++ vis_holds i.vis) (option_map_or import_holds i.import []) (subst P e types-known))
 
   -- a module that is a known type is the tree's
-  pub type_module-known : (i : Item ModuleDefId ImportOrExternCrate) (m : ModuleId) → x.types ≡ Some i → i.def ≡ def.ModuleId m → IsKnown (tree_of w) m
+  type_module-known : (i : Item ModuleDefId ImportOrExternCrate) (m : ModuleId) → x.types ≡ Some i → i.def ≡ def.ModuleId m → IsKnown (tree_of w) m
   unfolding tree_of
   type_module-known i m e is = let P : ModuleDefId → Type 0 = λ d. KnowsAll w (def_holds d) in (subst P is (type_def-known i e)).0
 

@@ -21,8 +21,8 @@ use Rattle.dm_maps.specs.World.{World}
 use Rattle.hir_def_map.specs.declared.result.ResolvePathResult.{ResolvePathResult}
 use Rattle.hir_def_map.specs.declared.segments.Entered.{Entered}
 use Rattle.hir_def_map.specs.Answers.{from_other_crate}
-use Rattle.hir_def_map.specs.Paths.{Entering, is_empty, at_variant, stop, seen_in, root_item, enter, enter_within}
-use Rattle.hir_def_map.specs.Walk.{Stand, marked, standing, entry, module_in, left_at, through, walk}
+use Rattle.hir_def_map.specs.Paths.{Entering, is_empty, at_variant, module_in, stop, seen_in, root_item, enter, enter_within}
+use Rattle.hir_def_map.specs.Walk.{Stand, marked, standing, entry, left_at, through, walk}
 use Rattle.hir_def_map.proofs.StopLemmas.{stop-through, stop-here, own_crate, stop-enters}
 
 add_twice : (k p : ℕ) (o : Option ℕ) → option_map (λ i. i + p) (option_map (λ i. i + k) o) ≡ option_map (λ i. i + (k + p)) o

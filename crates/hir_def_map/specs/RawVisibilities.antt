@@ -32,7 +32,7 @@ use Rattle.dm_maps.specs.RawTables.{fields_in, assoc_in, trait_visibility_in}
 use Rattle.dm_maps.specs.World.{World, map_of, numbered_map}
 use Rattle.hir_def_map.specs.declared.result.ResolveMode.TheVariants.{Other}
 use Rattle.hir_def_map.specs.declared.result.ResolvePathResult.{ResolvePathResult}
-use Rattle.hir_def_map.specs.Paths.{asked, answer}
+use Rattle.hir_def_map.specs.Paths.{asked, answer, type_module}
 
 -- A raw visibility that a world can resolve: the map is the world's of its id, the module that it is written in lies in
 -- it, and local map and path name only what the world has.
@@ -44,13 +44,9 @@ pub record IsKnownVisibility (w : World) (M : Map) (L : LocalMap) (m : ModuleId)
 
 -- ---- By a path
 
-abbrev pub module_named : ModuleDefId → Option ModuleId
-module_named (def.ModuleId m) = Some m
-module_named _ = None
-
 -- the module that a path resolves to: none where a segment is left, or the type is no module
 abbrev pub module_reached : PerNs → Option ℕ → Option ModuleId
-module_reached x left = elim left [ Some i ↦ None | None ↦ option_and_then (λ i. module_named i.def) x.types ]
+module_reached x left = elim left [ Some i ↦ None | None ↦ type_module x.types ]
 
 -- the block in whose map a module lies, if it lies in one
 abbrev pub block_in : World → ModuleId → Option BlockId

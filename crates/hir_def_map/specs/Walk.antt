@@ -12,7 +12,7 @@ use Rattle.hir_def_map.specs.declared.result.ReachedFixedPoint.TheVariants.{Yes}
 use Rattle.hir_def_map.specs.declared.result.ResolvePathResult.{ResolvePathResult}
 use Rattle.hir_def_map.specs.declared.segments.Entered.{Entered}
 use Rattle.hir_def_map.specs.Answers.{reached, nothing_no, stopped}
-use Rattle.hir_def_map.specs.Paths.{seen_in, at_adt, is_empty}
+use Rattle.hir_def_map.specs.Paths.{module_in, seen_in, at_adt, is_empty}
 
 -- an answer after the walk has come into another crate, if it has
 abbrev pub marked : Bool → ResolvePathResult → ResolvePathResult
@@ -46,10 +46,6 @@ entry t d f m =
 -- through a module and a segment
 abbrev pub through : Tree → Stand → ModuleId → Reading → Stand
 through t a m s = let e = entry t a.differing a.origin m in record { differing = e.differing; origin = e.origin; here = seen_in t e.origin s e.asked }
-
-abbrev pub module_in : ModuleDefId → Option ModuleId
-module_in (def.ModuleId m) = Some m
-module_in _ = None
 
 -- The answer where what is reached is no module and segments are left. `is_last` says that one is.
 abbrev pub left_at : Item ModuleDefId ImportOrExternCrate → ℕ → Reading → Bool → ModuleDefId → ResolvePathResult

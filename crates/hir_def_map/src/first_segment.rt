@@ -19,8 +19,8 @@ use crate::layers::{
 use crate::place::Place;
 use crate::question::Ask;
 use crate::result::ResolveMode;
+use crate::segments::type_module;
 use dm_base::ids::{Crate, MapId, ModuleId};
-use dm_base::item_ids::ModuleDefId;
 use dm_base::mod_path::PathKind;
 use dm_base::module_tree::ModuleTree;
 use dm_base::name::Name;
@@ -44,10 +44,7 @@ fn asks_root(ask: &Ask) -> bool
 fn are_builtins_first(ask: &Ask, own: &PerNs, is_last: bool) -> bool
     ensures { result ≡ are_builtins_first ask.now own.now is_last }
 {
-    let is_module = match own.types {
-        Some(item) => matches!(item.def, ModuleDefId::ModuleId(_)),
-        None => false,
-    };
+    let is_module = type_module(own.types).is_some();
     matches!(ask.shadow, BuiltinShadowMode::Other) && is_last && is_module
 }
 

@@ -11,8 +11,8 @@ ghost use Rattle.dm_maps.specs.World.{scope_of};
 ghost use Rattle.dm_def_map.specs.Maps.{LocalMap};
 ghost use Rattle.dm_maps.specs.Readings.{read};
 ghost use Rattle.dm_maps.specs.Trees.{tree_of};
-ghost use Rattle.hir_def_map.specs.Paths.{at_adt};
-ghost use Rattle.hir_def_map.specs.Walk.{in_types, standing, starting, entry, module_in, left_at, walk};
+ghost use Rattle.hir_def_map.specs.Paths.{at_adt, module_in, type_module};
+ghost use Rattle.hir_def_map.specs.Walk.{in_types, standing, starting, entry, left_at, walk};
 
 use crate::answers::{marked, nothing_no, reached, stopped, variant_answer};
 use crate::result::ResolvePathResult;
@@ -149,15 +149,22 @@ fn at_adt(
     }
 }
 
-/// The module that a type is, if it is one.
+/// The module that a definition is, if it is one.
 #[inline(always)]
-fn module_in(item: &TypesItem) -> Option<ModuleId>
-    ensures { result ≡ module_in item.now.def }
+fn module_in(def: ModuleDefId) -> Option<ModuleId>
+    ensures { result ≡ module_in def }
 {
-    match item.def {
+    match def {
         ModuleDefId::ModuleId(m) => Some(m),
         _ => None,
     }
+}
+
+/// The module that a type is, if there is one and it is one.
+pub(crate) fn type_module(types: Option<TypesItem>) -> Option<ModuleId>
+    ensures { result ≡ type_module types }
+{
+    module_in(types?.def)
 }
 
 /// The answer where a segment resolved to a type that is no module, and segments are left.
@@ -197,7 +204,7 @@ fn last_answer(
     let Some(item) = types else {
         return marked(differing, nothing_no());
     };
-    let Some(m) = module_in(item) else {
+    let Some(m) = module_in(item.def) else {
         return marked(differing, left_at(world, *item, position, segment, true));
     };
     let into = entry(world, differing, origin, m);
@@ -231,7 +238,7 @@ pub(crate) fn walk(
         let Some(item) = types else {
             return marked(differing, nothing_no());
         };
-        let Some(m) = module_in(item) else {
+        let Some(m) = module_in(item.def) else {
             return marked(differing, left_at(world, *item, passed, segment, false));
         };
         let into = entry(world, differing, origin, m);

@@ -13,6 +13,7 @@ ghost use Rattle.dm_maps.specs.Trees.{tree_of};
 ghost use Rattle.hir_def_map.specs.RawVisibilities.{module_reached, block_in, restricted, raw_visibility, or_public, visibility_in, variant_def, visibilities_in, field_visibilities_of, assoc_def, written_at, by_container, assoc_visibility_of, IsKnownVisibility};
 
 use crate::path_resolution::ResolvePath;
+use crate::segments::type_module;
 use dm_base::ids::{BlockId, ModuleId};
 use dm_base::item_ids::{AdtId, AssocItemId, ItemContainerId, ModuleDefId, VariantId};
 use dm_base::item_in_ns::ItemInNs;
@@ -30,10 +31,7 @@ pub(crate) fn module_reached(found: PerNs, left: Option<usize>) -> Option<Module
     if left.is_some() {
         return None;
     }
-    match found.types?.def {
-        ModuleDefId::ModuleId(m) => Some(m),
-        _ => None,
-    }
+    type_module(found.types)
 }
 
 /// The block in whose map a module lies.
