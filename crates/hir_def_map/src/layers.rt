@@ -47,14 +47,7 @@ fn fitting_macro(
 ) -> Option<MacrosItem>
     ensures { result ≡ keep (λ i. fits (setting_of world.now) expected i.def) item }
 {
-    match item {
-        None => None,
-        Some(i) => if fits(world, expected, i.def) {
-            Some(i)
-        } else {
-            None
-        },
-    }
+    item.filter(|i| fits(world, expected, i.def))
 }
 
 /// The items without a macro that does not fit.
@@ -85,10 +78,7 @@ fn of_prelude(world: &World, expected: Option<MacroSubNs>, x: PerNs) -> PerNs
 fn by_crate(krate: Option<ExternCrateId>) -> Option<ImportOrExternCrate>
     ensures { result ≡ by_crate krate }
 {
-    match krate {
-        None => None,
-        Some(id) => Some(ImportOrExternCrate::ExternCrate(id)),
-    }
+    krate.map(ImportOrExternCrate::ExternCrate)
 }
 
 /// The module of the extern prelude.

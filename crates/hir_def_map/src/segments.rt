@@ -32,22 +32,20 @@ pub(crate) struct Entered {
 }
 
 /// The item, if `from` sees it.
-fn seen_item<D: Copy, I: Copy>(
+fn seen_item<'a, D, I>(
     world: &World,
     from: ModuleId,
-    item: Option<Item<D, I>>,
-) -> Option<Item<D, I>>
+    item: Option<&'a Item<D, I>>,
+) -> Option<&'a Item<D, I>>
     requires from { IsKnown (tree_of world.now) from }
-    requires named { ForSome item (λ i. NamesKnown (tree_of world.now) i.vis) }
-    ensures { result ≡ keep (λ i. sees (tree_of world.now) i.vis from) item }
+    requires named { ForSome (option_copied item) (λ i. NamesKnown (tree_of world.now) i.vis) }
+    ensures { option_copied result ≡ keep (λ i. sees (tree_of world.now) i.vis from) (option_copied item.entry) }
 {
-    match item {
-        None => None,
-        Some(i) => if i.vis.is_visible_from(world, from) {
-            Some(i)
-        } else {
-            None
-        },
+    let i = item?;
+    if i.vis.is_visible_from(world, from) {
+        Some(i)
+    } else {
+        None
     }
 }
 
@@ -59,29 +57,9 @@ pub(crate) fn seen_in(world: &World, from: ModuleId, m: ModuleId, segment: &Name
 {
     let bound = world.bound_in(m, segment);
     PerNs {
-        types: seen_item(world, from, bound.types),
-        values: seen_item(world, from, bound.values),
-        macros: seen_item(world, from, bound.macros),
-    }
-}
-
-/// The type, if `from` sees it.
-fn seen_type<'a>(
-    world: &World,
-    from: ModuleId,
-    item: Option<&'a TypesItem>,
-) -> Option<&'a TypesItem>
-    requires from { IsKnown (tree_of world.now) from }
-    requires named { ForSome (option_copied item) (λ i. NamesKnown (tree_of world.now) i.vis) }
-    ensures { option_copied result ≡ keep (λ i. sees (tree_of world.now) i.vis from) (option_copied item.entry) }
-{
-    match item {
-        None => None,
-        Some(i) => if i.vis.is_visible_from(world, from) {
-            Some(i)
-        } else {
-            None
-        },
+        types: seen_item(world, from, bound.types.as_ref()).copied(),
+        values: seen_item(world, from, bound.values.as_ref()).copied(),
+        macros: seen_item(world, from, bound.macros.as_ref()).copied(),
     }
 }
 
@@ -96,7 +74,7 @@ fn seen_type_in<'a>(
     ensures value { option_copied result ≡ (seen_by (λ v. sees (tree_of world.now) v from) (bound_in (scope_of world.now m) segment.now)).types }
     ensures known { KnowsAll world.now (res_holds (in_types (option_copied result))) }
 {
-    seen_type(world, from, world.type_in(m, segment))
+    seen_item(world, from, world.type_in(m, segment))
 }
 
 /// Into a module: one of another crate is entered at the nearest module that is no block's root.

@@ -38,10 +38,7 @@ pub(crate) fn module_reached(found: PerNs, left: Option<usize>) -> Option<Module
 fn block_in(world: &World, m: ModuleId) -> Option<BlockId>
     ensures { result ≡ block_in world.now m }
 {
-    match world.map_of(m) {
-        None => None,
-        Some(map) => map.block_id(),
-    }
+    world.map_of(m)?.block_id()
 }
 
 /// The module that a visibility of a map names for `m`: outside an `impl`, the map's root replaces a module of another
