@@ -24,7 +24,7 @@ use Rattle.dm_def_map.specs.Maps.{LocalMap}
 use Rattle.dm_maps.specs.Trees.{tree_of}
 use Rattle.dm_maps.specs.World.{World}
 use Rattle.hir_def_map.specs.declared.result.ResolvePathResult.{ResolvePathResult}
-use Rattle.hir_def_map.specs.Walk.{marked, in_types}
+use Rattle.hir_def_map.specs.Walk.{crossed, in_types}
 use Rattle.hir_def_map.specs.Paths.{by_crate, module_in}
 
 pub knows-left : (w : World) (hs ks : List HeldId) → KnowsAll w (hs ++ ks) → KnowsAll w hs
@@ -149,7 +149,7 @@ pub root-known : (w : World) (m : ModuleId) → IsKnown (tree_of w) m → KnowsA
 unfolding tree_of
 root-known w m k = (k, tt)
 
--- a marked answer holds what the answer held
-pub marked-known : (w : World) (d : Bool) (a : ResolvePathResult) → KnowsAll w (res_holds a.resolved_def) → KnowsAll w (res_holds (marked d a).resolved_def)
-marked-known w false a k = k
-marked-known w true a k = k
+-- an answer from another crate holds what the answer held
+pub crossed-known : (w : World) (d : Bool) (a : ResolvePathResult) → KnowsAll w (res_holds a.resolved_def) → KnowsAll w (res_holds (crossed d a).resolved_def)
+crossed-known w false a k = k
+crossed-known w true a k = k

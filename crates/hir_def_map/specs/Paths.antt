@@ -40,7 +40,7 @@ use Rattle.hir_def_map.specs.declared.question.Ask.{Ask}
 use Rattle.hir_def_map.specs.declared.result.ResolveMode.{ResolveMode}
 use Rattle.hir_def_map.specs.declared.result.ResolveMode.TheVariants as mode
 use Rattle.hir_def_map.specs.declared.result.ResolvePathResult.{ResolvePathResult}
-use Rattle.hir_def_map.specs.Answers.{reached, nothing_yes, nothing_no, stopped, variant_answer, from_other_crate, settled, merged}
+use Rattle.hir_def_map.specs.Answers.{reached, nothing_yes, nothing_no, stopped, variant_answer, from_other_crate, yes_in_block, merged}
 
 -- What segments answer from a module of another crate.
 abbrev pub Entering : Type 0
@@ -128,7 +128,7 @@ abbrev pub enter_within : ℕ → Tree → Entering
 enter_within zero t m S = nothing_yes
 enter_within (suc n) t m S =
     let h = home t m in
-    settled (in_block_map t h) (stop (enter_within n t) t h (root_item h) 0 S)
+    yes_in_block (in_block_map t h) (stop (enter_within n t) t h (root_item h) 0 S)
 
 -- What `self::` and the segments answer from a module, with no places, prelude or expectation. Each module of another
 -- crate that is met leaves fewer segments.

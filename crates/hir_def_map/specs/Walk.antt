@@ -15,9 +15,9 @@ use Rattle.hir_def_map.specs.Answers.{reached, nothing_no, stopped}
 use Rattle.hir_def_map.specs.Paths.{module_in, seen_in, at_adt, is_empty}
 
 -- an answer after the walk has come into another crate, if it has
-abbrev pub marked : Bool → ResolvePathResult → ResolvePathResult
-marked false a = a
-marked true a = record a { reached_fixedpoint = Yes; prefix_info = record { differing_crate = true; enum_variant = a.prefix_info.enum_variant } }
+abbrev pub crossed : Bool → ResolvePathResult → ResolvePathResult
+crossed false a = a
+crossed true a = record a { reached_fixedpoint = Yes; prefix_info = record { differing_crate = true; enum_variant = a.prefix_info.enum_variant } }
 
 -- the state of a walk: whether it has come into another crate, from where it sees, what it has reached
 pub record Stand : Type 0 where
@@ -54,11 +54,11 @@ left_at i pos s is_last _ = stopped i pos
 
 -- one segment after another
 abbrev pub walk : Tree → Stand → ℕ → List Reading → ResolvePathResult
-walk t a pos [] = marked a.differing (reached a.here)
+walk t a pos [] = crossed a.differing (reached a.here)
 walk t a pos (s ∷ rest) = elim a.here.types [
-  | None ↦ marked a.differing nothing_no
+  | None ↦ crossed a.differing nothing_no
   | Some i ↦ elim (module_in i.def) [
     | Some m ↦ walk t (through t a m s) (pos + 1) rest
-    | None ↦ marked a.differing (left_at i pos s (is_empty rest) i.def)
+    | None ↦ crossed a.differing (left_at i pos s (is_empty rest) i.def)
   ]
 ]

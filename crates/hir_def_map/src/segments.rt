@@ -14,7 +14,7 @@ ghost use Rattle.dm_maps.specs.Trees.{tree_of};
 ghost use Rattle.hir_def_map.specs.Paths.{at_adt, module_in, type_module};
 ghost use Rattle.hir_def_map.specs.Walk.{in_types, standing, starting, entry, left_at, walk};
 
-use crate::answers::{marked, nothing_no, reached, stopped, variant_answer};
+use crate::answers::{crossed, nothing_no, reached, stopped, variant_answer};
 use crate::result::ResolvePathResult;
 use dm_base::ids::{EnumId, ModuleId};
 use dm_base::item_ids::{AdtId, ModuleDefId};
@@ -180,14 +180,14 @@ fn last_answer(
     ensures known { KnowsAll world.now (res_holds result.resolved_def) }
 {
     let Some(item) = types else {
-        return marked(differing, nothing_no());
+        return crossed(differing, nothing_no());
     };
     let Some(m) = module_in(item.def) else {
-        return marked(differing, left_at(world, *item, position, segment, true));
+        return crossed(differing, left_at(world, *item, position, segment, true));
     };
     let into = entry(world, differing, origin, m);
     let found = seen_in(world, into.origin, into.asked, segment);
-    marked(into.differing, reached(found))
+    crossed(into.differing, reached(found))
 }
 
 /// The answer of a walk along the segments, where `position` segments are resolved, to `here`, seen from a module.
@@ -214,10 +214,10 @@ pub(crate) fn walk(
     let (mut segment, mut rest, mut passed) = (first, others, position);
     'segments: while let Some((next, after)) = rest.split_first() {
         let Some(item) = types else {
-            return marked(differing, nothing_no());
+            return crossed(differing, nothing_no());
         };
         let Some(m) = module_in(item.def) else {
-            return marked(differing, left_at(world, *item, passed, segment, false));
+            return crossed(differing, left_at(world, *item, passed, segment, false));
         };
         let into = entry(world, differing, origin, m);
         types = seen_type_in(world, into.origin, into.asked, segment);

@@ -9,7 +9,7 @@ ghost use Rattle.dm_maps.specs.Trees.{tree_of};
 ghost use Rattle.hir_def_map.specs.Answers.{nothing_no};
 ghost use Rattle.hir_def_map.specs.Paths.{stop, enter, root_item, from_root, from_super, by_first_segment, single, IsKnownPlace};
 
-use crate::answers::{nothing_no, nothing_yes, settled};
+use crate::answers::{nothing_no, nothing_yes, yes_in_block};
 use crate::first_segment::{is_missed, layers};
 use crate::place::Place;
 use crate::question::Ask;
@@ -72,7 +72,7 @@ fn enter(world: &World, m: ModuleId, segments: &[Name]) -> ResolvePathResult
 {
     let inside = world.home(m);
     let answer = answer_from(world, inside, root_item(world, inside), 0, segments);
-    settled(world.block(inside).is_some(), answer)
+    yes_in_block(world.block(inside).is_some(), answer)
 }
 
 /// Resolves from ancestor `k`, as `k` times `super::`, and `self::` where it is 0; roots of blocks do not count. One of
