@@ -51,7 +51,8 @@ fn are_builtins_first(ask: &Ask, own: &PerNs, is_last: bool) -> bool
 /// The layers, each of which shadows the next: in each namespace the first item that there is.
 fn overlay(layers: &[PerNs]) -> PerNs
     ensures value { result ≡ overlay layers.now }
-    ensures known { (w : World) → AllByRecursion (λ x. KnowsAll w (res_holds x)) layers.now → KnowsAll w (res_holds result) }
+    ensures known { (w : World) → AllByRecursion (λ x. KnowsAll w (res_holds x)) layers.now →
+        KnowsAll w (res_holds result) }
 {
     let mut found = PerNs::none();
     let mut rest = layers;
@@ -66,7 +67,8 @@ fn overlay(layers: &[PerNs]) -> PerNs
 #[tactic(auto, unfolding(dm_maps::specs::Readings::read, dm_maps::specs::Readings::setting_of))]
 fn builtins_of(world: &World, m: ModuleId, segment: &Name) -> PerNs
     requires { IsKnown (tree_of world.now) m }
-    ensures value { (L : LocalMap) → result ≡ builtins_of (setting_of world.now) m (read world.now L segment.now) }
+    ensures value { (L : LocalMap) →
+        result ≡ builtins_of (setting_of world.now) m (read world.now L segment.now) }
     ensures known { KnowsAll world.now (res_holds result) }
 {
     match world.block(m) {
@@ -88,7 +90,9 @@ fn builtins_or_scope(
     requires module_known { IsKnown (tree_of world.now) m }
     requires bound { bound ≡ bound_in (scope_of world.now m) segment.now }
     requires known { KnowsAll world.now (res_holds bound) }
-    ensures value { (L : LocalMap) → result ≡ builtins_or_scope (setting_of world.now) ask.now m (read world.now L segment.now) builtins_go }
+    ensures value { (L : LocalMap) →
+        result ≡ builtins_or_scope (setting_of world.now) ask.now m
+        (read world.now L segment.now) builtins_go }
     ensures known { KnowsAll world.now (res_holds result) }
 {
     if builtins_go {
@@ -103,7 +107,8 @@ fn builtins_or_scope(
 fn extern_layer(world: &World, local: &LocalDefMap, m: ModuleId, segment: &Name) -> PerNs
     requires module_known { IsKnown (tree_of world.now) m }
     requires local_known { KnowsAll world.now (local_holds local.now) }
-    ensures value { result ≡ unless_block_root (setting_of world.now) m (extern_prelude (read world.now local.now segment.now)) }
+    ensures value { result ≡ unless_block_root (setting_of world.now) m
+        (extern_prelude (read world.now local.now segment.now)) }
     ensures known { KnowsAll world.now (res_holds result) }
 {
     if world.is_block_root(m) {
@@ -122,7 +127,10 @@ fn prelude_layer_at(
     segment: &Name,
 ) -> PerNs
     requires { IsKnown (tree_of world.now) m }
-    ensures value { (L : LocalMap) → result ≡ unless_block_root (setting_of world.now) m (of_prelude (setting_of world.now) expected (prelude (setting_of world.now) id (read world.now L segment.now))) }
+    ensures value { (L : LocalMap) →
+        result ≡ unless_block_root (setting_of world.now) m
+        (of_prelude (setting_of world.now) expected
+        (prelude (setting_of world.now) id (read world.now L segment.now))) }
     ensures known { KnowsAll world.now (res_holds result) }
 {
     if world.is_block_root(m) {
@@ -143,7 +151,8 @@ fn plain_layers_at(
 ) -> PerNs
     requires module_known { IsKnown (tree_of world.now) m }
     requires local_known { KnowsAll world.now (local_holds local.now) }
-    ensures value { result ≡ overlay (plain_layers (setting_of world.now) ask.now (In m) (read world.now local.now segment.now) is_last) }
+    ensures value { result ≡ overlay (plain_layers (setting_of world.now) ask.now (In m)
+        (read world.now local.now segment.now) is_last) }
     ensures known { KnowsAll world.now (res_holds result) }
 {
     let id = Place::In(m).map(world);
@@ -171,7 +180,8 @@ fn plain_layers(
 ) -> PerNs
     requires place_known { IsKnownPlace (tree_of world.now) place }
     requires local_known { KnowsAll world.now (local_holds local.now) }
-    ensures value { result ≡ overlay (plain_layers (setting_of world.now) ask.now place (read world.now local.now segment.now) is_last) }
+    ensures value { result ≡ overlay (plain_layers (setting_of world.now) ask.now place
+        (read world.now local.now segment.now) is_last) }
     ensures known { KnowsAll world.now (res_holds result) }
 {
     match place {
@@ -195,7 +205,8 @@ fn by_2015_rule(world: &World, ask: &Ask, krate: Crate) -> bool
 fn layers_by_2015_rule(world: &World, local: &LocalDefMap, place: Place, segment: &Name) -> PerNs
     requires place_known { IsKnownPlace (tree_of world.now) place }
     requires local_known { KnowsAll world.now (local_holds local.now) }
-    ensures value { result ≡ overlay (layers_by_2015_rule (setting_of world.now) place (read world.now local.now segment.now)) }
+    ensures value { result ≡ overlay (layers_by_2015_rule (setting_of world.now) place
+        (read world.now local.now segment.now)) }
     ensures known { KnowsAll world.now (res_holds result) }
 {
     match place {
@@ -219,7 +230,8 @@ pub(crate) fn layers(
 ) -> PerNs
     requires place_known { IsKnownPlace (tree_of world.now) place }
     requires local_known { KnowsAll world.now (local_holds local.now) }
-    ensures value { result ≡ overlay (layers (setting_of world.now) ask.now place (read world.now local.now segment.now) is_last) }
+    ensures value { result ≡ overlay (layers (setting_of world.now) ask.now place
+        (read world.now local.now segment.now) is_last) }
     ensures known { KnowsAll world.now (res_holds result) }
 {
     if by_2015_rule(world, ask, place.map(world).krate) {

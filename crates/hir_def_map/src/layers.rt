@@ -117,7 +117,9 @@ pub(crate) fn macro_use_layer(
     id: MapId,
     segment: &Name,
 ) -> PerNs
-    ensures value { (L : LocalMap) → result ≡ of_prelude (setting_of world.now) expected (macro_use_prelude id (read world.now L segment.now)) }
+    ensures value { (L : LocalMap) →
+        result ≡ of_prelude (setting_of world.now) expected
+        (macro_use_prelude id (read world.now L segment.now)) }
     ensures known { KnowsAll world.now (res_holds result) }
 {
     of_prelude(world, expected, macro_use_prelude(world, id, segment))
@@ -126,7 +128,8 @@ pub(crate) fn macro_use_layer(
 /// What the scope of a map's prelude module binds, whatever is expected.
 #[tactic(auto, unfolding(dm_maps::specs::Readings::read, dm_maps::specs::Readings::setting_of))]
 fn prelude(world: &World, id: MapId, segment: &Name) -> PerNs
-    ensures value { (L : LocalMap) → result ≡ prelude (setting_of world.now) id (read world.now L segment.now) }
+    ensures value { (L : LocalMap) →
+        result ≡ prelude (setting_of world.now) id (read world.now L segment.now) }
     ensures known { KnowsAll world.now (res_holds result) }
 {
     match world.prelude_of(id) {
@@ -142,7 +145,9 @@ pub(crate) fn prelude_layer(
     id: MapId,
     segment: &Name,
 ) -> PerNs
-    ensures value { (L : LocalMap) → result ≡ of_prelude (setting_of world.now) expected (prelude (setting_of world.now) id (read world.now L segment.now)) }
+    ensures value { (L : LocalMap) →
+        result ≡ of_prelude (setting_of world.now) expected
+        (prelude (setting_of world.now) id (read world.now L segment.now)) }
     ensures known { KnowsAll world.now (res_holds result) }
 {
     of_prelude(world, expected, prelude(world, id, segment))
@@ -164,7 +169,8 @@ pub(crate) fn builtin(world: &World, segment: &Name) -> PerNs
 #[tactic(auto, unfolding(dm_maps::specs::Readings::read, dm_maps::specs::Readings::setting_of))]
 pub(crate) fn root_scope(world: &World, m: ModuleId, segment: &Name) -> PerNs
     requires { IsKnown (tree_of world.now) m }
-    ensures value { (L : LocalMap) → result ≡ root_scope (setting_of world.now) m (read world.now L segment.now) }
+    ensures value { (L : LocalMap) →
+        result ≡ root_scope (setting_of world.now) m (read world.now L segment.now) }
     ensures known { KnowsAll world.now (res_holds result) }
 {
     match world.root_of(world.krate(m)) {
@@ -182,7 +188,8 @@ pub(crate) fn legacy(
     m: ModuleId,
     segment: &Name,
 ) -> PerNs
-    ensures value { (L : LocalMap) → result ≡ legacy (setting_of world.now) expected m (read world.now L segment.now) }
+    ensures value { (L : LocalMap) →
+        result ≡ legacy (setting_of world.now) expected m (read world.now L segment.now) }
     ensures known { KnowsAll world.now (res_holds result) }
 {
     match world.legacy_of(m, segment) {

@@ -52,7 +52,8 @@ pub trait ResolvePath {
         shadow: BuiltinShadowMode,
         expected_macro_subns: Option<MacroSubNs>,
     ) -> ResolvePathResult
-        requires { IsKnownQuestion world.now (map self.now) local.now original_module path.now.kind }
+        requires { IsKnownQuestion world.now (map self.now) local.now
+            original_module path.now.kind }
         ensures { Resolves answer world.now local.now
             (asked original_module mode shadow expected_macro_subns path.now.kind)
             path.now.segments result };
@@ -68,7 +69,8 @@ pub trait ResolvePath {
         shadow: BuiltinShadowMode,
         expected_macro_subns: Option<MacroSubNs>,
     ) -> ResolvePathResult
-        requires { IsKnownQuestion world.now (map self.now) local.now original_module path.now.kind }
+        requires { IsKnownQuestion world.now (map self.now) local.now
+            original_module path.now.kind }
         ensures { Resolves answer_alone world.now local.now
             (asked original_module mode shadow expected_macro_subns path.now.kind)
             path.now.segments result };
@@ -85,7 +87,8 @@ pub trait ResolvePath {
         shadow: BuiltinShadowMode,
         expected_macro_subns: Option<MacroSubNs>,
     ) -> ResolvePathResult
-        requires { IsKnownInCrate world.now (map self.now) local.now original_module path.now.kind }
+        requires { IsKnownInCrate world.now (map self.now) local.now
+            original_module path.now.kind }
         ensures { Resolves (λ w L. prelude_answer w L (map self.now).id) world.now local.now
             (asked original_module mode shadow expected_macro_subns path.now.kind)
             path.now.segments result };
@@ -100,7 +103,8 @@ pub trait ResolvePath {
         path: &ModPath,
         shadow: BuiltinShadowMode,
     ) -> ResolvePathResult
-        requires { IsKnownInCrate world.now (map self.now) local.now original_module path.now.kind }
+        requires { IsKnownInCrate world.now (map self.now) local.now
+            original_module path.now.kind }
         ensures { Resolves (λ w L. prelude_answer w L (map self.now).id) world.now local.now
             (asked original_module mode shadow None path.now.kind)
             path.now.segments result };
@@ -115,7 +119,8 @@ pub trait ResolvePath {
         shadow: BuiltinShadowMode,
         expected_macro_subns: Option<MacroSubNs>,
     ) -> (PerNs, Option<usize>)
-        requires { IsKnownQuestion world.now (map self.now) local.now original_module path.now.kind }
+        requires { IsKnownQuestion world.now (map self.now) local.now
+            original_module path.now.kind }
         ensures { Finds answer world.now local.now
             (asked original_module Other shadow expected_macro_subns path.now.kind)
             path.now.segments result.0 result.1 };
@@ -130,7 +135,8 @@ pub trait ResolvePath {
         path: &ModPath,
         shadow: BuiltinShadowMode,
     ) -> (PerNs, Option<usize>, ResolvePathResultPrefixInfo)
-        requires { IsKnownQuestion world.now (map self.now) local.now original_module path.now.kind }
+        requires { IsKnownQuestion world.now (map self.now) local.now
+            original_module path.now.kind }
         ensures parts { Finds answer_alone world.now local.now
             (asked original_module Other shadow None path.now.kind)
             path.now.segments result.0 result.1 }
@@ -148,9 +154,10 @@ pub trait ResolvePath {
         visibility: &RawVisibility,
         within_impl: bool,
     ) -> Option<Visibility>
-        requires { IsKnownVisibility world.now (map self.now) local.now original_module visibility.now }
-        ensures value { result ≡
-            raw_visibility world.now local.now (map self.now) original_module within_impl visibility.now }
+        requires { IsKnownVisibility world.now (map self.now) local.now
+            original_module visibility.now }
+        ensures value { result ≡ raw_visibility world.now local.now (map self.now)
+            original_module within_impl visibility.now }
         ensures known { ForSome result (NamesKnown (tree_of world.now)) }
         ensures held { ForSome result (λ v. KnowsAll world.now (vis_holds v)) };
 }

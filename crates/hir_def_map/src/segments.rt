@@ -39,7 +39,8 @@ fn seen_item<'a, D, I>(
 ) -> Option<&'a Item<D, I>>
     requires from { IsKnown (tree_of world.now) from }
     requires named { ForSome (option_copied item) (λ i. NamesKnown (tree_of world.now) i.vis) }
-    ensures { option_copied result ≡ keep (λ i. sees (tree_of world.now) i.vis from) (option_copied item.entry) }
+    ensures { option_copied result ≡
+        keep (λ i. sees (tree_of world.now) i.vis from) (option_copied item.entry) }
 {
     let i = item?;
     if i.vis.is_visible_from(world, from) {
@@ -52,7 +53,8 @@ fn seen_item<'a, D, I>(
 /// What a module's scope binds under a segment, each item kept if `from` sees it.
 pub(crate) fn seen_in(world: &World, from: ModuleId, m: ModuleId, segment: &Name) -> PerNs
     requires { IsKnown (tree_of world.now) from }
-    ensures value { result ≡ seen_by (λ v. sees (tree_of world.now) v from) (bound_in (scope_of world.now m) segment.now) }
+    ensures value { result ≡ seen_by (λ v. sees (tree_of world.now) v from)
+        (bound_in (scope_of world.now m) segment.now) }
     ensures known { KnowsAll world.now (res_holds result) }
 {
     let bound = world.bound_in(m, segment);
@@ -71,7 +73,8 @@ fn seen_type_in<'a>(
     segment: &Name,
 ) -> Option<&'a TypesItem>
     requires from { IsKnown (tree_of world.now) from }
-    ensures value { option_copied result ≡ (seen_by (λ v. sees (tree_of world.now) v from) (bound_in (scope_of world.now m) segment.now)).types }
+    ensures value { option_copied result ≡ (seen_by (λ v. sees (tree_of world.now) v from)
+        (bound_in (scope_of world.now m) segment.now)).types }
     ensures known { KnowsAll world.now (res_holds (in_types (option_copied result))) }
 {
     seen_item(world, from, world.type_in(m, segment))
@@ -111,7 +114,8 @@ fn at_adt(
     adt: AdtId,
 ) -> ResolvePathResult
     requires { KnowsAll world.now (type_holds item) }
-    ensures value { (L : LocalMap) → result ≡ at_adt item position (read world.now L segment.now) is_last adt }
+    ensures value { (L : LocalMap) →
+        result ≡ at_adt item position (read world.now L segment.now) is_last adt }
     ensures known { KnowsAll world.now (res_holds result.resolved_def) }
 {
     let AdtId::EnumId(e) = adt else {
@@ -155,7 +159,8 @@ fn left_at(
     is_last: bool,
 ) -> ResolvePathResult
     requires { KnowsAll world.now (type_holds item) }
-    ensures value { (L : LocalMap) → result ≡ left_at item position (read world.now L segment.now) is_last item.def }
+    ensures value { (L : LocalMap) →
+        result ≡ left_at item position (read world.now L segment.now) is_last item.def }
     ensures known { KnowsAll world.now (res_holds result.resolved_def) }
 {
     match item.def {
@@ -176,7 +181,9 @@ fn last_answer(
 ) -> ResolvePathResult
     requires origin { IsKnown (tree_of world.now) origin }
     requires known { KnowsAll world.now (res_holds (in_types (option_copied types))) }
-    ensures value { (L : LocalMap) → result ≡ walk (tree_of world.now) (standing differing origin (option_copied types.entry)) position (read world.now L segment.now ∷ []) }
+    ensures value { (L : LocalMap) →
+        result ≡ walk (tree_of world.now) (standing differing origin (option_copied types.entry))
+        position (read world.now L segment.now ∷ []) }
     ensures known { KnowsAll world.now (res_holds result.resolved_def) }
 {
     let Some(item) = types else {
@@ -204,7 +211,9 @@ pub(crate) fn walk(
     requires origin { IsKnown (tree_of world.now) from }
     requires known { KnowsAll world.now (res_holds here.now) }
     requires position { position ≤ 1 }
-    ensures value { (L : LocalMap) → result ≡ walk (tree_of world.now) (starting from here.now) position (map (read world.now L) segments.now) }
+    ensures value { (L : LocalMap) →
+        result ≡ walk (tree_of world.now) (starting from here.now) position
+        (map (read world.now L) segments.now) }
     ensures known { KnowsAll world.now (res_holds result.resolved_def) }
 {
     let Some((first, others)) = segments.split_first() else {

@@ -68,7 +68,8 @@ pub trait ResolveVisibility {
         raw: &RawVisibility,
     ) -> Visibility
         requires { IsKnownVisibility world.now map.now local.now m raw.now }
-        ensures value { result ≡ or_public (raw_visibility world.now local.now map.now m within_impl raw.now) }
+        ensures value { result ≡ or_public
+            (raw_visibility world.now local.now map.now m within_impl raw.now) }
         ensures known { NamesKnown (tree_of world.now) result }
         ensures held { KnowsAll world.now (vis_holds result) };
 }
@@ -123,8 +124,10 @@ impl VariantFields {
     ) -> Result<Vec<Visibility>, AllocError>
         requires { KnowsAll world.now (def_holds (variant_def variant)) }
         ensures value { IfOk result (λ seen. seen.items ≡ field_visibilities_of world.now variant) }
-        ensures known { IfOk result (λ seen. AllByRecursion (NamesKnown (tree_of world.now)) seen.items) }
-        ensures held { IfOk result (λ seen. AllByRecursion (λ v. KnowsAll world.now (vis_holds v)) seen.items) }
+        ensures known { IfOk result (λ seen.
+            AllByRecursion (NamesKnown (tree_of world.now)) seen.items) }
+        ensures held { IfOk result (λ seen.
+            AllByRecursion (λ v. KnowsAll world.now (vis_holds v)) seen.items) }
     {
         let declared_in = ItemInNs::Types(variant_def(variant)).module(world);
         match (declared_in, world.raw_fields_of(variant)) {
@@ -153,8 +156,10 @@ fn visibilities_in(
 ) -> Result<Vec<Visibility>, AllocError>
     requires { AllByRecursion (λ v. KnowsAll world.now (raw_holds v)) fields.now }
     ensures value { IfOk result (λ seen. seen.items ≡ visibilities_in world.now m fields.now) }
-    ensures known { IfOk result (λ seen. AllByRecursion (NamesKnown (tree_of world.now)) seen.items) }
-    ensures held { IfOk result (λ seen. AllByRecursion (λ v. KnowsAll world.now (vis_holds v)) seen.items) }
+    ensures known { IfOk result (λ seen.
+        AllByRecursion (NamesKnown (tree_of world.now)) seen.items) }
+    ensures held { IfOk result (λ seen.
+        AllByRecursion (λ v. KnowsAll world.now (vis_holds v)) seen.items) }
 {
     let mut seen = Vec::new(alloc);
     let mut rest = fields;
