@@ -9,65 +9,55 @@ use Rattle.dm_def_map.specs.declared.modules.modes.BuiltinShadowMode.TheVariants
 use Rattle.hir_def_map.specs.declared.result.ResolveMode.TheVariants as mode
 use Rattle.hir_def_map.specs.declared.result.ReachedFixedPoint.TheVariants.{Yes, No}
 use Rattle.hir_def_map.specs.Paths.{answer}
-use Rattle.hir_def_map.specs.Written.{meaning, said, an_item, a_module, a_struct, a_function, a_builtin, within}
+use Rattle.hir_def_map.specs.Written.{meaning, meant, said, an_item, a_module, a_struct, a_function, a_builtin, within}
 use Rattle.hir_def_map.specs.WorldT.{world_t}
 
--- p 0 crate a S
-pub private_type_outside : meaning world_t [] 0 mode.Other shadow.Module None kind.Crate (codes "a" ∷ codes "S" ∷ [])
+pub private_type_outside : meant world_t [] 0 kind.Crate (codes "a" ∷ codes "S" ∷ [])
     ≡ said None (Some (an_item (a_function 1) Public None)) None Yes None false false
 unfolding answer
 private_type_outside = refl
 
--- p 1 crate a S
-pub private_type_inside : meaning world_t [] 1 mode.Other shadow.Module None kind.Crate (codes "a" ∷ codes "S" ∷ [])
+pub private_type_inside : meant world_t [] 1 kind.Crate (codes "a" ∷ codes "S" ∷ [])
     ≡ said (Some (an_item (a_struct 0) (within 1 Implicit) None)) (Some (an_item (a_function 1) Public None)) None Yes None false false
 unfolding answer
 private_type_inside = refl
 
--- p 1 plain S
-pub private_type_of_a_name : meaning world_t [] 1 mode.Other shadow.Module None kind.Plain (codes "S" ∷ [])
+pub private_type_of_a_name : meant world_t [] 1 kind.Plain (codes "S" ∷ [])
     ≡ said (Some (an_item (a_struct 0) (within 1 Implicit) None)) (Some (an_item (a_function 1) Public None)) None Yes None false false
 unfolding answer
 private_type_of_a_name = refl
 
--- p 1 crate a S z
-pub left_at_a_struct : meaning world_t [] 1 mode.Other shadow.Module None kind.Crate (codes "a" ∷ codes "S" ∷ codes "z" ∷ [])
+pub left_at_a_struct : meant world_t [] 1 kind.Crate (codes "a" ∷ codes "S" ∷ codes "z" ∷ [])
     ≡ said (Some (an_item (a_struct 0) (within 1 Implicit) None)) None None Yes (Some 2) false false
 unfolding answer
 left_at_a_struct = refl
 
--- p 0 plain a S z
-pub private_type_left : meaning world_t [] 0 mode.Other shadow.Module None kind.Plain (codes "a" ∷ codes "S" ∷ codes "z" ∷ [])
+pub private_type_left : meant world_t [] 0 kind.Plain (codes "a" ∷ codes "S" ∷ codes "z" ∷ [])
     ≡ said None None None No None false false
 unfolding answer
 private_type_left = refl
 
--- p 0 plain u8
-pub module_before_builtin : meaning world_t [] 0 mode.Other shadow.Module None kind.Plain (codes "u8" ∷ [])
+pub module_before_builtin : meant world_t [] 0 kind.Plain (codes "u8" ∷ [])
     ≡ said (Some (an_item (a_module 2) Public None)) None None Yes None false false
 unfolding answer
 module_before_builtin = refl
 
--- path 0 other other any plain u8
 pub builtin_before_module : meaning world_t [] 0 mode.Other shadow.Other None kind.Plain (codes "u8" ∷ [])
     ≡ said (Some (an_item (a_builtin (builtin.Uint uint.U8)) Public None)) None None Yes None false false
 unfolding answer
 builtin_before_module = refl
 
--- path 0 other other any plain u8 x
 pub module_where_segments_follow : meaning world_t [] 0 mode.Other shadow.Other None kind.Plain (codes "u8" ∷ codes "x" ∷ [])
     ≡ said (Some (an_item (a_struct 0) Public None)) None None Yes None false false
 unfolding answer
 module_where_segments_follow = refl
 
--- p 0 crate
-pub crate_alone : meaning world_t [] 0 mode.Other shadow.Module None kind.Crate ([])
+pub crate_alone : meant world_t [] 0 kind.Crate []
     ≡ said (Some (an_item (a_module 0) Public None)) None None Yes None false false
 unfolding answer
 crate_alone = refl
 
--- p 0 plain
-pub no_segment : meaning world_t [] 0 mode.Other shadow.Module None kind.Plain ([])
+pub no_segment : meant world_t [] 0 kind.Plain []
     ≡ said None None None Yes None false false
 unfolding answer
 no_segment = refl

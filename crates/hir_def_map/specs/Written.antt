@@ -26,6 +26,7 @@ use Rattle.dm_ids.specs.Names.{Name}
 use Rattle.dm_scope.specs.Bindings.{Bound}
 use Rattle.dm_scope.specs.Scope.{Scope, no_scope}
 use Rattle.dm_def_map.specs.declared.modules.modes.BuiltinShadowMode.{BuiltinShadowMode}
+use Rattle.dm_def_map.specs.declared.modules.modes.BuiltinShadowMode.TheVariants as asks
 use Rattle.dm_def_map.specs.declared.modules.modes.MacroSubNs.{MacroSubNs}
 use Rattle.dm_def_map.specs.declared.modules.module_origin.ModuleOrigin.TheVariants.{Inline}
 use Rattle.dm_maps.specs.declared.place.Place.{Place}
@@ -34,9 +35,10 @@ use Rattle.dm_def_map.specs.Maps as maps
 use Rattle.dm_def_map.specs.Maps.{Map, Modules, LocalMap}
 use Rattle.dm_maps.specs.World.{World}
 use Rattle.hir_def_map.specs.declared.result.ResolveMode.{ResolveMode}
+use Rattle.hir_def_map.specs.declared.result.ResolveMode.TheVariants.{Other}
 use Rattle.hir_def_map.specs.declared.result.ReachedFixedPoint.{ReachedFixedPoint}
 use Rattle.hir_def_map.specs.declared.result.ResolvePathResult.{ResolvePathResult}
-use Rattle.hir_def_map.specs.Paths.{answer}
+use Rattle.hir_def_map.specs.Paths.{answer, asked}
 
 -- definitions by their numbers
 abbrev pub a_module : ℕ → ModuleDefId
@@ -99,7 +101,11 @@ said t v m status index differing variant = record {
 
 -- what a path means from module m
 abbrev pub meaning : World → LocalMap → ℕ → ResolveMode → BuiltinShadowMode → Option MacroSubNs → PathKind → List Name → ResolvePathResult
-meaning w L m mode shadow expected kind segments = answer w L (record { origin = record { 0 = m }; mode = mode; shadow = shadow; expected = expected; kind = kind }) segments
+meaning w L m mode shadow expected kind segments = answer w L (asked (record { 0 = m }) mode shadow expected kind) segments
+
+-- the same of a path that is no import's, where modules shadow builtin types and no macro is expected
+abbrev pub meant : World → LocalMap → ℕ → PathKind → List Name → ResolvePathResult
+meant w L m kind segments = meaning w L m Other asks.Module None kind segments
 
 -- tables of worked worlds
 abbrev pub crate_id : ℕ → MapId
