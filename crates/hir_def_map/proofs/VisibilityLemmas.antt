@@ -11,15 +11,14 @@ use Rattle.dm_base.specs.declared.per_ns.PerNs.{PerNs}
 use Rattle.dm_base.specs.declared.visibility.Visibility.TheVariants.{Module}
 use Rattle.dm_base.specs.declared.visibility.VisibilityExplicitness.{VisibilityExplicitness}
 use Rattle.dm_base.specs.Tree.{IsKnown, same_block}
-use Rattle.dm_base.specs.Visibility.{NamesKnown}
 use Rattle.dm_check.specs.declared.held.HeldId.TheVariants as held
-use Rattle.dm_check.specs.Holding.{res_holds, vis_holds}
+use Rattle.dm_check.specs.Holding.{res_holds}
 use Rattle.dm_maps.specs.Family.{common}
 use Rattle.dm_maps.specs.Known.{KnowsAll, knows}
 use Rattle.dm_maps.specs.Trees.{tree_of}
 use Rattle.dm_maps.specs.World.{World, crate_map}
 use Rattle.dm_def_map.specs.Maps.{Map}
-use Rattle.hir_def_map.specs.RawVisibilities.{module_reached, block_in, restricted}
+use Rattle.hir_def_map.specs.RawVisibilities.{IsOfWorld, module_reached, block_in, restricted}
 use Rattle.hir_def_map.specs.Paths.{type_module}
 use Rattle.hir_def_map.proofs.KnownLemmas.{module_in-known}
 
@@ -40,13 +39,9 @@ restricted-known w M within t known root = by (within || same_block (block_in w 
     by true = known
     by false = root
 
-pub names-known : (w : World) (m : ModuleId) (e : VisibilityExplicitness) → IsKnown (tree_of w) m → ForSome (Some (Module m e)) (NamesKnown (tree_of w))
-names-known w m e k v is = let same : Module m e ≡ v = cc in subst (NamesKnown (tree_of w)) same k
-
--- so what such a visibility holds is the world's
-pub module-held : (w : World) (m : ModuleId) (e : VisibilityExplicitness) → IsKnown (tree_of w) m → ForSome (Some (Module m e)) (λ v. KnowsAll w (vis_holds v))
+pub module-known : (w : World) (m : ModuleId) (e : VisibilityExplicitness) → IsKnown (tree_of w) m → ForSome (Some (Module m e)) (IsOfWorld w)
 unfolding tree_of
-module-held w m e k v is = let same : Module m e ≡ v = cc in subst (λ x. KnowsAll w (vis_holds x)) same (k, tt)
+module-known w m e k v is = let same : Module m e ≡ v = cc in subst (IsOfWorld w) same (record { names = k; held = (k, tt) })
 
 -- the crate of a map is the world's
 pub crate-known : (w : World) (M : Map) → option_map common (crate_map w M.id.krate) ≡ Some (common M) → IsTrue (knows w (held.Crate M.id.krate))

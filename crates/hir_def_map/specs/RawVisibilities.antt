@@ -21,13 +21,15 @@ use Rattle.dm_base.specs.declared.visibility.VisibilityExplicitness.{VisibilityE
 use Rattle.dm_base.specs.declared.visibility.VisibilityExplicitness.TheVariants.{Implicit}
 use Rattle.dm_base.specs.ItemHomes.{def_module}
 use Rattle.dm_base.specs.Tree.{same_block}
-use Rattle.dm_check.specs.Holding.{local_holds}
+use Rattle.dm_base.specs.Visibility.{NamesKnown}
+use Rattle.dm_check.specs.Holding.{local_holds, vis_holds}
 use Rattle.dm_check.specs.TablesHold.{raw_holds}
 use Rattle.dm_def_map.specs.declared.modules.modes.BuiltinShadowMode.TheVariants as shadow
 use Rattle.dm_def_map.specs.Maps.{Map, LocalMap, module_at}
 use Rattle.dm_maps.specs.First.{local_at}
 use Rattle.dm_maps.specs.ItemHomes.{homes_of}
 use Rattle.dm_maps.specs.Known.{KnowsAll}
+use Rattle.dm_maps.specs.Trees.{tree_of}
 use Rattle.dm_maps.specs.RawTables.{fields_in, assoc_in, trait_visibility_in}
 use Rattle.dm_maps.specs.World.{World, map_of, numbered_map}
 use Rattle.hir_def_map.specs.declared.result.ResolveMode.TheVariants.{Other}
@@ -41,6 +43,11 @@ pub record IsKnownVisibility (w : World) (M : Map) (L : LocalMap) (m : ModuleId)
   pub origin : IsSome (module_at M.modules m)
   pub local_known : KnowsAll w (local_holds L)
   pub path_known : KnowsAll w (raw_holds v)
+
+-- A visibility of the world's: the module that it names is the tree's, and each id that it holds is known.
+pub record IsOfWorld (w : World) (v : Visibility) : Type 0 where
+  pub names : NamesKnown (tree_of w) v
+  pub held : KnowsAll w (vis_holds v)
 
 -- ---- By a path
 

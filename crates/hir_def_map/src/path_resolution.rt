@@ -2,10 +2,8 @@
 ghost use Rattle.std.specs.Prelude.{◌≡◌, None, Some, IsSome, IsTrue};
 ghost use Rattle.std.specs.Option.{ForSome};
 ghost use Rattle.dm_base.specs.Tree.{IsKnown};
-ghost use Rattle.dm_base.specs.Visibility.{NamesKnown};
 ghost use Rattle.dm_check.specs.declared.held.HeldId.TheVariants as held;
-ghost use Rattle.dm_check.specs.Holding.{vis_holds};
-ghost use Rattle.dm_maps.specs.Known.{KnowsAll, knows};
+ghost use Rattle.dm_maps.specs.Known.{knows};
 ghost use Rattle.dm_maps.specs.Trees.{tree_of};
 ghost use Rattle.dm_maps.specs.World.{numbered_map};
 ghost use Rattle.dm_def_map.specs.Maps.{Map, module_at};
@@ -13,7 +11,7 @@ ghost use Rattle.hir_def_map.specs.declared.result.ResolveMode.TheVariants.{Othe
 ghost use Rattle.hir_def_map.specs.Laws.{Finds, Resolves};
 ghost use Rattle.hir_def_map.specs.Paths.{asked, answer, answer_alone, prelude_answer};
 ghost use Rattle.hir_def_map.specs.Questions.{IsKnownQuestion, IsKnownInCrate};
-ghost use Rattle.hir_def_map.specs.RawVisibilities.{raw_visibility, IsKnownVisibility};
+ghost use Rattle.hir_def_map.specs.RawVisibilities.{raw_visibility, IsKnownVisibility, IsOfWorld};
 
 use crate::place::Place;
 use crate::places::answer_outwards;
@@ -158,8 +156,7 @@ pub trait ResolvePath {
             original_module visibility.now }
         ensures value { result ≡ raw_visibility world.now local.now (map self.now)
             original_module within_impl visibility.now }
-        ensures known { ForSome result (NamesKnown (tree_of world.now)) }
-        ensures held { ForSome result (λ v. KnowsAll world.now (vis_holds v)) };
+        ensures known { ForSome result (IsOfWorld world.now) };
 }
 
 impl ResolvePath for DefMap {
