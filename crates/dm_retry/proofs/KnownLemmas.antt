@@ -20,20 +20,9 @@ use Rattle.dm_maps.specs.ItemHomes.{homes_of}
 use Rattle.dm_maps.specs.Known.{knows, KnowsAll}
 use Rattle.dm_maps.specs.World.{World}
 use Rattle.hir_def_map.specs.declared.result.ResolvePathResult.{ResolvePathResult}
+use Rattle.hir_def_map.proofs.KnownLemmas.{knows-append, knows-left, knows-right}
 use Rattle.dm_retry.specs.Known.{parts}
 use Rattle.dm_retry.specs.Rounds.{Pending, brought, by_import, found, meaning}
-
-pub knows-left : (w : World) (hs ks : List HeldId) → KnowsAll w (hs ++ ks) → KnowsAll w hs
-knows-left w [] ks k = tt
-knows-left w (h ∷ hs) ks k = (k.0, knows-left w hs ks k.1)
-
-pub knows-right : (w : World) (hs ks : List HeldId) → KnowsAll w (hs ++ ks) → KnowsAll w ks
-knows-right w [] ks k = k
-knows-right w (h ∷ hs) ks k = knows-right w hs ks k.1
-
-pub knows-append : (w : World) (hs ks : List HeldId) → KnowsAll w hs → KnowsAll w ks → KnowsAll w (hs ++ ks)
-knows-append w [] ks k l = l
-knows-append w (h ∷ hs) ks k l = (k.0, knows-append w hs ks k.1 l)
 
 module _ (w : World) (v : Visibility) (seen : KnowsAll w (vis_holds v)) where
   -- an item under another visibility: its definition, the visibility, its import
