@@ -25,43 +25,18 @@ use Rattle.dm_maps.specs.Known.{knows, KnowsAll}
 use Rattle.dm_maps.specs.Trees.{tree_of}
 use Rattle.dm_maps.specs.World.{World}
 use Rattle.hir_def_map.specs.declared.result.ResolvePathResult.{ResolvePathResult}
+use Rattle.hir_def_map.proofs.KnownLemmas.{knows-append, knows-left, knows-middle, knows-right, macros-known, types-known, values-known, vis_known}
 use Rattle.dm_retry.specs.Known.{parts}
 use Rattle.dm_retry.specs.declared.import_kind.ImportKind.{ImportKind}
 use Rattle.dm_retry.specs.declared.import_kind.ImportKind.TheVariants as kinds
 use Rattle.dm_retry.specs.Kinds.{by_kind, is_foreign, narrowed, narrowed_item, re_exported, types_alone}
 use Rattle.dm_retry.specs.Rounds.{Pending, brought, by_import, found, given, meaning}
 
-pub knows-left : (w : World) (hs ks : List HeldId) → KnowsAll w (hs ++ ks) → KnowsAll w hs
-knows-left w [] ks k = tt
-knows-left w (h ∷ hs) ks k = (k.0, knows-left w hs ks k.1)
-
-pub knows-right : (w : World) (hs ks : List HeldId) → KnowsAll w (hs ++ ks) → KnowsAll w ks
-knows-right w [] ks k = k
-knows-right w (h ∷ hs) ks k = knows-right w hs ks k.1
-
-pub knows-append : (w : World) (hs ks : List HeldId) → KnowsAll w hs → KnowsAll w ks → KnowsAll w (hs ++ ks)
-knows-append w [] ks k l = l
-knows-append w (h ∷ hs) ks k l = (k.0, knows-append w hs ks k.1 l)
-
--- the middle part of three
-knows-middle : (w : World) (hs ks ls : List HeldId) → KnowsAll w (hs ++ ks ++ ls) → KnowsAll w ks
-knows-middle w hs ks ls k = knows-right w hs ks (knows-left w (hs ++ ks) ls k)
-
--- the three namespaces of items, apart and together
-module _ (w : World) (x : PerNs) where
-  types-known : KnowsAll w (res_holds x) → KnowsAll w (option_map_or type_holds x.types [])
-  types-known k = knows-left w (option_map_or type_holds x.types []) (option_map_or value_holds x.values []) (knows-left w (option_map_or type_holds x.types [] ++ option_map_or value_holds x.values []) (option_map_or macro_holds x.macros []) k)
-
-  values-known : KnowsAll w (res_holds x) → KnowsAll w (option_map_or value_holds x.values [])
-  values-known k = knows-middle w (option_map_or type_holds x.types []) (option_map_or value_holds x.values []) (option_map_or macro_holds x.macros []) k
-
-  macros-known : KnowsAll w (res_holds x) → KnowsAll w (option_map_or macro_holds x.macros [])
-  macros-known k = knows-right w (option_map_or type_holds x.types [] ++ option_map_or value_holds x.values []) (option_map_or macro_holds x.macros []) k
-
-  together : KnowsAll w (option_map_or type_holds x.types []) → KnowsAll w (option_map_or value_holds x.values []) → KnowsAll w (option_map_or macro_holds x.macros []) → KnowsAll w (res_holds x)
-  together ts vs ms =
-      knows-append w (option_map_or type_holds x.types [] ++ option_map_or value_holds x.values []) (option_map_or macro_holds x.macros [])
-      (knows-append w (option_map_or type_holds x.types []) (option_map_or value_holds x.values []) ts vs) ms
+-- known items of each namespace, together
+together : (w : World) (x : PerNs) → KnowsAll w (option_map_or type_holds x.types []) → KnowsAll w (option_map_or value_holds x.values []) → KnowsAll w (option_map_or macro_holds x.macros []) → KnowsAll w (res_holds x)
+together w x ts vs ms =
+    knows-append w (option_map_or type_holds x.types [] ++ option_map_or value_holds x.values []) (option_map_or macro_holds x.macros [])
+    (knows-append w (option_map_or type_holds x.types []) (option_map_or value_holds x.values []) ts vs) ms
 
 module _ (w : World) (v : Visibility) (seen : KnowsAll w (vis_holds v)) where
   -- an item under another visibility: its definition, the visibility, its import
@@ -159,36 +134,13 @@ given-known w p x k l = by (is_empty (by_kind (tree_of w) p.origin p.visibility 
     by true = tt
     by false = (k.0, (k.1.0, kind-known w (tree_of w) p.origin p.visibility (knows-right w (path_holds p.path.kind) (vis_holds p.visibility) k.1.1) p.kind x l))
 
--- its module, and what its visibility names
+-- its module, and the one that its visibility names, are the tree's
 pub home-known : (w : World) (p : Pending) → KnowsAll w (parts p) → IsKnown (tree_of w) p.origin
 unfolding tree_of
 home-known w p k = k.0
 
-pub names-known : (w : World) (v : Visibility) → KnowsAll w (vis_holds v) → NamesKnown (tree_of w) v
-unfolding tree_of
-names-known w (Module m e) k = k.0
-names-known w (PubCrate c) k = tt
-names-known w Public k = tt
-
 pub vis-known : (w : World) (p : Pending) → KnowsAll w (parts p) → NamesKnown (tree_of w) p.visibility
-vis-known w p k = names-known w p.visibility (knows-right w (path_holds p.path.kind) (vis_holds p.visibility) k.1.1)
-
--- and what the visibilities of known items name
-module _ (w : World) (x : PerNs) (k : KnowsAll w (res_holds x)) where
-  pub type-named : (i : Item ModuleDefId ImportOrExternCrate) → x.types ≡ Some i → NamesKnown (tree_of w) i.vis
-  type-named i e =
-      let P : Option (Item ModuleDefId ImportOrExternCrate) → Type 0 = λ o. KnowsAll w (option_map_or type_holds o []) in
-      names-known w i.vis (knows-middle w (def_holds i.def) (vis_holds i.vis) (option_map_or import_holds i.import []) (subst P e (types-known w x k)))
-
-  pub value-named : (i : Item ModuleDefId ImportOrGlob) → x.values ≡ Some i → NamesKnown (tree_of w) i.vis
-  value-named i e =
-      let P : Option (Item ModuleDefId ImportOrGlob) → Type 0 = λ o. KnowsAll w (option_map_or value_holds o []) in
-      names-known w i.vis (knows-middle w (def_holds i.def) (vis_holds i.vis) (option_map_or value_import_holds i.import []) (subst P e (values-known w x k)))
-
-  pub macro-named : (i : Item MacroId ImportOrExternCrate) → x.macros ≡ Some i → NamesKnown (tree_of w) i.vis
-  macro-named i e =
-      let P : Option (Item MacroId ImportOrExternCrate) → Type 0 = λ o. KnowsAll w (option_map_or macro_holds o []) in
-      names-known w i.vis (knows-middle w (held.Macro i.def ∷ []) (vis_holds i.vis) (option_map_or import_holds i.import []) (subst P e (macros-known w x k)))
+vis-known w p k = vis_known w p.visibility (knows-right w (path_holds p.path.kind) (vis_holds p.visibility) k.1.1)
 
 -- ---- The extern prelude of a module's crate
 

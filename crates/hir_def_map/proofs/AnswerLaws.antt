@@ -26,12 +26,12 @@ use Rattle.hir_def_map.specs.declared.question.Ask.{Ask}
 use Rattle.hir_def_map.specs.declared.result.ReachedFixedPoint.{ReachedFixedPoint}
 use Rattle.hir_def_map.specs.declared.result.ReachedFixedPoint.TheVariants.{Yes, No}
 use Rattle.hir_def_map.specs.declared.result.ResolvePathResult.{ResolvePathResult}
-use Rattle.hir_def_map.specs.Answers.{nothing_no, nothing_yes, reached, stopped, variant_answer, settled, either_yes, over_answer, merged}
+use Rattle.hir_def_map.specs.Answers.{nothing_no, nothing_yes, reached, stopped, variant_answer, yes_in_block, either_yes, over_answer, merged}
 use Rattle.hir_def_map.specs.Laws.{IsAnswer}
 use Rattle.hir_def_map.specs.declared.place.Place.{Place}
 use Rattle.hir_def_map.specs.declared.place.Place.TheVariants.{In, Preludes}
 use Rattle.hir_def_map.specs.Paths.{is_empty, at_variant, stop, enter, root_item, from_root, from_super, by_first_segment, missed, by_2015_rule, layers, seen_from, single}
-use Rattle.hir_def_map.specs.Walk.{Stand, starting, marked, through, walk}
+use Rattle.hir_def_map.specs.Walk.{Stand, starting, crossed, through, walk}
 use Rattle.hir_def_map.proofs.WalkLemmas.{walk-stop}
 use Rattle.hir_def_map.proofs.StopLemmas.{enter-stop}
 use Rattle.hir_def_map.proofs.LayerLemmas.{single_by, single-kind}
@@ -49,30 +49,30 @@ of-some : (n i : ℕ) → Inner n i → ForSome (Some i) (Inner n)
 of-some n i h = λ x e. let same : i ≡ x = cc in subst (Inner n) same h
 
 -- an answer of status yes that leaves no segment
-settled-whole : (n : ℕ) (a : ResolvePathResult) → a.reached_fixedpoint ≡ Yes → a.segment_index ≡ None → IsAnswer n a
-settled-whole n a y none = record { unsettled = λ e. absurd (is-no a.reached_fixedpoint y e); index = subst (λ o. ForSome o (Inner n)) (sym none) (of-none n) }
+whole-law : (n : ℕ) (a : ResolvePathResult) → a.reached_fixedpoint ≡ Yes → a.segment_index ≡ None → IsAnswer n a
+whole-law n a y none = record { unsettled = λ e. absurd (is-no a.reached_fixedpoint y e); index = subst (λ o. ForSome o (Inner n)) (sym none) (of-none n) }
 
 pub nothing_no-law : (n : ℕ) → IsAnswer n nothing_no
 nothing_no-law n = record { unsettled = λ e. refl; index = of-none n }
 
 pub nothing_yes-law : (n : ℕ) → IsAnswer n nothing_yes
-nothing_yes-law n = settled-whole n nothing_yes refl refl
+nothing_yes-law n = whole-law n nothing_yes refl refl
 
 stopped-law : (n : ℕ) (i : Item ModuleDefId ImportOrExternCrate) (j : ℕ) → 1 ≤ j → j < n → IsAnswer n (stopped i j)
 stopped-law n i j one small = record { unsettled = λ e. absurd (is-no Yes refl e); index = of-some n j (one, small) }
 
-marked-law : (n : ℕ) (d : Bool) (a : ResolvePathResult) → IsAnswer n a → IsAnswer n (marked d a)
-marked-law n false a h = h
-marked-law n true a h = record { unsettled = λ e. absurd (is-no Yes refl e); index = h.index }
+crossed-law : (n : ℕ) (d : Bool) (a : ResolvePathResult) → IsAnswer n a → IsAnswer n (crossed d a)
+crossed-law n false a h = h
+crossed-law n true a h = record { unsettled = λ e. absurd (is-no Yes refl e); index = h.index }
 
 variant-law : (n : ℕ) (i : Item ModuleDefId ImportOrExternCrate) (j : ℕ) (v : Option (EnumVariantId × FieldsShape)) (is_last : Bool) → 1 ≤ j → j < n → IsAnswer n (at_variant i j v is_last)
 variant-law n i j None is_last one small = stopped-law n i j one small
-variant-law n i j (Some v) true one small = settled-whole n (variant_answer i v) refl refl
+variant-law n i j (Some v) true one small = whole-law n (variant_answer i v) refl refl
 variant-law n i j (Some v) false one small = nothing_no-law n
 
 -- a walk with a segment behind it
 walk-law : (t : Tree) (n : ℕ) (a : Stand) (pos : ℕ) (S : List Reading) → 1 ≤ pos → pos + length S ≡ n → IsAnswer n (walk t a pos S)
-walk-law t n a pos [] one count = marked-law n a.differing (reached a.here) (settled-whole n (reached a.here) refl refl)
+walk-law t n a pos [] one count = crossed-law n a.differing (reached a.here) (whole-law n (reached a.here) refl refl)
 walk-law t n a pos (s ∷ S) one count = by a.here.types (λ b. walk-law t n b (pos + 1) S (omega arith) (omega arith))
   where
     small : pos < n
@@ -83,12 +83,12 @@ walk-law t n a pos (s ∷ S) one count = by a.here.types (λ b. walk-law t n b (
 
     by_def : (i : Item ModuleDefId ImportOrExternCrate) (c : ModuleDefId) → ((b : Stand) → IsAnswer n (walk t b (pos + 1) S)) → Holds (record a.here { types = Some (record i { def = c }) })
     by_def i (def.ModuleId m) rest = rest (through t (record a { here = record a.here { types = Some (record i { def = def.ModuleId m }) } }) m s)
-    by_def i (def.AdtId (adt.EnumId e)) rest = marked-law n a.differing _ (variant-law n (record i { def = def.AdtId (adt.EnumId e) }) pos (s.variant e) (is_empty S) one small)
-    by_def i (def.AdtId c) rest = marked-law n a.differing _ (stopped-law n (record i { def = def.AdtId c }) pos one small)
-    by_def i c rest = marked-law n a.differing _ (stopped-law n (record i { def = c }) pos one small)
+    by_def i (def.AdtId (adt.EnumId e)) rest = crossed-law n a.differing _ (variant-law n (record i { def = def.AdtId (adt.EnumId e) }) pos (s.variant e) (is_empty S) one small)
+    by_def i (def.AdtId c) rest = crossed-law n a.differing _ (stopped-law n (record i { def = def.AdtId c }) pos one small)
+    by_def i c rest = crossed-law n a.differing _ (stopped-law n (record i { def = c }) pos one small)
 
     by : (o : Option (Item ModuleDefId ImportOrExternCrate)) → ((b : Stand) → IsAnswer n (walk t b (pos + 1) S)) → Holds (record a.here { types = o })
-    by None rest = marked-law n a.differing nothing_no (nothing_no-law n)
+    by None rest = crossed-law n a.differing nothing_no (nothing_no-law n)
     by (Some i) rest = by_def i i.def rest
 
 -- what stops behind a first segment
@@ -99,13 +99,13 @@ stop-law t f x S =
 
 -- what stops behind no segment, from a module
 pub root-law : (t : Tree) (f m : ModuleId) (S : List Reading) → IsAnswer (length S) (stop (enter t) t f (root_item m) 0 S)
-root-law t f m [] = settled-whole 0 (reached (root_item m)) refl refl
+root-law t f m [] = whole-law 0 (reached (root_item m)) refl refl
 root-law t f m (s ∷ S) =
     let a = starting f (root_item m) in
     subst (IsAnswer (suc (length S))) (walk-stop t a 0 (s ∷ S)) (walk-law t (suc (length S)) (through t a m s) 1 S (omega arith) (omega arith))
 
-settled-law : (n : ℕ) (b : Bool) (a : ResolvePathResult) → IsAnswer n a → IsAnswer n (settled b a)
-settled-law n b a h = record { unsettled = λ e. (λ i. record (h.unsettled (open-of a.reached_fixedpoint _ e) i) { reached_fixedpoint = e i }); index = h.index }
+yes_in_block-law : (n : ℕ) (b : Bool) (a : ResolvePathResult) → IsAnswer n a → IsAnswer n (yes_in_block b a)
+yes_in_block-law n b a h = record { unsettled = λ e. (λ i. record (h.unsettled (open-of a.reached_fixedpoint _ e) i) { reached_fixedpoint = e i }); index = h.index }
   where
     open-of : (x y : ReachedFixedPoint) → either_yes x y ≡ No → x ≡ No
     open-of Yes y e = e
@@ -137,7 +137,7 @@ over-law n a b h k = record {
     lower No y e = e
 
 enter-law : (t : Tree) (m : ModuleId) (S : List Reading) → IsAnswer (length S) (enter t m S)
-enter-law t m S = subst (IsAnswer (length S)) (sym (enter-stop t m S)) (settled-law (length S) (in_block_map t (home t m)) _ (root-law t (home t m) (home t m) S))
+enter-law t m S = subst (IsAnswer (length S)) (sym (enter-stop t m S)) (yes_in_block-law (length S) (in_block_map t (home t m)) _ (root-law t (home t m) (home t m) S))
 
 module _ (w : Setting) (q : Ask) (S : List Reading) where
   root_of-law : (m : ModuleId) (k : Crate) → IsAnswer (length S) (from_root w m k S)

@@ -24,8 +24,8 @@ use Rattle.dm_def_map.specs.Maps.{LocalMap}
 use Rattle.dm_maps.specs.Trees.{tree_of}
 use Rattle.dm_maps.specs.World.{World}
 use Rattle.hir_def_map.specs.declared.result.ResolvePathResult.{ResolvePathResult}
-use Rattle.hir_def_map.specs.Walk.{marked, in_types, module_in}
-use Rattle.hir_def_map.specs.Paths.{by_crate}
+use Rattle.hir_def_map.specs.Walk.{crossed, in_types}
+use Rattle.hir_def_map.specs.Paths.{by_crate, module_in}
 
 pub knows-left : (w : World) (hs ks : List HeldId) → KnowsAll w (hs ++ ks) → KnowsAll w hs
 knows-left w [] ks k = tt
@@ -40,14 +40,14 @@ knows-append w [] ks k l = l
 knows-append w (h ∷ hs) ks k l = (k.0, knows-append w hs ks k.1 l)
 
 -- the module that a known visibility names is the tree's
-vis_known : (w : World) (v : Visibility) → KnowsAll w (vis_holds v) → NamesKnown (tree_of w) v
+pub vis_known : (w : World) (v : Visibility) → KnowsAll w (vis_holds v) → NamesKnown (tree_of w) v
 unfolding tree_of
 vis_known w (Module m e) k = k.0
 vis_known w (PubCrate c) k = tt
 vis_known w Public k = tt
 
 -- the middle part of three
-knows-middle : (w : World) (hs ks ls : List HeldId) → KnowsAll w (hs ++ ks ++ ls) → KnowsAll w ks
+pub knows-middle : (w : World) (hs ks ls : List HeldId) → KnowsAll w (hs ++ ks ++ ls) → KnowsAll w ks
 knows-middle w hs ks ls k = knows-right w hs ks (knows-left w (hs ++ ks) ls k)
 
 module _ (w : World) (x : PerNs) (k : KnowsAll w (res_holds x)) where
@@ -71,7 +71,7 @@ module _ (w : World) (x : PerNs) (k : KnowsAll w (res_holds x)) where
       knows-left w (def_holds i.def) (vis_holds i.vis) (knows-left w (def_holds i.def ++ vis_holds i.vis) (option_map_or import_holds i.import []) (subst P e types-known))
 
   -- a module that is a known type is the tree's
-  pub type_module-known : (i : Item ModuleDefId ImportOrExternCrate) (m : ModuleId) → x.types ≡ Some i → i.def ≡ def.ModuleId m → IsKnown (tree_of w) m
+  type_module-known : (i : Item ModuleDefId ImportOrExternCrate) (m : ModuleId) → x.types ≡ Some i → i.def ≡ def.ModuleId m → IsKnown (tree_of w) m
   unfolding tree_of
   type_module-known i m e is = let P : ModuleDefId → Type 0 = λ d. KnowsAll w (def_holds d) in (subst P is (type_def-known i e)).0
 
@@ -149,7 +149,7 @@ pub root-known : (w : World) (m : ModuleId) → IsKnown (tree_of w) m → KnowsA
 unfolding tree_of
 root-known w m k = (k, tt)
 
--- a marked answer holds what the answer held
-pub marked-known : (w : World) (d : Bool) (a : ResolvePathResult) → KnowsAll w (res_holds a.resolved_def) → KnowsAll w (res_holds (marked d a).resolved_def)
-marked-known w false a k = k
-marked-known w true a k = k
+-- an answer from another crate holds what the answer held
+pub crossed-known : (w : World) (d : Bool) (a : ResolvePathResult) → KnowsAll w (res_holds a.resolved_def) → KnowsAll w (res_holds (crossed d a).resolved_def)
+crossed-known w false a k = k
+crossed-known w true a k = k

@@ -5,5 +5,6 @@ pub mod LayerLemmas
 pub mod PlaceLemmas
 pub mod AnswerLaws
 pub mod CutLemmas
+pub mod CallLemmas
 pub mod QuestionLemmas
 pub mod VisibilityLemmas

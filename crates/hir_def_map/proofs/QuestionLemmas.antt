@@ -43,7 +43,7 @@ module _ (w v : World) (stays : StaysKnown w v) (M N : Map) (there : numbered_ma
   its-own : outline N ≡ outline M → numbered_map v N.id ≡ Some N
   its-own same = ap (λ (o : Outline). numbered_map v o.id) same ∙ there
 
-  path-on : (L : LocalMap) (m : ModuleId) (kind : PathKind) → IsKnownQuestion w M L m kind → IsKnownQuestion v N L m kind
+  pub path-on : (L : LocalMap) (m : ModuleId) (kind : PathKind) → IsKnownQuestion w M L m kind → IsKnownQuestion v N L m kind
   path-on L m kind asked =
       let same = outlined asked.map in record {
         map = its-own same;
@@ -52,7 +52,7 @@ module _ (w v : World) (stays : StaysKnown w v) (M N : Map) (there : numbered_ma
         path_known = stays.all (path_holds kind) asked.path_known;
       }
 
-  preludes-on : (L : LocalMap) (m : ModuleId) (kind : PathKind) → IsKnownInCrate w M L m kind → IsKnownInCrate v N L m kind
+  pub preludes-on : (L : LocalMap) (m : ModuleId) (kind : PathKind) → IsKnownInCrate w M L m kind → IsKnownInCrate v N L m kind
   preludes-on L m kind asked =
       let same = outlined asked.map in
       let tree : tree_of v ≡ tree_of w = trees-same w v stays in record {
@@ -63,7 +63,7 @@ module _ (w v : World) (stays : StaysKnown w v) (M N : Map) (there : numbered_ma
         path_known = stays.all (path_holds kind) asked.path_known;
       }
 
-  visibility-on : (L : LocalMap) (m : ModuleId) (raw : RawVisibility) → IsKnownVisibility w M L m raw → IsKnownVisibility v N L m raw
+  pub visibility-on : (L : LocalMap) (m : ModuleId) (raw : RawVisibility) → IsKnownVisibility w M L m raw → IsKnownVisibility v N L m raw
   visibility-on L m raw asked =
       let same = outlined asked.map in record {
         map = its-own same;
@@ -71,12 +71,3 @@ module _ (w v : World) (stays : StaysKnown w v) (M N : Map) (there : numbered_ma
         local_known = stays.all (local_holds L) asked.local_known;
         path_known = stays.all (raw_holds raw) asked.path_known;
       }
-
-pub paths-on : (w v : World) → StaysKnown w v → (M N : Map) (L : LocalMap) (m : ModuleId) (kind : PathKind) → IsKnownQuestion w M L m kind → numbered_map v M.id ≡ Some N → IsKnownQuestion v N L m kind
-paths-on w v stays M N L m kind asked there = path-on w v stays M N there L m kind asked
-
-pub all-preludes-on : (w v : World) → StaysKnown w v → (M N : Map) (L : LocalMap) (m : ModuleId) (kind : PathKind) → IsKnownInCrate w M L m kind → numbered_map v M.id ≡ Some N → IsKnownInCrate v N L m kind
-all-preludes-on w v stays M N L m kind asked there = preludes-on w v stays M N there L m kind asked
-
-pub visibilities-on : (w v : World) → StaysKnown w v → (M N : Map) (L : LocalMap) (m : ModuleId) (raw : RawVisibility) → IsKnownVisibility w M L m raw → numbered_map v M.id ≡ Some N → IsKnownVisibility v N L m raw
-visibilities-on w v stays M N L m raw asked there = visibility-on w v stays M N there L m raw asked

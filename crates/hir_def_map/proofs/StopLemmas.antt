@@ -13,7 +13,7 @@ use Rattle.dm_base.specs.PerNs.{nothing}
 use Rattle.dm_base.specs.Tree.{Tree, crate_of, in_block_map, home}
 use Rattle.dm_maps.specs.Readings.{Reading}
 use Rattle.hir_def_map.specs.declared.result.ResolvePathResult.{ResolvePathResult}
-use Rattle.hir_def_map.specs.Answers.{nothing_no, from_other_crate, settled}
+use Rattle.hir_def_map.specs.Answers.{nothing_no, from_other_crate, yes_in_block}
 use Rattle.hir_def_map.specs.Paths.{Entering, Station, stations, is_stop, at_stop, stop, next_module, seen_in, root_item, enter_within, enter}
 
 module _ (e : Entering) (t : Tree) (f : ModuleId) (x : PerNs) (b : ℕ) (s : Reading) (S : List Reading) where
@@ -80,7 +80,7 @@ pub enough : (t : Tree) (k l : ℕ) (m : ModuleId) (S : List Reading) → length
 enough t zero l m S h g = absurd (omega arith)
 enough t (suc k) zero m S h g = absurd (omega arith)
 enough t (suc k) (suc l) m S h g =
-    ap (settled (in_block_map t (home t m)))
+    ap (yes_in_block (in_block_map t (home t m)))
     (stop_from-same (enter_within k t) (enter_within l t) t (home t m) S (λ n z o R r. enough t k l o R (omega arith) (omega arith)))
 
 -- at a module of another crate the rest is entered there, whatever the bound
@@ -88,7 +88,7 @@ pub stop-enters : (t : Tree) (f : ModuleId) (x : PerNs) (b : ℕ) (S : List Read
 stop-enters t f x b S k h = stop-same (enter_within k t) (enter t) (length S) (λ m R r. enough t k (suc (length R)) m R (omega arith) (omega arith)) t f x b S (omega arith)
 
 -- a module that is entered answers as the stop from its home
-pub enter-stop : (t : Tree) (m : ModuleId) (S : List Reading) → enter t m S ≡ settled (in_block_map t (home t m)) (stop (enter t) t (home t m) (root_item (home t m)) 0 S)
+pub enter-stop : (t : Tree) (m : ModuleId) (S : List Reading) → enter t m S ≡ yes_in_block (in_block_map t (home t m)) (stop (enter t) t (home t m) (root_item (home t m)) 0 S)
 enter-stop t m S =
-    ap (settled (in_block_map t (home t m)))
+    ap (yes_in_block (in_block_map t (home t m)))
     (stop_from-same (enter_within (length S) t) (enter t) t (home t m) S (λ n z o R r. enough t (length S) (suc (length R)) o R (omega arith) (omega arith)))

@@ -21,62 +21,62 @@ use Rattle.dm_maps.specs.World.{World}
 use Rattle.hir_def_map.specs.declared.result.ResolvePathResult.{ResolvePathResult}
 use Rattle.hir_def_map.specs.declared.segments.Entered.{Entered}
 use Rattle.hir_def_map.specs.Answers.{from_other_crate}
-use Rattle.hir_def_map.specs.Paths.{Entering, is_empty, at_variant, stop, seen_in, root_item, enter, enter_within}
-use Rattle.hir_def_map.specs.Walk.{Stand, marked, standing, entry, module_in, left_at, through, walk}
+use Rattle.hir_def_map.specs.Paths.{Entering, is_empty, at_variant, module_in, stop, seen_in, root_item, enter, enter_within}
+use Rattle.hir_def_map.specs.Walk.{Stand, crossed, standing, entry, left_at, through, walk}
 use Rattle.hir_def_map.proofs.StopLemmas.{stop-through, stop-here, own_crate, stop-enters}
 
 add_twice : (k p : ℕ) (o : Option ℕ) → option_map (λ i. i + p) (option_map (λ i. i + k) o) ≡ option_map (λ i. i + (k + p)) o
 add_twice k p None = refl
 add_twice k p (Some i) = let e : (i + k) + p ≡ i + (k + p) = omega arith in ap Some e
 
-enum-shifted : (i : Item ModuleDefId ImportOrExternCrate) (k p : ℕ) (o : Option (EnumVariantId × FieldsShape)) (b : Bool) → from_other_crate p (at_variant i k o b) ≡ marked true (at_variant i (k + p) o b)
+enum-shifted : (i : Item ModuleDefId ImportOrExternCrate) (k p : ℕ) (o : Option (EnumVariantId × FieldsShape)) (b : Bool) → from_other_crate p (at_variant i k o b) ≡ crossed true (at_variant i (k + p) o b)
 enum-shifted i k p None b = refl
 enum-shifted i k p (Some v) true = refl
 enum-shifted i k p (Some v) false = refl
 
 -- an answer from position k on, shifted by p, is that from position k + p on
-stop-shifted : (e : Entering) (t : Tree) (f : ModuleId) (x : PerNs) (k p : ℕ) (S : List Reading) → from_other_crate p (stop e t f x k S) ≡ marked true (stop e t f x (k + p) S)
+stop-shifted : (e : Entering) (t : Tree) (f : ModuleId) (x : PerNs) (k p : ℕ) (S : List Reading) → from_other_crate p (stop e t f x k S) ≡ crossed true (stop e t f x (k + p) S)
 stop-shifted e t f x k p [] = refl
 stop-shifted e t f x k p (s ∷ S) = by x.types (λ y. stop-shifted e t f y (k + 1) p S)
   where
     by_module : (i : Item ModuleDefId ImportOrExternCrate) (m : ModuleId) (b : Bool) → same_crate (crate_of t m) (crate_of t f) ≡ b
-        → ((y : PerNs) → from_other_crate p (stop e t f y (k + 1) S) ≡ marked true (stop e t f y ((k + 1) + p) S))
-        → let z : PerNs = record x { types = Some (record i { def = def.ModuleId m }) } in from_other_crate p (stop e t f z k (s ∷ S)) ≡ marked true (stop e t f z (k + p) (s ∷ S))
+        → ((y : PerNs) → from_other_crate p (stop e t f y (k + 1) S) ≡ crossed true (stop e t f y ((k + 1) + p) S))
+        → let z : PerNs = record x { types = Some (record i { def = def.ModuleId m }) } in from_other_crate p (stop e t f z k (s ∷ S)) ≡ crossed true (stop e t f z (k + p) (s ∷ S))
     by_module i m true is rest =
         let z : PerNs = record x { types = Some (record i { def = def.ModuleId m }) } in
         let next = cond-true _ (Some m) None is in
         let steps : (k + 1) + p ≡ (k + p) + 1 = omega arith in
         ap (from_other_crate p) (stop-through e t f z k s S m next)
         ∙ rest (seen_in t f s m)
-        ∙ ap (λ n. marked true (stop e t f (seen_in t f s m) n S)) steps
-        ∙ ap (marked true) (sym (stop-through e t f z (k + p) s S m next))
+        ∙ ap (λ n. crossed true (stop e t f (seen_in t f s m) n S)) steps
+        ∙ ap (crossed true) (sym (stop-through e t f z (k + p) s S m next))
     by_module i m false is rest =
         let z : PerNs = record x { types = Some (record i { def = def.ModuleId m }) } in
         let next = cond-false _ (Some m) None is in
         ap (from_other_crate p) (stop-here e t f z k s S next)
         ∙ ap (λ o. record (from_other_crate p (from_other_crate k (e m (s ∷ S)))) { segment_index = o }) (add_twice k p (e m (s ∷ S)).segment_index)
-        ∙ ap (marked true) (sym (stop-here e t f z (k + p) s S next))
+        ∙ ap (crossed true) (sym (stop-here e t f z (k + p) s S next))
 
     by_def : (i : Item ModuleDefId ImportOrExternCrate) (c : ModuleDefId)
-        → ((y : PerNs) → from_other_crate p (stop e t f y (k + 1) S) ≡ marked true (stop e t f y ((k + 1) + p) S))
-        → let z : PerNs = record x { types = Some (record i { def = c }) } in from_other_crate p (stop e t f z k (s ∷ S)) ≡ marked true (stop e t f z (k + p) (s ∷ S))
+        → ((y : PerNs) → from_other_crate p (stop e t f y (k + 1) S) ≡ crossed true (stop e t f y ((k + 1) + p) S))
+        → let z : PerNs = record x { types = Some (record i { def = c }) } in from_other_crate p (stop e t f z k (s ∷ S)) ≡ crossed true (stop e t f z (k + p) (s ∷ S))
     by_def i (def.ModuleId m) rest = by_module i m (same_crate (crate_of t m) (crate_of t f)) refl rest
     by_def i (def.AdtId (adt.EnumId n)) rest = enum-shifted (record i { def = def.AdtId (adt.EnumId n) }) k p (s.variant n) (is_empty S)
     by_def i (def.AdtId _) rest = refl
     by_def i _ rest = refl
 
     by : (o : Option (Item ModuleDefId ImportOrExternCrate))
-        → ((y : PerNs) → from_other_crate p (stop e t f y (k + 1) S) ≡ marked true (stop e t f y ((k + 1) + p) S))
-        → let z : PerNs = record x { types = o } in from_other_crate p (stop e t f z k (s ∷ S)) ≡ marked true (stop e t f z (k + p) (s ∷ S))
+        → ((y : PerNs) → from_other_crate p (stop e t f y (k + 1) S) ≡ crossed true (stop e t f y ((k + 1) + p) S))
+        → let z : PerNs = record x { types = o } in from_other_crate p (stop e t f z k (s ∷ S)) ≡ crossed true (stop e t f z (k + p) (s ∷ S))
     by None rest = refl
     by (Some i) rest = by_def i i.def rest
 
-marked_twice : (d : Bool) (p : ℕ) (a : ResolvePathResult) → marked d (from_other_crate p a) ≡ from_other_crate p a
-marked_twice true p a = refl
-marked_twice false p a = refl
+crossed_twice : (d : Bool) (p : ℕ) (a : ResolvePathResult) → crossed d (from_other_crate p a) ≡ from_other_crate p a
+crossed_twice true p a = refl
+crossed_twice false p a = refl
 
 -- a module of another crate answers as the walk that goes on in it
-entered : (t : Tree) (m : ModuleId) (pos : ℕ) (s : Reading) (S : List Reading) → from_other_crate pos (enter t m (s ∷ S)) ≡ marked true (stop (enter t) t (home t m) (seen_in t (home t m) s (home t m)) (pos + 1) S)
+entered : (t : Tree) (m : ModuleId) (pos : ℕ) (s : Reading) (S : List Reading) → from_other_crate pos (enter t m (s ∷ S)) ≡ crossed true (stop (enter t) t (home t m) (seen_in t (home t m) s (home t m)) (pos + 1) S)
 entered t m pos s S =
     let h = home t m in
     let y = seen_in t h s h in
@@ -84,15 +84,15 @@ entered t m pos s S =
     let steps : (0 + 1) + pos ≡ pos + 1 = omega arith in
     ap (from_other_crate pos) (stop-through (enter_within (suc (length S)) t) t h (root_item h) 0 s S h (own_crate t h) ∙ stop-enters t h y (0 + 1) S (suc (length S)) bound)
     ∙ stop-shifted (enter t) t h y (0 + 1) pos S
-    ∙ ap (λ n. marked true (stop (enter t) t h y n S)) steps
+    ∙ ap (λ n. crossed true (stop (enter t) t h y n S)) steps
 
 -- the walk ends with the answer at the stop
-pub walk-stop : (t : Tree) (a : Stand) (pos : ℕ) (S : List Reading) → walk t a pos S ≡ marked a.differing (stop (enter t) t a.origin a.here pos S)
+pub walk-stop : (t : Tree) (a : Stand) (pos : ℕ) (S : List Reading) → walk t a pos S ≡ crossed a.differing (stop (enter t) t a.origin a.here pos S)
 walk-stop t a pos [] = refl
 walk-stop t a pos (s ∷ S) = by a.here.types (λ b. walk-stop t b (pos + 1) S)
   where
     Ends : PerNs → Type 0
-    Ends z = walk t (record a { here = z }) pos (s ∷ S) ≡ marked a.differing (stop (enter t) t a.origin z pos (s ∷ S))
+    Ends z = walk t (record a { here = z }) pos (s ∷ S) ≡ crossed a.differing (stop (enter t) t a.origin z pos (s ∷ S))
 
     with_def : Item ModuleDefId ImportOrExternCrate → ModuleDefId → PerNs
     with_def i c = record a.here { types = Some (record i { def = c }) }
@@ -103,21 +103,21 @@ walk-stop t a pos (s ∷ S) = by a.here.types (λ b. walk-stop t b (pos + 1) S)
         record { differing = e.differing; origin = e.origin; here = seen_in t e.origin s e.asked }
 
     by_module : (i : Item ModuleDefId ImportOrExternCrate) (m : ModuleId) (b : Bool) → same_crate (crate_of t m) (crate_of t a.origin) ≡ b
-        → ((z : Stand) → walk t z (pos + 1) S ≡ marked z.differing (stop (enter t) t z.origin z.here (pos + 1) S))
+        → ((z : Stand) → walk t z (pos + 1) S ≡ crossed z.differing (stop (enter t) t z.origin z.here (pos + 1) S))
         → Ends (with_def i (def.ModuleId m))
     by_module i m true is rest =
         ap (λ c. walk t (chosen m c) (pos + 1) S) is
         ∙ rest (chosen m true)
-        ∙ ap (marked a.differing) (sym (stop-through (enter t) t a.origin (with_def i (def.ModuleId m)) pos s S m (cond-true _ (Some m) None is)))
+        ∙ ap (crossed a.differing) (sym (stop-through (enter t) t a.origin (with_def i (def.ModuleId m)) pos s S m (cond-true _ (Some m) None is)))
     by_module i m false is rest =
         ap (λ c. walk t (chosen m c) (pos + 1) S) is
         ∙ rest (chosen m false)
         ∙ sym (entered t m pos s S)
-        ∙ sym (marked_twice a.differing pos (enter t m (s ∷ S)))
-        ∙ ap (marked a.differing) (sym (stop-here (enter t) t a.origin (with_def i (def.ModuleId m)) pos s S (cond-false _ (Some m) None is)))
+        ∙ sym (crossed_twice a.differing pos (enter t m (s ∷ S)))
+        ∙ ap (crossed a.differing) (sym (stop-here (enter t) t a.origin (with_def i (def.ModuleId m)) pos s S (cond-false _ (Some m) None is)))
 
     by_def : (i : Item ModuleDefId ImportOrExternCrate) (c : ModuleDefId)
-        → ((z : Stand) → walk t z (pos + 1) S ≡ marked z.differing (stop (enter t) t z.origin z.here (pos + 1) S))
+        → ((z : Stand) → walk t z (pos + 1) S ≡ crossed z.differing (stop (enter t) t z.origin z.here (pos + 1) S))
         → Ends (with_def i c)
     by_def i (def.ModuleId m) rest = by_module i m (same_crate (crate_of t m) (crate_of t a.origin)) refl rest
     by_def i (def.AdtId (adt.EnumId n)) rest = refl
@@ -125,7 +125,7 @@ walk-stop t a pos (s ∷ S) = by a.here.types (λ b. walk-stop t b (pos + 1) S)
     by_def i _ rest = refl
 
     by : (o : Option (Item ModuleDefId ImportOrExternCrate))
-        → ((z : Stand) → walk t z (pos + 1) S ≡ marked z.differing (stop (enter t) t z.origin z.here (pos + 1) S))
+        → ((z : Stand) → walk t z (pos + 1) S ≡ crossed z.differing (stop (enter t) t z.origin z.here (pos + 1) S))
         → Ends (record a.here { types = o })
     by None rest = refl
     by (Some i) rest = by_def i i.def rest
@@ -144,11 +144,11 @@ module _ (w : World) (L : LocalMap) (d : Bool) (f : ModuleId) (o : Option (Item 
   abbrev at_module : Item ModuleDefId ImportOrExternCrate → Option ModuleId → ResolvePathResult
   at_module i x = elim x [
     | Some m ↦ walk (tree_of w) (through (tree_of w) (standing d f o) m (read w L s)) (pos + 1) (map (read w L) rest)
-    | None ↦ marked d (left_at i pos (read w L s) (is_empty (map (read w L) rest)) i.def)
+    | None ↦ crossed d (left_at i pos (read w L s) (is_empty (map (read w L) rest)) i.def)
   ]
 
   pub walk-leaves : (i : Item ModuleDefId ImportOrExternCrate) → o ≡ Some i → module_in i.def ≡ None
-      → walk (tree_of w) (standing d f o) pos (map (read w L) (s ∷ rest)) ≡ marked d (left_at i pos (read w L s) (is_empty (map (read w L) rest)) i.def)
+      → walk (tree_of w) (standing d f o) pos (map (read w L) (s ∷ rest)) ≡ crossed d (left_at i pos (read w L s) (is_empty (map (read w L) rest)) i.def)
   walk-leaves i is none = ap at_type is ∙ ap (at_module i) none
 
   pub walk-goes : (i : Item ModuleDefId ImportOrExternCrate) (m : ModuleId) → o ≡ Some i → module_in i.def ≡ Some m

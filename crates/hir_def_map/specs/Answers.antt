@@ -72,8 +72,8 @@ over_answer a b = record {
 }
 
 -- an answer of a module that lies in a block, or does not: a block's is yes
-abbrev pub settled : Bool → ResolvePathResult → ResolvePathResult
-settled in_block a = record a { reached_fixedpoint = either_yes a.reached_fixedpoint (if in_block then Yes else No) }
+abbrev pub yes_in_block : Bool → ResolvePathResult → ResolvePathResult
+yes_in_block in_block a = record a { reached_fixedpoint = either_yes a.reached_fixedpoint (if in_block then Yes else No) }
 
 abbrev pub merged : List ResolvePathResult → ResolvePathResult
 merged [] = nothing_no

@@ -1,7 +1,6 @@
 pub mod Answers
 pub mod Overlays
 pub mod Paths
-pub mod Local
 pub mod Questions
 pub mod Laws
 pub mod Walk

@@ -1,5 +1,5 @@
 -- What a path resolves to: the definition of path resolution.
-use Rattle.std.specs.Prelude.{ℕ, zero, suc, ◌+◌, ◌&&◌, ◌||◌, not, List, [], ◌∷◌, ◌++◌, Option, Some, None, Bool, true, false, if◌then◌else◌, length, map, find, is_none, slice_get}
+use Rattle.std.specs.Prelude.{ℕ, zero, suc, ◌+◌, ◌&&◌, ◌||◌, not, List, [], ◌∷◌, ◌++◌, Option, Some, None, Bool, true, false, if◌then◌else◌, length, map, find, is_none, is_some, slice_get}
 use Rattle.std.specs.Option.{option_map, option_map_or, option_and_then}
 use Rattle.dm_ids.specs.declared.ids.ModuleId.{ModuleId}
 use Rattle.dm_ids.specs.declared.ids.Crate.{Crate}
@@ -40,7 +40,7 @@ use Rattle.hir_def_map.specs.declared.question.Ask.{Ask}
 use Rattle.hir_def_map.specs.declared.result.ResolveMode.{ResolveMode}
 use Rattle.hir_def_map.specs.declared.result.ResolveMode.TheVariants as mode
 use Rattle.hir_def_map.specs.declared.result.ResolvePathResult.{ResolvePathResult}
-use Rattle.hir_def_map.specs.Answers.{reached, nothing_yes, nothing_no, stopped, variant_answer, from_other_crate, settled, merged}
+use Rattle.hir_def_map.specs.Answers.{reached, nothing_yes, nothing_no, stopped, variant_answer, from_other_crate, yes_in_block, merged}
 
 -- What segments answer from a module of another crate.
 abbrev pub Entering : Type 0
@@ -52,13 +52,18 @@ asked m by s e k = record { origin = m; mode = by; shadow = s; expected = e; kin
 
 -- ---- Stations and stop: the segments one after another
 
--- the module that a path goes on through: one of f's crate, in types
-abbrev pub next_module_in : Tree → ModuleId → ModuleDefId → Option ModuleId
-next_module_in t f (def.ModuleId m) = if same_crate (crate_of t m) (crate_of t f) then Some m else None
-next_module_in t f _ = None
+-- the module that a definition is, if it is one
+abbrev pub module_in : ModuleDefId → Option ModuleId
+module_in (def.ModuleId m) = Some m
+module_in _ = None
 
+-- the module that a type is, if there is one and it is one
+abbrev pub type_module : Option (Item ModuleDefId ImportOrExternCrate) → Option ModuleId
+type_module x = option_and_then (λ i. module_in i.def) x
+
+-- the module that a path goes on through: one of f's crate, in types
 abbrev pub next_module : Tree → ModuleId → PerNs → Option ModuleId
-next_module t f x = option_and_then (λ i. next_module_in t f i.def) x.types
+next_module t f x = keep (λ m. same_crate (crate_of t m) (crate_of t f)) (type_module x.types)
 
 -- what a segment after a module resolves to: what the module's scope binds under it, each item kept where f sees it
 abbrev pub seen_in : Tree → ModuleId → Reading → ModuleId → PerNs
@@ -123,7 +128,7 @@ abbrev pub enter_within : ℕ → Tree → Entering
 enter_within zero t m S = nothing_yes
 enter_within (suc n) t m S =
     let h = home t m in
-    settled (in_block_map t h) (stop (enter_within n t) t h (root_item h) 0 S)
+    yes_in_block (in_block_map t h) (stop (enter_within n t) t h (root_item h) 0 S)
 
 -- What `self::` and the segments answer from a module, with no places, prelude or expectation. Each module of another
 -- crate that is met leaves fewer segments.
@@ -185,20 +190,13 @@ asks_root q = elim q.kind [ kind.Abs ↦ true | kind.Plain ↦ elim q.mode [ mod
 abbrev pub by_2015_rule : Setting → Ask → Place → Bool
 by_2015_rule w q p = w.is_2015 (map_at w.tree p).krate && asks_root q
 
-abbrev pub is_module_def : ModuleDefId → Bool
-is_module_def (def.ModuleId m) = true
-is_module_def _ = false
-
-abbrev pub is_module : Option (Item ModuleDefId ImportOrExternCrate) → Bool
-is_module x = option_map_or (λ i. is_module_def i.def) x false
-
 -- builtin types are in no block's map
 abbrev pub builtins_of : Setting → ModuleId → Reading → PerNs
 builtins_of w m s = if in_block_map w.tree m then nothing else builtin s
 
 -- whether builtin types shadow the scope: for a path of one name, where asked so, and the scope's type is a module
 abbrev pub are_builtins_first : Ask → PerNs → Bool → Bool
-are_builtins_first q own is_last = elim q.shadow [ shadow.Other ↦ true | shadow.Module ↦ false ] && is_last && is_module own.types
+are_builtins_first q own is_last = elim q.shadow [ shadow.Other ↦ true | shadow.Module ↦ false ] && is_last && is_some (type_module own.types)
 
 -- the builtin types or the scope
 abbrev pub builtins_or_scope : Setting → Ask → ModuleId → Reading → Bool → PerNs

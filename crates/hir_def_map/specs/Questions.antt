@@ -6,6 +6,7 @@ use Rattle.dm_base.specs.Tree.{IsKnown, crate_of}
 use Rattle.dm_check.specs.Holding.{local_holds, path_holds}
 use Rattle.dm_def_map.specs.Maps.{Map, LocalMap, module_at}
 use Rattle.dm_maps.specs.Known.{KnowsAll}
+use Rattle.dm_maps.specs.Stays.{StaysKnown}
 use Rattle.dm_maps.specs.Trees.{tree_of}
 use Rattle.dm_maps.specs.World.{World, numbered_map}
 
@@ -24,3 +25,9 @@ pub record IsKnownInCrate (w : World) (M : Map) (L : LocalMap) (m : ModuleId) (k
   pub of_crate : crate_of (tree_of w) m ≡ M.id.krate
   pub local_known : KnowsAll w (local_holds L)
   pub path_known : KnowsAll w (path_holds kind)
+
+-- What a world knew as a question before a push it knows after it, of the map of the same id.
+abbrev pub StaysAsked : {A : Type 0} → (World → Map → LocalMap → ModuleId → A → Type 0) → Type 0
+StaysAsked {A} Known =
+    (w v : World) → StaysKnown w v → (M N : Map) (L : LocalMap) (m : ModuleId) (a : A)
+    → Known w M L m a → numbered_map v M.id ≡ Some N → Known v N L m a

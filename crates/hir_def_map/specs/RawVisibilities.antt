@@ -21,18 +21,20 @@ use Rattle.dm_base.specs.declared.visibility.VisibilityExplicitness.{VisibilityE
 use Rattle.dm_base.specs.declared.visibility.VisibilityExplicitness.TheVariants.{Implicit}
 use Rattle.dm_base.specs.ItemHomes.{def_module}
 use Rattle.dm_base.specs.Tree.{same_block}
-use Rattle.dm_check.specs.Holding.{local_holds}
+use Rattle.dm_base.specs.Visibility.{NamesKnown}
+use Rattle.dm_check.specs.Holding.{local_holds, vis_holds}
 use Rattle.dm_check.specs.TablesHold.{raw_holds}
 use Rattle.dm_def_map.specs.declared.modules.modes.BuiltinShadowMode.TheVariants as shadow
 use Rattle.dm_def_map.specs.Maps.{Map, LocalMap, module_at}
 use Rattle.dm_maps.specs.First.{local_at}
 use Rattle.dm_maps.specs.ItemHomes.{homes_of}
 use Rattle.dm_maps.specs.Known.{KnowsAll}
+use Rattle.dm_maps.specs.Trees.{tree_of}
 use Rattle.dm_maps.specs.RawTables.{fields_in, assoc_in, trait_visibility_in}
 use Rattle.dm_maps.specs.World.{World, map_of, numbered_map}
 use Rattle.hir_def_map.specs.declared.result.ResolveMode.TheVariants.{Other}
 use Rattle.hir_def_map.specs.declared.result.ResolvePathResult.{ResolvePathResult}
-use Rattle.hir_def_map.specs.Paths.{asked, answer}
+use Rattle.hir_def_map.specs.Paths.{asked, answer, type_module}
 
 -- A raw visibility that a world can resolve: the map is the world's of its id, the module that it is written in lies in
 -- it, and local map and path name only what the world has.
@@ -42,15 +44,16 @@ pub record IsKnownVisibility (w : World) (M : Map) (L : LocalMap) (m : ModuleId)
   pub local_known : KnowsAll w (local_holds L)
   pub path_known : KnowsAll w (raw_holds v)
 
--- ---- By a path
+-- A visibility of the world's: the module that it names is the tree's, and each id that it holds is known.
+pub record IsOfWorld (w : World) (v : Visibility) : Type 0 where
+  pub names : NamesKnown (tree_of w) v
+  pub held : KnowsAll w (vis_holds v)
 
-abbrev pub module_named : ModuleDefId → Option ModuleId
-module_named (def.ModuleId m) = Some m
-module_named _ = None
+-- ---- By a path
 
 -- the module that a path resolves to: none where a segment is left, or the type is no module
 abbrev pub module_reached : PerNs → Option ℕ → Option ModuleId
-module_reached x left = elim left [ Some i ↦ None | None ↦ option_and_then (λ i. module_named i.def) x.types ]
+module_reached x left = elim left [ Some i ↦ None | None ↦ type_module x.types ]
 
 -- the block in whose map a module lies, if it lies in one
 abbrev pub block_in : World → ModuleId → Option BlockId

@@ -13,7 +13,7 @@ use Rattle.hir_def_map.specs.declared.result.ResolveMode.TheVariants as mode
 use Rattle.hir_def_map.specs.declared.result.ReachedFixedPoint.TheVariants.{Yes, No}
 use Rattle.hir_def_map.specs.declared.question.Ask.{Ask}
 use Rattle.hir_def_map.specs.Paths.{answer, answer_alone, prelude_answer, asked}
-use Rattle.hir_def_map.specs.Written.{meaning, said, an_item, a_module, a_struct, a_function, by_rules, within, binds_types, crate_id, module_with, a_map, number, place}
+use Rattle.hir_def_map.specs.Written.{meant, said, an_item, a_module, a_struct, a_function, by_rules, within, binds_types, crate_id, module_with, a_map, number, place}
 use Rattle.hir_def_map.specs.WorldA.{world_a, externs}
 
 abbrev plainly : Ask
@@ -59,20 +59,17 @@ world_e = record no_world {
   items = (item.Struct, number 0) ∷ [];
 }
 
--- p 0 crate b a b a S
-pub through_crates : meaning world_e [] 0 mode.Other shadow.Module None kind.Crate (codes "b" ∷ codes "a" ∷ codes "b" ∷ codes "a" ∷ codes "S" ∷ [])
+pub through_crates : meant world_e [] 0 kind.Crate (codes "b" ∷ codes "a" ∷ codes "b" ∷ codes "a" ∷ codes "S" ∷ [])
     ≡ said (Some (an_item (a_struct 0) Public None)) None None Yes None true false
 unfolding answer
 through_crates = refl
 
--- p 0 crate b a b a S z
-pub through_crates_left : meaning world_e [] 0 mode.Other shadow.Module None kind.Crate (codes "b" ∷ codes "a" ∷ codes "b" ∷ codes "a" ∷ codes "S" ∷ codes "z" ∷ [])
+pub through_crates_left : meant world_e [] 0 kind.Crate (codes "b" ∷ codes "a" ∷ codes "b" ∷ codes "a" ∷ codes "S" ∷ codes "z" ∷ [])
     ≡ said (Some (an_item (a_struct 0) Public None)) None None Yes (Some 5) true false
 unfolding answer
 through_crates_left = refl
 
--- p 0 crate b a b a Z z
-pub through_crates_miss : meaning world_e [] 0 mode.Other shadow.Module None kind.Crate (codes "b" ∷ codes "a" ∷ codes "b" ∷ codes "a" ∷ codes "Z" ∷ codes "z" ∷ [])
+pub through_crates_miss : meant world_e [] 0 kind.Crate (codes "b" ∷ codes "a" ∷ codes "b" ∷ codes "a" ∷ codes "Z" ∷ codes "z" ∷ [])
     ≡ said None None None Yes None true false
 unfolding answer
 through_crates_miss = refl

@@ -7,7 +7,7 @@ use Rattle.dm_def_map.specs.declared.modules.modes.MacroSubNs.TheVariants.{Bang,
 use Rattle.hir_def_map.specs.declared.result.ResolveMode.TheVariants as mode
 use Rattle.hir_def_map.specs.declared.result.ReachedFixedPoint.TheVariants.{Yes}
 use Rattle.hir_def_map.specs.Paths.{answer}
-use Rattle.hir_def_map.specs.Written.{meaning, said, an_item, by_rules, procedural}
+use Rattle.hir_def_map.specs.Written.{meaning, meant, said, an_item, by_rules, procedural}
 use Rattle.hir_def_map.specs.WorldA.{world_a, externs}
 use Rattle.hir_def_map.specs.WorldP.{world_p, second}
 
@@ -22,7 +22,6 @@ pub macro_use_attr_second : meaning (second world_a) externs 0 mode.Other shadow
 unfolding answer
 macro_use_attr_second = refl
 
--- path 0 other module bang plain mu
 pub macro_use_bang_first : meaning world_a externs 0 mode.Other shadow.Module (Some Bang) kind.Plain (codes "mu" ∷ [])
     ≡ said None None (Some (an_item (by_rules 0) Public None)) Yes None false false
 unfolding answer
@@ -44,13 +43,12 @@ pub prelude_place_attr_second : meaning (second world_a) externs 6 mode.Other sh
 unfolding answer
 prelude_place_attr_second = refl
 
--- p 6 plain mu
-pub prelude_place_any_first : meaning world_a externs 6 mode.Other shadow.Module None kind.Plain (codes "mu" ∷ [])
+pub prelude_place_any_first : meant world_a externs 6 kind.Plain (codes "mu" ∷ [])
     ≡ said None None (Some (an_item (by_rules 0) Public None)) Yes None false false
 unfolding answer
 prelude_place_any_first = refl
 
-pub prelude_place_any_second : meaning (second world_a) externs 6 mode.Other shadow.Module None kind.Plain (codes "mu" ∷ [])
+pub prelude_place_any_second : meant (second world_a) externs 6 kind.Plain (codes "mu" ∷ [])
     ≡ said None None (Some (an_item (by_rules 0) Public None)) Yes None false false
 unfolding answer
 prelude_place_any_second = refl

@@ -12,12 +12,12 @@ use Rattle.hir_def_map.specs.declared.result.ReachedFixedPoint.TheVariants.{Yes}
 use Rattle.hir_def_map.specs.declared.result.ResolvePathResult.{ResolvePathResult}
 use Rattle.hir_def_map.specs.declared.segments.Entered.{Entered}
 use Rattle.hir_def_map.specs.Answers.{reached, nothing_no, stopped}
-use Rattle.hir_def_map.specs.Paths.{seen_in, at_adt, is_empty}
+use Rattle.hir_def_map.specs.Paths.{module_in, seen_in, at_adt, is_empty}
 
 -- an answer after the walk has come into another crate, if it has
-abbrev pub marked : Bool → ResolvePathResult → ResolvePathResult
-marked false a = a
-marked true a = record a { reached_fixedpoint = Yes; prefix_info = record { differing_crate = true; enum_variant = a.prefix_info.enum_variant } }
+abbrev pub crossed : Bool → ResolvePathResult → ResolvePathResult
+crossed false a = a
+crossed true a = record a { reached_fixedpoint = Yes; prefix_info = record { differing_crate = true; enum_variant = a.prefix_info.enum_variant } }
 
 -- the state of a walk: whether it has come into another crate, from where it sees, what it has reached
 pub record Stand : Type 0 where
@@ -47,10 +47,6 @@ entry t d f m =
 abbrev pub through : Tree → Stand → ModuleId → Reading → Stand
 through t a m s = let e = entry t a.differing a.origin m in record { differing = e.differing; origin = e.origin; here = seen_in t e.origin s e.asked }
 
-abbrev pub module_in : ModuleDefId → Option ModuleId
-module_in (def.ModuleId m) = Some m
-module_in _ = None
-
 -- The answer where what is reached is no module and segments are left. `is_last` says that one is.
 abbrev pub left_at : Item ModuleDefId ImportOrExternCrate → ℕ → Reading → Bool → ModuleDefId → ResolvePathResult
 left_at i pos s is_last (def.AdtId c) = at_adt i pos s is_last c
@@ -58,11 +54,11 @@ left_at i pos s is_last _ = stopped i pos
 
 -- one segment after another
 abbrev pub walk : Tree → Stand → ℕ → List Reading → ResolvePathResult
-walk t a pos [] = marked a.differing (reached a.here)
+walk t a pos [] = crossed a.differing (reached a.here)
 walk t a pos (s ∷ rest) = elim a.here.types [
-  | None ↦ marked a.differing nothing_no
+  | None ↦ crossed a.differing nothing_no
   | Some i ↦ elim (module_in i.def) [
     | Some m ↦ walk t (through t a m s) (pos + 1) rest
-    | None ↦ marked a.differing (left_at i pos s (is_empty rest) i.def)
+    | None ↦ crossed a.differing (left_at i pos s (is_empty rest) i.def)
   ]
 ]

@@ -13,7 +13,7 @@ use Rattle.dm_ids.specs.declared.item_ids.ModuleDefId.{ModuleDefId}
 use Rattle.dm_ids.specs.declared.item_ids.ModuleDefId.TheVariants as def
 use Rattle.dm_ids.specs.declared.item_ids.AdtId.TheVariants as adt
 use Rattle.dm_ids.specs.declared.item_ids.MacroId.{MacroId}
-use Rattle.dm_ids.specs.declared.item_ids.MacroId.TheVariants.{MacroRulesId, Macro2Id, ProcMacroId}
+use Rattle.dm_ids.specs.declared.item_ids.MacroId.TheVariants.{MacroRulesId, ProcMacroId}
 use Rattle.dm_base.specs.declared.mod_path.PathKind.{PathKind}
 use Rattle.dm_base.specs.declared.per_ns.Item.{Item}
 use Rattle.dm_ids.specs.declared.source.Edition.{Edition}
@@ -26,6 +26,7 @@ use Rattle.dm_ids.specs.Names.{Name}
 use Rattle.dm_scope.specs.Bindings.{Bound}
 use Rattle.dm_scope.specs.Scope.{Scope, no_scope}
 use Rattle.dm_def_map.specs.declared.modules.modes.BuiltinShadowMode.{BuiltinShadowMode}
+use Rattle.dm_def_map.specs.declared.modules.modes.BuiltinShadowMode.TheVariants as asks
 use Rattle.dm_def_map.specs.declared.modules.modes.MacroSubNs.{MacroSubNs}
 use Rattle.dm_def_map.specs.declared.modules.module_origin.ModuleOrigin.TheVariants.{Inline}
 use Rattle.dm_maps.specs.declared.place.Place.{Place}
@@ -34,9 +35,10 @@ use Rattle.dm_def_map.specs.Maps as maps
 use Rattle.dm_def_map.specs.Maps.{Map, Modules, LocalMap}
 use Rattle.dm_maps.specs.World.{World}
 use Rattle.hir_def_map.specs.declared.result.ResolveMode.{ResolveMode}
+use Rattle.hir_def_map.specs.declared.result.ResolveMode.TheVariants.{Other}
 use Rattle.hir_def_map.specs.declared.result.ReachedFixedPoint.{ReachedFixedPoint}
 use Rattle.hir_def_map.specs.declared.result.ResolvePathResult.{ResolvePathResult}
-use Rattle.hir_def_map.specs.Paths.{answer}
+use Rattle.hir_def_map.specs.Paths.{answer, asked}
 
 -- definitions by their numbers
 abbrev pub a_module : ℕ → ModuleDefId
@@ -44,9 +46,6 @@ a_module n = def.ModuleId (record { 0 = n })
 
 abbrev pub a_struct : ℕ → ModuleDefId
 a_struct n = def.AdtId (adt.StructId (record { 0 = n }))
-
-abbrev pub a_union : ℕ → ModuleDefId
-a_union n = def.AdtId (adt.UnionId (record { 0 = n }))
 
 abbrev pub a_function : ℕ → ModuleDefId
 a_function n = def.FunctionId (record { 0 = n })
@@ -57,26 +56,11 @@ an_enum n = def.AdtId (adt.EnumId (record { 0 = n }))
 abbrev pub a_variant : ℕ → ModuleDefId
 a_variant n = def.EnumVariantId (record { 0 = n })
 
-abbrev pub a_const : ℕ → ModuleDefId
-a_const n = def.ConstId (record { 0 = n })
-
-abbrev pub a_static : ℕ → ModuleDefId
-a_static n = def.StaticId (record { 0 = n })
-
-abbrev pub a_trait : ℕ → ModuleDefId
-a_trait n = def.TraitId (record { 0 = n })
-
-abbrev pub an_alias : ℕ → ModuleDefId
-an_alias n = def.TypeAliasId (record { 0 = n })
-
 abbrev pub a_builtin : BuiltinType → ModuleDefId
 a_builtin b = def.BuiltinType b
 
 abbrev pub by_rules : ℕ → MacroId
 by_rules n = MacroRulesId (record { 0 = n })
-
-abbrev pub by_macro : ℕ → MacroId
-by_macro n = Macro2Id (record { 0 = n })
 
 abbrev pub procedural : ℕ → MacroId
 procedural n = ProcMacroId (record { 0 = n })
@@ -103,9 +87,6 @@ extern_crate n = wide.ExternCrate (record { 0 = n })
 abbrev pub named_value : ℕ → ℕ → ImportOrGlob
 named_value u i = narrow.Import (leaf u i)
 
-abbrev pub glob_value : ℕ → ℕ → ImportOrGlob
-glob_value u i = narrow.Glob (record { use_ = record { 0 = u }; idx = record { 0 = i } })
-
 abbrev pub an_item : {D I : Type 0} → D → Visibility → Option I → Item D I
 an_item d v i = record { def = d; vis = v; import = i }
 
@@ -120,7 +101,11 @@ said t v m status index differing variant = record {
 
 -- what a path means from module m
 abbrev pub meaning : World → LocalMap → ℕ → ResolveMode → BuiltinShadowMode → Option MacroSubNs → PathKind → List Name → ResolvePathResult
-meaning w L m mode shadow expected kind segments = answer w L (record { origin = record { 0 = m }; mode = mode; shadow = shadow; expected = expected; kind = kind }) segments
+meaning w L m mode shadow expected kind segments = answer w L (asked (record { 0 = m }) mode shadow expected kind) segments
+
+-- the same of a path that is no import's, where modules shadow builtin types and no macro is expected
+abbrev pub meant : World → LocalMap → ℕ → PathKind → List Name → ResolvePathResult
+meant w L m kind segments = meaning w L m Other asks.Module None kind segments
 
 -- tables of worked worlds
 abbrev pub crate_id : ℕ → MapId

@@ -1,8 +1,7 @@
 //! The results that path resolution can end with.
 ghost use Rattle.std.specs.Prelude.{◌≡◌};
-ghost use Rattle.dm_base.specs.Overlays.{greatest};
-ghost use Rattle.hir_def_map.specs.Answers.{reached, nothing_yes, nothing_no, stopped, variant_answer, settled, over_answer, either_yes};
-ghost use Rattle.hir_def_map.specs.Walk.{marked};
+ghost use Rattle.hir_def_map.specs.Answers.{reached, nothing_yes, nothing_no, stopped, variant_answer, yes_in_block};
+ghost use Rattle.hir_def_map.specs.Walk.{crossed};
 
 use crate::result::{ReachedFixedPoint, ResolvePathResult, ResolvePathResultPrefixInfo};
 use dm_base::fields_shape::FieldsShape;
@@ -73,8 +72,8 @@ pub(crate) fn variant_answer(
 }
 
 /// The answer of a walk that has come into another crate, if it has.
-pub(crate) fn marked(differing: bool, answer: ResolvePathResult) -> ResolvePathResult
-    ensures { result ≡ marked differing answer }
+pub(crate) fn crossed(differing: bool, answer: ResolvePathResult) -> ResolvePathResult
+    ensures { result ≡ crossed differing answer }
 {
     if !differing {
         return answer;
@@ -90,8 +89,8 @@ pub(crate) fn marked(differing: bool, answer: ResolvePathResult) -> ResolvePathR
 }
 
 /// The answer of a module that lies in a block, or does not: a block's has status yes.
-pub(crate) fn settled(in_block: bool, answer: ResolvePathResult) -> ResolvePathResult
-    ensures { result ≡ settled in_block answer }
+pub(crate) fn yes_in_block(in_block: bool, answer: ResolvePathResult) -> ResolvePathResult
+    ensures { result ≡ yes_in_block in_block answer }
 {
     if in_block {
         ResolvePathResult {

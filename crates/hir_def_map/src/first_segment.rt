@@ -19,8 +19,8 @@ use crate::layers::{
 use crate::place::Place;
 use crate::question::Ask;
 use crate::result::ResolveMode;
+use crate::segments::type_module;
 use dm_base::ids::{Crate, MapId, ModuleId};
-use dm_base::item_ids::ModuleDefId;
 use dm_base::mod_path::PathKind;
 use dm_base::module_tree::ModuleTree;
 use dm_base::name::Name;
@@ -44,17 +44,15 @@ fn asks_root(ask: &Ask) -> bool
 fn are_builtins_first(ask: &Ask, own: &PerNs, is_last: bool) -> bool
     ensures { result ≡ are_builtins_first ask.now own.now is_last }
 {
-    let is_module = match own.types {
-        Some(item) => matches!(item.def, ModuleDefId::ModuleId(_)),
-        None => false,
-    };
+    let is_module = type_module(own.types).is_some();
     matches!(ask.shadow, BuiltinShadowMode::Other) && is_last && is_module
 }
 
 /// The layers, each of which shadows the next: in each namespace the first item that there is.
 fn overlay(layers: &[PerNs]) -> PerNs
     ensures value { result ≡ overlay layers.now }
-    ensures known { (w : World) → AllByRecursion (λ x. KnowsAll w (res_holds x)) layers.now → KnowsAll w (res_holds result) }
+    ensures known { (w : World) → AllByRecursion (λ x. KnowsAll w (res_holds x)) layers.now →
+        KnowsAll w (res_holds result) }
 {
     let mut found = PerNs::none();
     let mut rest = layers;
@@ -69,7 +67,8 @@ fn overlay(layers: &[PerNs]) -> PerNs
 #[tactic(auto, unfolding(dm_maps::specs::Readings::read, dm_maps::specs::Readings::setting_of))]
 fn builtins_of(world: &World, m: ModuleId, segment: &Name) -> PerNs
     requires { IsKnown (tree_of world.now) m }
-    ensures value { (L : LocalMap) → result ≡ builtins_of (setting_of world.now) m (read world.now L segment.now) }
+    ensures value { (L : LocalMap) →
+        result ≡ builtins_of (setting_of world.now) m (read world.now L segment.now) }
     ensures known { KnowsAll world.now (res_holds result) }
 {
     match world.block(m) {
@@ -91,7 +90,9 @@ fn builtins_or_scope(
     requires module_known { IsKnown (tree_of world.now) m }
     requires bound { bound ≡ bound_in (scope_of world.now m) segment.now }
     requires known { KnowsAll world.now (res_holds bound) }
-    ensures value { (L : LocalMap) → result ≡ builtins_or_scope (setting_of world.now) ask.now m (read world.now L segment.now) builtins_go }
+    ensures value { (L : LocalMap) →
+        result ≡ builtins_or_scope (setting_of world.now) ask.now m
+        (read world.now L segment.now) builtins_go }
     ensures known { KnowsAll world.now (res_holds result) }
 {
     if builtins_go {
@@ -106,7 +107,8 @@ fn builtins_or_scope(
 fn extern_layer(world: &World, local: &LocalDefMap, m: ModuleId, segment: &Name) -> PerNs
     requires module_known { IsKnown (tree_of world.now) m }
     requires local_known { KnowsAll world.now (local_holds local.now) }
-    ensures value { result ≡ unless_block_root (setting_of world.now) m (extern_prelude (read world.now local.now segment.now)) }
+    ensures value { result ≡ unless_block_root (setting_of world.now) m
+        (extern_prelude (read world.now local.now segment.now)) }
     ensures known { KnowsAll world.now (res_holds result) }
 {
     if world.is_block_root(m) {
@@ -125,7 +127,10 @@ fn prelude_layer_at(
     segment: &Name,
 ) -> PerNs
     requires { IsKnown (tree_of world.now) m }
-    ensures value { (L : LocalMap) → result ≡ unless_block_root (setting_of world.now) m (of_prelude (setting_of world.now) expected (prelude (setting_of world.now) id (read world.now L segment.now))) }
+    ensures value { (L : LocalMap) →
+        result ≡ unless_block_root (setting_of world.now) m
+        (of_prelude (setting_of world.now) expected
+        (prelude (setting_of world.now) id (read world.now L segment.now))) }
     ensures known { KnowsAll world.now (res_holds result) }
 {
     if world.is_block_root(m) {
@@ -146,7 +151,8 @@ fn plain_layers_at(
 ) -> PerNs
     requires module_known { IsKnown (tree_of world.now) m }
     requires local_known { KnowsAll world.now (local_holds local.now) }
-    ensures value { result ≡ overlay (plain_layers (setting_of world.now) ask.now (In m) (read world.now local.now segment.now) is_last) }
+    ensures value { result ≡ overlay (plain_layers (setting_of world.now) ask.now (In m)
+        (read world.now local.now segment.now) is_last) }
     ensures known { KnowsAll world.now (res_holds result) }
 {
     let id = Place::In(m).map(world);
@@ -174,7 +180,8 @@ fn plain_layers(
 ) -> PerNs
     requires place_known { IsKnownPlace (tree_of world.now) place }
     requires local_known { KnowsAll world.now (local_holds local.now) }
-    ensures value { result ≡ overlay (plain_layers (setting_of world.now) ask.now place (read world.now local.now segment.now) is_last) }
+    ensures value { result ≡ overlay (plain_layers (setting_of world.now) ask.now place
+        (read world.now local.now segment.now) is_last) }
     ensures known { KnowsAll world.now (res_holds result) }
 {
     match place {
@@ -198,7 +205,8 @@ fn by_2015_rule(world: &World, ask: &Ask, krate: Crate) -> bool
 fn layers_by_2015_rule(world: &World, local: &LocalDefMap, place: Place, segment: &Name) -> PerNs
     requires place_known { IsKnownPlace (tree_of world.now) place }
     requires local_known { KnowsAll world.now (local_holds local.now) }
-    ensures value { result ≡ overlay (layers_by_2015_rule (setting_of world.now) place (read world.now local.now segment.now)) }
+    ensures value { result ≡ overlay (layers_by_2015_rule (setting_of world.now) place
+        (read world.now local.now segment.now)) }
     ensures known { KnowsAll world.now (res_holds result) }
 {
     match place {
@@ -222,7 +230,8 @@ pub(crate) fn layers(
 ) -> PerNs
     requires place_known { IsKnownPlace (tree_of world.now) place }
     requires local_known { KnowsAll world.now (local_holds local.now) }
-    ensures value { result ≡ overlay (layers (setting_of world.now) ask.now place (read world.now local.now segment.now) is_last) }
+    ensures value { result ≡ overlay (layers (setting_of world.now) ask.now place
+        (read world.now local.now segment.now) is_last) }
     ensures known { KnowsAll world.now (res_holds result) }
 {
     if by_2015_rule(world, ask, place.map(world).krate) {

@@ -1,19 +1,14 @@
 //! Lemmas about path resolution, for proofs of callers. Each is a function without effect: code calls it for its proof.
-ghost use Rattle.std.specs.Prelude.{◌≡◌, List, Some};
+ghost use Rattle.std.specs.Prelude.{◌≡◌, List};
 ghost use Rattle.dm_ids.specs.Names.{Name};
 ghost use Rattle.dm_base.specs.Tree.{IsKnown, home};
-ghost use Rattle.dm_base.specs.declared.mod_path.PathKind.{PathKind};
-ghost use Rattle.dm_base.specs.declared.visibility.RawVisibility.{RawVisibility};
-ghost use Rattle.dm_ids.specs.declared.ids.ModuleId.{ModuleId};
 ghost use Rattle.dm_maps.specs.Cut.{cut, cut_local};
 ghost use Rattle.dm_maps.specs.Readings.{Reading};
-ghost use Rattle.dm_maps.specs.Stays.{StaysKnown};
 ghost use Rattle.dm_maps.specs.Trees.{tree_of};
 ghost use Rattle.dm_maps.specs.World as worlds;
-ghost use Rattle.dm_maps.specs.World.{numbered_map};
-ghost use Rattle.dm_def_map.specs.Maps.{Map, LocalMap};
+ghost use Rattle.dm_def_map.specs.Maps.{LocalMap};
 ghost use Rattle.hir_def_map.specs.Paths.{answer, enter};
-ghost use Rattle.hir_def_map.specs.Questions.{IsKnownInCrate, IsKnownQuestion};
+ghost use Rattle.hir_def_map.specs.Questions.{IsKnownInCrate, IsKnownQuestion, StaysAsked};
 ghost use Rattle.hir_def_map.specs.RawVisibilities.{IsKnownVisibility};
 ghost use Rattle.hir_def_map.specs.declared.question.Ask.{Ask};
 
@@ -24,20 +19,22 @@ use dm_maps::world::World;
 /// What segments answer from a module of another crate is what they answer from its nearest module that is no block's root.
 pub fn enters_at_home(world: &World, m: ModuleId)
     requires { IsKnown (tree_of world.now) m }
-    ensures { (S : List Reading) → enter (tree_of world.now) m S ≡ enter (tree_of world.now) (home (tree_of world.now) m) S }
+    ensures { (S : List Reading) →
+        enter (tree_of world.now) m S ≡ enter (tree_of world.now) (home (tree_of world.now) m) S }
 {
     let _inside = world.home(m);
 }
 
 /// Two worlds and local maps that agree on the names of a path's segments resolve it alike.
 pub fn answers_alike()
-    ensures { (w v : worlds.World) (L K : LocalMap) (q : Ask) (S : List Name) → cut v S ≡ cut w S → cut_local K S ≡ cut_local L S → answer v K q S ≡ answer w L q S }
+    ensures { (w v : worlds.World) (L K : LocalMap) (q : Ask) (S : List Name) →
+        cut v S ≡ cut w S → cut_local K S ≡ cut_local L S → answer v K q S ≡ answer w L q S }
 {}
 
 /// A question that a world knew before a push is one that it knows after it, of the map of the same id: a path asked from a
 /// module of the map, one asked of the map's preludes, and a visibility that is written in a module of the map.
 pub fn questions_stay_known()
-    ensures path { (w v : worlds.World) → StaysKnown w v → (M N : Map) (L : LocalMap) (m : ModuleId) (kind : PathKind) → IsKnownQuestion w M L m kind → numbered_map v M.id ≡ Some N → IsKnownQuestion v N L m kind }
-    ensures preludes { (w v : worlds.World) → StaysKnown w v → (M N : Map) (L : LocalMap) (m : ModuleId) (kind : PathKind) → IsKnownInCrate w M L m kind → numbered_map v M.id ≡ Some N → IsKnownInCrate v N L m kind }
-    ensures visibility { (w v : worlds.World) → StaysKnown w v → (M N : Map) (L : LocalMap) (m : ModuleId) (raw : RawVisibility) → IsKnownVisibility w M L m raw → numbered_map v M.id ≡ Some N → IsKnownVisibility v N L m raw }
+    ensures path { StaysAsked IsKnownQuestion }
+    ensures preludes { StaysAsked IsKnownInCrate }
+    ensures visibility { StaysAsked IsKnownVisibility }
 {}

@@ -1,14 +1,11 @@
 //! The layers of names that a first segment is looked up in.
-ghost use Rattle.std.specs.Prelude.{◌≡◌, IsTrue, None};
-ghost use Rattle.std.specs.Option.{ForSome};
+ghost use Rattle.std.specs.Prelude.{◌≡◌};
 ghost use Rattle.dm_base.specs.PerNs.{keep};
 ghost use Rattle.dm_base.specs.Tree.{IsKnown};
 ghost use Rattle.dm_maps.specs.Trees.{tree_of};
-ghost use Rattle.dm_check.specs.declared.held.HeldId.TheVariants as held;
-ghost use Rattle.dm_maps.specs.Known.{knows, KnowsAll};
+ghost use Rattle.dm_maps.specs.Known.{KnowsAll};
 ghost use Rattle.dm_check.specs.Holding.{res_holds, local_holds};
 ghost use Rattle.dm_def_map.specs.Maps.{LocalMap};
-ghost use Rattle.dm_maps.specs.World.{World};
 ghost use Rattle.dm_maps.specs.Readings.{setting_of, read};
 ghost use Rattle.hir_def_map.specs.Paths.{fits, fitting, by_crate, legacy, extern_prelude, macro_use_prelude, prelude, of_prelude, builtin, root_scope};
 
@@ -50,14 +47,7 @@ fn fitting_macro(
 ) -> Option<MacrosItem>
     ensures { result ≡ keep (λ i. fits (setting_of world.now) expected i.def) item }
 {
-    match item {
-        None => None,
-        Some(i) => if fits(world, expected, i.def) {
-            Some(i)
-        } else {
-            None
-        },
-    }
+    item.filter(|i| fits(world, expected, i.def))
 }
 
 /// The items without a macro that does not fit.
@@ -88,10 +78,7 @@ fn of_prelude(world: &World, expected: Option<MacroSubNs>, x: PerNs) -> PerNs
 fn by_crate(krate: Option<ExternCrateId>) -> Option<ImportOrExternCrate>
     ensures { result ≡ by_crate krate }
 {
-    match krate {
-        None => None,
-        Some(id) => Some(ImportOrExternCrate::ExternCrate(id)),
-    }
+    krate.map(ImportOrExternCrate::ExternCrate)
 }
 
 /// The module of the extern prelude.
@@ -130,7 +117,9 @@ pub(crate) fn macro_use_layer(
     id: MapId,
     segment: &Name,
 ) -> PerNs
-    ensures value { (L : LocalMap) → result ≡ of_prelude (setting_of world.now) expected (macro_use_prelude id (read world.now L segment.now)) }
+    ensures value { (L : LocalMap) →
+        result ≡ of_prelude (setting_of world.now) expected
+        (macro_use_prelude id (read world.now L segment.now)) }
     ensures known { KnowsAll world.now (res_holds result) }
 {
     of_prelude(world, expected, macro_use_prelude(world, id, segment))
@@ -139,7 +128,8 @@ pub(crate) fn macro_use_layer(
 /// What the scope of a map's prelude module binds, whatever is expected.
 #[tactic(auto, unfolding(dm_maps::specs::Readings::read, dm_maps::specs::Readings::setting_of))]
 fn prelude(world: &World, id: MapId, segment: &Name) -> PerNs
-    ensures value { (L : LocalMap) → result ≡ prelude (setting_of world.now) id (read world.now L segment.now) }
+    ensures value { (L : LocalMap) →
+        result ≡ prelude (setting_of world.now) id (read world.now L segment.now) }
     ensures known { KnowsAll world.now (res_holds result) }
 {
     match world.prelude_of(id) {
@@ -155,7 +145,9 @@ pub(crate) fn prelude_layer(
     id: MapId,
     segment: &Name,
 ) -> PerNs
-    ensures value { (L : LocalMap) → result ≡ of_prelude (setting_of world.now) expected (prelude (setting_of world.now) id (read world.now L segment.now)) }
+    ensures value { (L : LocalMap) →
+        result ≡ of_prelude (setting_of world.now) expected
+        (prelude (setting_of world.now) id (read world.now L segment.now)) }
     ensures known { KnowsAll world.now (res_holds result) }
 {
     of_prelude(world, expected, prelude(world, id, segment))
@@ -177,7 +169,8 @@ pub(crate) fn builtin(world: &World, segment: &Name) -> PerNs
 #[tactic(auto, unfolding(dm_maps::specs::Readings::read, dm_maps::specs::Readings::setting_of))]
 pub(crate) fn root_scope(world: &World, m: ModuleId, segment: &Name) -> PerNs
     requires { IsKnown (tree_of world.now) m }
-    ensures value { (L : LocalMap) → result ≡ root_scope (setting_of world.now) m (read world.now L segment.now) }
+    ensures value { (L : LocalMap) →
+        result ≡ root_scope (setting_of world.now) m (read world.now L segment.now) }
     ensures known { KnowsAll world.now (res_holds result) }
 {
     match world.root_of(world.krate(m)) {
@@ -195,7 +188,8 @@ pub(crate) fn legacy(
     m: ModuleId,
     segment: &Name,
 ) -> PerNs
-    ensures value { (L : LocalMap) → result ≡ legacy (setting_of world.now) expected m (read world.now L segment.now) }
+    ensures value { (L : LocalMap) →
+        result ≡ legacy (setting_of world.now) expected m (read world.now L segment.now) }
     ensures known { KnowsAll world.now (res_holds result) }
 {
     match world.legacy_of(m, segment) {

@@ -1,20 +1,17 @@
 //! Path resolution over a checked world.
-ghost use Rattle.std.specs.Prelude.{◌≡◌, None, Some, IsSome, IsTrue, length};
+ghost use Rattle.std.specs.Prelude.{◌≡◌, None, Some, IsSome, IsTrue};
 ghost use Rattle.std.specs.Option.{ForSome};
 ghost use Rattle.dm_base.specs.Tree.{IsKnown};
-ghost use Rattle.dm_base.specs.Visibility.{NamesKnown};
 ghost use Rattle.dm_check.specs.declared.held.HeldId.TheVariants as held;
-ghost use Rattle.dm_check.specs.Holding.{res_holds, vis_holds};
-ghost use Rattle.dm_maps.specs.Known.{KnowsAll, knows};
+ghost use Rattle.dm_maps.specs.Known.{knows};
 ghost use Rattle.dm_maps.specs.Trees.{tree_of};
 ghost use Rattle.dm_maps.specs.World.{numbered_map};
 ghost use Rattle.dm_def_map.specs.Maps.{Map, module_at};
 ghost use Rattle.hir_def_map.specs.declared.result.ResolveMode.TheVariants.{Other};
-ghost use Rattle.hir_def_map.specs.Laws.{IsAnswer, IsLeft};
-ghost use Rattle.hir_def_map.specs.Local.{local_answer, local_answer_alone, local_prelude_answer};
+ghost use Rattle.hir_def_map.specs.Laws.{Finds, Resolves};
 ghost use Rattle.hir_def_map.specs.Paths.{asked, answer, answer_alone, prelude_answer};
 ghost use Rattle.hir_def_map.specs.Questions.{IsKnownQuestion, IsKnownInCrate};
-ghost use Rattle.hir_def_map.specs.RawVisibilities.{raw_visibility, IsKnownVisibility};
+ghost use Rattle.hir_def_map.specs.RawVisibilities.{raw_visibility, IsKnownVisibility, IsOfWorld};
 
 use crate::place::Place;
 use crate::places::answer_outwards;
@@ -53,14 +50,11 @@ pub trait ResolvePath {
         shadow: BuiltinShadowMode,
         expected_macro_subns: Option<MacroSubNs>,
     ) -> ResolvePathResult
-        requires { IsKnownQuestion world.now (map self.now) local.now original_module path.now.kind }
-        ensures value { result ≡ answer world.now local.now (asked original_module mode shadow expected_macro_subns path.now.kind) path.now.segments }
-        ensures lawful { IsAnswer (length path.now.segments) result }
-        ensures known { KnowsAll world.now (res_holds result.resolved_def) }
-
-        // Only what world and local map say of the names in the path is read: where two agree on that, they answer
-        // alike.
-        ensures local { result ≡ local_answer world.now local.now (asked original_module mode shadow expected_macro_subns path.now.kind) path.now.segments };
+        requires { IsKnownQuestion world.now (map self.now) local.now
+            original_module path.now.kind }
+        ensures { Resolves answer world.now local.now
+            (asked original_module mode shadow expected_macro_subns path.now.kind)
+            path.now.segments result };
 
     /// What a path resolves to in the origin alone, without the modules outside its block and without the preludes.
     fn resolve_path_fp_with_macro_single(
@@ -73,11 +67,11 @@ pub trait ResolvePath {
         shadow: BuiltinShadowMode,
         expected_macro_subns: Option<MacroSubNs>,
     ) -> ResolvePathResult
-        requires { IsKnownQuestion world.now (map self.now) local.now original_module path.now.kind }
-        ensures value { result ≡ answer_alone world.now local.now (asked original_module mode shadow expected_macro_subns path.now.kind) path.now.segments }
-        ensures lawful { IsAnswer (length path.now.segments) result }
-        ensures known { KnowsAll world.now (res_holds result.resolved_def) }
-        ensures local { result ≡ local_answer_alone world.now local.now (asked original_module mode shadow expected_macro_subns path.now.kind) path.now.segments };
+        requires { IsKnownQuestion world.now (map self.now) local.now
+            original_module path.now.kind }
+        ensures { Resolves answer_alone world.now local.now
+            (asked original_module mode shadow expected_macro_subns path.now.kind)
+            path.now.segments result };
 
     /// What a path resolves to in the preludes of this map alone, seen from a module, which may lie in any map of the
     /// crate.
@@ -91,11 +85,11 @@ pub trait ResolvePath {
         shadow: BuiltinShadowMode,
         expected_macro_subns: Option<MacroSubNs>,
     ) -> ResolvePathResult
-        requires { IsKnownInCrate world.now (map self.now) local.now original_module path.now.kind }
-        ensures value { result ≡ prelude_answer world.now local.now (map self.now).id (asked original_module mode shadow expected_macro_subns path.now.kind) path.now.segments }
-        ensures lawful { IsAnswer (length path.now.segments) result }
-        ensures known { KnowsAll world.now (res_holds result.resolved_def) }
-        ensures local { result ≡ local_prelude_answer world.now local.now (map self.now).id (asked original_module mode shadow expected_macro_subns path.now.kind) path.now.segments };
+        requires { IsKnownInCrate world.now (map self.now) local.now
+            original_module path.now.kind }
+        ensures { Resolves (λ w L. prelude_answer w L (map self.now).id) world.now local.now
+            (asked original_module mode shadow expected_macro_subns path.now.kind)
+            path.now.segments result };
 
     /// What a path resolves to in the preludes of this map alone, where no kind of macro is expected.
     fn resolve_path_fp_in_all_preludes(
@@ -107,11 +101,11 @@ pub trait ResolvePath {
         path: &ModPath,
         shadow: BuiltinShadowMode,
     ) -> ResolvePathResult
-        requires { IsKnownInCrate world.now (map self.now) local.now original_module path.now.kind }
-        ensures value { result ≡ prelude_answer world.now local.now (map self.now).id (asked original_module mode shadow None path.now.kind) path.now.segments }
-        ensures lawful { IsAnswer (length path.now.segments) result }
-        ensures known { KnowsAll world.now (res_holds result.resolved_def) }
-        ensures local { result ≡ local_prelude_answer world.now local.now (map self.now).id (asked original_module mode shadow None path.now.kind) path.now.segments };
+        requires { IsKnownInCrate world.now (map self.now) local.now
+            original_module path.now.kind }
+        ensures { Resolves (λ w L. prelude_answer w L (map self.now).id) world.now local.now
+            (asked original_module mode shadow None path.now.kind)
+            path.now.segments result };
 
     /// The definitions that a path, not of an import, resolves to, and the first segment that is left.
     fn resolve_path(
@@ -123,13 +117,11 @@ pub trait ResolvePath {
         shadow: BuiltinShadowMode,
         expected_macro_subns: Option<MacroSubNs>,
     ) -> (PerNs, Option<usize>)
-        requires { IsKnownQuestion world.now (map self.now) local.now original_module path.now.kind }
-        ensures found { result.0 ≡ (answer world.now local.now (asked original_module Other shadow expected_macro_subns path.now.kind) path.now.segments).resolved_def }
-        ensures left { result.1 ≡ (answer world.now local.now (asked original_module Other shadow expected_macro_subns path.now.kind) path.now.segments).segment_index }
-        ensures lawful { IsLeft (length path.now.segments) result.1 }
-        ensures known { KnowsAll world.now (res_holds result.0) }
-        ensures local_found { result.0 ≡ (local_answer world.now local.now (asked original_module Other shadow expected_macro_subns path.now.kind) path.now.segments).resolved_def }
-        ensures local_left { result.1 ≡ (local_answer world.now local.now (asked original_module Other shadow expected_macro_subns path.now.kind) path.now.segments).segment_index };
+        requires { IsKnownQuestion world.now (map self.now) local.now
+            original_module path.now.kind }
+        ensures { Finds answer world.now local.now
+            (asked original_module Other shadow expected_macro_subns path.now.kind)
+            path.now.segments result.0 result.1 };
 
     /// The definitions that a path, not of an import, resolves to in the origin alone, where no kind of macro is
     /// expected, the first segment that is left, and what the path went through.
@@ -141,15 +133,14 @@ pub trait ResolvePath {
         path: &ModPath,
         shadow: BuiltinShadowMode,
     ) -> (PerNs, Option<usize>, ResolvePathResultPrefixInfo)
-        requires { IsKnownQuestion world.now (map self.now) local.now original_module path.now.kind }
-        ensures found { result.0 ≡ (answer_alone world.now local.now (asked original_module Other shadow None path.now.kind) path.now.segments).resolved_def }
-        ensures left { result.1 ≡ (answer_alone world.now local.now (asked original_module Other shadow None path.now.kind) path.now.segments).segment_index }
-        ensures lawful { IsLeft (length path.now.segments) result.1 }
-        ensures through { result.2 ≡ (answer_alone world.now local.now (asked original_module Other shadow None path.now.kind) path.now.segments).prefix_info }
-        ensures known { KnowsAll world.now (res_holds result.0) }
-        ensures local_found { result.0 ≡ (local_answer_alone world.now local.now (asked original_module Other shadow None path.now.kind) path.now.segments).resolved_def }
-        ensures local_left { result.1 ≡ (local_answer_alone world.now local.now (asked original_module Other shadow None path.now.kind) path.now.segments).segment_index }
-        ensures local_through { result.2 ≡ (local_answer_alone world.now local.now (asked original_module Other shadow None path.now.kind) path.now.segments).prefix_info };
+        requires { IsKnownQuestion world.now (map self.now) local.now
+            original_module path.now.kind }
+        ensures parts { Finds answer_alone world.now local.now
+            (asked original_module Other shadow None path.now.kind)
+            path.now.segments result.0 result.1 }
+        ensures through { result.2 ≡ (answer_alone world.now local.now
+            (asked original_module Other shadow None path.now.kind)
+            path.now.segments).prefix_info };
 
     /// What a raw visibility in a module of this map resolves to; none where its path leads to no module. Within an
     /// `impl` it may name a module of any block; elsewhere a module of another block is replaced by the map's root.
@@ -161,16 +152,16 @@ pub trait ResolvePath {
         visibility: &RawVisibility,
         within_impl: bool,
     ) -> Option<Visibility>
-        requires { IsKnownVisibility world.now (map self.now) local.now original_module visibility.now }
-        ensures value { result ≡ raw_visibility world.now local.now (map self.now) original_module within_impl visibility.now }
-        ensures known { ForSome result (NamesKnown (tree_of world.now)) }
-        ensures held { ForSome result (λ v. KnowsAll world.now (vis_holds v)) };
+        requires { IsKnownVisibility world.now (map self.now) local.now
+            original_module visibility.now }
+        ensures value { result ≡ raw_visibility world.now local.now (map self.now)
+            original_module within_impl visibility.now }
+        ensures known { ForSome result (IsOfWorld world.now) };
 }
 
 impl ResolvePath for DefMap {
     ghost map = { λ m. m };
 
-    #[tactic(auto, unfolding(crate::specs::Paths::answer))]
     fn resolve_path_fp_with_macro(
         &self,
         local: &LocalDefMap,
@@ -192,7 +183,6 @@ impl ResolvePath for DefMap {
         answer_outwards(world, local, &ask, path.segments())
     }
 
-    #[tactic(auto, unfolding(crate::specs::Paths::answer_alone))]
     fn resolve_path_fp_with_macro_single(
         &self,
         local: &LocalDefMap,
@@ -215,7 +205,6 @@ impl ResolvePath for DefMap {
         single(world, local, &ask, origin, path.segments())
     }
 
-    #[tactic(auto, unfolding(crate::specs::Paths::prelude_answer))]
     fn resolve_path_fp_in_all_preludes_with_macro(
         &self,
         local: &LocalDefMap,

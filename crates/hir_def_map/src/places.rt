@@ -31,7 +31,9 @@ fn preludes_of(
 ) -> ResolvePathResult
     requires module_known { IsKnown (tree_of world.now) m }
     requires local_known { KnowsAll world.now (local_holds local.now) }
-    ensures value { result ≡ merged (map (single (setting_of world.now) ask.now (map (read world.now local.now) segments.now)) (prelude_place (setting_of world.now) m)) }
+    ensures value { result ≡ merged (map
+        (single (setting_of world.now) ask.now (map (read world.now local.now) segments.now))
+        (prelude_place (setting_of world.now) m)) }
     ensures known { KnowsAll world.now (res_holds result.resolved_def) }
 {
     let Some(block) = world.block(m) else {
@@ -57,7 +59,9 @@ pub(crate) fn answer_outwards(
 ) -> ResolvePathResult
     requires module_known { IsKnown (tree_of world.now) ask.now.origin }
     requires local_known { KnowsAll world.now (local_holds local.now) }
-    ensures value { result ≡ merged (map (single (setting_of world.now) ask.now (map (read world.now local.now) segments.now)) (places (setting_of world.now) ask.now.origin)) }
+    ensures value { result ≡ merged (map
+        (single (setting_of world.now) ask.now (map (read world.now local.now) segments.now))
+        (places (setting_of world.now) ask.now.origin)) }
     ensures known { KnowsAll world.now (res_holds result.resolved_def) }
 {
     let mut answer = nothing_no();

@@ -11,10 +11,10 @@ ghost use Rattle.dm_maps.specs.World.{scope_of};
 ghost use Rattle.dm_def_map.specs.Maps.{LocalMap};
 ghost use Rattle.dm_maps.specs.Readings.{read};
 ghost use Rattle.dm_maps.specs.Trees.{tree_of};
-ghost use Rattle.hir_def_map.specs.Paths.{at_adt};
-ghost use Rattle.hir_def_map.specs.Walk.{in_types, standing, starting, entry, module_in, left_at, walk};
+ghost use Rattle.hir_def_map.specs.Paths.{at_adt, module_in, type_module};
+ghost use Rattle.hir_def_map.specs.Walk.{in_types, standing, starting, entry, left_at, walk};
 
-use crate::answers::{marked, nothing_no, reached, stopped, variant_answer};
+use crate::answers::{crossed, nothing_no, reached, stopped, variant_answer};
 use crate::result::ResolvePathResult;
 use dm_base::ids::{EnumId, ModuleId};
 use dm_base::item_ids::{AdtId, ModuleDefId};
@@ -32,56 +32,36 @@ pub(crate) struct Entered {
 }
 
 /// The item, if `from` sees it.
-fn seen_item<D: Copy, I: Copy>(
+fn seen_item<'a, D, I>(
     world: &World,
     from: ModuleId,
-    item: Option<Item<D, I>>,
-) -> Option<Item<D, I>>
+    item: Option<&'a Item<D, I>>,
+) -> Option<&'a Item<D, I>>
     requires from { IsKnown (tree_of world.now) from }
-    requires named { ForSome item (λ i. NamesKnown (tree_of world.now) i.vis) }
-    ensures { result ≡ keep (λ i. sees (tree_of world.now) i.vis from) item }
+    requires named { ForSome (option_copied item) (λ i. NamesKnown (tree_of world.now) i.vis) }
+    ensures { option_copied result ≡
+        keep (λ i. sees (tree_of world.now) i.vis from) (option_copied item.entry) }
 {
-    match item {
-        None => None,
-        Some(i) => if i.vis.is_visible_from(world, from) {
-            Some(i)
-        } else {
-            None
-        },
+    let i = item?;
+    if i.vis.is_visible_from(world, from) {
+        Some(i)
+    } else {
+        None
     }
 }
 
 /// What a module's scope binds under a segment, each item kept if `from` sees it.
 pub(crate) fn seen_in(world: &World, from: ModuleId, m: ModuleId, segment: &Name) -> PerNs
     requires { IsKnown (tree_of world.now) from }
-    ensures value { result ≡ seen_by (λ v. sees (tree_of world.now) v from) (bound_in (scope_of world.now m) segment.now) }
+    ensures value { result ≡ seen_by (λ v. sees (tree_of world.now) v from)
+        (bound_in (scope_of world.now m) segment.now) }
     ensures known { KnowsAll world.now (res_holds result) }
 {
     let bound = world.bound_in(m, segment);
     PerNs {
-        types: seen_item(world, from, bound.types),
-        values: seen_item(world, from, bound.values),
-        macros: seen_item(world, from, bound.macros),
-    }
-}
-
-/// The type, if `from` sees it.
-fn seen_type<'a>(
-    world: &World,
-    from: ModuleId,
-    item: Option<&'a TypesItem>,
-) -> Option<&'a TypesItem>
-    requires from { IsKnown (tree_of world.now) from }
-    requires named { ForSome (option_copied item) (λ i. NamesKnown (tree_of world.now) i.vis) }
-    ensures { option_copied result ≡ keep (λ i. sees (tree_of world.now) i.vis from) (option_copied item.entry) }
-{
-    match item {
-        None => None,
-        Some(i) => if i.vis.is_visible_from(world, from) {
-            Some(i)
-        } else {
-            None
-        },
+        types: seen_item(world, from, bound.types.as_ref()).copied(),
+        values: seen_item(world, from, bound.values.as_ref()).copied(),
+        macros: seen_item(world, from, bound.macros.as_ref()).copied(),
     }
 }
 
@@ -93,10 +73,11 @@ fn seen_type_in<'a>(
     segment: &Name,
 ) -> Option<&'a TypesItem>
     requires from { IsKnown (tree_of world.now) from }
-    ensures value { option_copied result ≡ (seen_by (λ v. sees (tree_of world.now) v from) (bound_in (scope_of world.now m) segment.now)).types }
+    ensures value { option_copied result ≡ (seen_by (λ v. sees (tree_of world.now) v from)
+        (bound_in (scope_of world.now m) segment.now)).types }
     ensures known { KnowsAll world.now (res_holds (in_types (option_copied result))) }
 {
-    seen_type(world, from, world.type_in(m, segment))
+    seen_item(world, from, world.type_in(m, segment))
 }
 
 /// Into a module: one of another crate is entered at the nearest module that is no block's root.
@@ -133,7 +114,8 @@ fn at_adt(
     adt: AdtId,
 ) -> ResolvePathResult
     requires { KnowsAll world.now (type_holds item) }
-    ensures value { (L : LocalMap) → result ≡ at_adt item position (read world.now L segment.now) is_last adt }
+    ensures value { (L : LocalMap) →
+        result ≡ at_adt item position (read world.now L segment.now) is_last adt }
     ensures known { KnowsAll world.now (res_holds result.resolved_def) }
 {
     let AdtId::EnumId(e) = adt else {
@@ -149,15 +131,22 @@ fn at_adt(
     }
 }
 
-/// The module that a type is, if it is one.
+/// The module that a definition is, if it is one.
 #[inline(always)]
-fn module_in(item: &TypesItem) -> Option<ModuleId>
-    ensures { result ≡ module_in item.now.def }
+fn module_in(def: ModuleDefId) -> Option<ModuleId>
+    ensures { result ≡ module_in def }
 {
-    match item.def {
+    match def {
         ModuleDefId::ModuleId(m) => Some(m),
         _ => None,
     }
+}
+
+/// The module that a type is, if there is one and it is one.
+pub(crate) fn type_module(types: Option<TypesItem>) -> Option<ModuleId>
+    ensures { result ≡ type_module types }
+{
+    module_in(types?.def)
 }
 
 /// The answer where a segment resolved to a type that is no module, and segments are left.
@@ -170,7 +159,8 @@ fn left_at(
     is_last: bool,
 ) -> ResolvePathResult
     requires { KnowsAll world.now (type_holds item) }
-    ensures value { (L : LocalMap) → result ≡ left_at item position (read world.now L segment.now) is_last item.def }
+    ensures value { (L : LocalMap) →
+        result ≡ left_at item position (read world.now L segment.now) is_last item.def }
     ensures known { KnowsAll world.now (res_holds result.resolved_def) }
 {
     match item.def {
@@ -191,18 +181,20 @@ fn last_answer(
 ) -> ResolvePathResult
     requires origin { IsKnown (tree_of world.now) origin }
     requires known { KnowsAll world.now (res_holds (in_types (option_copied types))) }
-    ensures value { (L : LocalMap) → result ≡ walk (tree_of world.now) (standing differing origin (option_copied types.entry)) position (read world.now L segment.now ∷ []) }
+    ensures value { (L : LocalMap) →
+        result ≡ walk (tree_of world.now) (standing differing origin (option_copied types.entry))
+        position (read world.now L segment.now ∷ []) }
     ensures known { KnowsAll world.now (res_holds result.resolved_def) }
 {
     let Some(item) = types else {
-        return marked(differing, nothing_no());
+        return crossed(differing, nothing_no());
     };
-    let Some(m) = module_in(item) else {
-        return marked(differing, left_at(world, *item, position, segment, true));
+    let Some(m) = module_in(item.def) else {
+        return crossed(differing, left_at(world, *item, position, segment, true));
     };
     let into = entry(world, differing, origin, m);
     let found = seen_in(world, into.origin, into.asked, segment);
-    marked(into.differing, reached(found))
+    crossed(into.differing, reached(found))
 }
 
 /// The answer of a walk along the segments, where `position` segments are resolved, to `here`, seen from a module.
@@ -219,7 +211,9 @@ pub(crate) fn walk(
     requires origin { IsKnown (tree_of world.now) from }
     requires known { KnowsAll world.now (res_holds here.now) }
     requires position { position ≤ 1 }
-    ensures value { (L : LocalMap) → result ≡ walk (tree_of world.now) (starting from here.now) position (map (read world.now L) segments.now) }
+    ensures value { (L : LocalMap) →
+        result ≡ walk (tree_of world.now) (starting from here.now) position
+        (map (read world.now L) segments.now) }
     ensures known { KnowsAll world.now (res_holds result.resolved_def) }
 {
     let Some((first, others)) = segments.split_first() else {
@@ -229,10 +223,10 @@ pub(crate) fn walk(
     let (mut segment, mut rest, mut passed) = (first, others, position);
     'segments: while let Some((next, after)) = rest.split_first() {
         let Some(item) = types else {
-            return marked(differing, nothing_no());
+            return crossed(differing, nothing_no());
         };
-        let Some(m) = module_in(item) else {
-            return marked(differing, left_at(world, *item, passed, segment, false));
+        let Some(m) = module_in(item.def) else {
+            return crossed(differing, left_at(world, *item, passed, segment, false));
         };
         let into = entry(world, differing, origin, m);
         types = seen_type_in(world, into.origin, into.asked, segment);

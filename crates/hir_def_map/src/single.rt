@@ -9,7 +9,7 @@ ghost use Rattle.dm_maps.specs.Trees.{tree_of};
 ghost use Rattle.hir_def_map.specs.Answers.{nothing_no};
 ghost use Rattle.hir_def_map.specs.Paths.{stop, enter, root_item, from_root, from_super, by_first_segment, single, IsKnownPlace};
 
-use crate::answers::{nothing_no, nothing_yes, settled};
+use crate::answers::{nothing_no, nothing_yes, yes_in_block};
 use crate::first_segment::{is_missed, layers};
 use crate::place::Place;
 use crate::question::Ask;
@@ -36,7 +36,9 @@ fn answer_from(
     requires from { IsKnown (tree_of world.now) from }
     requires known { KnowsAll world.now (res_holds here) }
     requires position { position ≤ 1 }
-    ensures value { (L : LocalMap) → result ≡ stop (enter (tree_of world.now)) (tree_of world.now) from here position (map (read world.now L) segments.now) }
+    ensures value { (L : LocalMap) →
+        result ≡ stop (enter (tree_of world.now)) (tree_of world.now) from here position
+        (map (read world.now L) segments.now) }
     ensures known { KnowsAll world.now (res_holds result.resolved_def) }
 {
     walk(world, from, &here, position, segments)
@@ -55,7 +57,8 @@ fn root_item(world: &World, m: ModuleId) -> PerNs
 #[tactic(auto, unfolding(dm_maps::specs::Readings::setting_of))]
 fn from_root(world: &World, m: ModuleId, krate: Crate, segments: &[Name]) -> ResolvePathResult
     requires { IsKnown (tree_of world.now) m }
-    ensures value { (L : LocalMap) → result ≡ from_root (setting_of world.now) m krate (map (read world.now L) segments.now) }
+    ensures value { (L : LocalMap) →
+        result ≡ from_root (setting_of world.now) m krate (map (read world.now L) segments.now) }
     ensures known { KnowsAll world.now (res_holds result.resolved_def) }
 {
     match world.root_of(krate) {
@@ -67,19 +70,21 @@ fn from_root(world: &World, m: ModuleId, krate: Crate, segments: &[Name]) -> Res
 /// What `self::` and the segments answer from a module.
 fn enter(world: &World, m: ModuleId, segments: &[Name]) -> ResolvePathResult
     requires { IsKnown (tree_of world.now) m }
-    ensures value { (L : LocalMap) → result ≡ enter (tree_of world.now) m (map (read world.now L) segments.now) }
+    ensures value { (L : LocalMap) →
+        result ≡ enter (tree_of world.now) m (map (read world.now L) segments.now) }
     ensures known { KnowsAll world.now (res_holds result.resolved_def) }
 {
     let inside = world.home(m);
     let answer = answer_from(world, inside, root_item(world, inside), 0, segments);
-    settled(world.block(inside).is_some(), answer)
+    yes_in_block(world.block(inside).is_some(), answer)
 }
 
 /// Resolves from ancestor `k`, as `k` times `super::`, and `self::` where it is 0; roots of blocks do not count. One of
 /// another map is entered.
 fn from_super(world: &World, m: ModuleId, k: u8, segments: &[Name]) -> ResolvePathResult
     requires { IsKnown (tree_of world.now) m }
-    ensures value { (L : LocalMap) → result ≡ from_super (tree_of world.now) m k (map (read world.now L) segments.now) }
+    ensures value { (L : LocalMap) →
+        result ≡ from_super (tree_of world.now) m k (map (read world.now L) segments.now) }
     ensures known { KnowsAll world.now (res_holds result.resolved_def) }
 {
     match world.outer_member(m, k) {
@@ -104,7 +109,9 @@ fn after_first(
 ) -> ResolvePathResult
     requires from { IsKnown (tree_of world.now) from }
     requires known { KnowsAll world.now (res_holds found) }
-    ensures value { (L : LocalMap) → result ≡ (if missed then nothing_no else stop (enter (tree_of world.now)) (tree_of world.now) from found 1 (map (read world.now L) rest.now)) }
+    ensures value { (L : LocalMap) → result ≡ (if missed then nothing_no else
+        stop (enter (tree_of world.now)) (tree_of world.now) from found 1
+        (map (read world.now L) rest.now)) }
     ensures known { KnowsAll world.now (res_holds result.resolved_def) }
 {
     if missed {
@@ -125,7 +132,8 @@ fn by_first_segment(
 ) -> ResolvePathResult
     requires place_known { IsKnownPlace (tree_of world.now) place }
     requires local_known { KnowsAll world.now (local_holds local.now) }
-    ensures value { result ≡ by_first_segment (setting_of world.now) ask.now place (map (read world.now local.now) segments.now) }
+    ensures value { result ≡ by_first_segment (setting_of world.now) ask.now place
+        (map (read world.now local.now) segments.now) }
     ensures known { KnowsAll world.now (res_holds result.resolved_def) }
 {
     match segments.split_first() {
@@ -150,7 +158,8 @@ pub(crate) fn single(
 ) -> ResolvePathResult
     requires place_known { IsKnownPlace (tree_of world.now) place }
     requires local_known { KnowsAll world.now (local_holds local.now) }
-    ensures value { result ≡ single (setting_of world.now) ask.now (map (read world.now local.now) segments.now) place }
+    ensures value { result ≡
+        single (setting_of world.now) ask.now (map (read world.now local.now) segments.now) place }
     ensures known { KnowsAll world.now (res_holds result.resolved_def) }
 {
     match (place, ask.kind) {

@@ -5,14 +5,13 @@ ghost use Rattle.std.specs.List.{AllByRecursion};
 ghost use Rattle.dm_ids.specs.declared.item_ids.AssocItemId.{AssocItemId};
 ghost use Rattle.dm_base.specs.declared.visibility.RawVisibility.TheVariants as raws;
 ghost use Rattle.dm_base.specs.declared.visibility.VisibilityExplicitness.TheVariants.{Implicit};
-ghost use Rattle.dm_base.specs.Visibility.{NamesKnown};
-ghost use Rattle.dm_check.specs.Holding.{def_holds, vis_holds};
+ghost use Rattle.dm_check.specs.Holding.{def_holds};
 ghost use Rattle.dm_check.specs.TablesHold.{raw_holds};
 ghost use Rattle.dm_maps.specs.Known.{KnowsAll};
-ghost use Rattle.dm_maps.specs.Trees.{tree_of};
-ghost use Rattle.hir_def_map.specs.RawVisibilities.{module_reached, block_in, restricted, raw_visibility, or_public, visibility_in, variant_def, visibilities_in, field_visibilities_of, assoc_def, written_at, by_container, assoc_visibility_of, IsKnownVisibility};
+ghost use Rattle.hir_def_map.specs.RawVisibilities.{module_reached, block_in, restricted, raw_visibility, or_public, visibility_in, variant_def, visibilities_in, field_visibilities_of, assoc_def, written_at, by_container, assoc_visibility_of, IsKnownVisibility, IsOfWorld};
 
 use crate::path_resolution::ResolvePath;
+use crate::segments::type_module;
 use dm_base::ids::{BlockId, ModuleId};
 use dm_base::item_ids::{AdtId, AssocItemId, ItemContainerId, ModuleDefId, VariantId};
 use dm_base::item_in_ns::ItemInNs;
@@ -30,20 +29,14 @@ pub(crate) fn module_reached(found: PerNs, left: Option<usize>) -> Option<Module
     if left.is_some() {
         return None;
     }
-    match found.types?.def {
-        ModuleDefId::ModuleId(m) => Some(m),
-        _ => None,
-    }
+    type_module(found.types)
 }
 
 /// The block in whose map a module lies.
 fn block_in(world: &World, m: ModuleId) -> Option<BlockId>
     ensures { result ≡ block_in world.now m }
 {
-    match world.map_of(m) {
-        None => None,
-        Some(map) => map.block_id(),
-    }
+    world.map_of(m)?.block_id()
 }
 
 /// The module that a visibility of a map names for `m`: outside an `impl`, the map's root replaces a module of another
@@ -73,9 +66,9 @@ pub trait ResolveVisibility {
         raw: &RawVisibility,
     ) -> Visibility
         requires { IsKnownVisibility world.now map.now local.now m raw.now }
-        ensures value { result ≡ or_public (raw_visibility world.now local.now map.now m within_impl raw.now) }
-        ensures known { NamesKnown (tree_of world.now) result }
-        ensures held { KnowsAll world.now (vis_holds result) };
+        ensures value { result ≡ or_public
+            (raw_visibility world.now local.now map.now m within_impl raw.now) }
+        ensures known { IsOfWorld world.now result };
 }
 
 impl ResolveVisibility for Visibility {
@@ -104,8 +97,7 @@ pub fn visibility_from_raw(
 ) -> Visibility
     requires { KnowsAll world.now (raw_holds raw.now) }
     ensures value { result ≡ visibility_in world.now m within_impl raw.now }
-    ensures known { NamesKnown (tree_of world.now) result }
-    ensures held { KnowsAll world.now (vis_holds result) }
+    ensures known { IsOfWorld world.now result }
 {
     match world.map_of(m) {
         None => Visibility::Public,
@@ -128,8 +120,7 @@ impl VariantFields {
     ) -> Result<Vec<Visibility>, AllocError>
         requires { KnowsAll world.now (def_holds (variant_def variant)) }
         ensures value { IfOk result (λ seen. seen.items ≡ field_visibilities_of world.now variant) }
-        ensures known { IfOk result (λ seen. AllByRecursion (NamesKnown (tree_of world.now)) seen.items) }
-        ensures held { IfOk result (λ seen. AllByRecursion (λ v. KnowsAll world.now (vis_holds v)) seen.items) }
+        ensures known { IfOk result (λ seen. AllByRecursion (IsOfWorld world.now) seen.items) }
     {
         let declared_in = ItemInNs::Types(variant_def(variant)).module(world);
         match (declared_in, world.raw_fields_of(variant)) {
@@ -158,8 +149,7 @@ fn visibilities_in(
 ) -> Result<Vec<Visibility>, AllocError>
     requires { AllByRecursion (λ v. KnowsAll world.now (raw_holds v)) fields.now }
     ensures value { IfOk result (λ seen. seen.items ≡ visibilities_in world.now m fields.now) }
-    ensures known { IfOk result (λ seen. AllByRecursion (NamesKnown (tree_of world.now)) seen.items) }
-    ensures held { IfOk result (λ seen. AllByRecursion (λ v. KnowsAll world.now (vis_holds v)) seen.items) }
+    ensures known { IfOk result (λ seen. AllByRecursion (IsOfWorld world.now) seen.items) }
 {
     let mut seen = Vec::new(alloc);
     let mut rest = fields;
@@ -180,8 +170,7 @@ pub trait AssocVisibility {
     fn assoc_visibility(self, world: &World) -> Visibility
         requires { KnowsAll world.now (def_holds (assoc_def (item self))) }
         ensures value { result ≡ assoc_visibility_of world.now (item self) }
-        ensures known { NamesKnown (tree_of world.now) result }
-        ensures held { KnowsAll world.now (vis_holds result) };
+        ensures known { IsOfWorld world.now result };
 }
 
 impl AssocVisibility for AssocItemId {
@@ -217,8 +206,7 @@ fn unset() -> RawVisibility
 fn written_at(world: &World, def: ModuleDefId, within_impl: bool, raw: &RawVisibility) -> Visibility
     requires { KnowsAll world.now (raw_holds raw.now) }
     ensures value { result ≡ written_at world.now def within_impl raw.now }
-    ensures known { NamesKnown (tree_of world.now) result }
-    ensures held { KnowsAll world.now (vis_holds result) }
+    ensures known { IsOfWorld world.now result }
 {
     match ItemInNs::Types(def).module(world) {
         None => Visibility::Public,
@@ -235,8 +223,7 @@ fn by_container(
 ) -> Visibility
     requires { KnowsAll world.now (raw_holds raw.now) }
     ensures value { result ≡ by_container world.now def container raw.now }
-    ensures known { NamesKnown (tree_of world.now) result }
-    ensures held { KnowsAll world.now (vis_holds result) }
+    ensures known { IsOfWorld world.now result }
 {
     match container {
         ItemContainerId::TraitId(t) => {

@@ -2,7 +2,7 @@ use Rattle.std.proofs.Common.{◌≡◌, ◌∙◌, Option, Some, None, ap, refl
 use Rattle.dm_base.specs.Tree.{Tree, home, outer, in_block_map}
 use Rattle.dm_ids.specs.declared.ids.ModuleId.{ModuleId}
 use Rattle.dm_maps.specs.Trees.{tree_of}
-use Rattle.hir_def_map.specs.Answers.{settled}
+use Rattle.hir_def_map.specs.Answers.{yes_in_block}
 use Rattle.hir_def_map.specs.Paths.{enter_within, stop, root_item}
 use Rattle.hir_def_map.proofs.laws.enters_at_home.Goals as goal
 
@@ -19,4 +19,4 @@ returns c = λ S.
     let t = tree_of c.args.world.now in
     let m = c.args.m in
     let at_home = c.home-inside.ensures.outer ∙ ap (outer t) c.home-inside.ensures.value in
-    ap (λ h. settled (in_block_map t h) (stop (enter_within (length S) t) t h (root_item h) 0 S)) (home-home t m at_home)
+    ap (λ h. yes_in_block (in_block_map t h) (stop (enter_within (length S) t) t h (root_item h) 0 S)) (home-home t m at_home)

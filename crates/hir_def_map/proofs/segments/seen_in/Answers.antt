@@ -1,6 +1,8 @@
-use Rattle.std.proofs.Common.{sym, subst}
+use Rattle.std.proofs.Common.{◌∙◌, ap, sym, subst, Bool}
 use Rattle.dm_base.specs.declared.per_ns.PerNs.{PerNs}
+use Rattle.dm_base.specs.PerNs.{keep}
 use Rattle.dm_base.specs.Tree.{sees}
+use Rattle.dm_base.specs.declared.visibility.Visibility.{Visibility}
 use Rattle.dm_maps.specs.Known.{KnowsAll}
 use Rattle.dm_check.specs.Holding.{res_holds}
 use Rattle.dm_maps.specs.Trees.{tree_of}
@@ -8,16 +10,21 @@ use Rattle.hir_def_map.proofs.KnownLemmas.{type_vis-known, value_vis-known, macr
 use Rattle.hir_def_map.proofs.segments.seen_in.Goals as goal
 
 pub seen_item-requires-clause-named : goal.seen_item-requires-clause-named
-seen_item-requires-clause-named c = type_vis-known c.args.world.now c.bound_in-bound.result c.bound_in-bound.ensures.known
+seen_item-requires-clause-named c = λ i e. type_vis-known c.args.world.now c.bound_in-bound.result c.bound_in-bound.ensures.known i (sym c.as_ref.ensures.value ∙ e)
 
 pub seen_item-requires-2-clause-named : goal.seen_item-requires-2-clause-named
-seen_item-requires-2-clause-named c = value_vis-known c.args.world.now c.bound_in-bound.result c.bound_in-bound.ensures.known
+seen_item-requires-2-clause-named c = λ i e. value_vis-known c.args.world.now c.bound_in-bound.result c.bound_in-bound.ensures.known i (sym c.as_ref-2.ensures.value ∙ e)
 
 pub seen_item-requires-3-clause-named : goal.seen_item-requires-3-clause-named
-seen_item-requires-3-clause-named c = macro_vis-known c.args.world.now c.bound_in-bound.result c.bound_in-bound.ensures.known
+seen_item-requires-3-clause-named c = λ i e. macro_vis-known c.args.world.now c.bound_in-bound.result c.bound_in-bound.ensures.known i (sym c.as_ref-3.ensures.value ∙ e)
 
 pub returns-clause-known : goal.returns-clause-known
 returns-clause-known c =
-    let P : PerNs → Type 0 = λ x. KnowsAll c.args.world.now (res_holds x) in
-    subst P (λ j. record { types = sym c.seen_item.ensures j; values = sym c.seen_item-2.ensures j; macros = sym c.seen_item-3.ensures j })
-    (seen_by-known c.args.world.now (λ v. sees (tree_of c.args.world.now) v c.args.from) c.bound_in-bound.result c.bound_in-bound.ensures.known)
+    let w = c.args.world.now in
+    let p : Visibility → Bool = λ v. sees (tree_of w) v c.args.from in
+    let P : PerNs → Type 0 = λ x. KnowsAll w (res_holds x) in
+    let types = c.copied.ensures ∙ c.seen_item.ensures ∙ ap (keep (λ i. p i.vis)) c.as_ref.ensures.value in
+    let values = c.copied-2.ensures ∙ c.seen_item-2.ensures ∙ ap (keep (λ i. p i.vis)) c.as_ref-2.ensures.value in
+    let macros = c.copied-3.ensures ∙ c.seen_item-3.ensures ∙ ap (keep (λ i. p i.vis)) c.as_ref-3.ensures.value in
+    subst P (λ j. record { types = sym types j; values = sym values j; macros = sym macros j })
+    (seen_by-known w p c.bound_in-bound.result c.bound_in-bound.ensures.known)

@@ -15,8 +15,8 @@ use Rattle.hir_def_map.specs.Walk.{in_types}
 use Rattle.hir_def_map.proofs.KnownLemmas.{type_vis-known, seen_by-known, in_types-known}
 use Rattle.hir_def_map.proofs.segments.seen_type_in.Goals as goal
 
-pub seen_type-requires-clause-named : goal.seen_type-requires-clause-named
-seen_type-requires-clause-named c = λ i e. type_vis-known c.args.world.now (bound_in (scope_of c.args.world.now c.args.m) c.args.segment.now) c.type_in.ensures.known i (sym c.type_in.ensures.value ∙ e)
+pub seen_item-requires-clause-named : goal.seen_item-requires-clause-named
+seen_item-requires-clause-named c = λ i e. type_vis-known c.args.world.now (bound_in (scope_of c.args.world.now c.args.m) c.args.segment.now) c.type_in.ensures.known i (sym c.type_in.ensures.value ∙ e)
 
 pub returns-clause-known : goal.returns-clause-known
 returns-clause-known c =
@@ -24,5 +24,5 @@ returns-clause-known c =
     let bound : PerNs = bound_in (scope_of w c.args.m) c.args.segment.now in
     let p : Visibility → Bool = λ v. sees (tree_of w) v c.args.from in
     let P : Option (Item ModuleDefId ImportOrExternCrate) → Type 0 = λ o. KnowsAll w (res_holds (in_types o)) in
-    let is = c.seen_type.ensures ∙ ap (keep (λ i. p i.vis)) c.type_in.ensures.value in
+    let is = c.seen_item.ensures ∙ ap (keep (λ i. p i.vis)) c.type_in.ensures.value in
     subst P (sym is) (in_types-known w (seen_by p bound) (seen_by-known w p bound c.type_in.ensures.known))

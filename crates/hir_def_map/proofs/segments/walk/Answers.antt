@@ -7,8 +7,8 @@ use Rattle.dm_maps.specs.Readings.{read}
 use Rattle.dm_maps.specs.Trees.{tree_of}
 use Rattle.hir_def_map.specs.declared.result.ResolvePathResult.{ResolvePathResult}
 use Rattle.hir_def_map.specs.Paths.{is_empty}
-use Rattle.hir_def_map.specs.Walk.{in_types, marked, left_at, standing, walk}
-use Rattle.hir_def_map.proofs.KnownLemmas.{marked-known, module_in-known}
+use Rattle.hir_def_map.specs.Walk.{in_types, crossed, left_at, standing, walk}
+use Rattle.hir_def_map.proofs.KnownLemmas.{crossed-known, module_in-known}
 use Rattle.hir_def_map.proofs.WalkLemmas.{walk-leaves, walk-on}
 use Rattle.hir_def_map.proofs.segments.walk.Goals as goal
 
@@ -20,8 +20,8 @@ returns-in_default-module_in-clause-value c = λ L.
     let w = c.args.world.now in
     let i = c.in-Some-types.item.now in
     let s = c.segments.segment.now in
-    c.marked-in_default-module_in.ensures
-    ∙ ap (marked c.segments.differing)
+    c.crossed-in_default-module_in.ensures
+    ∙ ap (crossed c.segments.differing)
     (c.left_at.ensures.value L ∙ ap (λ ns. left_at i c.segments.passed (read w L s) (is_empty (map (read w L) ns)) i.def) (sym c.in-Some-split_first.ensures.cases.0))
     ∙ sym (walk-leaves w L c.segments.differing c.segments.origin (option_copied c.segments.types) c.segments.passed s c.segments.rest.now i (ap option_copied c.in-Some-types.is) (sym c.module_in.ensures ∙ c.in_default-module_in.is))
     ∙ c.segments.invariant.same L
@@ -29,7 +29,7 @@ returns-in_default-module_in-clause-value c = λ L.
 pub returns-in_default-module_in-clause-known : goal.returns-in_default-module_in-clause-known
 returns-in_default-module_in-clause-known c =
     let P : ResolvePathResult → Type 0 = λ r. KnowsAll c.args.world.now (res_holds r.resolved_def) in
-    subst P (sym c.marked-in_default-module_in.ensures) (marked-known c.args.world.now c.segments.differing c.left_at.result c.left_at.ensures.known)
+    subst P (sym c.crossed-in_default-module_in.ensures) (crossed-known c.args.world.now c.segments.differing c.left_at.result c.left_at.ensures.known)
 
 pub segments-preserved : goal.segments-preserved
 unfolding read
