@@ -22,8 +22,8 @@ pub(crate) fn find_fault(world: &World, pendings: &mut Vec<Pending>) -> Option<R
 
 /// Whether an import is listed twice. Allocates nothing, and moves no import.
 ///
-/// It walks over the imports in the order of their numbers, n log n steps with those that find the order. The walk tests
-/// the order, since ranks are not trusted: were it wrong, each two imports would be compared.
+/// It walks over the imports in the order of their numbers: n log n steps, with those that find the order. The walk
+/// tests that order, since ranks are not trusted; were it wrong, each two imports would be compared.
 fn has_double(pendings: &mut [Pending]) -> bool
     ensures answer { result ≡ is_some (first_double pendings.old) }
     ensures same { pendings.new ≡ pendings.old }
@@ -45,7 +45,7 @@ fn is_double(pendings: &[Pending]) -> bool
     }
 }
 
-/// Whether the imports rise strictly in the order of their ranks. As many that rise as there are imports are all of them.
+/// Whether the imports rise strictly in the order of their ranks: as many as there are, which are then all of them.
 fn rises(pendings: &[Pending]) -> bool
     ensures { result ≡ true → first_double pendings.now ≡ None }
 {

@@ -11,8 +11,8 @@ use indexmap::IndexSet;
 use std::alloc::Global;
 use std::marker::Model;
 
-/// The imports of a list for look-ups, or none, where it was not made or there was no memory for it. A contract sees the
-/// imports in the order in which they came.
+/// The imports of a list for look-ups, once it was made and if there was memory. A contract sees the imports in the
+/// order in which they came.
 pub(crate) struct Listing {
     imports: Option<IndexSet<ImportId>>,
 }
@@ -75,7 +75,8 @@ impl Listing {
 
 /// The imports of a list, if there is memory.
 fn made(alloc: Global, pendings: &[Pending]) -> Option<IndexSet<ImportId>>
-    ensures { IfSome result (λ made. (i : ImportId) → contains same_import made i ≡ is_listed pendings.now i) }
+    ensures listed { IfSome result (λ made. (i : ImportId) →
+        contains same_import made i ≡ is_listed pendings.now i) }
 {
     let mut listed = IndexSet::new(alloc);
     let mut rest = pendings;

@@ -81,8 +81,8 @@ impl Pendings {
 
     /// Takes the import at place k from the worklist. The first call makes the index, the bit set and the listing.
     ///
-    /// Where an allocation for the index or the bit set fails, nothing changes. Where one for the listing fails, there is
-    /// none, and the next call tries again.
+    /// Where an allocation for the index or the bit set fails, nothing changes. Where one for the listing fails, there
+    /// is none, and the next call tries again.
     pub(crate) fn take(&mut self, k: usize, alloc: Global) -> Result<(), AllocError>
         ensures ok { OnOk result (self.new ≡ marked_at self.old k false) }
         ensures err { OnErr result (self.new ≡ self.old) }

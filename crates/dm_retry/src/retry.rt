@@ -50,8 +50,8 @@ impl Drop for Retry {
 }
 
 impl Retry {
-    /// Unresolved imports, all of them due, in n log n steps for n of them. Allocates nothing; rounds use the allocator of
-    /// the list of imports.
+    /// Unresolved imports, all of them due, in n log n steps for n of them. Allocates nothing; rounds use the allocator
+    /// of the list of imports.
     ///
     /// Fails where an import is listed twice, and then where the module of one, its use, the `$crate` of its path or
     /// what its visibility names is not the world's; it hands all parts back unchanged. `refusal` tells which import is

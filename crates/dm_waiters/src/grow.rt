@@ -11,8 +11,8 @@ use dm_ids::name::Name;
 use indexmap::IndexMap;
 use std::alloc::{AllocError, Global};
 
-/// Makes room for an import behind these: in the list, and in the index and the bit set, where they were made. There the
-/// import is entered as a dirty one. Where an allocation fails, they keep what they had.
+/// Makes room for an import behind these: in the list, and in the index and the bit set, where they were made. There
+/// the import is entered as a dirty one. Where an allocation fails, they keep what they had.
 pub(crate) fn make_room<I: Unresolved>(
     imports: &mut Vec<I>,
     index: &mut IndexMap<Name, Places>,

@@ -82,7 +82,8 @@ pub(crate) fn add_path(
     k: u32,
 ) -> Result<(), AllocError>
     requires { (n : Name) → has_place index.old.entries n k ≡ false }
-    ensures ok { OnOk result ((n : Name) (j : ℕ) → has_place index.new.entries n j ≡ (has_place index.old.entries n j || (among names.now n && nat_eq j k))) }
+    ensures ok { OnOk result ((n : Name) (j : ℕ) →
+        has_place index.new.entries n j ≡ (has_place index.old.entries n j || (among names.now n && nat_eq j k))) }
     ensures err { OnErr result ((n : Name) (j : ℕ) → has_place index.new.entries n j ≡ has_place index.old.entries n j) }
 {
     match add_names(index, alloc, names, k) {
@@ -101,8 +102,10 @@ pub(crate) fn add_names(
     names: &[Name],
     k: u32,
 ) -> Result<(), AllocError>
-    ensures ok { OnOk result ((n : Name) (j : ℕ) → has_place index.new.entries n j ≡ (has_place index.old.entries n j || (among names.now n && nat_eq j k))) }
-    ensures err { OnErr result ((n : Name) (j : ℕ) → (among names.now n && nat_eq j k) ≡ false → has_place index.new.entries n j ≡ has_place index.old.entries n j) }
+    ensures ok { OnOk result ((n : Name) (j : ℕ) →
+        has_place index.new.entries n j ≡ (has_place index.old.entries n j || (among names.now n && nat_eq j k))) }
+    ensures err { OnErr result ((n : Name) (j : ℕ) → (among names.now n && nat_eq j k) ≡ false →
+        has_place index.new.entries n j ≡ has_place index.old.entries n j) }
 {
     let mut rest = names;
     'names: while let Some((first, after)) = rest.split_first() {
@@ -114,7 +117,8 @@ pub(crate) fn add_names(
 
 /// Takes a place out under each of these names.
 fn remove_names(index: &mut IndexMap<Name, Places>, names: &[Name], k: u32)
-    ensures { (n : Name) (j : ℕ) → has_place index.new.entries n j ≡ (has_place index.old.entries n j && not (among names.now n && nat_eq j k)) }
+    ensures { (n : Name) (j : ℕ) →
+        has_place index.new.entries n j ≡ (has_place index.old.entries n j && not (among names.now n && nat_eq j k)) }
 {
     let mut rest = names;
     'names: while let Some((first, after)) = rest.split_first() {
@@ -130,7 +134,8 @@ fn add_name(
     name: &Name,
     k: u32,
 ) -> Result<(), AllocError>
-    ensures ok { OnOk result ((n : Name) (j : ℕ) → has_place index.new.entries n j ≡ (has_place index.old.entries n j || (same_name n name.now && nat_eq j k))) }
+    ensures ok { OnOk result ((n : Name) (j : ℕ) →
+        has_place index.new.entries n j ≡ (has_place index.old.entries n j || (same_name n name.now && nat_eq j k))) }
     ensures err { OnErr result ((n : Name) (j : ℕ) → has_place index.new.entries n j ≡ has_place index.old.entries n j) }
 {
     match index.get_mut(name) {
@@ -161,7 +166,8 @@ fn add_new_name(
 
 /// Takes a place out under a name.
 fn remove_name(index: &mut IndexMap<Name, Places>, name: &Name, k: u32)
-    ensures { (n : Name) (j : ℕ) → has_place index.new.entries n j ≡ (has_place index.old.entries n j && not (same_name n name.now && nat_eq j k)) }
+    ensures { (n : Name) (j : ℕ) →
+        has_place index.new.entries n j ≡ (has_place index.old.entries n j && not (same_name n name.now && nat_eq j k)) }
 {
     if let Some(places) = index.get_mut(name) {
         places.remove(k);
