@@ -65,7 +65,8 @@ fn given(world: &World, pending: &Pending, items: PerNs) -> Option<PerNs>
     requires known { KnowsAll world.now (parts pending.now) }
     requires items { KnowsAll world.now (res_holds items) }
     ensures value { result ≡ given world.now pending.now items }
-    ensures known { IfSome result (λ x. KnowsAll world.now (push_holds pending.now.origin x (by_import pending.now))) }
+    ensures known { IfSome result
+        (λ x. KnowsAll world.now (push_holds pending.now.origin x (by_import pending.now))) }
 {
     let kind = pending.kind();
     if_any(by_kind(world, pending.origin(), pending.visibility(), kind, items))
@@ -75,7 +76,8 @@ fn given(world: &World, pending: &Pending, items: PerNs) -> Option<PerNs>
 pub(crate) fn found(world: &World, pending: &Pending) -> Option<PerNs>
     requires known { KnowsAll world.now (parts pending.now) }
     ensures value { result ≡ found world.now pending.now }
-    ensures known { IfSome result (λ x. KnowsAll world.now (push_holds pending.now.origin x (by_import pending.now))) }
+    ensures known { IfSome result
+        (λ x. KnowsAll world.now (push_holds pending.now.origin x (by_import pending.now))) }
 {
     let answer = meaning(world, pending);
     match brought(&answer) {
@@ -94,8 +96,10 @@ pub(crate) fn attempt(
 ) -> Result<bool, AllocError>
     requires known { KnowsAll world.old (parts pending.now) }
     ensures answer { IfOk result (λ answer. answer ≡ brings world.old globs.old pending.now) }
-    ensures world { OnOk result (world.new ≡ world_after world.old globs.old pending.now (found world.old pending.now)) }
-    ensures globs { OnOk result (globs.new ≡ globs_with world.old globs.old pending.now (found world.old pending.now)) }
+    ensures world { OnOk result
+        (world.new ≡ world_after world.old globs.old pending.now (found world.old pending.now)) }
+    ensures globs { OnOk result
+        (globs.new ≡ globs_with world.old globs.old pending.now (found world.old pending.now)) }
     ensures err { OnErr result (world.new ≡ world.old) }
     ensures err_globs { OnErr result (globs.new ≡ globs.old) }
 
@@ -103,10 +107,15 @@ pub(crate) fn attempt(
     ensures known { (q : rounds.Pending) → KnowsAll world.old (parts q) → KnowsAll world.new (parts q) }
 
     // An import whose retry would change nothing, and whose path has no segment of the pushed name, stays such.
-    ensures others { OnOk result ((q : rounds.Pending) → same_import q.import pending.now.import ≡ false → among q.path.segments pending.now.name ≡ false → brings world.old globs.old q ≡ false → brings world.new globs.new q ≡ false) }
+    ensures others { OnOk result
+        ((q : rounds.Pending) → same_import q.import pending.now.import ≡ false
+        → among q.path.segments pending.now.name ≡ false → brings world.old globs.old q ≡ false
+        → brings world.new globs.new q ≡ false) }
 
     // So does this import, if the name is none of its own segments.
-    ensures own { OnOk result (among pending.now.path.segments pending.now.name ≡ false → brings world.new globs.new pending.now ≡ false) }
+    ensures own { OnOk result
+        (among pending.now.path.segments pending.now.name ≡ false
+        → brings world.new globs.new pending.now ≡ false) }
 {
     answers_alike();
     let Some(items) = found(world, pending) else {

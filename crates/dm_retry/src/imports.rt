@@ -60,7 +60,8 @@ impl Imports {
     /// Of these parts, with all imports due.
     pub(crate) fn all_due(world: World, globs: PerNsGlobImports, pendings: Vec<Pending>) -> Imports
         requires { fault_of world pendings.items ≡ None }
-        ensures { result ≡ record { world = world; globs = globs; pending = map (marked true) pendings.items } }
+        ensures { result
+            ≡ record { world = world; globs = globs; pending = map (marked true) pendings.items } }
     {
         let alloc = *pendings.allocator();
         Imports {
@@ -162,7 +163,11 @@ impl Imports {
         requires known { KnowsAll self.old.world (push_holds lookup.0 res import) }
         requires apart { comes_by self.old.pending import ≡ false }
         ensures state { OnOk result (self.new ≡ pushed_into self.old lookup.0 lookup.1 res import) }
-        ensures answer { IfOk result (λ answer. answer ≡ push_answer (scope_of self.old.world lookup.0) self.old.globs lookup.0 lookup.1 res import) }
+        ensures answer { IfOk result
+            (λ answer.
+            answer
+            ≡ push_answer (scope_of self.old.world lookup.0) self.old.globs lookup.0
+            lookup.1 res import) }
         ensures err { OnErr result (self.new ≡ self.old) }
     {
         answers_alike();
@@ -242,7 +247,8 @@ fn mark_of(pendings: &[Pending], i: usize) -> Option<bool>
 /// After a try of the import at place i that wrote, each import whose path has its name as a segment becomes due.
 fn wake_after(pendings: &mut Pendings, i: usize, written: bool)
     requires { i < length pendings.old }
-    ensures { pendings.new ≡ (if written then map (awoken (name_at pendings.old i)) pendings.old else pendings.old) }
+    ensures { pendings.new
+        ≡ (if written then map (awoken (name_at pendings.old i)) pendings.old else pendings.old) }
 {
     if written {
         pendings.wake_by(i);

@@ -61,7 +61,18 @@ impl Retry {
         globs: PerNsGlobImports,
         pendings: Vec<Pending>,
     ) -> Result<Retry, (RetryFault, World, PerNsGlobImports, Vec<Pending>)>
-        ensures ok { IfOk result (λ r. r ≡ record { state = record { world = world; globs = globs; pending = map (marked true) pendings.items }; last_tries = 0 }) }
+        ensures ok { IfOk result
+            (λ r.
+            r
+            ≡ record {
+              state =
+                  record {
+                    world = world;
+                    globs = globs;
+                    pending = map (marked true) pendings.items;
+                  };
+              last_tries = 0;
+            }) }
         ensures none { OnOk result (fault_of world pendings.items ≡ None) }
         ensures fault { IfErr result (λ e. fault_of world pendings.items ≡ Some e.0) }
         ensures parts { IfErr result (λ e. (e.1 ≡ world) × (e.2 ≡ globs) × (e.3.items ≡ pendings.items)) }
@@ -114,7 +125,8 @@ impl Retry {
     pub fn round_changed(&mut self) -> Result<bool, AllocError>
         ensures state { OnOk result (self.new.state ≡ round self.old.state) }
         ensures answer { IfOk result (λ answer. answer ≡ round_answer self.old.state) }
-        ensures tries { OnOk result (self.new.last_tries ≡ due_turns self.old.state (length self.old.state.pending)) }
+        ensures tries { OnOk result
+            (self.new.last_tries ≡ due_turns self.old.state (length self.old.state.pending)) }
         ensures idle { IfOk result (λ answer. self.new.last_tries ≡ 0 → answer ≡ false) }
         ensures err { OnErr result (StopsAtDue self.old.state self.new) }
 
@@ -143,8 +155,15 @@ impl Retry {
     ) -> Result<bool, AllocError>
         requires known { KnowsAll self.old.state.world (push_holds lookup.0 res import) }
         requires apart { comes_by self.old.state.pending import ≡ false }
-        ensures state { OnOk result (self.new ≡ record self.old { state = pushed_into self.old.state lookup.0 lookup.1 res import }) }
-        ensures answer { IfOk result (λ answer. answer ≡ push_answer (scope_of self.old.state.world lookup.0) self.old.state.globs lookup.0 lookup.1 res import) }
+        ensures state { OnOk result
+            (self.new
+            ≡ record self.old
+            { state = pushed_into self.old.state lookup.0 lookup.1 res import }) }
+        ensures answer { IfOk result
+            (λ answer.
+            answer
+            ≡ push_answer (scope_of self.old.state.world lookup.0) self.old.state.globs
+            lookup.0 lookup.1 res import) }
         ensures err { OnErr result (self.new ≡ self.old) }
     {
         let written = self.imports.push_res(lookup, res, import)?;

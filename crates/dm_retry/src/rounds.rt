@@ -29,7 +29,8 @@ pub(crate) fn try_due(imports: &mut Imports, tries: &mut usize) -> Result<bool, 
     ensures answer { IfOk result (λ answer. answer ≡ round_answer imports.old) }
     ensures tries { OnOk result (tries.new ≡ due_turns imports.old (length imports.old.pending)) }
     ensures idle { IfOk result (λ answer. tries.new ≡ 0 → answer ≡ false) }
-    ensures err { OnErr result (StopsAtDue imports.old (record { state = imports.new; last_tries = tries.new })) }
+    ensures err { OnErr result
+        (StopsAtDue imports.old (record { state = imports.new; last_tries = tries.new })) }
     ensures none { NoneDue imports.old → result ≡ Ok false }
     ensures rests { NoneDue imports.old → imports.new ≡ imports.old }
     ensures untried { NoneDue imports.old → tries.new ≡ 0 }

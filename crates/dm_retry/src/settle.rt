@@ -55,7 +55,8 @@ impl Retry {
     /// Whether the import at an index is unresolved in the world as it stands: its path resolves to nothing, or a
     /// segment of it is left. None past the last. Does not allocate.
     pub fn is_unresolved(&self, i: usize) -> Option<bool>
-        ensures { result ≡ option_map (finds_nothing self.now.state.world) (slice_get self.now.state.pending i) }
+        ensures { result
+            ≡ option_map (finds_nothing self.now.state.world) (slice_get self.now.state.pending i) }
     {
         self.imports().is_unresolved(i)
     }

@@ -84,7 +84,8 @@ pub(crate) fn add_path(
     requires { (n : Name) → has_place index.old.entries n k ≡ false }
     ensures ok { OnOk result ((n : Name) (j : ℕ) →
         has_place index.new.entries n j ≡ (has_place index.old.entries n j || (among names.now n && nat_eq j k))) }
-    ensures err { OnErr result ((n : Name) (j : ℕ) → has_place index.new.entries n j ≡ has_place index.old.entries n j) }
+    ensures err { OnErr result
+        ((n : Name) (j : ℕ) → has_place index.new.entries n j ≡ has_place index.old.entries n j) }
 {
     match add_names(index, alloc, names, k) {
         Ok(()) => Ok(()),
@@ -136,7 +137,8 @@ fn add_name(
 ) -> Result<(), AllocError>
     ensures ok { OnOk result ((n : Name) (j : ℕ) →
         has_place index.new.entries n j ≡ (has_place index.old.entries n j || (same_name n name.now && nat_eq j k))) }
-    ensures err { OnErr result ((n : Name) (j : ℕ) → has_place index.new.entries n j ≡ has_place index.old.entries n j) }
+    ensures err { OnErr result
+        ((n : Name) (j : ℕ) → has_place index.new.entries n j ≡ has_place index.old.entries n j) }
 {
     match index.get_mut(name) {
         Some(places) => {

@@ -258,7 +258,9 @@ fn index_one<I: Unresolved>(
     import: &I,
     k: usize,
 ) -> Result<(), AllocError>
-    ensures { OnOk result ((xs : List I) → k ≡ length xs → IsKept I.reading index.old.entries dirty.old xs → IsKept I.reading index.new.entries dirty.new (xs ++ import.now ∷ [])) }
+    ensures { OnOk result
+        ((xs : List I) → k ≡ length xs → IsKept I.reading index.old.entries dirty.old xs
+        → IsKept I.reading index.new.entries dirty.new (xs ++ import.now ∷ [])) }
 {
     let place = as_place(k)?;
     dirty.cover(place as usize)?;
