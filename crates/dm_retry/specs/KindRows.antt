@@ -2,13 +2,14 @@
 -- 1 and 2 in it; crate 1 has its root, the module 3.
 use Rattle.std.specs.Prelude.{◌≡◌, [], ◌∷◌, None, Some, refl}
 use Rattle.dm_ids.specs.declared.ids.Crate.{Crate}
+use Rattle.dm_ids.specs.declared.item_ids.ModuleDefId.TheVariants as def
 use Rattle.dm_base.specs.declared.per_ns.PerNs.{PerNs}
 use Rattle.dm_base.specs.declared.visibility.Visibility.{Visibility}
 use Rattle.dm_base.specs.declared.visibility.Visibility.TheVariants.{Module, PubCrate, Public}
 use Rattle.dm_base.specs.declared.visibility.VisibilityExplicitness.TheVariants.{Explicit}
 use Rattle.dm_base.specs.Tree.{Tree}
 use Rattle.dm_maps.specs.Trees.{tree_by}
-use Rattle.hir_def_map.specs.Written.{a_const, a_struct, an_item, crate_id, number, place}
+use Rattle.hir_def_map.specs.Written.{a_struct, an_item, crate_id, number, place}
 use Rattle.dm_retry.specs.declared.import_kind.ImportKind.TheVariants as kind
 use Rattle.dm_retry.specs.Kinds.{by_kind, if_any}
 
@@ -22,7 +23,7 @@ krate = record { 0 = 0 }
 
 -- a struct and a constant of one name
 abbrev seen : Visibility → PerNs
-seen v = record { types = Some (an_item (a_struct 0) v None); values = Some (an_item (a_const 0) v None); macros = None }
+seen v = record { types = Some (an_item (a_struct 0) v None); values = Some (an_item (def.ConstId (record { 0 = 0 })) v None); macros = None }
 
 abbrev type_seen : Visibility → PerNs
 type_seen v = record { types = Some (an_item (a_struct 0) v None); values = None; macros = None }
