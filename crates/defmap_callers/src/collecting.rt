@@ -22,8 +22,8 @@ pub struct Glob {
     pub import: GlobId,
 }
 
-/// Settles the imports and fills the globs in turn, until the globs bring nothing new: then the world is a fixed point of
-/// the imports, and those that are still unresolved are listed. None where the limit was reached first.
+/// Settles the imports and fills the globs in turn, until the globs bring nothing new: then the world is a fixed point
+/// of the imports, and those that are still unresolved are listed. None where the limit was reached first.
 pub fn collected(
     retry: &mut Retry,
     globs: &[Glob],
