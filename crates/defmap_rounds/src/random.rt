@@ -43,9 +43,14 @@ impl Random {
         self.state / 65_536 % bound
     }
 
-    /// One of the four modules.
+    /// One of the four modules, in half of the cases the root.
     pub(crate) fn module(&mut self) -> ModuleId {
-        ModuleId(self.below(4))
+        match self.below(6) {
+            1 => ModuleId(1),
+            2 => ModuleId(2),
+            3 => ModuleId(3),
+            _ => ModuleId(0),
+        }
     }
 
     /// One of the five names.
@@ -123,6 +128,15 @@ impl Random {
         }
     }
 
+    /// The name that an import by a path binds: in one case of three the first of the path, so that it can change its own
+    /// meaning.
+    fn bound_name(&mut self, alloc: Global, path: &ModPath) -> Option<Name> {
+        if self.below(3) == 0 {
+            return path.segments().first()?.copy(alloc).ok();
+        }
+        self.name(alloc)
+    }
+
     /// The import of that number.
     pub(crate) fn import(&mut self, alloc: Global, number: u32) -> Option<Pending> {
         let id = ImportId {
@@ -130,8 +144,8 @@ impl Random {
             idx: UseTreeIdx(number),
         };
         let origin = self.module();
-        let name = self.name(alloc)?;
         let path = self.path(alloc)?;
+        let name = self.bound_name(alloc, &path)?;
         let pending = Pending::new(origin, name, path, self.visibility(), id);
         Some(pending.with_kind(self.kind()))
     }
