@@ -1,0 +1,4 @@
+pub mod ByteByByte
+pub mod Runs
+pub mod OneToken
+pub mod OneCut

@@ -1,0 +1,4 @@
+pub mod Shapes
+pub mod Numbers
+pub mod Openings
+pub mod Tokens

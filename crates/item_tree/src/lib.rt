@@ -1,0 +1,8 @@
+//! A Rust text, read: its tokens, with nothing left out.
+#![tactic(auto)]
+
+mod bodies;
+pub mod lexer;
+pub mod openings;
+pub mod rows;
+pub mod token;

@@ -1,0 +1,343 @@
+//! How tokens begin.
+ghost use Rattle.std.specs.Prelude.{◌≡◌, ◌==◌, ◌<◌, ◌≤◌, length, true};
+ghost use Rattle.item_tree.specs.Shapes.{begins, is_blank, is_word_byte, starts_word};
+ghost use Rattle.std.specs.Char.{is_ascii_digit};
+ghost use Rattle.item_tree.specs.Openings as spec;
+
+use crate::bodies::{blank_end, hash_end, is_blank, is_word_byte, word_end};
+use crate::token::TokenKind;
+use dm_ids::source::Edition;
+
+/// What stands in a token behind its opening.
+#[derive(Clone, Copy)]
+pub enum Body {
+    /// Nothing.
+    Empty,
+    /// As many blanks as there are.
+    Blanks,
+    /// All up to the newline.
+    Line,
+    /// As many bytes of identifiers as there are.
+    Word,
+    /// What goes on a number, behind its first digit.
+    Number,
+    /// All up to the `*/`, with comments in it.
+    Comment,
+    /// All up to this quote, where no backslash takes its meaning.
+    Quoted(u8),
+    /// All up to a quote with so many hashes.
+    Raw(usize),
+}
+
+/// The first bytes of a token, which tell its kind and what follows them in it.
+#[derive(Clone, Copy)]
+pub struct Opening {
+    pub kind: TokenKind,
+    pub len: usize,
+    pub body: Body,
+}
+
+fn begins_with(text: &[u8], byte: u8) -> bool
+    ensures { result ≡ begins (λ b. b == byte) text.now }
+{
+    match text.first() {
+        None => false,
+        Some(first) => *first == byte,
+    }
+}
+
+fn begins_blank(text: &[u8]) -> bool
+    ensures { result ≡ begins is_blank text.now }
+{
+    match text.first() {
+        None => false,
+        Some(first) => is_blank(*first),
+    }
+}
+
+fn begins_digit(text: &[u8]) -> bool
+    ensures { result ≡ begins is_ascii_digit text.now }
+{
+    match text.first() {
+        None => false,
+        Some(first) => first.is_ascii_digit(),
+    }
+}
+
+fn begins_word_byte(text: &[u8]) -> bool
+    ensures { result ≡ begins is_word_byte text.now }
+{
+    match text.first() {
+        None => false,
+        Some(first) => is_word_byte(*first),
+    }
+}
+
+fn begins_word(text: &[u8]) -> bool
+    ensures { result ≡ begins starts_word text.now }
+{
+    match text.first() {
+        None => false,
+        Some(first) => is_word_byte(*first) && !first.is_ascii_digit(),
+    }
+}
+
+fn begins_mark(text: &[u8]) -> bool
+    ensures { result ≡ begins spec.is_mark text.now }
+{
+    match text.first() {
+        None => false,
+        Some(first) => first.is_ascii_punctuation() && *first != b'\\' && *first != b'`',
+    }
+}
+
+/// Whether the edition has strings of C and raw lifetimes.
+fn since_2021(edition: Edition) -> bool
+    ensures { result ≡ spec.since_2021 edition }
+{
+    match edition {
+        Edition::Edition2015 | Edition::Edition2018 => false,
+        Edition::Edition2021 | Edition::Edition2024 => true,
+    }
+}
+
+/// Whether the text begins with `#!`, and not as an attribute does.
+fn opens_shebang(text: &[u8]) -> bool
+    ensures { result ≡ spec.opens_shebang text.now }
+{
+    if !text.starts_with(b"#!") {
+        return false;
+    }
+    let blanks = blank_end(&text[2..]);
+    !begins_with(&text[2 + blanks..], b'[')
+}
+
+/// How many bytes of a raw string stand before its hashes; none where none begins.
+fn raw_prefix(text: &[u8], edition: Edition) -> usize
+    ensures in_range { result ≤ length text.now }
+    ensures exact { result ≡ spec.raw_prefix edition text.now }
+{
+    if begins_with(text, b'r') {
+        1
+    } else if text.starts_with(b"br") {
+        2
+    } else if since_2021(edition) && text.starts_with(b"cr") {
+        2
+    } else {
+        0
+    }
+}
+
+/// Whether a prefix, hashes and a quote begin the text.
+fn opens_raw(text: &[u8], edition: Edition) -> bool
+    ensures { result ≡ spec.opens_raw edition text.now }
+{
+    let prefix = raw_prefix(text, edition);
+    if prefix == 0 {
+        return false;
+    }
+    let hashes = hash_end(&text[prefix..]);
+    begins_with(&text[prefix + hashes..], b'"')
+}
+
+/// The opening of a raw string.
+fn raw_opening(text: &[u8], edition: Edition) -> Opening
+    requires { spec.opens_raw edition text.now ≡ true }
+    ensures exact { result ≡ spec.raw_opening edition text.now }
+    ensures some { 0 < result.len }
+    ensures in_range { result.len ≤ length text.now }
+{
+    let prefix = raw_prefix(text, edition);
+    let hashes = hash_end(&text[prefix..]);
+    Opening {
+        kind: TokenKind::RawStr,
+        len: prefix + hashes + 1,
+        body: Body::Raw(hashes),
+    }
+}
+
+/// Whether a word stands behind the first byte, and no quote behind that word.
+fn opens_lifetime(text: &[u8]) -> bool
+    requires { 0 < length text.now }
+    ensures { result ≡ spec.opens_lifetime text.now }
+{
+    if !begins_word_byte(&text[1..]) {
+        return false;
+    }
+    let word = word_end(&text[1..]);
+    !begins_with(&text[1 + word..], b'\'')
+}
+
+/// Whether `'r#` and a word begin the text.
+fn opens_raw_lifetime(text: &[u8], edition: Edition) -> bool
+    ensures { result ≡ spec.opens_raw_lifetime edition text.now }
+{
+    if !since_2021(edition) || !text.starts_with(b"'r#") {
+        return false;
+    }
+    begins_word(&text[3..])
+}
+
+/// The opening of what begins with a quote.
+#[tactic(auto, unfolding(crate::specs::Openings::quote_opening))]
+fn quote_opening(text: &[u8], edition: Edition) -> Opening
+    requires { 0 < length text.now }
+    ensures exact { result ≡ spec.quote_opening edition text.now }
+    ensures some { 0 < result.len }
+    ensures in_range { result.len ≤ length text.now }
+{
+    if opens_raw_lifetime(text, edition) {
+        Opening {
+            kind: TokenKind::Lifetime,
+            len: 3,
+            body: Body::Word,
+        }
+    } else if opens_lifetime(text) {
+        Opening {
+            kind: TokenKind::Lifetime,
+            len: 1,
+            body: Body::Word,
+        }
+    } else {
+        Opening {
+            kind: TokenKind::Char,
+            len: 1,
+            body: Body::Quoted(b'\''),
+        }
+    }
+}
+
+/// Whether `r#` and a word begin the text.
+fn opens_raw_identifier(text: &[u8]) -> bool
+    ensures { result ≡ spec.opens_raw_identifier text.now }
+{
+    if !text.starts_with(b"r#") {
+        return false;
+    }
+    begins_word(&text[2..])
+}
+
+/// The opening of a name, a mark, or of what is no token.
+#[tactic(auto, unfolding(crate::specs::Openings::word_opening))]
+fn word_opening(text: &[u8]) -> Opening
+    requires { 0 < length text.now }
+    ensures exact { result ≡ spec.word_opening text.now }
+    ensures some { 0 < result.len }
+    ensures in_range { result.len ≤ length text.now }
+{
+    if opens_raw_identifier(text) {
+        Opening {
+            kind: TokenKind::Identifier,
+            len: 2,
+            body: Body::Word,
+        }
+    } else if begins_word(text) {
+        Opening {
+            kind: TokenKind::Identifier,
+            len: 1,
+            body: Body::Word,
+        }
+    } else if begins_mark(text) {
+        Opening {
+            kind: TokenKind::Punctuation,
+            len: 1,
+            body: Body::Empty,
+        }
+    } else {
+        Opening {
+            kind: TokenKind::Error,
+            len: 1,
+            body: Body::Empty,
+        }
+    }
+}
+
+/// The opening of a literal with a prefix or a double quote, or of a word.
+#[tactic(auto, unfolding(crate::specs::Openings::literal_opening))]
+fn literal_opening(text: &[u8], edition: Edition) -> Opening
+    requires { 0 < length text.now }
+    ensures exact { result ≡ spec.literal_opening edition text.now }
+    ensures some { 0 < result.len }
+    ensures in_range { result.len ≤ length text.now }
+{
+    if begins_with(text, b'"') {
+        Opening {
+            kind: TokenKind::Str,
+            len: 1,
+            body: Body::Quoted(b'"'),
+        }
+    } else if text.starts_with(b"b\"") {
+        Opening {
+            kind: TokenKind::Str,
+            len: 2,
+            body: Body::Quoted(b'"'),
+        }
+    } else if since_2021(edition) && text.starts_with(b"c\"") {
+        Opening {
+            kind: TokenKind::Str,
+            len: 2,
+            body: Body::Quoted(b'"'),
+        }
+    } else if text.starts_with(b"b'") {
+        Opening {
+            kind: TokenKind::Char,
+            len: 2,
+            body: Body::Quoted(b'\''),
+        }
+    } else if opens_raw(text, edition) {
+        raw_opening(text, edition)
+    } else {
+        word_opening(text)
+    }
+}
+
+/// The opening of the token that the text begins with; `at_start` tells that nothing stands before the text.
+#[tactic(auto, unfolding(crate::specs::Openings::opening))]
+pub fn first_opening(text: &[u8], edition: Edition, at_start: bool) -> Opening
+    requires { 0 < length text.now }
+    ensures exact { result ≡ spec.opening edition at_start text.now }
+    ensures some { 0 < result.len }
+    ensures in_range { result.len ≤ length text.now }
+{
+    if at_start && text.starts_with(&[0xEF, 0xBB, 0xBF]) {
+        Opening {
+            kind: TokenKind::Blank,
+            len: 3,
+            body: Body::Empty,
+        }
+    } else if at_start && opens_shebang(text) {
+        Opening {
+            kind: TokenKind::Shebang,
+            len: 2,
+            body: Body::Line,
+        }
+    } else if begins_blank(text) {
+        Opening {
+            kind: TokenKind::Blank,
+            len: 1,
+            body: Body::Blanks,
+        }
+    } else if text.starts_with(b"//") {
+        Opening {
+            kind: TokenKind::LineComment,
+            len: 2,
+            body: Body::Line,
+        }
+    } else if text.starts_with(b"/*") {
+        Opening {
+            kind: TokenKind::BlockComment,
+            len: 2,
+            body: Body::Comment,
+        }
+    } else if begins_digit(text) {
+        Opening {
+            kind: TokenKind::Number,
+            len: 1,
+            body: Body::Number,
+        }
+    } else if begins_with(text, b'\'') {
+        quote_opening(text, edition)
+    } else {
+        literal_opening(text, edition)
+    }
+}
