@@ -2,3 +2,4 @@ pub mod Shapes
 pub mod Numbers
 pub mod Openings
 pub mod Tokens
+pub mod Rows

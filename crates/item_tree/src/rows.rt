@@ -1,1 +1,25 @@
 //! What the definition of tokens says of texts that are easy to cut wrongly.
+ghost use Rattle.std.specs.Prelude.{◌≡◌, true, false};
+ghost use Rattle.item_tree.specs.Rows as rows;
+
+/// Cuts of difficult texts that are right, and some that are wrong.
+pub fn difficult_texts()
+    ensures quotes { rows.quotes ≡ true }
+    ensures raw_strings { rows.raw_strings ≡ true }
+    ensures raw_names { rows.raw_names ≡ true }
+    ensures c_string_2021 { rows.c_string_2021 ≡ true }
+    ensures c_string_2018 { rows.c_string_2018 ≡ true }
+    ensures raw_lifetime_2018 { rows.raw_lifetime_2018 ≡ true }
+    ensures comments { rows.comments ≡ true }
+    ensures escaped_quote { rows.escaped_quote ≡ true }
+    ensures numbers { rows.numbers ≡ true }
+    ensures exponents { rows.exponents ≡ true }
+    ensures shebang { rows.shebang ≡ true }
+    ensures attribute { rows.attribute ≡ true }
+    ensures open_comment { rows.open_comment ≡ true }
+    ensures open_raw_string { rows.open_raw_string ≡ true }
+    ensures word_in_two { rows.word_in_two ≡ false }
+    ensures raw_string_as_string { rows.raw_string_as_string ≡ false }
+    ensures comment_too_short { rows.comment_too_short ≡ false }
+    ensures closed_error { rows.closed_error ≡ false }
+{}
