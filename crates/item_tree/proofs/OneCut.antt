@@ -1,25 +1,26 @@
 -- A text has one cut into tokens.
-use Rattle.std.proofs.Common.{◌≡◌, ◌+◌, ◌-◌, ◌<◌, ◌≤◌, ◌++◌, ℕ, suc, Bool, true, false, not, List, [], ◌∷◌, Option, Some, None, length, take, drop, get_or, refl, ap, sym, ◌∙◌, arith, length-drop, take-append-drop}
+use Rattle.std.proofs.Common.{◌≡◌, ◌+◌, ◌-◌, ◌<◌, ◌≤◌, ◌++◌, ℕ, Bool, true, false, not, List, [], ◌∷◌, Option, Some, None, length, take, drop, get_or, refl, ap, sym, ◌∙◌, arith, length-drop, take-append-drop}
 use Rattle.std.specs.Prelude.{◌&&◌, ◌==◌, ◌||◌, is_none, if◌then◌else◌, nat_lt, nat_le, sum_by}
 use Rattle.std.specs.List.{prefix_len}
 use Rattle.std.proofs.lemmas.Grind.{common_steps}
 use Rattle.std.proofs.lemmas.Bool.{ltb-true, leb-true}
-use Rattle.std.proofs.lemmas.List.{drop-append-le, take_all, length-take-le}
+use Rattle.std.proofs.lemmas.List.{drop-append-le, take_all}
 use Rattle.std.proofs.lemmas.List.Sums.{sum_by-cons}
 use Rattle.std.proofs.Math.Seq.{drop-append_seam}
 use Rattle.dm_ids.specs.declared.source.Edition.{Edition}
-use Rattle.item_tree.specs.Shapes.{is_word_byte, is_blank, is_no_newline, is_escape, matched_with, past_quote, past_comment, past_raw, is_longest_run, is_exact}
-use Rattle.item_tree.specs.Numbers.{is_number, number_len}
+use Rattle.item_tree.specs.Shapes.{is_no_newline, is_escape, matched_with, past_quote, past_comment, past_raw, is_longest_run, is_exact}
+use Rattle.item_tree.specs.Characters.{is_following, is_blank, is_word_char, chars_len}
+use Rattle.item_tree.specs.Numbers.{number_len}
 use Rattle.item_tree.specs.Openings.{opening}
 use Rattle.item_tree.specs.Tokens.{fills, never_ends, number_of, same_kind, is_opened, is_token, are_tokens}
 use Rattle.item_tree.specs.declared.bodies.NumberPart.TheVariants.{Digits}
 use Rattle.item_tree.specs.declared.openings.Body.{Body}
-use Rattle.item_tree.specs.declared.openings.Body.TheVariants.{Empty, Blanks, Line, Word, Number, Comment, Quoted, Raw}
+use Rattle.item_tree.specs.declared.openings.Body.TheVariants.{Empty, Following, Blanks, Line, Word, Number, Comment, Quoted, Raw}
 use Rattle.item_tree.specs.declared.openings.Opening.{Opening}
 use Rattle.item_tree.specs.declared.token.Token.{Token}
 use Rattle.item_tree.specs.declared.token.TokenKind.{TokenKind}
 use Rattle.item_tree.specs.declared.token.TokenKind.TheVariants as kind
-use Rattle.item_tree.proofs.Runs.{run_len, number_is}
+use Rattle.item_tree.proofs.Runs.{run_len, chars_are, number_is}
 
 both : (a b : Bool) → (a && b) ≡ true → (a ≡ true) × (b ≡ true)
 both true true e = (refl, refl)
@@ -82,9 +83,10 @@ more_comment d b (x ∷ xs) ys zs h =
 -- what is left behind a body that begins a text, where it ends
 abbrev left : Body → List ℕ → Option (List ℕ)
 left Empty t = Some t
-left Blanks t = Some (drop (prefix_len is_blank t) t)
+left Following t = Some (drop (prefix_len is_following t) t)
+left Blanks t = Some (drop (chars_len is_blank t) t)
 left Line t = Some (drop (prefix_len is_no_newline t) t)
-left Word t = Some (drop (prefix_len is_word_byte t) t)
+left Word t = Some (drop (chars_len is_word_char t) t)
 left Number t = Some (drop (number_len Digits t) t)
 left Comment t = past_comment 0 0 t
 left (Quoted q) t = past_quote q false t
@@ -102,9 +104,10 @@ left_of_nothing (x ∷ xs) ys e = absurd (omega (arith, equal_numbers (length (x
 
 filled : (b : Body) (xs ys : List ℕ) → fills b xs ys ≡ true → left b (xs ++ ys) ≡ Some ys
 filled Empty xs ys e = left_of_nothing xs ys e
-filled Blanks xs ys e = left_of_run is_blank xs ys e
+filled Following xs ys e = left_of_run is_following xs ys e
+filled Blanks xs ys e = left_behind (chars_len is_blank (xs ++ ys)) xs ys (chars_are is_blank xs ys e)
 filled Line xs ys e = left_of_run is_no_newline xs ys e
-filled Word xs ys e = left_of_run is_word_byte xs ys e
+filled Word xs ys e = left_behind (chars_len is_word_char (xs ++ ys)) xs ys (chars_are is_word_char xs ys e)
 filled Number xs ys e = left_behind (number_len Digits (xs ++ ys)) xs ys (number_is Digits xs ys e)
 filled Comment xs ys e = more_comment 0 0 xs ys [] (exact_is (past_comment 0 0 xs) e)
 filled (Quoted q) xs ys e = more_quote q false xs ys [] (exact_is (past_quote q false xs) e)
@@ -112,6 +115,7 @@ filled (Raw n) xs ys e = more_raw n 0 xs ys [] (exact_is (past_raw n 0 xs) e)
 
 unended : (b : Body) (t : List ℕ) → never_ends b t ≡ true → left b t ≡ None
 unended Empty t e = cc
+unended Following t e = cc
 unended Blanks t e = cc
 unended Line t e = cc
 unended Word t e = cc

@@ -1,5 +1,5 @@
 -- What makes the first bytes of a text its first token.
-use Rattle.std.proofs.Common.{◌≡◌, ◌+◌, ◌<◌, ◌≤◌, ◌++◌, ℕ, Bool, true, false, List, [], ◌∷◌, length, take, drop, refl, ap, sym, ◌∙◌, arith, length-drop, take-append-drop}
+use Rattle.std.proofs.Common.{◌≡◌, ◌+◌, ◌<◌, ◌≤◌, ◌++◌, ℕ, Bool, true, false, List, [], length, take, drop, refl, ap, sym, ◌∙◌, arith, length-drop, take-append-drop}
 use Rattle.std.specs.Prelude.{◌==◌, ◌||◌, ◌&&◌, nat_le}
 use Rattle.std.proofs.lemmas.Grind.{common_steps}
 use Rattle.std.proofs.lemmas.Bool.{le-leb}
@@ -8,7 +8,7 @@ use Rattle.std.proofs.Math.ListN.{drop_of_length-le}
 use Rattle.std.proofs.Math.Seq.{take-length, drop-length}
 use Rattle.dm_ids.specs.declared.source.Edition.{Edition}
 use Rattle.item_tree.specs.Openings.{opening}
-use Rattle.item_tree.specs.Tokens.{fills, never_ends, number_of, is_opened, are_tokens, IsFirst}
+use Rattle.item_tree.specs.Tokens.{fills, never_ends, number_of, are_tokens, IsFirst}
 use Rattle.item_tree.specs.declared.openings.Opening.{Opening}
 use Rattle.item_tree.specs.declared.token.Token.{Token}
 use Rattle.item_tree.specs.declared.token.TokenKind.TheVariants.{Error}

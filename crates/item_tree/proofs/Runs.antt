@@ -1,9 +1,11 @@
 -- What goes on as long as it can.
-use Rattle.std.proofs.Common.{◌≡◌, ◌+◌, ◌++◌, ℕ, suc, Bool, true, false, List, [], ◌∷◌, length, take, drop, refl, ap, sym, ◌∙◌, arith, cond, take-append-drop}
+use Rattle.std.proofs.Common.{◌≡◌, ◌+◌, ◌++◌, ℕ, suc, Bool, true, false, List, [], ◌∷◌, length, take, drop, refl, arith, cond, take-append-drop}
 use Rattle.std.specs.Prelude.{◌&&◌, not}
 use Rattle.std.specs.List.{list_all, prefix_len}
 use Rattle.item_tree.specs.Shapes.{begins, is_longest_run}
-use Rattle.item_tree.specs.Numbers.{takes, after, goes_on, is_number, number_len}
+use Rattle.item_tree.specs.Characters.{are_all, chars_len}
+use Rattle.item_tree.specs.Characters as chars
+use Rattle.item_tree.specs.Numbers.{takes, after, is_number, number_len}
 use Rattle.item_tree.specs.declared.bodies.NumberPart.{NumberPart}
 
 one_more : (n : ℕ) → 1 + n ≡ suc n
@@ -31,6 +33,27 @@ run_len p (x ∷ xs) ys e = by (p x) e (run_len p xs ys)
   where
     by : (b : Bool) → ((b && list_all p xs) && not (begins p ys)) ≡ true → (is_longest_run p xs ys ≡ true → prefix_len p (xs ++ ys) ≡ length xs)
         → cond b (1 + prefix_len p (xs ++ ys)) 0 ≡ suc (length xs)
+    by true e step = omega (arith, step e)
+    by false e step = cc
+
+-- the bytes in front that go on characters which pass p are all that do
+pub all_chars : (p : ℕ → Bool) (xs : List ℕ) → are_all p (take (chars_len p xs) xs) (drop (chars_len p xs) xs) ≡ true
+all_chars p [] = refl
+all_chars p (x ∷ xs) = by (chars.goes_on p x xs) refl (all_chars p xs)
+  where
+    by : (b : Bool) → chars.goes_on p x xs ≡ b → are_all p (take (chars_len p xs) xs) (drop (chars_len p xs) xs) ≡ true
+        → are_all p (take (cond b (1 + chars_len p xs) 0) (x ∷ xs)) (drop (cond b (1 + chars_len p xs) 0) (x ∷ xs)) ≡ true
+    by true goes rest = rw (one_more (chars_len p xs), take-append-drop (chars_len p xs) xs, goes) rest
+    by false stops rest = rw stops refl
+
+-- and no other number of them is
+pub chars_are : (p : ℕ → Bool) (xs ys : List ℕ) → are_all p xs ys ≡ true → chars_len p (xs ++ ys) ≡ length xs
+chars_are p [] [] e = refl
+chars_are p [] (y ∷ ys) e = rw (not_true (chars.goes_on p y ys) e) refl
+chars_are p (x ∷ xs) ys e = by (chars.goes_on p x (xs ++ ys)) e (chars_are p xs ys)
+  where
+    by : (b : Bool) → (b && are_all p xs ys) ≡ true → (are_all p xs ys ≡ true → chars_len p (xs ++ ys) ≡ length xs)
+        → cond b (1 + chars_len p (xs ++ ys)) 0 ≡ suc (length xs)
     by true e step = omega (arith, step e)
     by false e step = cc
 

@@ -1,3 +1,4 @@
+pub mod Characters
 pub mod Shapes
 pub mod Numbers
 pub mod Openings

@@ -1,14 +1,15 @@
 -- How far a number goes on behind its first digit.
-use Rattle.std.specs.Prelude.{◌==◌, ◌+◌, ◌||◌, ◌&&◌, ◌++◌, ℕ, Bool, true, false, not, List, [], ◌∷◌, if◌then◌else◌}
+use Rattle.std.specs.Prelude.{◌==◌, ◌+◌, ◌||◌, ◌&&◌, ◌++◌, ℕ, Bool, false, not, List, [], ◌∷◌, if◌then◌else◌}
 use Rattle.std.specs.Char.{is_ascii_digit}
-use Rattle.item_tree.specs.Shapes.{is_word_byte}
+use Rattle.item_tree.specs.Characters.{is_word_start, is_word_char, begins_char}
+use Rattle.item_tree.specs.Characters as chars
+use Rattle.item_tree.specs.Shapes.{begins}
 use Rattle.item_tree.specs.declared.bodies.NumberPart.{NumberPart}
 use Rattle.item_tree.specs.declared.bodies.NumberPart.TheVariants.{Digits, Fraction, Exponent, Suffix}
 
 -- a dot belongs to a number of digits alone, unless a dot or a name follows it
 abbrev pub takes_dot : NumberPart → List ℕ → Bool
-takes_dot Digits [] = true
-takes_dot Digits (x ∷ xs) = not (x == 46) && (is_ascii_digit x || not (is_word_byte x))
+takes_dot Digits behind = not (begins (λ b. b == 46) behind) && not (begins_char is_word_start behind)
 takes_dot Fraction behind = false
 takes_dot Exponent behind = false
 takes_dot Suffix behind = false
@@ -22,7 +23,7 @@ takes_sign Suffix x = false
 
 -- the byte belongs to the number, where it has these bytes behind it
 abbrev pub takes : NumberPart → ℕ → List ℕ → Bool
-takes part x behind = is_word_byte x || ((x == 46) && takes_dot part behind) || takes_sign part x
+takes part x behind = chars.goes_on is_word_char x behind || ((x == 46) && takes_dot part behind) || takes_sign part x
 
 -- an `e` behind digits and `_` alone begins an exponent; any other letter ends what may have one
 abbrev pub after_digit : NumberPart → ℕ → NumberPart

@@ -1,14 +1,15 @@
 -- How tokens begin.
-use Rattle.std.specs.Prelude.{◌==◌, ◌+◌, ◌||◌, ◌&&◌, ℕ, Bool, true, false, not, List, [], ◌∷◌, drop, nat_eq, codes, if◌then◌else◌}
+use Rattle.std.specs.Prelude.{◌==◌, ◌+◌, ◌&&◌, ℕ, Bool, true, false, not, List, [], ◌∷◌, drop, nat_eq, codes, if◌then◌else◌}
 use Rattle.std.specs.List.{prefix_len, starts_with}
 use Rattle.std.specs.Char.{is_ascii_digit, is_ascii_punctuation}
 use Rattle.dm_ids.specs.declared.source.Edition.{Edition}
 use Rattle.dm_ids.specs.declared.source.Edition.TheVariants.{Edition2015, Edition2018, Edition2021, Edition2024}
-use Rattle.item_tree.specs.Shapes.{begins, is_blank, is_word_byte, starts_word}
+use Rattle.item_tree.specs.Characters.{is_blank, is_word_start, is_word_char, begins_char, chars_len}
+use Rattle.item_tree.specs.Shapes.{begins}
 use Rattle.item_tree.specs.declared.token.TokenKind.{TokenKind}
 use Rattle.item_tree.specs.declared.token.TokenKind.TheVariants as kind
 use Rattle.item_tree.specs.declared.openings.Body.{Body}
-use Rattle.item_tree.specs.declared.openings.Body.TheVariants.{Empty, Blanks, Line, Word, Number, Comment, Quoted, Raw}
+use Rattle.item_tree.specs.declared.openings.Body.TheVariants.{Empty, Following, Blanks, Line, Word, Number, Comment, Quoted, Raw}
 use Rattle.item_tree.specs.declared.openings.Opening.{Opening}
 
 -- a token of the kind opens with n bytes, and the body follows
@@ -29,7 +30,7 @@ is_mark b = is_ascii_punctuation b && not (b == 92) && not (b == 96)
 -- `#!`, and no `[` as the next thing behind it, as attributes have
 abbrev pub opens_shebang : List ℕ → Bool
 opens_shebang text =
-    starts_with nat_eq text (codes "#!") && not (begins (λ b. b == 91) (drop (2 + prefix_len is_blank (drop 2 text)) text))
+    starts_with nat_eq text (codes "#!") && not (begins (λ b. b == 91) (drop (2 + chars_len is_blank (drop 2 text)) text))
 
 -- how many bytes of a raw string stand before its hashes: `r`, `br`, or since 2021 `cr`
 abbrev pub raw_prefix : Edition → List ℕ → ℕ
@@ -57,11 +58,11 @@ raw_opening edition text =
 -- behind the quote there is a word that no quote follows
 abbrev pub opens_lifetime : List ℕ → Bool
 opens_lifetime text =
-    begins is_word_byte (drop 1 text) && not (begins (λ b. b == 39) (drop (1 + prefix_len is_word_byte (drop 1 text)) text))
+    begins_char is_word_char (drop 1 text) && not (begins (λ b. b == 39) (drop (1 + chars_len is_word_char (drop 1 text)) text))
 
 -- since 2021, `'r#` and a name
 abbrev pub opens_raw_lifetime : Edition → List ℕ → Bool
-opens_raw_lifetime edition text = since_2021 edition && starts_with nat_eq text (codes "'r#") && begins starts_word (drop 3 text)
+opens_raw_lifetime edition text = since_2021 edition && starts_with nat_eq text (codes "'r#") && begins_char is_word_start (drop 3 text)
 
 -- what begins with a quote: a lifetime, or else a character
 unfoldable pub quote_opening : Edition → List ℕ → Opening
@@ -72,15 +73,15 @@ quote_opening edition text =
 
 -- `r#` and a name
 abbrev pub opens_raw_identifier : List ℕ → Bool
-opens_raw_identifier text = starts_with nat_eq text (codes "r#") && begins starts_word (drop 2 text)
+opens_raw_identifier text = starts_with nat_eq text (codes "r#") && begins_char is_word_start (drop 2 text)
 
--- names, and marks; any other byte is no token
+-- names, and marks; any other character is no token
 unfoldable pub word_opening : List ℕ → Opening
 word_opening text =
     if opens_raw_identifier text then opens kind.Identifier 2 Word
-    else if begins starts_word text then opens kind.Identifier 1 Word
+    else if begins_char is_word_start text then opens kind.Identifier 1 Word
     else if begins is_mark text then opens kind.Punctuation 1 Empty
-    else opens kind.Error 1 Empty
+    else opens kind.Error 1 Following
 
 -- strings and characters of bytes have a `b` before the quote, strings of C, since 2021, a `c`
 unfoldable pub literal_opening : Edition → List ℕ → Opening
@@ -97,7 +98,7 @@ unfoldable pub opening : Edition → Bool → List ℕ → Opening
 opening edition at_start text =
     if at_start && starts_with nat_eq text (239 ∷ 187 ∷ 191 ∷ []) then opens kind.Blank 3 Empty
     else if at_start && opens_shebang text then opens kind.Shebang 2 Line
-    else if begins is_blank text then opens kind.Blank 1 Blanks
+    else if begins_char is_blank text then opens kind.Blank 1 Blanks
     else if starts_with nat_eq text (codes "//") then opens kind.LineComment 2 Line
     else if starts_with nat_eq text (codes "/*") then opens kind.BlockComment 2 Comment
     else if begins is_ascii_digit text then opens kind.Number 1 Number

@@ -1,24 +1,11 @@
 -- The shapes of tokens, each as a check of bytes: where the shape that begins a text ends.
-use Rattle.std.specs.Prelude.{◌==◌, ◌+◌, ◌-◌, ◌||◌, ◌&&◌, ℕ, Bool, true, false, not, List, [], ◌∷◌, Option, Some, None, nat_le, nat_lt, if◌then◌else◌}
+use Rattle.std.specs.Prelude.{◌==◌, ◌+◌, ◌-◌, ◌&&◌, ℕ, Bool, true, false, not, List, [], ◌∷◌, Option, Some, None, nat_lt, if◌then◌else◌}
 use Rattle.std.specs.List.{list_all}
-use Rattle.std.specs.Char.{is_ascii_digit, is_ascii_alphabetic}
 
 -- the first byte is there, and passes p
 abbrev pub begins : (ℕ → Bool) → List ℕ → Bool
 begins p [] = false
 begins p (x ∷ xs) = p x
-
--- a byte that may stand in a name: a letter, a digit, `_`, or a part of a character past ASCII
-abbrev pub is_word_byte : ℕ → Bool
-is_word_byte b = is_ascii_alphabetic b || is_ascii_digit b || (b == 95) || nat_le 128 b
-
--- a byte that a name may begin with
-abbrev pub starts_word : ℕ → Bool
-starts_word b = is_word_byte b && not (is_ascii_digit b)
-
--- a space, a tab (horizontal or vertical), a newline, a form feed, a carriage return
-abbrev pub is_blank : ℕ → Bool
-is_blank b = (b == 32) || (nat_le 9 b && nat_le b 13)
 
 abbrev pub is_no_newline : ℕ → Bool
 is_no_newline b = not (b == 10)

@@ -1,12 +1,13 @@
 -- The tokens of a text.
 use Rattle.std.specs.Prelude.{◌≡◌, ◌==◌, ◌<◌, ◌≤◌, ◌++◌, ◌||◌, ◌&&◌, ℕ, Bool, true, false, List, [], ◌∷◌, length, drop, take, nat_lt, nat_le, is_none}
 use Rattle.dm_ids.specs.declared.source.Edition.{Edition}
-use Rattle.item_tree.specs.Shapes.{is_blank, is_word_byte, is_no_newline, is_longest_run, past_quote, past_comment, past_raw, is_exact}
+use Rattle.item_tree.specs.Characters.{is_following, is_blank, is_word_char, are_all}
+use Rattle.item_tree.specs.Shapes.{is_no_newline, is_longest_run, past_quote, past_comment, past_raw, is_exact}
 use Rattle.item_tree.specs.Numbers.{is_number}
 use Rattle.item_tree.specs.Openings.{opening}
 use Rattle.item_tree.specs.declared.bodies.NumberPart.TheVariants.{Digits}
 use Rattle.item_tree.specs.declared.openings.Body.{Body}
-use Rattle.item_tree.specs.declared.openings.Body.TheVariants.{Empty, Blanks, Line, Word, Number, Comment, Quoted, Raw}
+use Rattle.item_tree.specs.declared.openings.Body.TheVariants.{Empty, Following, Blanks, Line, Word, Number, Comment, Quoted, Raw}
 use Rattle.item_tree.specs.declared.openings.Opening.{Opening}
 use Rattle.item_tree.specs.declared.token.TokenKind.{TokenKind}
 use Rattle.item_tree.specs.declared.token.TokenKind.TheVariants as kind
@@ -16,9 +17,10 @@ use Rattle.item_tree.specs.declared.token.Token.{Token}
 -- an end ends with the piece
 abbrev pub fills : Body → List ℕ → List ℕ → Bool
 fills Empty piece rest = length piece == 0
-fills Blanks piece rest = is_longest_run is_blank piece rest
+fills Following piece rest = is_longest_run is_following piece rest
+fills Blanks piece rest = are_all is_blank piece rest
 fills Line piece rest = is_longest_run is_no_newline piece rest
-fills Word piece rest = is_longest_run is_word_byte piece rest
+fills Word piece rest = are_all is_word_char piece rest
 fills Number piece rest = is_number Digits piece rest
 fills Comment piece rest = is_exact (past_comment 0 0 piece)
 fills (Quoted quote) piece rest = is_exact (past_quote quote false piece)
@@ -30,6 +32,7 @@ never_ends Comment text = is_none (past_comment 0 0 text)
 never_ends (Quoted quote) text = is_none (past_quote quote false text)
 never_ends (Raw hashes) text = is_none (past_raw hashes 0 text)
 never_ends Empty text = false
+never_ends Following text = false
 never_ends Blanks text = false
 never_ends Line text = false
 never_ends Word text = false

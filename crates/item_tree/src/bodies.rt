@@ -1,11 +1,15 @@
 //! Where the body of each shape of token ends.
 ghost use Rattle.std.specs.Prelude.{◌≡◌, ◌==◌, ◌≤◌, ◌+◌, ◌^◌, ◌<◌, Some, None, IfSome, IfNone, length, take, drop, false, [], true};
-ghost use Rattle.item_tree.specs.Shapes.{is_word_byte, is_blank, is_no_newline, past_quote, past_comment, past_raw, is_escape, matched_with};
+ghost use Rattle.item_tree.specs.Shapes.{is_no_newline, past_quote, past_comment, past_raw, is_escape, matched_with};
+ghost use Rattle.item_tree.specs.Characters.{is_following};
 ghost use Rattle.item_tree.specs.Numbers as numbers;
 ghost use Rattle.item_tree.specs.Tokens.{fills, never_ends};
 ghost use Rattle.item_tree.specs.declared.bodies.NumberPart.TheVariants as part;
 ghost use Rattle.std.specs.List.{prefix_len};
 
+use crate::characters::{
+    begins_with, begins_word, blank_end, goes_on_word, is_following, word_end,
+};
 use crate::openings::Body;
 
 /// How far a number has been read.
@@ -21,39 +25,20 @@ pub(crate) enum NumberPart {
     Suffix,
 }
 
-pub(crate) fn is_word_byte(byte: u8) -> bool
-    ensures { result ≡ is_word_byte byte }
-{
-    byte.is_ascii_alphabetic() || byte.is_ascii_digit() || byte == b'_' || byte >= 128
-}
-
-pub(crate) fn is_blank(byte: u8) -> bool
-    ensures { result ≡ is_blank byte }
-{
-    byte == b' ' || (9 <= byte && byte <= 13)
-}
-
-/// How many bytes of an identifier the text begins with.
-pub(crate) fn word_end(text: &[u8]) -> usize
-    ensures in_range { result ≤ length text.now }
-    ensures exact { result ≡ prefix_len is_word_byte text.now }
-{
-    text.iter().take_while(|byte| is_word_byte(**byte)).count()
-}
-
-pub(crate) fn blank_end(text: &[u8]) -> usize
-    ensures in_range { result ≤ length text.now }
-    ensures exact { result ≡ prefix_len is_blank text.now }
-{
-    text.iter().take_while(|byte| is_blank(**byte)).count()
-}
-
 /// How many hashes the text begins with.
 pub(crate) fn hash_end(text: &[u8]) -> usize
     ensures in_range { result ≤ length text.now }
     ensures exact { result ≡ prefix_len (λ b. b == 35) text.now }
 {
     text.iter().take_while(|byte| **byte == b'#').count()
+}
+
+/// How many bytes the text begins with that are not the first of a character.
+fn following_end(text: &[u8]) -> usize
+    ensures in_range { result ≤ length text.now }
+    ensures exact { result ≡ prefix_len is_following text.now }
+{
+    text.iter().take_while(|byte| is_following(**byte)).count()
 }
 
 /// Before the first newline, or the whole text.
@@ -68,7 +53,9 @@ fn line_end(text: &[u8]) -> usize
 fn takes(part: NumberPart, byte: u8, behind: &[u8]) -> bool
     ensures { result ≡ numbers.takes part byte behind.now }
 {
-    is_word_byte(byte) || (byte == b'.' && takes_dot(part, behind)) || takes_sign(part, byte)
+    goes_on_word(byte, behind)
+        || (byte == b'.' && takes_dot(part, behind))
+        || takes_sign(part, byte)
 }
 
 /// A dot belongs to a number of digits alone, unless a dot or a name follows it.
@@ -76,10 +63,7 @@ fn takes_dot(part: NumberPart, behind: &[u8]) -> bool
     ensures { result ≡ numbers.takes_dot part behind.now }
 {
     match part {
-        NumberPart::Digits => match behind.first() {
-            None => true,
-            Some(next) => *next != b'.' && (next.is_ascii_digit() || !is_word_byte(*next)),
-        },
+        NumberPart::Digits => !begins_with(behind, b'.') && !begins_word(behind),
         NumberPart::Fraction | NumberPart::Exponent | NumberPart::Suffix => false,
     }
 }
@@ -216,7 +200,7 @@ fn matched_with(matched: usize, byte: u8) -> usize
 }
 
 /// Behind the body that the text begins with, where it has an end.
-#[tactic(auto, using(crate::proofs::Runs::longest_run, crate::proofs::Runs::number_goes_on))]
+#[tactic(auto, using(crate::proofs::Runs::longest_run, crate::proofs::Runs::all_chars, crate::proofs::Runs::number_goes_on))]
 pub(crate) fn body_end(text: &[u8], body: Body) -> Option<usize>
     ensures found { IfSome result (λ n. n ≤ length text.now) }
     ensures exact { IfSome result (λ n. fills body (take n text.now) (drop n text.now) ≡ true) }
@@ -224,6 +208,7 @@ pub(crate) fn body_end(text: &[u8], body: Body) -> Option<usize>
 {
     match body {
         Body::Empty => Some(0),
+        Body::Following => Some(following_end(text)),
         Body::Blanks => Some(blank_end(text)),
         Body::Line => Some(line_end(text)),
         Body::Word => Some(word_end(text)),

@@ -2,6 +2,7 @@
 #![tactic(auto)]
 
 mod bodies;
+mod characters;
 pub mod lexer;
 pub mod openings;
 pub mod rows;

@@ -1,10 +1,13 @@
 //! How tokens begin.
-ghost use Rattle.std.specs.Prelude.{◌≡◌, ◌==◌, ◌<◌, ◌≤◌, length, true};
-ghost use Rattle.item_tree.specs.Shapes.{begins, is_blank, is_word_byte, starts_word};
+ghost use Rattle.std.specs.Prelude.{◌≡◌, ◌<◌, ◌≤◌, length, true};
+ghost use Rattle.item_tree.specs.Shapes.{begins};
 ghost use Rattle.std.specs.Char.{is_ascii_digit};
 ghost use Rattle.item_tree.specs.Openings as spec;
 
-use crate::bodies::{blank_end, hash_end, is_blank, is_word_byte, word_end};
+use crate::bodies::hash_end;
+use crate::characters::{
+    begins_blank, begins_with, begins_word, begins_word_char, blank_end, word_end,
+};
 use crate::token::TokenKind;
 use dm_ids::source::Edition;
 
@@ -13,6 +16,8 @@ use dm_ids::source::Edition;
 pub enum Body {
     /// Nothing.
     Empty,
+    /// The bytes behind the first one of a character.
+    Following,
     /// As many blanks as there are.
     Blanks,
     /// All up to the newline.
@@ -37,48 +42,12 @@ pub struct Opening {
     pub body: Body,
 }
 
-fn begins_with(text: &[u8], byte: u8) -> bool
-    ensures { result ≡ begins (λ b. b == byte) text.now }
-{
-    match text.first() {
-        None => false,
-        Some(first) => *first == byte,
-    }
-}
-
-fn begins_blank(text: &[u8]) -> bool
-    ensures { result ≡ begins is_blank text.now }
-{
-    match text.first() {
-        None => false,
-        Some(first) => is_blank(*first),
-    }
-}
-
 fn begins_digit(text: &[u8]) -> bool
     ensures { result ≡ begins is_ascii_digit text.now }
 {
     match text.first() {
         None => false,
         Some(first) => first.is_ascii_digit(),
-    }
-}
-
-fn begins_word_byte(text: &[u8]) -> bool
-    ensures { result ≡ begins is_word_byte text.now }
-{
-    match text.first() {
-        None => false,
-        Some(first) => is_word_byte(*first),
-    }
-}
-
-fn begins_word(text: &[u8]) -> bool
-    ensures { result ≡ begins starts_word text.now }
-{
-    match text.first() {
-        None => false,
-        Some(first) => is_word_byte(*first) && !first.is_ascii_digit(),
     }
 }
 
@@ -161,7 +130,7 @@ fn opens_lifetime(text: &[u8]) -> bool
     requires { 0 < length text.now }
     ensures { result ≡ spec.opens_lifetime text.now }
 {
-    if !begins_word_byte(&text[1..]) {
+    if !begins_word_char(&text[1..]) {
         return false;
     }
     let word = word_end(&text[1..]);
@@ -247,7 +216,7 @@ fn word_opening(text: &[u8]) -> Opening
         Opening {
             kind: TokenKind::Error,
             len: 1,
-            body: Body::Empty,
+            body: Body::Following,
         }
     }
 }
