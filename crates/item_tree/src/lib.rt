@@ -6,4 +6,6 @@ mod characters;
 pub mod lexer;
 pub mod openings;
 pub mod rows;
+#[cfg(test)]
+mod tests;
 pub mod token;

@@ -42,6 +42,13 @@ pub struct Opening {
     pub body: Body,
 }
 
+/// A token of the kind opens with so many bytes, and the body follows.
+fn opens(kind: TokenKind, len: usize, body: Body) -> Opening
+    ensures { result ≡ spec.opens kind len body }
+{
+    Opening { kind, len, body }
+}
+
 fn begins_digit(text: &[u8]) -> bool
     ensures { result ≡ begins is_ascii_digit text.now }
 {
@@ -118,11 +125,7 @@ fn raw_opening(text: &[u8], edition: Edition) -> Opening
 {
     let prefix = raw_prefix(text, edition);
     let hashes = hash_end(&text[prefix..]);
-    Opening {
-        kind: TokenKind::RawStr,
-        len: prefix + hashes + 1,
-        body: Body::Raw(hashes),
-    }
+    opens(TokenKind::RawStr, prefix + hashes + 1, Body::Raw(hashes))
 }
 
 /// Whether a word stands behind the first byte, and no quote behind that word.
@@ -156,23 +159,11 @@ fn quote_opening(text: &[u8], edition: Edition) -> Opening
     ensures in_range { result.len ≤ length text.now }
 {
     if opens_raw_lifetime(text, edition) {
-        Opening {
-            kind: TokenKind::Lifetime,
-            len: 3,
-            body: Body::Word,
-        }
+        opens(TokenKind::Lifetime, 3, Body::Word)
     } else if opens_lifetime(text) {
-        Opening {
-            kind: TokenKind::Lifetime,
-            len: 1,
-            body: Body::Word,
-        }
+        opens(TokenKind::Lifetime, 1, Body::Word)
     } else {
-        Opening {
-            kind: TokenKind::Char,
-            len: 1,
-            body: Body::Quoted(b'\''),
-        }
+        opens(TokenKind::Char, 1, Body::Quoted(b'\''))
     }
 }
 
@@ -195,29 +186,13 @@ fn word_opening(text: &[u8]) -> Opening
     ensures in_range { result.len ≤ length text.now }
 {
     if opens_raw_identifier(text) {
-        Opening {
-            kind: TokenKind::Identifier,
-            len: 2,
-            body: Body::Word,
-        }
+        opens(TokenKind::Identifier, 2, Body::Word)
     } else if begins_word(text) {
-        Opening {
-            kind: TokenKind::Identifier,
-            len: 1,
-            body: Body::Word,
-        }
+        opens(TokenKind::Identifier, 1, Body::Word)
     } else if begins_mark(text) {
-        Opening {
-            kind: TokenKind::Punctuation,
-            len: 1,
-            body: Body::Empty,
-        }
+        opens(TokenKind::Punctuation, 1, Body::Empty)
     } else {
-        Opening {
-            kind: TokenKind::Error,
-            len: 1,
-            body: Body::Following,
-        }
+        opens(TokenKind::Error, 1, Body::Following)
     }
 }
 
@@ -230,29 +205,13 @@ fn literal_opening(text: &[u8], edition: Edition) -> Opening
     ensures in_range { result.len ≤ length text.now }
 {
     if begins_with(text, b'"') {
-        Opening {
-            kind: TokenKind::Str,
-            len: 1,
-            body: Body::Quoted(b'"'),
-        }
+        opens(TokenKind::Str, 1, Body::Quoted(b'"'))
     } else if text.starts_with(b"b\"") {
-        Opening {
-            kind: TokenKind::Str,
-            len: 2,
-            body: Body::Quoted(b'"'),
-        }
+        opens(TokenKind::Str, 2, Body::Quoted(b'"'))
     } else if since_2021(edition) && text.starts_with(b"c\"") {
-        Opening {
-            kind: TokenKind::Str,
-            len: 2,
-            body: Body::Quoted(b'"'),
-        }
+        opens(TokenKind::Str, 2, Body::Quoted(b'"'))
     } else if text.starts_with(b"b'") {
-        Opening {
-            kind: TokenKind::Char,
-            len: 2,
-            body: Body::Quoted(b'\''),
-        }
+        opens(TokenKind::Char, 2, Body::Quoted(b'\''))
     } else if opens_raw(text, edition) {
         raw_opening(text, edition)
     } else {
@@ -269,41 +228,17 @@ pub fn first_opening(text: &[u8], edition: Edition, at_start: bool) -> Opening
     ensures in_range { result.len ≤ length text.now }
 {
     if at_start && text.starts_with(&[0xEF, 0xBB, 0xBF]) {
-        Opening {
-            kind: TokenKind::Blank,
-            len: 3,
-            body: Body::Empty,
-        }
+        opens(TokenKind::Blank, 3, Body::Empty)
     } else if at_start && opens_shebang(text) {
-        Opening {
-            kind: TokenKind::Shebang,
-            len: 2,
-            body: Body::Line,
-        }
+        opens(TokenKind::Shebang, 2, Body::Line)
     } else if begins_blank(text) {
-        Opening {
-            kind: TokenKind::Blank,
-            len: 1,
-            body: Body::Blanks,
-        }
+        opens(TokenKind::Blank, 1, Body::Blanks)
     } else if text.starts_with(b"//") {
-        Opening {
-            kind: TokenKind::LineComment,
-            len: 2,
-            body: Body::Line,
-        }
+        opens(TokenKind::LineComment, 2, Body::Line)
     } else if text.starts_with(b"/*") {
-        Opening {
-            kind: TokenKind::BlockComment,
-            len: 2,
-            body: Body::Comment,
-        }
+        opens(TokenKind::BlockComment, 2, Body::Comment)
     } else if begins_digit(text) {
-        Opening {
-            kind: TokenKind::Number,
-            len: 1,
-            body: Body::Number,
-        }
+        opens(TokenKind::Number, 1, Body::Number)
     } else if begins_with(text, b'\'') {
         quote_opening(text, edition)
     } else {

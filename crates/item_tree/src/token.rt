@@ -25,7 +25,7 @@ pub enum TokenKind {
     Number,
     /// One byte of those that are no part of other tokens.
     Punctuation,
-    /// A comment, character or string without an end, or a byte that begins no token.
+    /// A comment, character or string without an end, or a character that begins no token.
     Error,
 }
 
