@@ -4,3 +4,4 @@ pub mod Numbers
 pub mod Openings
 pub mod Tokens
 pub mod Rows
+pub mod RawStrings

@@ -1,5 +1,6 @@
 //! What the definition of tokens says of texts that are easy to cut wrongly.
 ghost use Rattle.std.specs.Prelude.{◌≡◌, true, false};
+ghost use Rattle.item_tree.specs.RawStrings.{EndsAtClosing, EndsAtFirst};
 ghost use Rattle.item_tree.specs.Rows as rows;
 
 /// Cuts of difficult texts that are right, and some that are wrong.
@@ -22,4 +23,10 @@ pub fn difficult_texts()
     ensures raw_string_as_string { rows.raw_string_as_string ≡ false }
     ensures comment_too_short { rows.comment_too_short ≡ false }
     ensures closed_error { rows.closed_error ≡ false }
+{}
+
+/// A raw string ends behind the first quote that its number of hashes follows.
+pub fn raw_strings_end_at_the_first_closing()
+    ensures closing { EndsAtClosing }
+    ensures first { EndsAtFirst }
 {}
