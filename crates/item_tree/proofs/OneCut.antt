@@ -11,7 +11,7 @@ use Rattle.dm_ids.specs.declared.source.Edition.{Edition}
 use Rattle.item_tree.specs.Shapes.{is_no_newline, is_escape, matched_with, past_quote, past_comment, past_raw, is_longest_run, is_exact}
 use Rattle.item_tree.specs.Characters.{is_following, is_blank, is_word_char, chars_len}
 use Rattle.item_tree.specs.Numbers.{number_len}
-use Rattle.item_tree.specs.Openings.{opening}
+use Rattle.item_tree.specs.Openings.{opening, begins_order_mark}
 use Rattle.item_tree.specs.Tokens.{fills, never_ends, number_of, same_kind, is_opened, is_token, are_tokens}
 use Rattle.item_tree.specs.declared.bodies.NumberPart.TheVariants.{Digits}
 use Rattle.item_tree.specs.declared.openings.Body.{Body}
@@ -191,11 +191,11 @@ record IsCut (edition : Edition) (at_start : Bool) (token : Token) (ts : List To
   pub some_byte : 0 < token.len
   pub in_range : token.len ≤ length text
   pub first : token_of (opening edition at_start text) text ≡ token
-  pub others : are_tokens edition false ts (drop token.len text) ≡ true
+  pub others : are_tokens edition (at_start && begins_order_mark text) ts (drop token.len text) ≡ true
 
 cut : (edition : Edition) (at_start : Bool) (token : Token) (ts : List Token) (text : List ℕ) → are_tokens edition at_start (token ∷ ts) text ≡ true → IsCut edition at_start token ts text
 cut edition at_start token ts text e =
-    let a = both (nat_lt 0 token.len && nat_le token.len (length text) && is_token edition at_start token.kind (take token.len text) (drop token.len text)) (are_tokens edition false ts (drop token.len text)) e in
+    let a = both (nat_lt 0 token.len && nat_le token.len (length text) && is_token edition at_start token.kind (take token.len text) (drop token.len text)) (are_tokens edition (at_start && begins_order_mark text) ts (drop token.len text)) e in
     let b = both (nat_lt 0 token.len && nat_le token.len (length text)) (is_token edition at_start token.kind (take token.len text) (drop token.len text)) a.0 in
     let c = both (nat_lt 0 token.len) (nat_le token.len (length text)) b.0 in
     let in_range = leb-true token.len (length text) c.1 in
@@ -226,8 +226,8 @@ one_cut edition at_start (t ∷ ts) (u ∷ us) text e f =
     let a = cut edition at_start t ts text e in
     let b = cut edition at_start u us text f in
     let same : u ≡ t = sym b.first ∙ a.first in
-    let others : are_tokens edition false us (drop t.len text) ≡ true = ap (λ (v : Token). are_tokens edition false us (drop v.len text)) (sym same) ∙ b.others in
-    let rest : us ≡ ts = one_cut edition false ts us (drop t.len text) a.others others in
+    let others : are_tokens edition (at_start && begins_order_mark text) us (drop t.len text) ≡ true = ap (λ (v : Token). are_tokens edition (at_start && begins_order_mark text) us (drop v.len text)) (sym same) ∙ b.others in
+    let rest : us ≡ ts = one_cut edition (at_start && begins_order_mark text) ts us (drop t.len text) a.others others in
     cc
 
 -- the lengths of the tokens add up to the length of the text
@@ -236,6 +236,6 @@ lengths_add_up edition at_start [] text e = sym (equal_numbers (length text) 0 e
 lengths_add_up edition at_start (t ∷ ts) text e =
     let a = cut edition at_start t ts text e in
     let in_range = a.in_range in
-    let rest = lengths_add_up edition false ts (drop t.len text) a.others in
+    let rest = lengths_add_up edition (at_start && begins_order_mark text) ts (drop t.len text) a.others in
     let sums = sum_by-cons (λ (t : Token). t.len) t ts in
     omega (arith, rest, sums, length-drop t.len text)

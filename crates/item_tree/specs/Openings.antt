@@ -93,10 +93,14 @@ literal_opening edition text =
     else if opens_raw edition text then raw_opening edition text
     else word_opening text
 
+-- a byte order mark
+abbrev pub begins_order_mark : List ℕ → Bool
+begins_order_mark text = starts_with nat_eq text (239 ∷ 187 ∷ 191 ∷ [])
+
 -- the token that a text begins with; a byte order mark and a shebang stand at the start of a file alone
 unfoldable pub opening : Edition → Bool → List ℕ → Opening
 opening edition at_start text =
-    if at_start && starts_with nat_eq text (239 ∷ 187 ∷ 191 ∷ []) then opens kind.Blank 3 Empty
+    if at_start && begins_order_mark text then opens kind.Blank 3 Empty
     else if at_start && opens_shebang text then opens kind.Shebang 2 Line
     else if begins_char is_blank text then opens kind.Blank 1 Blanks
     else if starts_with nat_eq text (codes "//") then opens kind.LineComment 2 Line

@@ -62,6 +62,9 @@ exponents =
 abbrev pub shebang : Bool
 shebang = cut_2021 (of Shebang 9 ∷ of Blank 1 ∷ of Punctuation 1 ∷ of Punctuation 1 ∷ of Identifier 1 ∷ []) (codes "#!/bin/sh\n#!a")
 
+abbrev pub shebang_behind_mark : Bool
+shebang_behind_mark = cut_2021 (of Blank 3 ∷ of Shebang 3 ∷ []) (239 ∷ 187 ∷ 191 ∷ codes "#!a")
+
 abbrev pub attribute : Bool
 attribute = cut_2021 (of Punctuation 1 ∷ of Punctuation 1 ∷ of Punctuation 1 ∷ of Identifier 6 ∷ of Punctuation 1 ∷ []) (codes "#![no_std]")
 

@@ -4,7 +4,7 @@ use Rattle.dm_ids.specs.declared.source.Edition.{Edition}
 use Rattle.item_tree.specs.Characters.{is_following, is_blank, is_word_char, are_all}
 use Rattle.item_tree.specs.Shapes.{is_no_newline, is_longest_run, past_quote, past_comment, past_raw, is_exact}
 use Rattle.item_tree.specs.Numbers.{is_number}
-use Rattle.item_tree.specs.Openings.{opening}
+use Rattle.item_tree.specs.Openings.{opening, begins_order_mark}
 use Rattle.item_tree.specs.declared.bodies.NumberPart.TheVariants.{Digits}
 use Rattle.item_tree.specs.declared.openings.Body.{Body}
 use Rattle.item_tree.specs.declared.openings.Body.TheVariants.{Empty, Following, Blanks, Line, Word, Number, Comment, Quoted, Raw}
@@ -72,12 +72,12 @@ pub record IsFirst (edition : Edition) (at_start : Bool) (token : Token) (text :
   pub in_range : token.len ≤ length text
   pub checked : is_token edition at_start token.kind (take token.len text) (drop token.len text) ≡ true
 
--- cut at these lengths the text falls into these tokens
+-- cut at these lengths the text falls into these tokens; behind a byte order mark at the start the file still starts
 abbrev pub are_tokens : Edition → Bool → List Token → List ℕ → Bool
 are_tokens edition at_start [] text = length text == 0
 are_tokens edition at_start (t ∷ ts) text =
     nat_lt 0 t.len && nat_le t.len (length text) && is_token edition at_start t.kind (take t.len text) (drop t.len text)
-    && are_tokens edition false ts (drop t.len text)
+    && are_tokens edition (at_start && begins_order_mark text) ts (drop t.len text)
 
 -- no other tokens are those of the text
 abbrev pub IsOnlyCut : Edition → List Token → List ℕ → Type 0

@@ -3,7 +3,7 @@ ghost use Rattle.std.specs.Prelude.{◌≡◌, ◌<◌, true, IfOk, length, sum_
 ghost use Rattle.item_tree.specs.Tokens.{IsFirst, are_tokens, IsOnlyCut};
 
 use crate::bodies::body_end;
-use crate::openings::first_opening;
+use crate::openings::{begins_order_mark, first_opening};
 use crate::token::{Token, TokenKind};
 use dm_ids::source::Edition;
 use std::alloc::{AllocError, Global};
@@ -42,8 +42,8 @@ pub fn lex(alloc: Global, text: &[u8], edition: Edition) -> Result<Vec<Token>, A
     while at < text.len() {
         let token = first_token(&text[at..], edition, at_start);
         tokens.push(token)?;
+        at_start = at_start && begins_order_mark(&text[at..]);
         at += token.len;
-        at_start = false;
     }
     Ok(tokens)
 }

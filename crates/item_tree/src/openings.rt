@@ -77,6 +77,13 @@ fn since_2021(edition: Edition) -> bool
     }
 }
 
+/// Whether the text begins with a byte order mark.
+pub(crate) fn begins_order_mark(text: &[u8]) -> bool
+    ensures { result ≡ spec.begins_order_mark text.now }
+{
+    text.starts_with(&[0xEF, 0xBB, 0xBF])
+}
+
 /// Whether the text begins with `#!`, and not as an attribute does.
 fn opens_shebang(text: &[u8]) -> bool
     ensures { result ≡ spec.opens_shebang text.now }
@@ -227,7 +234,7 @@ pub fn first_opening(text: &[u8], edition: Edition, at_start: bool) -> Opening
     ensures some { 0 < result.len }
     ensures in_range { result.len ≤ length text.now }
 {
-    if at_start && text.starts_with(&[0xEF, 0xBB, 0xBF]) {
+    if at_start && begins_order_mark(text) {
         opens(TokenKind::Blank, 3, Body::Empty)
     } else if at_start && opens_shebang(text) {
         opens(TokenKind::Shebang, 2, Body::Line)

@@ -16,6 +16,7 @@ pub fn difficult_texts()
     ensures numbers { rows.numbers ≡ true }
     ensures exponents { rows.exponents ≡ true }
     ensures shebang { rows.shebang ≡ true }
+    ensures shebang_behind_mark { rows.shebang_behind_mark ≡ true }
     ensures attribute { rows.attribute ≡ true }
     ensures open_comment { rows.open_comment ≡ true }
     ensures open_raw_string { rows.open_raw_string ≡ true }

@@ -5,8 +5,10 @@ use dm_ids::source::Edition;
 use std::test::Fail;
 
 /// A text of each construct, in the pieces that are its tokens.
-const PIECES: [(TokenKind, &str); 59] = [
+const PIECES: [(TokenKind, &str); 61] = [
     (TokenKind::Blank, "\u{feff}"),
+    (TokenKind::Shebang, "#!/bin/a '"),
+    (TokenKind::Blank, "\n"),
     (TokenKind::LineComment, "//! a\u{2192}'"),
     (TokenKind::Blank, "\n\t\u{2028} "),
     (TokenKind::BlockComment, "/*/* */ /**/*/"),

@@ -16,6 +16,7 @@ returns c = record {
   numbers = refl;
   exponents = refl;
   shebang = refl;
+  shebang_behind_mark = refl;
   attribute = refl;
   open_comment = refl;
   open_raw_string = refl;
