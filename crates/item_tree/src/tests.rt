@@ -92,9 +92,9 @@ fn a_text_cut_at_each_byte(rt: HostRuntime) -> Result<(), Fail> {
     let text = "#!x\n\u{e9}'a' b'\\'' r##\"\"#\"## /*/**/*/ 1.5e-3 c\"\" 'r#a r#b //";
     for end in 0..text.len() {
         let tokens = lex(rt.alloc(), &text.as_bytes()[..end], Edition::Edition2024)?;
-        let mut len = 0;
+        let mut len: usize = 0;
         for token in &tokens {
-            len += token.len;
+            len = len.wrapping_add(token.len);
         }
         assert_eq!(rt; len, end);
     }
