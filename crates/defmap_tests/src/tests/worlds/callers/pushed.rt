@@ -1,12 +1,11 @@
-//! More callers of docs/USING.md: what is pushed by a path, and what is asked after a push.
+//! More callers of docs/USING.md: what is pushed by a path, and what a push leaves.
 use super::{DECLARED, small_tables};
 use crate::tests::gives;
 use crate::tests::worlds::{CRATE_MAP, import, module};
-use defmap_callers::base::{are_one, beginning};
+use defmap_callers::base::beginning;
 use defmap_callers::maps::map_of_item;
 use defmap_callers::paths::{before_and_after, bring_in};
 use defmap_callers::scopes::imported_type;
-use defmap_callers::stays::{in_preludes_after, visibility_after};
 use dm_base::ids::{Crate, ModuleId, StructId};
 use dm_base::imports::ImportOrExternCrate;
 use dm_base::item_ids::{AdtId, ItemKind, ModuleDefId};
@@ -14,10 +13,9 @@ use dm_base::mod_path::{ModPath, PathKind};
 use dm_base::module_tree::ModuleTree;
 use dm_base::name::Name;
 use dm_base::per_ns::PerNs;
-use dm_base::visibility::{RawVisibility, Visibility, VisibilityExplicitness};
+use dm_base::visibility::Visibility;
 use dm_maps::local_def_map::LocalDefMap;
 use dm_maps::world::World;
-use dm_maps::world::maps_of::{crate_def_map, local_def_map};
 use dm_scope::glob_imports::PerNsGlobImports;
 use dm_scope::scope_tables::ScopeTables;
 use std::alloc::{AllocError, Global};
@@ -123,56 +121,4 @@ fn a_push_leaves_the_meaning_of_a_path(rt: HostRuntime) -> Result<(), Fail> {
         Ok::<_, AllocError>(both_meanings(rt.alloc())),
         Some([root; 2]),
     )
-}
-
-/// What `y` means in the preludes, once the struct was declared as `y` in the prelude module.
-fn in_preludes(alloc: Global, world: &mut World) -> Result<Option<ModuleDefId>, AllocError> {
-    let mut globs = PerNsGlobImports::new(alloc);
-    let path = path(alloc, PathKind::Plain, "y")?;
-    let lookup = (PRELUDE, Name::new(alloc, "y")?);
-    let items = PerNs::types(STRUCT, Visibility::Public, None);
-    if !world.has_crate(KRATE) || !world.has(ROOT) || !world.knows_path(&path) {
-        return Ok(None);
-    }
-    let krate = world.krate(ROOT);
-    if !world.knows_res(PRELUDE, &items, None) || !are_one(&krate, &KRATE) {
-        return Ok(None);
-    }
-    let _map = crate_def_map(world, KRATE);
-    let _local = local_def_map(world, KRATE);
-    let answer = in_preludes_after(world, &mut globs, KRATE, ROOT, &path, lookup, items)?;
-    Ok(answer.resolved_def.take_types())
-}
-
-/// What `pub(in crate::p)` means in the root, once the prelude module was declared there as `p`.
-fn visibility(alloc: Global, world: &mut World) -> Result<Option<Visibility>, AllocError> {
-    let mut globs = PerNsGlobImports::new(alloc);
-    let path = path(alloc, PathKind::Crate, "p")?;
-    let lookup = (ROOT, Name::new(alloc, "p")?);
-    let items = module(PRELUDE.0, Visibility::Public);
-    if !world.has_crate(KRATE) || !world.knows_path(&path) || !world.knows_res(ROOT, &items, None) {
-        return Ok(None);
-    }
-    let map = crate_def_map(world, KRATE);
-    if !map.has(ROOT) {
-        return Ok(None);
-    }
-    let _local = local_def_map(world, KRATE);
-    let written = RawVisibility::Module(path, VisibilityExplicitness::Explicit);
-    visibility_after(world, &mut globs, KRATE, ROOT, &written, lookup, items)
-}
-
-/// Both in the small world.
-fn asked_after(alloc: Global) -> Option<(Option<ModuleDefId>, Option<Visibility>)> {
-    let mut world = a_world(alloc)?;
-    let found = in_preludes(alloc, &mut world).ok()?;
-    let seen = visibility(alloc, &mut world).ok()?;
-    Some((found, seen))
-}
-
-#[test]
-fn questions_are_asked_after_pushes(rt: HostRuntime) -> Result<(), Fail> {
-    let seen = Visibility::Module(PRELUDE, VisibilityExplicitness::Explicit);
-    let wanted = Some((Some(STRUCT), Some(seen)));
-    gives(&rt, Ok::<_, AllocError>(asked_after(rt.alloc())), wanted)
 }
