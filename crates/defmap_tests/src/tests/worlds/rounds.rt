@@ -1,5 +1,4 @@
 //! Import resolution to a fixed point: two unresolved imports, of which the first needs what the second binds.
-mod collected;
 mod refused;
 mod settled;
 
