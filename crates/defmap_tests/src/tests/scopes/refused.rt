@@ -8,6 +8,7 @@ use super::told::told;
 use super::{Filled, GLOB, HERE, ast, function, import, import_id, structure, typed, valued};
 use crate::tests::{gives, same};
 use defmap_callers::modules::Modules;
+use defmap_callers::scopes::say_the_same;
 use dm_base::ids::{
     AttrId, BuiltinDeriveImplId, ConstId, ExternBlockId, ExternCrateId, ImplId, MacroCallId,
     MacroRulesId, TraitId,
@@ -429,7 +430,7 @@ fn cloned(diagnostics: &DefDiagnostics) -> Result<DefDiagnostics, AllocError> {
 fn is_cloned(alloc: Global) -> Result<bool, AllocError> {
     let diagnostics = again!(listed(alloc))?;
     let copy = again!(cloned(&diagnostics))?;
-    Ok(copy == diagnostics && copy.iter().len() == 1)
+    Ok(say_the_same(&copy, &diagnostics) && copy.iter().len() == 1)
 }
 
 #[test]

@@ -1,6 +1,8 @@
 //! Callers of docs/USING.md: what completion, bodies and dumps read of a small world, a glob import, and the
 //! program that goes from tables to an answer.
 mod asked;
+mod built;
+mod pushed;
 
 use super::{Building, FILE, structure};
 use crate::tests::gives;

@@ -1,4 +1,5 @@
 //! Import resolution to a fixed point: two unresolved imports, of which the first needs what the second binds.
+mod collected;
 mod refused;
 mod settled;
 

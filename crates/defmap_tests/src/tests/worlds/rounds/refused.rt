@@ -2,6 +2,8 @@
 //!
 //! With enough memory none fails. `tools/refusals` injects faults: it runs these tests with every allocation failing in
 //! turn. Whichever it is, the import that failed is due (dirty), and the rounds come to the same end.
+mod between;
+
 use super::{ROOT, STRUCT, Waiting, import, taken, the_struct, two_imports};
 use crate::tests::gives;
 use dm_base::imports::ImportOrExternCrate;

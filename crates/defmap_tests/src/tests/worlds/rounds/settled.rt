@@ -1,12 +1,12 @@
 //! Rounds until a fixed point, what is unresolved then, a push between rounds, and an import that never settles.
-use super::{CHILD, ROOT, Waiting, import, pending, plain_path, taken, the_struct, two_imports};
+use super::{CHILD, ROOT, STRUCT, Waiting, import, pending, plain_path, taken, two_imports};
 use crate::tests::gives;
 use crate::tests::worlds::{EXPANDED, FILE};
 use defmap_callers::maps::{bring_by_glob, declare_type};
-use defmap_callers::rounds::settled;
+use defmap_callers::rounds::{declare_between, is_settled, rest, settled};
 use dm_base::ids::{ModuleId, UseId, UseTreeIdx};
 use dm_base::imports::GlobId;
-use dm_base::item_ids::ModuleDefId;
+use dm_base::item_ids::{AdtId, ModuleDefId};
 use dm_base::mod_path::{ModPath, PathKind};
 use dm_base::name::Name;
 use dm_base::per_ns::PerNs;
@@ -33,16 +33,28 @@ impl Waiting {
         Ok(Some((places.len(), self.retry.is_unresolved(0))))
     }
 
-    /// Declares what the first import is in need of.
-    fn declare(&mut self, alloc: Global) -> Result<Option<bool>, AllocError> {
-        let items = the_struct();
-        if !self.retry.world().knows_res(ROOT, &items, None) {
-            return Ok(None);
-        }
-        let written = self
-            .retry
-            .push_res((ROOT, Name::new(alloc, "Y")?), items, None)?;
-        Ok(Some(written))
+    /// Settles within three rounds, and makes one more, where none is due; whether it settled.
+    fn settle_and_rest(&mut self) -> Result<bool, AllocError> {
+        let Some(_places) = settled(&mut self.retry, 3)? else {
+            return Ok(false);
+        };
+        rest(&mut self.retry);
+        Ok(true)
+    }
+
+    /// Whether none of its imports is due.
+    fn is_settled(&self) -> bool {
+        is_settled(&self.retry, self.retry.len())
+    }
+
+    /// Declares what the first import is in need of: whether all was settled before, whether that was written, and
+    /// whether all is settled then.
+    fn declare(&mut self, alloc: Global) -> Result<[Option<bool>; 3], AllocError> {
+        let lookup = (ROOT, Name::new(alloc, "Y")?);
+        let before = self.is_settled();
+        let def = ModuleDefId::AdtId(AdtId::StructId(STRUCT));
+        let written = declare_between(&mut self.retry, lookup, def).ok();
+        Ok([Some(before), written, Some(self.is_settled())])
     }
 }
 
@@ -76,16 +88,18 @@ fn lone(alloc: Global) -> Result<Vec<Pending>, AllocError> {
     Ok(pendings)
 }
 
-/// What the first import alone leaves unresolved, before what it is in need of is declared and after.
-fn declared(
-    alloc: Global,
-) -> Result<Option<(Option<Left>, Option<bool>, Option<Left>)>, BuildFault> {
+/// What the first import alone leaves unresolved, before what it is in need of is declared and after; and between
+/// these, whether a round may rest, and what the declaration does.
+type Declared = (Option<Left>, bool, [Option<bool>; 3], Option<Left>);
+
+fn declared(alloc: Global) -> Result<Option<Declared>, BuildFault> {
     match taken(alloc, lone(alloc)?)? {
         Err(_) => Ok(None),
         Ok(mut waiting) => {
             let before = waiting.settle()?;
-            let written = waiting.declare(alloc)?;
-            Ok(Some((before, written, waiting.settle()?)))
+            let rests = waiting.settle_and_rest()?;
+            let between = waiting.declare(alloc)?;
+            Ok(Some((before, rests, between, waiting.settle()?)))
         }
     }
 }
@@ -94,7 +108,12 @@ fn declared(
 fn a_declaration_between_rounds_resolves_an_import(rt: HostRuntime) -> Result<(), Fail> {
     let before = Some((1, Some(true)));
     let after = Some((0, Some(false)));
-    gives(&rt, declared(rt.alloc()), Some((before, Some(true), after)))
+    let between = [Some(true), Some(true), Some(false)];
+    gives(
+        &rt,
+        declared(rt.alloc()),
+        Some((before, true, between, after)),
+    )
 }
 
 /// A crate with two modules and a use in its root.
