@@ -26,7 +26,7 @@ use Rattle.dm_ids.specs.declared.item_ids.ModuleDefId.{ModuleDefId}
 use Rattle.dm_ids.specs.declared.item_ids.ModuleDefId.TheVariants as def
 use Rattle.dm_base.specs.declared.per_ns.Item.{Item}
 use Rattle.dm_base.specs.declared.per_ns.Namespace.{Namespace}
-use Rattle.dm_scope.specs.Chains.{Pair, EndsIn, IsFound, import_of, def_of, home, leads, ends, record_of, public_item}
+use Rattle.dm_scope.specs.Chains.{Pair, EndsIn, IsFound, named_import, def_of, at_home, leads, ends, record_of, public_item}
 use Rattle.dm_scope.specs.ChainSteps.{WasPassed, found_within, found_from, record_count, macro_of}
 use Rattle.dm_scope.specs.Records.{records_in}
 use Rattle.dm_scope.specs.Tables.{Tables, all_records}
@@ -74,17 +74,17 @@ known_in test f (x ∷ xs) n s v at is = ap (list_any test) (map-append (λ e. e
 
 module _ (ns : Namespace) (t : Tables) where
   -- a pair that another leads to is at home
-  led_home : (x y : Pair) → leads ns t x ≡ Some y → home t y.1 ≡ Some y
+  led_home : (x y : Pair) → leads ns t x ≡ Some y → at_home t y.1 ≡ Some y
   led_home x y h =
-      let i = from_some (home t) (option_and_then import_of (record_of ns x)) y h in
+      let i = from_some (at_home t) (option_and_then named_import (record_of ns x)) y h in
       let s = from_some (λ s. Some (s, i.0)) (option_and_then (λ m. slice_get t.scopes m.0) (t.container i.0.use_)) y i.2 in
-      subst (λ z. home t z.1 ≡ Some z) (some_is _ y s.2) (ap (option_map (λ s. (s, i.0))) s.1)
+      subst (λ z. at_home t z.1 ≡ Some z) (some_is _ y s.2) (ap (option_map (λ s. (s, i.0))) s.1)
 
   -- no pair both leads on and ends
   apart : (x y : Pair) (d : ModuleDefId) → leads ns t x ≡ Some y → ends ns x ≡ Some d → ⊥
   apart x y d h e = by (record_of ns x) h e
     where
-      by : (o : Option ImportOrDef) → option_and_then (home t) (option_and_then import_of o) ≡ Some y → option_and_then def_of o ≡ Some d → ⊥
+      by : (o : Option ImportOrDef) → option_and_then (at_home t) (option_and_then named_import o) ≡ Some y → option_and_then def_of o ≡ Some d → ⊥
       by None h e = cc
       by (Some (Import i)) h e = cc
       by (Some (Glob g)) h e = cc
@@ -93,18 +93,18 @@ module _ (ns : Namespace) (t : Tables) where
 
   -- pairs that are led to are one where their imports are
   one : (x y z w : Pair) → leads ns t x ≡ Some y → leads ns t z ≡ Some w → same_import (wide.Import y.1) (wide.Import w.1) ≡ true → y ≡ w
-  one x y z w h k same = some_is y w (sym (led_home x y h) ∙ ap (home t) (import_is y.1 w.1 same) ∙ led_home z w k)
+  one x y z w h k same = some_is y w (sym (led_home x y h) ∙ ap (at_home t) (import_is y.1 w.1 same) ∙ led_home z w k)
 
-  leads_on : (q p : Pair) (i : ImportId) → record_of ns q ≡ Some (Import i) → home t i ≡ Some p → leads ns t q ≡ Some p
-  leads_on q p i is there = ap (λ o. option_and_then (home t) (option_and_then import_of o)) is ∙ there
+  leads_on : (q p : Pair) (i : ImportId) → record_of ns q ≡ Some (Import i) → at_home t i ≡ Some p → leads ns t q ≡ Some p
+  leads_on q p i is there = ap (λ o. option_and_then (at_home t) (option_and_then named_import o)) is ∙ there
 
-  found_on : (q p : Pair) (i : ImportId) (n : ℕ) → record_of ns q ≡ Some (Import i) → home t i ≡ Some p → found_within (leads ns t) (ends ns) (suc n) q ≡ found_within (leads ns t) (ends ns) n p
+  found_on : (q p : Pair) (i : ImportId) (n : ℕ) → record_of ns q ≡ Some (Import i) → at_home t i ≡ Some p → found_within (leads ns t) (ends ns) (suc n) q ≡ found_within (leads ns t) (ends ns) n p
   found_on q p i n is there =
       ap (λ o. option_or o (option_and_then (found_within (leads ns t) (ends ns) n) (leads ns t q))) (ap (option_and_then def_of) is)
       ∙ ap (option_and_then (found_within (leads ns t) (ends ns) n)) (leads_on q p i is there)
 
   -- a step of a walk, with one pair less to go
-  pub found-step : (q p : Pair) (i : ImportId) (n m : ℕ) (o : Option ModuleDefId) → record_of ns q ≡ Some (Import i) → home t i ≡ Some p → n ≡ suc m
+  pub found-step : (q p : Pair) (i : ImportId) (n m : ℕ) (o : Option ModuleDefId) → record_of ns q ≡ Some (Import i) → at_home t i ≡ Some p → n ≡ suc m
       → found_within (leads ns t) (ends ns) (suc n) q ≡ o → found_within (leads ns t) (ends ns) (suc m) p ≡ o
   found-step q p i n m o is there one e = ap (λ k. found_within (leads ns t) (ends ns) k p) (sym one) ∙ sym (found_on q p i n is there) ∙ e
 
@@ -116,7 +116,7 @@ module _ (ns : Namespace) (t : Tables) where
       sym (found_on q w.0 i n is w.1 ∙ found_within-round (leads ns t) (ends ns) apart w.0 w.2 w.3 (ap (leads ns t) w.4 ∙ leads_on q w.0 i is w.1) n) ∙ e
 
   -- what was passed before a step was passed after it, and so is where it came
-  pub passed-step : (q p : Pair) (i : ImportId) (b : Bool) (o : Option ImportId) → record_of ns q ≡ Some (Import i) → home t i ≡ Some p → IfSome o (WasPassed ns t q) → IfSome (cond b (Some i) o) (WasPassed ns t p)
+  pub passed-step : (q p : Pair) (i : ImportId) (b : Bool) (o : Option ImportId) → record_of ns q ≡ Some (Import i) → at_home t i ≡ Some p → IfSome o (WasPassed ns t q) → IfSome (cond b (Some i) o) (WasPassed ns t p)
   passed-step q p i true o is there passed = (p, there, [], tt, refl)
   passed-step q p i false None is there passed = tt
   passed-step q p i false (Some j) is there w =
@@ -136,7 +136,7 @@ module _ (ns : Namespace) (t : Tables) where
       let count : length (keys_of (all_records ns t)) ≡ length (all_records ns t) = length-map (all_records ns t) (λ e. e.0) in
       let enough : length (keys_of (all_records ns t)) < suc (record_count ns t) = grind (arith, count) in
       found_within-keys (leads ns t) (ends ns) same_import (λ y. wide.Import y.1) import_eq.laws-law import_value.same-law apart one (keys_of (all_records ns t))
-      (λ x y z h k. let v = from_some import_of (record_of ns y) _ (from_some (home t) (option_and_then import_of (record_of ns y)) z k).1 in known x y v.0 h v.1)
+      (λ x y z h k. let v = from_some named_import (record_of ns y) _ (from_some (at_home t) (option_and_then named_import (record_of ns y)) z k).1 in known x y v.0 h v.1)
       (λ x y d h e. let v = from_some def_of (record_of ns y) d e in known x y v.0 h v.1)
       (suc (record_count ns t)) p d enough h
 

@@ -6,7 +6,7 @@ use Rattle.dm_ids.specs.declared.item_ids.MacroId.{MacroId}
 use Rattle.dm_ids.specs.declared.item_ids.ModuleDefId.{ModuleDefId}
 use Rattle.dm_ids.specs.declared.item_ids.ModuleDefId.TheVariants as def
 use Rattle.dm_base.specs.declared.per_ns.Namespace.{Namespace}
-use Rattle.dm_scope.specs.Chains.{Pair, IsChain, home, leads, ends, last_from}
+use Rattle.dm_scope.specs.Chains.{Pair, IsChain, at_home, leads, ends, last_from}
 use Rattle.dm_scope.specs.Tables.{Tables, all_records}
 
 -- what at most n pairs find
@@ -25,7 +25,7 @@ found_from ns t p = found_within (leads ns t) (ends ns) (suc (record_count ns t)
 -- Of an import i that a walk has passed when it has come to a pair: its pair at home leads there in
 -- some steps.
 abbrev pub WasPassed : Namespace → Tables → Pair → ImportId → Type 0
-WasPassed ns t q i = (p : Pair) × (home t i ≡ Some p) × (ps : List Pair) × IsChain (leads ns t) p ps × (last_from p ps ≡ q)
+WasPassed ns t q i = (p : Pair) × (at_home t i ≡ Some p) × (ps : List Pair) × IsChain (leads ns t) p ps × (last_from p ps ≡ q)
 
 -- the macro that a definition is
 abbrev pub macro_of : ModuleDefId → Option MacroId

@@ -20,17 +20,17 @@ abbrev pub Pair : Type 0
 Pair = Scope × ImportId
 
 -- the named import that a record is, and the definition
-abbrev pub import_of : ImportOrDef → Option ImportId
-import_of (Import i) = Some i
-import_of r = None
+abbrev pub named_import : ImportOrDef → Option ImportId
+named_import (Import i) = Some i
+named_import r = None
 
 abbrev pub def_of : ImportOrDef → Option ModuleDefId
 def_of (Def d) = Some d
 def_of r = None
 
 -- an import in the scope of the module that its use stands in
-abbrev pub home : Tables → ImportId → Option Pair
-home t i = option_map (λ s. (s, i)) (option_and_then (λ m. slice_get t.scopes m.0) (t.container i.use_))
+abbrev pub at_home : Tables → ImportId → Option Pair
+at_home t i = option_map (λ s. (s, i)) (option_and_then (λ m. slice_get t.scopes m.0) (t.container i.use_))
 
 module _ (ns : Namespace) where
   abbrev pub record_of : Pair → Option ImportOrDef
@@ -39,7 +39,7 @@ module _ (ns : Namespace) where
   -- A pair whose record is a named import leads to that import at home; one whose record is a
   -- definition ends in it.
   abbrev pub leads : Tables → Pair → Option Pair
-  leads t p = option_and_then (home t) (option_and_then import_of (record_of p))
+  leads t p = option_and_then (at_home t) (option_and_then named_import (record_of p))
 
   abbrev pub ends : Pair → Option ModuleDefId
   ends p = option_and_then def_of (record_of p)

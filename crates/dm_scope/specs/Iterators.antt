@@ -21,8 +21,8 @@ abbrev pub seen_module : ModuleDefId → Visibility → Option (ModuleId × Visi
 seen_module (def.ModuleId m) v = Some (m, v)
 seen_module d v = None
 
-abbrev pub item_module : Item ModuleDefId ImportOrExternCrate → Option (ModuleId × Visibility)
-item_module x = seen_module x.def x.vis
+abbrev pub bound_module : Item ModuleDefId ImportOrExternCrate → Option (ModuleId × Visibility)
+bound_module x = seen_module x.def x.vis
 
 -- the trait that a type is
 abbrev pub trait_at : ModuleDefId → Option TraitId

@@ -1,5 +1,5 @@
 //! The `filter_map` closures of the iterators of a scope, as named types.
-ghost use Rattle.dm_scope.specs.Iterators.{any_impl, trait_impl, inherent_impl, item_module, trait_of};
+ghost use Rattle.dm_scope.specs.Iterators.{any_impl, trait_impl, inherent_impl, bound_module, trait_of};
 ghost use Rattle.dm_scope.specs.MacroCalls.{call_in};
 
 use crate::picked::Pick;
@@ -59,7 +59,7 @@ pub struct ModuleType;
 impl Pick<TypesItem> for ModuleType {
     type Shown = (ModuleId, Visibility);
 
-    ghost shown = { item_module };
+    ghost shown = { bound_module };
 
     fn pick(&self, x: &TypesItem) -> Option<(ModuleId, Visibility)> {
         match x.def {

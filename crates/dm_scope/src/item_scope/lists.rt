@@ -22,7 +22,7 @@ ghost use Rattle.dm_ids.specs.declared.item_ids.ModuleDefId.{ModuleDefId};
 ghost use Rattle.dm_base.specs.declared.per_ns.Item.{Item};
 ghost use Rattle.dm_scope.specs.AllCalls.{all_calls};
 ghost use Rattle.dm_scope.specs.Records.{records_in};
-ghost use Rattle.dm_scope.specs.Iterators.{any_impl, trait_impl, inherent_impl, item_module, trait_of, deref_name, deref_legacy};
+ghost use Rattle.dm_scope.specs.Iterators.{any_impl, trait_impl, inherent_impl, bound_module, trait_of, deref_name, deref_legacy};
 
 use super::ItemScope;
 use crate::bindings::Iter;
@@ -147,7 +147,7 @@ impl ItemScope {
 
     /// The modules among the types, with its visibility, in order of first binding. Takes no memory.
     pub fn modules_in_scope(&self) -> ModulesInScope<'_>
-        ensures rest { result ≡ filter_map item_module (map (λ e. e.1) self.now.types.items) }
+        ensures rest { result ≡ filter_map bound_module (map (λ e. e.1) self.now.types.items) }
         ensures runs { ShowsInOrder (λ (x : ModuleId × Visibility). x) }
     {
         Picked::new(self.types.items(), ModuleType)
