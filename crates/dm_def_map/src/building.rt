@@ -1,5 +1,5 @@
 //! Building a def map, for the crates of this repository that do: how one begins, grows, is changed, and is read whole.
-ghost use Rattle.std.specs.Prelude.{◌≡◌, false, None, IsOk, IfOk, OnOk, OnErr};
+ghost use Rattle.std.specs.Prelude.{◌≡◌, false, None, IsOk, IsSome, IfOk, OnOk, OnErr};
 ghost use Rattle.std.specs.Option.{option_copied, option_copied_mut};
 ghost use Rattle.std.specs.Borrow.{sem};
 ghost use Rattle.dm_def_map.specs.Maps.{module_at, nth_module, nth_scope, fresh_map, map_with_child};
@@ -51,7 +51,7 @@ pub fn with_root(
     })
 }
 
-/// Adds a module, as a child of the one at index `i`.
+/// Adds a module, as a child of the one at index `i`, which has to be there.
 pub fn add_child(
     map: &mut DefMap,
     i: usize,
@@ -59,7 +59,8 @@ pub fn add_child(
     m: ModuleId,
     added: ModuleData,
 ) -> Result<(), AllocError>
-    requires { module_at map.old.modules m ≡ None }
+    requires free { module_at map.old.modules m ≡ None }
+    requires there { IsSome (nth_module map.old.modules i) }
     ensures ok { OnOk result (map.new ≡ map_with_child map.old i name m added) }
     ensures err { OnErr result (map.new ≡ map.old) }
 {

@@ -12,6 +12,7 @@ use Rattle.dm_maps.specs.ScopeTables.{scope_at_place}
 use Rattle.dm_maps.specs.Trees.{map_id_in, no_map, outlines, outline, IsWorld}
 use Rattle.dm_maps.specs.World.{World, maps_of, numbered_map}
 use Rattle.dm_maps.proofs.EntryLemmas.{get-last}
+use Rattle.dm_maps.proofs.WorldFacts.{crate-within}
 use Rattle.dm_maps.proofs.GrowthLemmas.{get-within}
 use Rattle.dm_maps.proofs.GrownLemmas.{widens, at-end, end-among, more-push, end-past, pushed-none, through, scope_in, scope_by, scopes-child, added, count-with}
 
@@ -113,12 +114,7 @@ module _ (w : World) (m : ModuleId) (a : AstId) (c : Map) where
 -- the crate of a module has a map
 block-added : (w : World) (m : ModuleId) (a : AstId) → IsWorld w → m.0 < length w.places → IsAddedBlock w (with_block w m a) m (next_block w)
 block-added w m a is known =
-    let at = get-within w.places m.0 known in
-    let own : at.0.map ≡ map_id_in w.places m = sym (ap (λ o. option_map_or (λ (x : Place). x.map) o no_map) at.1) in
-    let count : length (outlines w.crate_maps) ≡ length w.crate_maps = length-map w.crate_maps outline in
-    let l = is.in_crates m at.0 at.1 in
-    let within : at.0.map.krate.0 < length w.crate_maps = omega arith in
-    let c = get-within w.crate_maps (crate_in w m).0 (subst (λ (id : MapId). id.krate.0 < length w.crate_maps) own within) in
+    let c = get-within w.crate_maps (crate_in w m).0 (crate-within w is m known) in
     subst (λ (v : World). IsAddedBlock w v m (next_block w)) (sym (ap (λ o. option_map_or (with_block_of w (crate_in w m) m a) o w) c.1)) (added-block_of w m a c.0)
 
 pub added-block : (w v : World) (m : ModuleId) (a : AstId) (b : BlockId) → IsWorld w → m.0 < length w.places → v ≡ with_block w m a → b ≡ next_block w → IsAddedBlock w v m b

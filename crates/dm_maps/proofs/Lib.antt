@@ -35,6 +35,7 @@ pub mod FamilyLemmas
 pub mod MapFacts
 pub mod BuilderGrowth
 pub mod RecordLemmas
+pub mod Rescoped
 pub mod RecordGrowth
 pub mod LadderLemmas
 pub mod LawLemmas

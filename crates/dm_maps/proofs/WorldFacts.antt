@@ -1,13 +1,16 @@
 -- What holds of the modules and maps of every world.
-use Rattle.std.proofs.Common.{◌≡◌, ℕ, zero, suc, [], ◌∷◌, Option, None, Some, length, map, slice_get, refl, sym, ap, ◌∙◌, IsTrue, IsSome, is_some}
+use Rattle.std.proofs.Common.{◌≡◌, ◌<◌, arith, false, nat_eq, not, subst, true, true≢false, ℕ, zero, suc, [], ◌∷◌, Option, None, Some, length, map, slice_get, refl, sym, ap, ◌∙◌, IsTrue, IsSome, is_some}
 use Rattle.std.proofs.lemmas.Bool.{ltb-true}
-use Rattle.std.specs.Option.{option_map, option_and_then}
-use Rattle.dm_maps.proofs.Ids.{ModuleId, Place}
+use Rattle.std.specs.Option.{option_map, option_map_or, option_and_then}
+use Rattle.std.proofs.lemmas.List.{length-map}
+use Rattle.dm_maps.proofs.Ids.{Crate, MapId, ModuleId, Place}
 use Rattle.dm_check.specs.declared.held.HeldId.TheVariants as held
 use Rattle.dm_maps.specs.Known.{knows}
 use Rattle.dm_def_map.specs.Maps.{Map, Module, Modules, nth_module}
 use Rattle.dm_maps.specs.World.{World, placed_module, scope_if_known, numbered_map}
-use Rattle.dm_maps.specs.Trees.{Outline, outline, IsWorld}
+use Rattle.dm_maps.specs.BuildBlocks.{crate_in}
+use Rattle.dm_maps.specs.BuildMaps.{lacks_map}
+use Rattle.dm_maps.specs.Trees.{Outline, outline, outlines, IsWorld, map_id_in, no_map}
 use Rattle.dm_maps.proofs.GrowthLemmas.{get-within}
 use Rattle.dm_maps.proofs.ModuleGrowth.{entry}
 use Rattle.dm_maps.proofs.WorldGrowth.{numbered-outlines}
@@ -39,3 +42,29 @@ module _ (w : World) (is : IsWorld w) where
       let d = module-there m at.0 at.1 in
       ap (λ o. is_some (option_map (λ (x : Module). x.scope) (option_and_then (placed_module w) o))) at.1
       ∙ ap (λ o. is_some (option_map (λ (x : Module). x.scope) o)) d.1
+
+  -- and its crate has a number
+  pub crate-within : (m : ModuleId) → m.0 < length w.places → (crate_in w m).0 < length w.crate_maps
+  crate-within m known =
+      let at = get-within w.places m.0 known in
+      let own : at.0.map ≡ map_id_in w.places m = sym (ap (λ o. option_map_or (λ (p : Place). p.map) o no_map) at.1) in
+      let count : length (outlines w.crate_maps) ≡ length w.crate_maps = length-map w.crate_maps outline in
+      let l = is.in_crates m at.0 at.1 in
+      let within : at.0.map.krate.0 < length w.crate_maps = omega arith in
+      subst (λ (id : MapId). id.krate.0 < length w.crate_maps) own within
+
+  -- which has an extern prelude
+  pub extern-within : (k : Crate) → IsTrue (knows w (held.Crate k)) → k.0 < length w.local_maps
+  extern-within k known =
+      let count : length (outlines w.crate_maps) ≡ length w.crate_maps = length-map w.crate_maps outline in
+      let externs = is.externs in
+      let l : k.0 < length w.crate_maps = ltb-true k.0 (length w.crate_maps) known in
+      omega arith
+
+-- a map that is not lacking is there
+pub has-map : (w : World) (id : MapId) → lacks_map w id ≡ false → IsSome (numbered_map w id)
+has-map w id there = by (numbered_map w id) there
+  where
+    by : (o : Option Map) → option_map_or (λ (m : Map). not (nat_eq m.id.krate.0 id.krate.0)) o true ≡ false → IsSome o
+    by None e = absurd (true≢false e)
+    by (Some m) e = refl

@@ -1,7 +1,6 @@
--- Setters for the def maps of a builder, and for its extern preludes.
-use Rattle.std.specs.Prelude.{◌≡◌, ℕ, Bool, not, true, nat_eq, List, [], ◌∷◌, ◌++◌, Option, Some, None, Result, Err, IsOk, slice_get, slice_set}
+-- Setters for the def maps of a builder, and for its extern preludes. What each makes of its map: `changed`.
+use Rattle.std.specs.Prelude.{◌≡◌, ℕ, Bool, not, true, nat_eq, List, Option, Some, None, Result, Err, IsOk, slice_get, slice_set}
 use Rattle.std.specs.Option.{option_map_or}
-use Rattle.indexmap.specs.IndexMap.{insert_entry}
 use Rattle.dm_ids.specs.declared.ids.Crate.{Crate}
 use Rattle.dm_ids.specs.declared.ids.ExternCrateId.{ExternCrateId}
 use Rattle.dm_ids.specs.declared.ids.MapId.{MapId}
@@ -9,9 +8,8 @@ use Rattle.dm_ids.specs.declared.ids.ModuleId.{ModuleId}
 use Rattle.dm_ids.specs.declared.ids.UseId.{UseId}
 use Rattle.dm_ids.specs.declared.item_ids.MacroId.{MacroId}
 use Rattle.dm_ids.specs.declared.source.AstId.{AstId}
-use Rattle.dm_ids.specs.Names.{Name, same_name}
+use Rattle.dm_ids.specs.Names.{Name}
 use Rattle.dm_scope.specs.declared.diagnostics.DefDiagnostic.{DefDiagnostic}
-use Rattle.dm_base.specs.Sameness.{same_ast}
 use Rattle.dm_maps.specs.declared.build_fault.BuildFault.{BuildFault}
 use Rattle.dm_check.specs.declared.held.HeldId.TheVariants as held
 use Rattle.dm_def_map.specs.Maps.{Map, LocalMap}
@@ -19,7 +17,8 @@ use Rattle.dm_maps.specs.Maps.{maps_with}
 use Rattle.dm_maps.specs.World.{World, numbered_map, maps_of, with_maps}
 use Rattle.dm_maps.specs.Known.{knows}
 use Rattle.dm_maps.specs.Faults.{first_fault, none_found}
-use Rattle.dm_def_map.specs.HelperChanges.{helpers_with}
+use Rattle.dm_def_map.specs.declared.map_change.MapChange.TheVariants as change
+use Rattle.dm_def_map.specs.MapChanges.{changed}
 use Rattle.dm_def_map.specs.Helpers.{Helper}
 use Rattle.dm_def_map.specs.Locals.{with_extern}
 
@@ -29,23 +28,23 @@ with_map w id f = with_maps w (maps_with (maps_of w) id f)
 
 -- with that prelude module, or none
 abbrev pub with_prelude : World → MapId → Option (ModuleId × Option UseId) → World
-with_prelude w id p = with_map w id (λ m. record m { prelude = p })
+with_prelude w id p = with_map w id (changed (change.Prelude p))
 
--- with a macro in the `macro_use` prelude: a name that is there keeps its place and takes the new macro
+-- with a macro in the `macro_use` prelude
 abbrev pub with_macro_use : World → MapId → Name → MacroId → Option ExternCrateId → World
-with_macro_use w id n m x = with_map w id (λ map. record map { macro_use = insert_entry same_name map.macro_use n (m, x) })
+with_macro_use w id n m x = with_map w id (changed (change.MacroUse n (m, x)))
 
--- with the macro that an AST item defines: what is there keeps its place and is replaced
+-- with the macro that an AST item defines
 abbrev pub with_macro_def : World → MapId → AstId → MacroId → World
-with_macro_def w id a m = with_map w id (λ map. record map { macro_defs = insert_entry same_ast map.macro_defs a m })
+with_macro_def w id a m = with_map w id (changed (change.MacroDef a m))
 
--- with a derive helper at an AST item, the last of that item
+-- with a derive helper at an AST item
 abbrev pub with_helper : World → MapId → AstId → Helper → World
-with_helper w id a h = with_map w id (λ map. record map { derive_helpers = helpers_with map.derive_helpers a h })
+with_helper w id a h = with_map w id (changed (change.Helper a h))
 
--- with a diagnostic, the last
+-- with a diagnostic
 abbrev pub with_diagnostic : World → MapId → DefDiagnostic → World
-with_diagnostic w id d = with_map w id (λ map. record map { diagnostics = map.diagnostics ++ d ∷ [] })
+with_diagnostic w id d = with_map w id (changed (change.Diagnostic d))
 
 abbrev pub locals_with : List LocalMap → ℕ → (LocalMap → LocalMap) → List LocalMap
 locals_with Ls k f = option_map_or (λ L. slice_set Ls k (f L)) (slice_get Ls k) Ls

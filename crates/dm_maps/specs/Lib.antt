@@ -15,6 +15,7 @@ pub mod ItemFaults
 pub mod First
 pub mod Holds
 pub mod Known
+pub mod KnownLaws
 pub mod LendingMaps
 pub mod LendingWorld
 pub mod MapDumps

@@ -5,7 +5,7 @@ use Rattle.dm_ids.specs.declared.ids.MapId.{MapId}
 use Rattle.dm_ids.specs.declared.ids.ModuleId.{ModuleId}
 use Rattle.dm_ids.specs.Names.{Name}
 use Rattle.dm_scope.specs.Scope.{Scope}
-use Rattle.dm_def_map.specs.Maps.{Map, Module, module_at, nth_scope, map_with_child, map_with_scope}
+use Rattle.dm_def_map.specs.Maps.{Map, Module, module_at, nth_module, nth_scope, map_with_child, map_with_scope}
 
 -- the map of each crate, and of each block, by number
 pub record Maps : Type 0 where
@@ -30,6 +30,10 @@ maps_with ms id f = option_map_or (λ m. put_map ms id (f m)) (map_at ms id) ms
 -- with s as the scope of the module at place i of that map
 abbrev pub maps_with_scope : Maps → MapId → ℕ → Scope → Maps
 maps_with_scope ms id i s = maps_with ms id (λ m. map_with_scope m i s)
+
+-- the module at place i of that map
+abbrev pub nth_module_in : Maps → MapId → ℕ → Option Module
+nth_module_in ms id i = option_and_then (λ m. nth_module m.modules i) (map_at ms id)
 
 -- the scope at place i of that map
 abbrev pub nth_scope_in : Maps → MapId → ℕ → Option Scope

@@ -1,10 +1,10 @@
 //! The maps of a world, those of crates and those of blocks.
-ghost use Rattle.std.specs.Prelude.{◌≡◌, [], false, IsOk, OnOk, OnErr};
+ghost use Rattle.std.specs.Prelude.{◌≡◌, [], false, IsOk, IsSome, OnOk, OnErr};
 ghost use Rattle.std.specs.Option.{option_copied, option_copied_mut};
 ghost use Rattle.std.specs.Borrow.{sem};
 ghost use Rattle.dm_def_map.specs.MapChanges.{changed, grows};
 ghost use Rattle.dm_maps.specs.LendingMaps.{LendsMap, LendsScopeIn};
-ghost use Rattle.dm_maps.specs.Maps.{IsFree, map_at, maps_with, maps_with_child, maps_and, nth_scope_in};
+ghost use Rattle.dm_maps.specs.Maps.{IsFree, map_at, maps_with, maps_with_child, maps_and, nth_module_in, nth_scope_in};
 
 pub(crate) mod share;
 
@@ -101,7 +101,7 @@ impl Maps {
         }
     }
 
-    /// Makes a change in that map.
+    /// Makes a change in that map, which has to be there.
     #[tactic(auto, using(crate::proofs::MapWrites::put_own))]
     pub(crate) fn change(
         &mut self,
@@ -109,17 +109,18 @@ impl Maps {
         change: MapChange,
         alloc: Global,
     ) -> Result<(), AllocError>
+        requires { IsSome (map_at self.old id) }
         ensures ok { OnOk result (self.new ≡ maps_with self.old id (changed change)) }
         ensures err { OnErr result (self.new ≡ self.old) }
         ensures free { grows change ≡ false → IsOk result }
     {
         match self.get_mut(id) {
-            None => Ok(()),
+            None => unreachable!(),
             Some(map) => building::change(map, change, alloc),
         }
     }
 
-    /// Adds a module to that map, as a child of the one at place `i`.
+    /// Adds a module to that map, as a child of the one at place `i`, which has to be there.
     #[tactic(auto, using(crate::proofs::MapWrites::put_own))]
     pub(crate) fn add_child(
         &mut self,
@@ -129,12 +130,13 @@ impl Maps {
         m: ModuleId,
         added: ModuleData,
     ) -> Result<(), AllocError>
-        requires { IsFree self.old id m }
+        requires free { IsFree self.old id m }
+        requires there { IsSome (nth_module_in self.old id i) }
         ensures ok { OnOk result (self.new ≡ maps_with_child self.old id i name m added) }
         ensures err { OnErr result (self.new ≡ self.old) }
     {
         match self.get_mut(id) {
-            None => Ok(()),
+            None => unreachable!(),
             Some(map) => building::add_child(map, i, name, m, added),
         }
     }

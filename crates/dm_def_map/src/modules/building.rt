@@ -1,8 +1,8 @@
 //! Building the modules of a def map, for the crates of this repository that build def maps.
-ghost use Rattle.std.specs.Prelude.{◌≡◌, [], ◌∷◌, None, IfOk, OnOk, OnErr};
+ghost use Rattle.std.specs.Prelude.{◌≡◌, [], ◌∷◌, IsSome, None, IfOk, OnOk, OnErr};
 ghost use Rattle.std.specs.Option.{option_copied_mut};
 ghost use Rattle.std.specs.Borrow.{sem};
-ghost use Rattle.dm_def_map.specs.Maps.{module_at, nth_scope, with_new_child};
+ghost use Rattle.dm_def_map.specs.Maps.{module_at, nth_module, nth_scope, with_new_child};
 ghost use Rattle.dm_def_map.specs.LendingModules.{LendsNthScope};
 
 use crate::growth::put_last;
@@ -24,7 +24,7 @@ pub fn with_root(m: ModuleId, added: ModuleData, alloc: Global) -> Result<Module
     Ok(ModulesMap { entries })
 }
 
-/// Adds a module, as a child of the one at index `i`.
+/// Adds a module, as a child of the one at index `i`, which has to be there.
 pub fn add_child(
     modules: &mut ModulesMap,
     i: usize,
@@ -32,7 +32,8 @@ pub fn add_child(
     m: ModuleId,
     added: ModuleData,
 ) -> Result<(), AllocError>
-    requires { module_at modules.old m ≡ None }
+    requires free { module_at modules.old m ≡ None }
+    requires there { IsSome (nth_module modules.old i) }
     ensures ok { OnOk result (modules.new ≡ with_new_child modules.old i name m added) }
     ensures err { OnErr result (modules.new ≡ modules.old) }
 {

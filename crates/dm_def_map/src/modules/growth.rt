@@ -1,7 +1,7 @@
 //! Insertion of a child module: where an allocation fails, nothing changes.
-ghost use Rattle.std.specs.Prelude.{◌≡◌, ◌-◌, ◌++◌, ◌∷◌, [], None, OnOk, OnErr, take, length};
+ghost use Rattle.std.specs.Prelude.{◌≡◌, ◌-◌, ◌++◌, ◌∷◌, [], IsSome, None, OnOk, OnErr, take, length};
 ghost use Rattle.indexmap.specs.IndexMap.{get, insert_entry};
-ghost use Rattle.dm_def_map.specs.Maps.{with_child_at};
+ghost use Rattle.dm_def_map.specs.Maps.{nth_module, with_child_at};
 
 use crate::modules::module_data::ModuleData;
 use dm_base::ids::ModuleId;
@@ -17,18 +17,19 @@ pub(crate) fn drop_last<K: Eq + Hash + Drop, V: Drop>(map: &mut IndexMap<K, V>)
     map.pop();
 }
 
-/// Adds `m` to the children of the module at index `i`.
+/// Adds `m` to the children of the module at index `i`, where there is one.
 pub(crate) fn list_child(
     modules: &mut IndexMap<ModuleId, ModuleData>,
     i: usize,
     name: Name,
     m: ModuleId,
 ) -> Result<(), AllocError>
+    requires { IsSome (nth_module modules.old.entries i) }
     ensures ok { OnOk result (modules.new.entries ≡ with_child_at modules.old.entries i name m) }
     ensures err { OnErr result (modules.new.entries ≡ modules.old.entries) }
 {
     match modules.get_index_mut(i) {
-        None => Ok(()),
+        None => unreachable!(),
         Some(data) => data.add_child(name, m),
     }
 }

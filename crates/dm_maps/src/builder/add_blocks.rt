@@ -68,36 +68,34 @@ impl WorldBuilder {
         ensures ok { OnOk result (self.new ≡ with_block self.old containing block) }
         ensures err { OnErr result (self.new ≡ self.old) }
     {
+        self.lawful();
         let krate = self.map_id_of(containing).krate;
         let root = self.next_module();
-        match self.numbered_map(MapId { krate, block: None }) {
-            None => Ok(()),
-            Some(of) => {
-                let map = fresh_block(of, krate, b, containing, block, root, self.alloc)?;
-                let place = Place {
-                    map: MapId {
-                        krate,
-                        block: Some(b),
-                    },
-                    index: 0,
-                    parent: None,
-                };
-                add_map_in(
-                    &mut self.ladders,
-                    containing,
-                    &mut self.block_lists,
-                    &mut self.places,
-                    &mut self.maps,
-                    NewBlock {
-                        krate,
-                        b,
-                        place,
-                        map,
-                    },
-                )?;
-                Ok(())
-            }
-        }
+        let of = self.crate_map_at(krate);
+        let map = fresh_block(of, krate, b, containing, block, root, self.alloc)?;
+        let id = MapId {
+            krate,
+            block: Some(b),
+        };
+        let place = Place {
+            map: id,
+            index: 0,
+            parent: None,
+        };
+        add_map_in(
+            &mut self.ladders,
+            containing,
+            &mut self.block_lists,
+            &mut self.places,
+            &mut self.maps,
+            NewBlock {
+                krate,
+                b,
+                place,
+                map,
+            },
+        )?;
+        Ok(())
     }
 }
 

@@ -1,5 +1,5 @@
 //! The blocks of a crate, by which new data of the crate finds their maps.
-ghost use Rattle.std.specs.Prelude.{◌≡◌, ◌-◌, ◌++◌, ◌∷◌, [], take, length, OnOk, OnErr};
+ghost use Rattle.std.specs.Prelude.{◌≡◌, ◌<◌, ◌-◌, ◌++◌, ◌∷◌, [], take, length, OnOk, OnErr};
 ghost use Rattle.dm_maps.specs.BlockLists.{entry_with, list_at};
 
 use dm_base::ids::BlockId;
@@ -55,13 +55,14 @@ impl BlockList {
     }
 }
 
-/// Adds a block to list `k`, the last.
+/// Adds a block to list `k`, which has to be there: the last.
 pub(crate) fn list_block(lists: &mut Vec<BlockList>, k: usize, b: BlockId) -> Result<(), AllocError>
+    requires { k < length lists.old.items }
     ensures ok { OnOk result (lists.new.items ≡ entry_with lists.old.items k (λ l. l ++ b ∷ [])) }
     ensures err { OnErr result (lists.new.items ≡ lists.old.items) }
 {
     match lists.get_mut(k) {
-        None => Ok(()),
+        None => unreachable!(),
         Some(list) => list.push(b),
     }
 }

@@ -1,5 +1,5 @@
 //! Setters for the def maps of a builder, and for its extern preludes.
-ghost use Rattle.std.specs.Prelude.{◌≡◌, false, IsOk, OnOk, OnErr};
+ghost use Rattle.std.specs.Prelude.{◌≡◌, ◌<◌, false, IsOk, OnOk, OnErr, length};
 ghost use Rattle.dm_maps.specs.BuildMaps.{AnswersFree, with_map, with_prelude, with_macro_use, with_macro_def, with_helper, locals_with, with_extern_of, lacks_map, map_fault, crate_fault};
 ghost use Rattle.dm_maps.specs.Faults.{Answers};
 ghost use Rattle.dm_def_map.specs.Locals.{with_extern};
@@ -137,8 +137,9 @@ impl WorldBuilder {
         }
     }
 
-    /// Makes a change in the map of that id.
+    /// Makes a change in the map of that id, which has to be there.
     pub(crate) fn change_map(&mut self, id: MapId, change: MapChange) -> Result<(), AllocError>
+        requires { lacks_map self.old id ≡ false }
         ensures ok { OnOk result (self.new ≡ with_map self.old id (changed change)) }
         ensures err { OnErr result (self.new ≡ self.old) }
         ensures free { grows change ≡ false → IsOk result }
@@ -148,7 +149,7 @@ impl WorldBuilder {
     }
 }
 
-/// Adds a module to the extern prelude of number `k`.
+/// Adds a module to the extern prelude of number `k`, which has to be there.
 fn put_extern_at(
     locals: &mut Vec<LocalDefMap>,
     k: usize,
@@ -156,12 +157,13 @@ fn put_extern_at(
     m: ModuleId,
     named_by: Option<ExternCrateId>,
 ) -> Result<(), AllocError>
+    requires { k < length locals.old.items }
     ensures ok { OnOk result
         (locals.new.items ≡ locals_with locals.old.items k (λ L. with_extern L name m named_by)) }
     ensures err { OnErr result (locals.new.items ≡ locals.old.items) }
 {
     match locals.get_mut(k) {
-        None => Ok(()),
+        None => unreachable!(),
         Some(local) => local.insert(name, m, named_by),
     }
 }

@@ -1,8 +1,8 @@
 //! Adding modules and def maps, with their places, ladders (jump pointers) and lists: all or nothing where an
 //! allocation fails. Room in plain lists is reserved first, so only a ladder and a block's entry are ever taken back.
-ghost use Rattle.std.specs.Prelude.{◌≡◌, ◌<◌, ◌++◌, ◌∷◌, [], None, Some, OnOk, OnErr, length, vec_len, vec_capacity};
+ghost use Rattle.std.specs.Prelude.{◌≡◌, ◌<◌, ◌++◌, ◌∷◌, [], IsSome, None, Some, OnOk, OnErr, length, vec_len, vec_capacity};
 ghost use Rattle.dm_maps.specs.BlockLists.{entry_with};
-ghost use Rattle.dm_maps.specs.Maps.{IsFree, maps_with_child, maps_and};
+ghost use Rattle.dm_maps.specs.Maps.{IsFree, maps_with_child, maps_and, nth_module_in};
 
 use crate::builder::block_list::{BlockList, list_block, unlist_block};
 use crate::maps::Maps;
@@ -65,6 +65,7 @@ pub(crate) fn add_child_in(
     requires room { length ladders.old < 4294967295 }
     requires known { parent.0 < length ladders.old }
     requires free { IsFree maps.old child.at.map child.m }
+    requires there { IsSome (nth_module_in maps.old child.at.map child.at.index) }
     ensures ladders { OnOk result (ladders.new ≡ ladders.old ++ Some parent ∷ []) }
     ensures places { OnOk result (places.new.items ≡ places.old.items ++ child.place ∷ []) }
     ensures maps { OnOk result (maps.new
@@ -97,6 +98,7 @@ fn add_listed_map(
     maps: &mut Maps,
     map: DefMap,
 ) -> Result<(), AllocError>
+    requires { krate.0 < length lists.old.items }
     ensures lists { OnOk result (lists.new.items ≡ entry_with lists.old.items krate.0 (λ l. l ++ b ∷ [])) }
     ensures maps { OnOk result (maps.new ≡ maps_and maps.old map) }
     ensures old_lists { OnErr result (lists.new.items ≡ lists.old.items) }
@@ -125,6 +127,7 @@ pub(crate) fn add_map_in(
 ) -> Result<(), AllocError>
     requires room { length ladders.old < 4294967295 }
     requires known { container.0 < length ladders.old }
+    requires listed { block.krate.0 < length lists.old.items }
     ensures ladders { OnOk result (ladders.new ≡ ladders.old ++ Some container ∷ []) }
     ensures lists { OnOk result (lists.new.items
         ≡ entry_with lists.old.items block.krate.0 (λ l. l ++ block.b ∷ [])) }

@@ -1,10 +1,10 @@
 //! Look-ups in the tables of a world, also while it is built. None of them takes memory.
-ghost use Rattle.std.specs.Prelude.{◌≡◌, ◌↔◌, IsTrue, IfSome, slice_get, nat_lt, length};
+ghost use Rattle.std.specs.Prelude.{◌≡◌, ◌↔◌, IsTrue, IfSome, Some, slice_get, nat_lt, length};
 ghost use Rattle.std.specs.Option.{option_copied, option_map};
 ghost use Rattle.dm_ids.specs.Names.{find_name};
 ghost use Rattle.dm_base.specs.Tree.{IsTree, IsKnown};
 ghost use Rattle.dm_scope.specs.Scope.{bound_in};
-ghost use Rattle.dm_maps.specs.World.{place_of, numbered_map, map_of, placed_module, module_of, scope_of};
+ghost use Rattle.dm_maps.specs.World.{crate_map, place_of, numbered_map, map_of, placed_module, module_of, scope_of};
 ghost use Rattle.dm_maps.specs.Readings.{variants_of};
 ghost use Rattle.dm_maps.specs.Trees.{IsWorld, map_id_in, parent_in, container_in, containers_of};
 
@@ -31,6 +31,14 @@ impl WorldBuilder {
         ensures { option_copied result ≡ numbered_map self.now id }
     {
         self.maps.get(id)
+    }
+
+    /// The map of a crate.
+    pub(crate) fn crate_map_at(&self, krate: Crate) -> &DefMap
+        requires { IsTrue (nat_lt krate.0 (length self.now.crate_maps)) }
+        ensures { crate_map self.now krate ≡ Some result.now }
+    {
+        &self.maps.crates()[krate.0 as usize]
     }
 
     /// The map of a block: its id is what a change of the map takes.

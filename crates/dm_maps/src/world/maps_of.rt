@@ -126,13 +126,6 @@ impl World {
 }
 
 impl WorldBuilder {
-    fn crate_map_at(&self, krate: Crate) -> &DefMap
-        requires { IsTrue (nat_lt krate.0 (length self.now.crate_maps)) }
-        ensures { crate_map self.now krate ≡ Some result.now }
-    {
-        &self.maps.crates()[krate.0 as usize]
-    }
-
     fn block_map_at(&self, block: BlockId) -> &DefMap
         requires { IsTrue (nat_lt block.0 (length self.now.block_maps)) }
         ensures { slice_get self.now.block_maps block.0 ≡ Some result.now }

@@ -1,9 +1,10 @@
-use Rattle.std.proofs.Common.{◌≡◌, ◌<◌, ◌∙◌, Some, length, slice_get, sym, ap, subst, refl}
+use Rattle.std.proofs.Common.{◌≡◌, ◌<◌, ◌∙◌, Some, is_some, length, slice_get, sym, ap, subst, refl}
 use Rattle.std.proofs.lemmas.Option.{slice_get_read}
 use Rattle.dm_maps.specs.Maps.{IsFree}
 use Rattle.dm_maps.specs.World.{World, maps_of}
 use Rattle.dm_maps.specs.Build.{next_module}
 use Rattle.dm_maps.proofs.BuilderGrowth.{IsKept, IsKept-child}
+use Rattle.dm_maps.proofs.WorldFacts.{module-there}
 use Rattle.dm_maps.proofs.WorldGrowth.{IsFree-next, child-made}
 use Rattle.dm_maps.specs.Tables.{tables_of}
 use Rattle.dm_maps.proofs.builder.WorldBuilder.push_module.Goals as goal
@@ -20,6 +21,14 @@ there c =
     let places = c.self.inside.places.items in
     let known = subst (λ (w : World). c.args.parent.0 < length w.places) (sym c.self.view_is) c.requires.known in
     slice_get_read places (length places) c.args.parent.0 c.index-at.result.now refl known c.index-at.ensures
+
+pub add_child_in-requires-clause-there : goal.add_child_in-requires-clause-there
+add_child_in-requires-clause-there c =
+    let places = c.self.inside.places.items in
+    let known = subst (λ (w : World). c.args.parent.0 < length w.places) (sym c.self.view_is) c.requires.known in
+    let at = slice_get_read places (length places) c.args.parent.0 c.index-at.result.now refl known c.index-at.ensures in
+    let d = module-there (tables_of c.self.inside) c.self.invariant.0.0 c.args.parent c.index-at.result.now at in
+    ap is_some d.1
 
 pub returns-clause-ok : goal.returns-clause-ok
 returns-clause-ok c =

@@ -1,18 +1,15 @@
 use Rattle.std.proofs.Common.{◌≡◌, ◌∙◌, IsTrue, ap, refl, subst, sym}
 use Rattle.dm_scope.specs.Scope.{Scope}
 use Rattle.dm_check.specs.declared.held.HeldId.TheVariants as held
-use Rattle.dm_maps.specs.Added.{IsScoped}
 use Rattle.dm_maps.specs.Cut.{cut}
 use Rattle.dm_maps.specs.GoesOn.{and_trait, with_unnamed_trait}
 use Rattle.dm_maps.specs.Known.{knows}
 use Rattle.dm_maps.specs.PushRes.{StaysShown}
-use Rattle.dm_maps.specs.RecordCounts.{IsCounted}
 use Rattle.dm_maps.specs.Sound.{IsCheckedWorld}
-use Rattle.dm_maps.specs.Stays.{StaysKnown}
 use Rattle.dm_maps.specs.World.{World, scope_of, with_scope}
 use Rattle.dm_maps.proofs.CutPush.{with_scope-cut}
-use Rattle.dm_maps.proofs.ScopeChanges.{fits-trait, scope-goes_on, scope-stays, trait-shown}
-use Rattle.dm_maps.proofs.SetLemmas.{scoped}
+use Rattle.dm_maps.proofs.Rescoped.{IsRescoped, rescoped}
+use Rattle.dm_maps.proofs.ScopeChanges.{fits-trait, trait-shown}
 use Rattle.dm_maps.proofs.WorldFacts.{scope-there}
 use Rattle.dm_maps.proofs.world.World.push_unnamed_trait.Goals as goal
 use Rattle.dm_maps.proofs.world.World.push_unnamed_trait.Goals.{After-lawful}
@@ -29,32 +26,28 @@ left c = and_trait (scope_of c.args.self.now c.args.m) c.args.tr c.args.vis c.ar
 world_is : (c : After-lawful) → c.push_unnamed_trait.new.self ≡ with_scope c.args.self.now c.args.m (left c)
 world_is c = c.in_ok-push_unnamed_trait.ensures.ok ∙ ap (λ w. with_unnamed_trait w c.args.m c.args.tr c.args.vis c.args.import) c.self.view_is
 
-was_checked : (c : After-lawful) → IsCheckedWorld c.args.self.now
-was_checked c = subst IsCheckedWorld c.self.view_is c.self.invariant.0
-
-goes_on : (c : After-lawful) → IsCheckedWorld c.push_unnamed_trait.new.self × IsCounted c.push_unnamed_trait.new.self c.self.inside.records
-goes_on c =
-    scope-goes_on c.args.self.now c.push_unnamed_trait.new.self c.self.inside.records c.args.m (left c) (was_checked c)
-    (subst (λ (x : World). IsCounted x c.self.inside.records) c.self.view_is c.self.invariant.1) c.lawful.ensures (world_is c)
-    (fits-trait c.args.self.now (was_checked c) c.args.m c.requires.known.0 c.args.tr c.args.vis c.args.import c.requires.known.1)
+done : (c : After-lawful) → IsRescoped c.args.self.now c.push_unnamed_trait.new.self c.self.inside.records c.args.m (left c)
+done c =
+    let w : World = c.args.self.now in
+    rescoped c.self.inside.tables w c.push_unnamed_trait.new.self c.self.inside.records c.args.m (left c) c.self.view_is c.self.invariant c.lawful.ensures (world_is c)
+    (λ was. fits-trait w was c.args.m c.requires.known.0 c.args.tr c.args.vis c.args.import c.requires.known.1)
 
 pub invariant_of-self-2 : goal.invariant_of-self-2
-invariant_of-self-2 c = goes_on c
+invariant_of-self-2 c = (done c).kept
 
 pub returns-clause-checked : goal.returns-clause-checked
-returns-clause-checked c = (goes_on c).0.checked
+returns-clause-checked c = (done c).kept.0.checked
 
 pub returns-clause-scopes : goal.returns-clause-scopes
-returns-clause-scopes c =
-    subst (λ (v : World). IsScoped c.args.self.now v c.args.m (left c)) (sym (world_is c)) (scoped c.args.self.now (was_checked c).lawful c.args.m c.requires.known.0 (left c))
+returns-clause-scopes c = (done c).scopes
 
 pub returns-clause-stays_known : goal.returns-clause-stays_known
-returns-clause-stays_known c = subst (StaysKnown c.args.self.now) (sym (world_is c)) (scope-stays c.args.self.now c.args.m (left c))
+returns-clause-stays_known c = (done c).stays
 
 pub returns-clause-shown : goal.returns-clause-shown
 returns-clause-shown c g k =
     subst (λ (v : World). StaysShown c.args.self.now g v g k) (sym (world_is c))
-    (trait-shown c.args.self.now (was_checked c).lawful c.args.m c.requires.known.0 c.args.tr c.args.vis c.args.import g k)
+    (trait-shown c.args.self.now (subst IsCheckedWorld c.self.view_is c.self.invariant.0).lawful c.args.m c.requires.known.0 c.args.tr c.args.vis c.args.import g k)
 
 pub returns-clause-stays : goal.returns-clause-stays
 returns-clause-stays c N = ap (λ w. cut w N) (world_is c) ∙ with_scope-cut c.args.self.now N c.args.m (left c) refl

@@ -1,26 +1,25 @@
 use Rattle.std.proofs.Common.{◌≡◌, ◌∙◌, IsSome, IsTrue, ap, subst, sym, true≢false}
-use Rattle.dm_ids.specs.Names.{find_name}
+use Rattle.dm_ids.specs.Names.{Name, find_name}
 use Rattle.dm_scope.specs.Scope.{Scope}
 use Rattle.dm_check.specs.declared.held.HeldId.TheVariants as held
-use Rattle.dm_maps.specs.Added.{IsScoped}
 use Rattle.dm_maps.specs.Cut.{cut}
 use Rattle.dm_maps.specs.GoesOn.{seen_value, with_value_seen}
 use Rattle.dm_maps.specs.Known.{knows}
-use Rattle.dm_maps.specs.RecordCounts.{IsCounted}
 use Rattle.dm_maps.specs.Sound.{IsCheckedWorld}
-use Rattle.dm_maps.specs.Stays.{StaysKnown}
 use Rattle.dm_maps.specs.World.{World, scope_of, with_scope}
 use Rattle.dm_maps.proofs.CutPush.{with_scope-cut}
-use Rattle.dm_maps.proofs.ScopeChanges.{fits-value, known-bound, scope-bound, scope-goes_on, scope-stays, seen_value-cut}
-use Rattle.dm_maps.proofs.SetLemmas.{scoped}
+use Rattle.dm_maps.proofs.Rescoped.{IsRescoped, rescoped}
+use Rattle.dm_maps.proofs.ScopeChanges.{fits-value, known-bound, scope-bound, seen_value-cut}
 use Rattle.dm_maps.proofs.world.World.update_visibility_values.Goals as goal
 use Rattle.dm_maps.proofs.world.World.update_visibility_values.Goals.{After-lawful}
 
+abbrev Binds : Name → Scope → Type 0
+Binds n s = IsSome (find_name n s.values.items)
+
 pub update_visibility_values-requires : goal.update_visibility_values-requires
 update_visibility_values-requires c =
-    let Binds : Scope → Type 0 = λ s. IsSome (find_name c.args.name.now s.values.items) in
-    let bound = subst (λ (w : World). Binds (scope_of w c.args.m)) (sym c.self.view_is) c.requires.bound in record {
-      there = scope-bound c.self.inside.tables c.args.m Binds (λ e. true≢false (sym e)) bound;
+    let bound = subst (λ (w : World). Binds c.args.name.now (scope_of w c.args.m)) (sym c.self.view_is) c.requires.bound in record {
+      there = scope-bound c.self.inside.tables c.args.m (Binds c.args.name.now) (λ e. true≢false (sym e)) bound;
       bound = bound;
     }
 
@@ -31,32 +30,26 @@ left c = seen_value (scope_of c.args.self.now c.args.m) c.args.name.now c.args.v
 world_is : (c : After-lawful) → c.update_visibility_values.new.self ≡ with_scope c.args.self.now c.args.m (left c)
 world_is c = c.update_visibility_values.ensures ∙ ap (λ w. with_value_seen w c.args.m c.args.name.now c.args.vis) c.self.view_is
 
-was_checked : (c : After-lawful) → IsCheckedWorld c.args.self.now
-was_checked c = subst IsCheckedWorld c.self.view_is c.self.invariant.0
+there : (c : After-lawful) → IsCheckedWorld c.args.self.now → IsTrue (knows c.args.self.now (held.Module c.args.m))
+there c was = known-bound c.args.self.now was.lawful c.args.m (scope-bound c.args.self.now c.args.m (Binds c.args.name.now) (λ e. true≢false (sym e)) c.requires.bound)
 
-there : (c : After-lawful) → IsTrue (knows c.args.self.now (held.Module c.args.m))
-there c =
-    let Binds : Scope → Type 0 = λ s. IsSome (find_name c.args.name.now s.values.items) in
-    known-bound c.args.self.now (was_checked c).lawful c.args.m (scope-bound c.args.self.now c.args.m Binds (λ e. true≢false (sym e)) c.requires.bound)
-
-goes_on : (c : After-lawful) → IsCheckedWorld c.update_visibility_values.new.self × IsCounted c.update_visibility_values.new.self c.self.inside.records
-goes_on c =
-    scope-goes_on c.args.self.now c.update_visibility_values.new.self c.self.inside.records c.args.m (left c) (was_checked c)
-    (subst (λ (x : World). IsCounted x c.self.inside.records) c.self.view_is c.self.invariant.1) c.lawful.ensures (world_is c)
-    (fits-value c.args.self.now (was_checked c) c.args.m (there c) c.args.name.now c.args.vis c.requires.known)
+done : (c : After-lawful) → IsRescoped c.args.self.now c.update_visibility_values.new.self c.self.inside.records c.args.m (left c)
+done c =
+    let w : World = c.args.self.now in
+    rescoped c.self.inside.tables w c.update_visibility_values.new.self c.self.inside.records c.args.m (left c) c.self.view_is c.self.invariant c.lawful.ensures (world_is c)
+    (λ was. fits-value w was c.args.m (there c was) c.args.name.now c.args.vis c.requires.known)
 
 pub invariant_of-self : goal.invariant_of-self
-invariant_of-self c = goes_on c
+invariant_of-self c = (done c).kept
 
 pub returns-clause-checked : goal.returns-clause-checked
-returns-clause-checked c = (goes_on c).0.checked
+returns-clause-checked c = (done c).kept.0.checked
 
 pub returns-clause-own : goal.returns-clause-own
-returns-clause-own c =
-    subst (λ (v : World). IsScoped c.args.self.now v c.args.m (left c)) (sym (world_is c)) (scoped c.args.self.now (was_checked c).lawful c.args.m (there c) (left c))
+returns-clause-own c = (done c).scopes
 
 pub returns-clause-stays_known : goal.returns-clause-stays_known
-returns-clause-stays_known c = subst (StaysKnown c.args.self.now) (sym (world_is c)) (scope-stays c.args.self.now c.args.m (left c))
+returns-clause-stays_known c = (done c).stays
 
 pub returns-clause-others_stay : goal.returns-clause-others_stay
 returns-clause-others_stay c N other =
