@@ -2,6 +2,8 @@ pub mod StopLemmas
 pub mod WalkLemmas
 pub mod KnownLemmas
 pub mod LayerLemmas
+pub mod LayerLaws
+pub mod TypeLaws
 pub mod PlaceLemmas
 pub mod AnswerLaws
 pub mod CutLemmas

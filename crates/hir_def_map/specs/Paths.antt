@@ -188,7 +188,7 @@ abbrev pub asks_root : Ask → Bool
 asks_root q = elim q.kind [ kind.Abs ↦ true | kind.Plain ↦ elim q.mode [ mode.Import ↦ true | mode.Other ↦ false ] | _ ↦ false ]
 
 abbrev pub by_2015_rule : Setting → Ask → Place → Bool
-by_2015_rule w q p = w.is_2015 (map_at w.tree p).krate && asks_root q
+by_2015_rule w q p = asks_root q && w.is_2015 (map_at w.tree p).krate
 
 -- builtin types are in no block's map
 abbrev pub builtins_of : Setting → ModuleId → Reading → PerNs

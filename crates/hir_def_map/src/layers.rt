@@ -127,7 +127,7 @@ pub(crate) fn macro_use_layer(
 
 /// What the scope of a map's prelude module binds, whatever is expected.
 #[tactic(auto, unfolding(dm_maps::specs::Readings::read, dm_maps::specs::Readings::setting_of))]
-fn prelude(world: &World, id: MapId, segment: &Name) -> PerNs
+pub(crate) fn prelude(world: &World, id: MapId, segment: &Name) -> PerNs
     ensures value { (L : LocalMap) →
         result ≡ prelude (setting_of world.now) id (read world.now L segment.now) }
     ensures known { KnowsAll world.now (res_holds result) }

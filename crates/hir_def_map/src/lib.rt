@@ -7,6 +7,7 @@
 
 mod answers;
 mod first_segment;
+mod first_type;
 pub mod item_scope;
 pub mod laws;
 mod layers;

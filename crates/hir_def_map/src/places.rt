@@ -1,5 +1,5 @@
 //! Resolves a path place by place: from the origin outwards through its blocks, and then in the preludes.
-ghost use Rattle.std.specs.Prelude.{◌≡◌, map};
+ghost use Rattle.std.specs.Prelude.{◌≡◌, ◌∷◌, map};
 ghost use Rattle.dm_base.specs.Tree.{IsKnown};
 ghost use Rattle.dm_maps.specs.Known.{KnowsAll};
 ghost use Rattle.dm_check.specs.Holding.{res_holds, local_holds};
@@ -7,6 +7,7 @@ ghost use Rattle.dm_maps.specs.Readings.{setting_of, read};
 ghost use Rattle.dm_maps.specs.Trees.{tree_of};
 ghost use Rattle.hir_def_map.specs.Answers.{merged};
 ghost use Rattle.hir_def_map.specs.Paths.{single, prelude_place, places};
+ghost use Rattle.hir_def_map.specs.declared.place.Place.TheVariants.{In};
 
 use crate::answers::nothing_no;
 use crate::place::Place;
@@ -49,9 +50,32 @@ fn preludes_of(
     }
 }
 
-/// The answer of all places, from the origin outwards.
+/// What a module answers that is no block's root, over the preludes of its crate where it lies in a block.
 #[tactic(auto, unfolding(dm_maps::specs::Readings::setting_of))]
-pub(crate) fn answer_outwards(
+fn answer_at_home(
+    world: &World,
+    local: &LocalDefMap,
+    ask: &Ask,
+    m: ModuleId,
+    segments: &[Name],
+) -> ResolvePathResult
+    requires module_known { IsKnown (tree_of world.now) m }
+    requires local_known { KnowsAll world.now (local_holds local.now) }
+    ensures value { result ≡ merged (map
+        (single (setting_of world.now) ask.now (map (read world.now local.now) segments.now))
+        (In m ∷ prelude_place (setting_of world.now) m)) }
+    ensures known { KnowsAll world.now (res_holds result.resolved_def) }
+{
+    let own = single(world, local, ask, Place::In(m), segments);
+    match world.block(m) {
+        None => own,
+        Some(_) => own.over(preludes_of(world, local, ask, m, segments)),
+    }
+}
+
+/// The answer of all places, from an origin in a block outwards.
+#[tactic(auto, unfolding(dm_maps::specs::Readings::setting_of))]
+fn answer_through_blocks(
     world: &World,
     local: &LocalDefMap,
     ask: &Ask,
@@ -70,6 +94,27 @@ pub(crate) fn answer_outwards(
         answer = answer.over(single(world, local, ask, Place::In(at), segments));
         at = outside;
     }
-    let own = single(world, local, ask, Place::In(at), segments);
-    answer.over(own.over(preludes_of(world, local, ask, at, segments)))
+    answer.over(answer_at_home(world, local, ask, at, segments))
+}
+
+/// The answer of all places, from the origin outwards. An origin that is no block's root has no answers to merge but
+/// those of its crate's preludes.
+#[tactic(auto, unfolding(dm_maps::specs::Readings::setting_of))]
+pub(crate) fn answer_outwards(
+    world: &World,
+    local: &LocalDefMap,
+    ask: &Ask,
+    segments: &[Name],
+) -> ResolvePathResult
+    requires module_known { IsKnown (tree_of world.now) ask.now.origin }
+    requires local_known { KnowsAll world.now (local_holds local.now) }
+    ensures value { result ≡ merged (map
+        (single (setting_of world.now) ask.now (map (read world.now local.now) segments.now))
+        (places (setting_of world.now) ask.now.origin)) }
+    ensures known { KnowsAll world.now (res_holds result.resolved_def) }
+{
+    match world.outside_root(ask.origin) {
+        None => answer_at_home(world, local, ask, ask.origin, segments),
+        Some(_) => answer_through_blocks(world, local, ask, segments),
+    }
 }

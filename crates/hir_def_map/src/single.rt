@@ -1,5 +1,5 @@
 //! Path resolution at one place: in a module, or in the preludes of a map.
-ghost use Rattle.std.specs.Prelude.{◌≡◌, ◌≤◌, if◌then◌else◌, map};
+ghost use Rattle.std.specs.Prelude.{◌≡◌, ◌<◌, ◌≤◌, ◌∷◌, if◌then◌else◌, length, map};
 ghost use Rattle.dm_base.specs.Tree.{IsKnown};
 ghost use Rattle.dm_maps.specs.Known.{KnowsAll};
 ghost use Rattle.dm_check.specs.Holding.{res_holds, local_holds};
@@ -11,6 +11,7 @@ ghost use Rattle.hir_def_map.specs.Paths.{stop, enter, root_item, from_root, fro
 
 use crate::answers::{nothing_no, nothing_yes, yes_in_block};
 use crate::first_segment::{is_missed, layers};
+use crate::first_type::first_type;
 use crate::place::Place;
 use crate::question::Ask;
 use crate::result::ResolvePathResult;
@@ -121,6 +122,32 @@ fn after_first(
     }
 }
 
+/// The answer of a path that begins with a name or `::`, and goes on behind it: by the type alone that it selects.
+#[tactic(auto, unfolding(dm_maps::specs::Readings::setting_of))]
+fn through_first(
+    world: &World,
+    local: &LocalDefMap,
+    ask: &Ask,
+    place: Place,
+    segment: &Name,
+    rest: &[Name],
+) -> ResolvePathResult
+    requires place_known { IsKnownPlace (tree_of world.now) place }
+    requires local_known { KnowsAll world.now (local_holds local.now) }
+    requires goes_on { 0 < length rest.now }
+    ensures value { result ≡ by_first_segment (setting_of world.now) ask.now place
+        (map (read world.now local.now) (segment.now ∷ rest.now)) }
+    ensures known { KnowsAll world.now (res_holds result.resolved_def) }
+{
+    let found = PerNs {
+        types: first_type(world, local, ask, place, segment),
+        values: None,
+        macros: None,
+    };
+    let missed = is_missed(world, ask, place, &found);
+    after_first(world, place.seen_from(), found, missed, rest)
+}
+
 /// A path that begins with a name or `::`: resolves its first segment, and goes on from there.
 #[tactic(auto, unfolding(dm_maps::specs::Readings::setting_of))]
 fn by_first_segment(
@@ -138,12 +165,13 @@ fn by_first_segment(
 {
     match segments.split_first() {
         None => nothing_yes(),
-        Some((segment, rest)) => {
-            let is_last = rest.is_empty();
-            let found = layers(world, local, ask, place, segment, is_last);
-            let missed = is_missed(world, ask, place.map(world).krate, &found);
+        Some((segment, rest)) => if rest.is_empty() {
+            let found = layers(world, local, ask, place, segment);
+            let missed = is_missed(world, ask, place, &found);
             after_first(world, place.seen_from(), found, missed, rest)
-        }
+        } else {
+            through_first(world, local, ask, place, segment, rest)
+        },
     }
 }
 

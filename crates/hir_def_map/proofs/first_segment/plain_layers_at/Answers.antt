@@ -1,7 +1,9 @@
-use Rattle.std.proofs.Common.{◌∙◌, ap, not, [], ◌∷◌}
-use Rattle.dm_base.specs.PerNs.{overlay}
+use Rattle.std.proofs.Common.{◌∙◌, Bool, ap, not, true}
+use Rattle.dm_ids.specs.declared.ids.MapId.{MapId}
+use Rattle.dm_base.specs.PerNs.{over}
 use Rattle.dm_maps.specs.Readings.{setting_of, read}
-use Rattle.hir_def_map.specs.Paths.{are_builtins_first, builtins_or_scope, macro_use_prelude, of_prelude, prelude, unless_block_root}
+use Rattle.hir_def_map.specs.Paths.{are_builtins_first, builtins_or_scope, extern_prelude, legacy, macro_use_prelude, of_prelude, prelude, unless_block_root}
+use Rattle.hir_def_map.proofs.LayerLaws.{laid-6}
 use Rattle.hir_def_map.proofs.first_segment.plain_layers_at.Goals as goal
 
 pub returns-clause-value : goal.returns-clause-value
@@ -12,14 +14,16 @@ returns-clause-value c =
     let s = read c.args.world.now L c.args.segment.now in
     let q = c.args.ask.now in
     let m = c.args.m in
-    let first_is = c.are_builtins_first-builtins_first.ensures ∙ ap (λ x. are_builtins_first q x c.args.is_last) c.bound_in-bound.ensures.value in
-    let one = c.builtins_or_scope.ensures.value L ∙ ap (builtins_or_scope w q m s) first_is in
-    let two = c.builtins_or_scope-2.ensures.value L ∙ ap (λ b. builtins_or_scope w q m s (not b)) first_is in
-    let uses = c.macro_use_layer.ensures.value L ∙ ap (λ id. of_prelude w q.expected (macro_use_prelude id s)) c.map-id.ensures in
-    let preludes = c.prelude_layer_at.ensures.value L ∙ ap (λ id. unless_block_root w m (of_prelude w q.expected (prelude w id s))) c.map-id.ensures in
-    c.overlay.ensures.value
-    ∙ (λ i. overlay (c.legacy.ensures.value L i ∷ one i ∷ two i ∷ c.extern_layer.ensures.value i ∷ uses i ∷ preludes i ∷ []))
-
-pub returns-clause-known : goal.returns-clause-known
-returns-clause-known c =
-    c.overlay.ensures.known c.args.world.now (c.legacy.ensures.known, (c.builtins_or_scope.ensures.known, (c.builtins_or_scope-2.ensures.known, (c.extern_layer.ensures.known, (c.macro_use_layer.ensures.known, (c.prelude_layer_at.ensures.known, tt))))))
+    let first_is = c.are_builtins_first-builtins_first.ensures ∙ ap (λ x. are_builtins_first q x true) c.bound_in-bound.ensures.value in
+    let id_is = c.map-id.ensures in
+    let one = λ (b : Bool). builtins_or_scope w q m s b in
+    let outer = unless_block_root w m (extern_prelude s) in
+    let used = λ (id : MapId). of_prelude w q.expected (macro_use_prelude id s) in
+    let last = λ (id : MapId). unless_block_root w m (of_prelude w q.expected (prelude w id s)) in
+    let builtins_first = are_builtins_first q (s.bound m) true in
+    c.over_prelude.ensures.value L
+    ∙ (λ i. over (c.over_macro_use-used.ensures.value L i) (last (id_is i)))
+    ∙ (λ i. over (over (c.over_extern-outer.ensures.value i) (used (id_is i))) (last (w.tree.map_of m)))
+    ∙ (λ i. over (over (over (c.over_scope-own.ensures.value L i) outer) (used (w.tree.map_of m))) (last (w.tree.map_of m)))
+    ∙ (λ i. over (over (over (over (over (c.legacy-textual.ensures.value L i) (one (first_is i))) (one (not (first_is i)))) outer) (used (w.tree.map_of m))) (last (w.tree.map_of m)))
+    ∙ laid-6 (legacy w q.expected m s) (one builtins_first) (one (not builtins_first)) outer (used (w.tree.map_of m)) (last (w.tree.map_of m))

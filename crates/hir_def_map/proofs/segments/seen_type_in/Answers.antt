@@ -12,7 +12,8 @@ use Rattle.dm_check.specs.Holding.{res_holds}
 use Rattle.dm_maps.specs.Trees.{tree_of}
 use Rattle.dm_maps.specs.World.{scope_of}
 use Rattle.hir_def_map.specs.Walk.{in_types}
-use Rattle.hir_def_map.proofs.KnownLemmas.{type_vis-known, seen_by-known, in_types-known}
+use Rattle.dm_maps.specs.KnownLaws.{type_vis-known}
+use Rattle.hir_def_map.proofs.KnownLemmas.{seen_by-known, in_types-known}
 use Rattle.hir_def_map.proofs.segments.seen_type_in.Goals as goal
 
 pub seen_item-requires-clause-named : goal.seen_item-requires-clause-named

@@ -7,7 +7,7 @@ use Rattle.dm_maps.specs.Trees.{tree_of}
 use Rattle.hir_def_map.specs.Answers.{over_answer, merged}
 use Rattle.hir_def_map.specs.Paths.{single}
 use Rattle.hir_def_map.proofs.PlaceLemmas.{places_in}
-use Rattle.hir_def_map.proofs.places.answer_outwards.Given as goal
+use Rattle.hir_def_map.proofs.places.answer_through_blocks.Given as goal
 
 abbrev pub invariant-roots : goal.invariant-roots
 invariant-roots l =
