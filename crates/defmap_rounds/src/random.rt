@@ -1,7 +1,7 @@
 //! Pseudo-random numbers, and what is drawn by them for a small world: its modules, names, items and imports.
 ghost use Rattle.std.specs.Prelude.{◌<◌};
 
-use dm_base::ids::{FunctionId, ModuleId, StructId, UseId, UseTreeIdx};
+use dm_base::ids::{FunctionId, ModuleId, StructId, TraitId, UseId, UseTreeIdx};
 use dm_base::imports::{GlobId, ImportId};
 use dm_base::item_ids::{AdtId, ModuleDefId};
 use dm_base::mod_path::{ModPath, PathKind};
@@ -73,12 +73,13 @@ impl Random {
         Visibility::Module(self.module(), VisibilityExplicitness::Explicit)
     }
 
-    /// A module or a struct.
+    /// A module, a struct or a trait.
     fn type_(&mut self) -> ModuleDefId {
-        if self.below(2) == 0 {
-            return ModuleDefId::ModuleId(self.module());
+        match self.below(4) {
+            0 => ModuleDefId::AdtId(AdtId::StructId(StructId(self.below(4)))),
+            1 => ModuleDefId::TraitId(TraitId(self.below(4).wrapping_add(8))),
+            _ => ModuleDefId::ModuleId(self.module()),
         }
-        ModuleDefId::AdtId(AdtId::StructId(StructId(self.below(4))))
     }
 
     /// A function.
@@ -121,9 +122,10 @@ impl Random {
     }
 
     fn kind(&mut self) -> ImportKind {
-        match self.below(4) {
+        match self.below(5) {
             0 => ImportKind::TypeOnly,
             1 => ImportKind::ReExport,
+            2 => ImportKind::Unnamed,
             _ => ImportKind::Plain,
         }
     }

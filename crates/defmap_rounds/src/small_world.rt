@@ -1,5 +1,5 @@
-//! A small world: a crate with the modules `a`, `b` and `c` in its root, and in each module a struct, 0 to 3, and a
-//! function, 4 to 7.
+//! A small world: a crate with the modules `a`, `b` and `c` in its root, and in each module a struct, 0 to 3, a function, 4
+//! to 7, and a trait, 8 to 11.
 use dm_base::ids::{FileAstId, FileId, MacroCallId, ModuleId};
 use dm_base::item_ids::{ItemKind, ModuleDefId};
 use dm_base::name::Name;
@@ -59,7 +59,7 @@ fn add_items(builder: &mut WorldBuilder, kind: ItemKind) -> Option<()> {
 fn tables(alloc: Global) -> Option<WorldBuilder> {
     let mut builder = modules(alloc)?;
     builder.add_use(ROOT).ok()?;
-    for kind in [ItemKind::Struct, ItemKind::Function] {
+    for kind in [ItemKind::Struct, ItemKind::Function, ItemKind::Trait] {
         add_items(&mut builder, kind)?;
     }
     Some(builder)

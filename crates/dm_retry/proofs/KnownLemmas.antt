@@ -1,5 +1,5 @@
 -- What an import resolves to is known to the world.
-use Rattle.std.proofs.Common.{◌≡◌, ◌<◌, ◌&&◌, ℕ, zero, suc, Bool, true, false, cond, not, List, [], ◌∷◌, ◌++◌, Option, None, Some, IsSome, IfSome, IsTrue, ap, refl, arith, is_none, is_some, length, slice_get, subst}
+use Rattle.std.proofs.Common.{◌≡◌, ◌<◌, ◌&&◌, ℕ, zero, suc, Bool, true, false, cond, not, List, [], ◌∷◌, ◌++◌, Option, None, Some, IsSome, IfSome, IsTrue, ap, refl, arith, is_none, is_some, length, slice_get}
 use Rattle.std.specs.Option.{option_and_then, option_map, option_map_or}
 use Rattle.std.proofs.lemmas.Bool.{ltb-true}
 use Rattle.dm_ids.specs.declared.ids.ModuleId.{ModuleId}
@@ -25,7 +25,7 @@ use Rattle.dm_maps.specs.Known.{knows, KnowsAll}
 use Rattle.dm_maps.specs.Trees.{tree_of}
 use Rattle.dm_maps.specs.World.{World}
 use Rattle.hir_def_map.specs.declared.result.ResolvePathResult.{ResolvePathResult}
-use Rattle.hir_def_map.proofs.KnownLemmas.{knows-append, knows-left, knows-middle, knows-right, macros-known, types-known, values-known, vis_known}
+use Rattle.dm_maps.specs.KnownLaws.{knows-append, knows-left, knows-middle, knows-right, macros-known, types-known, values-known, vis_known}
 use Rattle.dm_retry.specs.Known.{parts}
 use Rattle.dm_retry.specs.declared.import_kind.ImportKind.{ImportKind}
 use Rattle.dm_retry.specs.declared.import_kind.ImportKind.TheVariants as kinds
@@ -119,6 +119,7 @@ module _ (w : World) where
     -- what an import brings of known items is known
     kind-known : (kind : ImportKind) (x : PerNs) → KnowsAll w (res_holds x) → KnowsAll w (res_holds (by_kind t m v kind x))
     kind-known kinds.Plain x k = res-seen w v seen x k
+    kind-known kinds.Unnamed x k = res-seen w v seen x k
     kind-known kinds.TypeOnly x k = res-seen w v seen (types_alone x) (together w (types_alone x) (types-known w x k) tt tt)
     kind-known kinds.ReExport x k =
         together w (re_exported t m v x) (type-narrowed x.types (types-known w x k)) (value-narrowed x.values (values-known w x k)) (macro-narrowed x.macros (macros-known w x k))

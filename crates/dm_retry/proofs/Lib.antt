@@ -2,7 +2,10 @@ pub mod ScopeLemmas
 pub mod WorldLemmas
 pub mod ListLemmas
 pub mod KnownLemmas
+pub mod TraitLemmas
 pub mod TryLemmas
+pub mod AwakeLemmas
+pub mod ChangeLemmas
 pub mod SettleLemmas
 pub mod RoundLemmas
 pub mod TakeLemmas

@@ -1,9 +1,7 @@
 -- A push between rounds keeps the invariant: a try of an import that is not due would still change nothing.
-use Rattle.std.proofs.Common.{◌≡◌, ◌∙◌, ◌||◌, ℕ, zero, suc, Bool, true, false, cond, List, [], ◌∷◌, Option, None, Some, ap, refl, subst, sym, slice_get, map}
+use Rattle.std.proofs.Common.{◌≡◌, ◌∙◌, ℕ, zero, suc, Bool, true, false, cond, List, [], ◌∷◌, Option, None, Some, ap, refl, subst, sym, slice_get, map}
 use Rattle.std.specs.List.{list_any}
-use Rattle.std.specs.Option.{option_map}
 use Rattle.std.proofs.lemmas.Bool.{or_parts}
-use Rattle.std.proofs.lemmas.Option.{slice_get-map}
 use Rattle.dm_ids.specs.Names.{Name}
 use Rattle.dm_ids.specs.contracts.value_eq.ImportIdValueEq.TheImpl.Laws as import_value
 use Rattle.dm_ids.specs.declared.ids.ModuleId.{ModuleId}
@@ -14,13 +12,13 @@ use Rattle.dm_base.specs.declared.per_ns.PerNs.{PerNs}
 use Rattle.dm_scope.specs.Bindings.{is_same}
 use Rattle.dm_scope.specs.Flags.{Globs}
 use Rattle.dm_scope.specs.Push.{push_answer, types_reading}
-use Rattle.dm_maps.specs.Cut.{among}
 use Rattle.dm_maps.specs.Known.{KnowsAll}
 use Rattle.dm_maps.specs.World.{World, scope_of}
 use Rattle.dm_retry.specs.Known.{comes_by, parts, same_import}
-use Rattle.dm_retry.specs.Rounds.{Pending, State, awoken, brings, by_import}
+use Rattle.dm_retry.specs.Rounds.{Pending, State, awoken, by_import}
 use Rattle.dm_retry.specs.Settled.{IsSettled}
-use Rattle.dm_retry.proofs.TryLemmas.{IsPushed, brings-marked, others-rest}
+use Rattle.dm_retry.proofs.AwakeLemmas.{woken}
+use Rattle.dm_retry.proofs.TryLemmas.{IsPushed, others-rest}
 
 -- imports that differ one way differ the other way
 turned : (i j : ImportId) → same_import i j ≡ false → same_import j i ≡ false
@@ -44,33 +42,11 @@ differs ps (Some (wide.ExternCrate k)) apart j q at = refl
 
 module _ (s : State) (v : World) (h : Globs) (m : ModuleId) (n : Name) (x : PerNs) (by : Option ImportOrExternCrate) (before : IsSettled s) (push : IsPushed s.world v s.globs h m n x by)
     (known : (q : Pending) → KnowsAll s.world (parts q) → KnowsAll v (parts q)) (apart : comes_by s.pending by ≡ false) where
-  -- an import of the list of which those with the pushed name are due
-  stood : (j : ℕ) (r : Pending) → slice_get (map (awoken n) s.pending) j ≡ Some r → (q : Pending) × (slice_get s.pending j ≡ Some q) × (awoken n q ≡ r)
-  stood j r is = at (slice_get s.pending j) refl (sym (slice_get-map (awoken n) s.pending j) ∙ is)
-    where
-      at : (o : Option Pending) → slice_get s.pending j ≡ o → option_map (awoken n) o ≡ Some r → (q : Pending) × (slice_get s.pending j ≡ Some q) × (awoken n q ≡ r)
-      at None stands is = cc
-      at (Some q) stands is = let same : awoken n q ≡ r = cc in (q, stands, same)
-
-  woken : IsSettled (record { world = v; globs = h; pending = map (awoken n) s.pending })
-  woken = record {
-    known = λ j r e. let q = stood j r e in subst (λ (z : Pending). KnowsAll v (parts z)) q.2 (known q.0 (before.known j q.0 q.1));
-    single = λ j k r z d e same. let q = stood j r d in let y = stood k z e in
-        before.single j k q.0 y.0 q.1 y.1 (ap (λ (p : Pending). p.import) q.2 ∙ same ∙ ap (λ (p : Pending). p.import) (sym y.2));
-    settled = λ j r e none. rests j r (stood j r e) none;
-  }
-    where
-      rests : (j : ℕ) (r : Pending) → (q : Pending) × (slice_get s.pending j ≡ Some q) × (awoken n q ≡ r) → r.due ≡ false → brings v h r ≡ false
-      rests j r (q, at, same) none =
-          let both = or_parts q.due (among q.path.segments n) (ap (λ (p : Pending). p.due) same ∙ none) in
-          ap (brings v h) (sym same) ∙ brings-marked v h (q.due || among q.path.segments n) q
-          ∙ others-rest s.world v s.globs h m n x by push q (differs s.pending by apart j q at) both.1 (before.settled j q at both.0)
-
   idle : push_answer (scope_of s.world m) s.globs m n x by ≡ false → IsSettled (record { world = v; globs = h; pending = s.pending })
   idle none =
       let both = push.law.idle none in
       subst IsSettled (λ k. record { world = sym both.0 k; globs = sym both.1 k; pending = s.pending }) before
 
   pub push-settles : (b : Bool) → b ≡ push_answer (scope_of s.world m) s.globs m n x by → IsSettled (record { world = v; globs = h; pending = cond b (map (awoken n) s.pending) s.pending })
-  push-settles true is = woken
+  push-settles true is = woken s v h n before known (λ j q at other none. others-rest s.world v s.globs h m n x by push q (differs s.pending by apart j q at) other none)
   push-settles false is = idle (sym is)

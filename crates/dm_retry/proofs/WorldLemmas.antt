@@ -1,4 +1,4 @@
--- A world in which a module gets its own scope again is that world; and what a push leaves of a world's crates.
+-- A world in which a module gets its own scope again is that world.
 use Rattle.std.proofs.Common.{◌≡◌, ◌∙◌, ℕ, List, Option, None, Some, ap, sym, refl, slice_get, slice_set}
 use Rattle.std.specs.Option.{option_map_or, option_and_then}
 use Rattle.std.proofs.lemmas.List.{set-get_or}
@@ -50,18 +50,3 @@ scope-own w m = by (place_of w m)
     by : (o : Option Place) → with_scope_in w o (scope_in (option_and_then (placed_module w) o)) ≡ w
     by None = refl
     by (Some p) = ap (with_maps w) (maps-own w p)
-
--- Whatever a scope becomes, places and extern preludes stay.
-pub places-stay : (w : World) (m : ModuleId) (s : Scope) → (with_scope w m s).places ≡ w.places
-places-stay w m s = by (place_of w m)
-  where
-    by : (o : Option Place) → (with_scope_in w o s).places ≡ w.places
-    by None = refl
-    by (Some p) = refl
-
-pub locals-stay : (w : World) (m : ModuleId) (s : Scope) → (with_scope w m s).local_maps ≡ w.local_maps
-locals-stay w m s = by (place_of w m)
-  where
-    by : (o : Option Place) → (with_scope_in w o s).local_maps ≡ w.local_maps
-    by None = refl
-    by (Some p) = refl

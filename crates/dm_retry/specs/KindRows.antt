@@ -51,6 +51,10 @@ of_the_root = refl
 of_a_sibling : by_kind tree (number 1) (Module (number 1) Explicit) kind.ReExport (seen (Module (number 2) Explicit)) ≡ seen (Module (number 2) Explicit)
 of_a_sibling = refl
 
+-- `pub(crate) use a as _`: all of them, though a trait alone is bound (specs/UnnamedRows)
+unnamed : by_kind tree (number 1) (PubCrate krate) kind.Unnamed (seen Public) ≡ seen (PubCrate krate)
+unnamed = refl
+
 -- what another crate does not make public is not re-exported, and so nothing is
 of_another_crate : if_any (by_kind tree (number 1) Public kind.ReExport (seen (Module (number 3) Explicit))) ≡ None
 of_another_crate = refl

@@ -1,5 +1,5 @@
 -- What an import brings of the items that its path means, and who sees each of them: by the kind of the import.
-use Rattle.std.specs.Prelude.{not, Bool, false, Option, Some, None, if◌then◌else◌}
+use Rattle.std.specs.Prelude.{not, Bool, false, true, Option, Some, None, if◌then◌else◌}
 use Rattle.std.specs.Option.{option_map_or}
 use Rattle.dm_ids.specs.declared.ids.Crate.{Crate}
 use Rattle.dm_ids.specs.declared.ids.ModuleId.{ModuleId}
@@ -48,6 +48,12 @@ abbrev pub by_kind : Tree → ModuleId → Visibility → ImportKind → PerNs �
 by_kind t m v kind.Plain x = seen_as v x
 by_kind t m v kind.TypeOnly x = seen_as v (types_alone x)
 by_kind t m v kind.ReExport x = re_exported t m v x
+by_kind t m v kind.Unnamed x = seen_as v x
+
+-- whether it binds no name: of what it brings a trait alone goes into the module's scope, among the unnamed ones
+abbrev pub is_unnamed : ImportKind → Bool
+is_unnamed kind.Unnamed = true
+is_unnamed _ = false
 
 -- some items, where there is one
 abbrev pub if_any : PerNs → Option PerNs

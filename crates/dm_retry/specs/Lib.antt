@@ -1,4 +1,6 @@
 pub mod Kinds
+pub mod Unnamed
+pub mod Writes
 pub mod Rounds
 pub mod Waiting
 pub mod Known
@@ -11,3 +13,4 @@ pub mod Rows
 pub mod RoundRows
 pub mod CircleRows
 pub mod KindRows
+pub mod UnnamedRows

@@ -23,7 +23,8 @@ use Rattle.hir_def_map.specs.declared.result.ResolveMode.TheVariants as mode
 use Rattle.hir_def_map.specs.declared.result.ResolvePathResult.{ResolvePathResult}
 use Rattle.hir_def_map.specs.Paths.{answer, asked}
 use Rattle.dm_retry.specs.declared.import_kind.ImportKind.{ImportKind}
-use Rattle.dm_retry.specs.Kinds.{by_kind, if_any}
+use Rattle.dm_retry.specs.Kinds.{by_kind, if_any, is_unnamed}
+use Rattle.dm_retry.specs.Unnamed.{unnamed_answer, with_unnamed}
 
 -- An unresolved import: the module that contains it, the name that it binds there, its path, the visibility of what it
 -- binds, its kind, and whether it is due (dirty).
@@ -80,18 +81,23 @@ unresolved s = unresolved_from s.world 0 s.pending
 abbrev pub by_import : Pending → Option ImportOrExternCrate
 by_import p = Some (wide.Import p.import)
 
--- the world and the glob table after that push, and what it answers
+-- The world and the glob table after that push, and what it answers. An import as `_` pushes a trait among the unnamed
+-- ones, and any other under its name.
 abbrev pub world_after : World → Globs → Pending → Option PerNs → World
 world_after w g p None = w
-world_after w g p (Some x) = with_push w g p.origin p.name x (by_import p)
+world_after w g p (Some x) =
+    if is_unnamed p.kind then with_unnamed w p.origin p.visibility p.import x else with_push w g p.origin p.name x (by_import p)
 
 abbrev pub globs_with : World → Globs → Pending → Option PerNs → Globs
 globs_with w g p None = g
-globs_with w g p (Some x) = globs_after (scope_of w p.origin) g p.origin p.name x (by_import p)
+globs_with w g p (Some x) =
+    if is_unnamed p.kind then g else globs_after (scope_of w p.origin) g p.origin p.name x (by_import p)
 
 abbrev pub answered : World → Globs → Pending → Option PerNs → Bool
 answered w g p None = false
-answered w g p (Some x) = push_answer (scope_of w p.origin) g p.origin p.name x (by_import p)
+answered w g p (Some x) =
+    if is_unnamed p.kind then unnamed_answer w p.origin p.visibility x
+    else push_answer (scope_of w p.origin) g p.origin p.name x (by_import p)
 
 -- whether a try of the import pushes, and its push changes the scope
 abbrev pub brings : World → Globs → Pending → Bool
@@ -179,3 +185,12 @@ pushed_into s m n x by = record {
   globs = globs_after (scope_of s.world m) s.globs m n x by;
   pending = if push_answer (scope_of s.world m) s.globs m n x by then map (awoken n) s.pending else s.pending;
 }
+
+-- Another change of the world between rounds, in what it has under a name: each import whose path has that name as a
+-- segment is due.
+abbrev pub changed_under : State → Name → World → State
+changed_under s n w = record s { world = w; pending = map (awoken n) s.pending }
+
+-- and one that no path reads: which imports are due stays
+abbrev pub changed_beside : State → World → State
+changed_beside s w = record s { world = w }

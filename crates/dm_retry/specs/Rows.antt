@@ -3,10 +3,11 @@ use Rattle.std.specs.Prelude.{◌≡◌, Bool, true, false, None, Some, [], ◌�
 use Rattle.dm_base.specs.declared.mod_path.PathKind.TheVariants.{Plain, Crate}
 use Rattle.dm_base.specs.declared.visibility.Visibility.TheVariants.{Public}
 use Rattle.dm_ids.specs.Names.{Name}
+use Rattle.dm_scope.specs.Flags.{Globs}
 use Rattle.dm_maps.specs.World.{World}
 use Rattle.dm_retry.specs.Known.{add_fault, first_double}
 use Rattle.dm_retry.specs.declared.import_kind.ImportKind.TheVariants as kind
-use Rattle.dm_retry.specs.Rounds.{Pending, marked_after}
+use Rattle.dm_retry.specs.Rounds.{Pending, changed_beside, changed_under, marked_after}
 use Rattle.dm_retry.specs.declared.add_fault.AddFault.TheVariants as adding
 
 abbrev x : Name
@@ -53,6 +54,14 @@ idle_wakes_none = refl
 -- the name that the first pushes is a segment of the second's path
 first_wakes_second : marked_after (needs true ∷ brings false ∷ []) 0 true ≡ needs false ∷ brings true ∷ []
 first_wakes_second = refl
+
+-- a change of the world under the name Y makes the first due, and the second not, which binds it
+change_wakes_first : (w v : World) (g : Globs) → (changed_under (record { world = w; globs = g; pending = needs false ∷ brings false ∷ [] }) y v).pending ≡ needs true ∷ brings false ∷ []
+change_wakes_first w v g = refl
+
+-- one that no path reads makes none due
+change_beside : (w v : World) (g : Globs) → (changed_beside (record { world = w; globs = g; pending = needs false ∷ brings true ∷ [] }) v).pending ≡ needs false ∷ brings true ∷ []
+change_beside w v g = refl
 
 -- the same import twice, and two imports of one use
 twice : first_double (needs true ∷ brings true ∷ needs false ∷ []) ≡ Some 0

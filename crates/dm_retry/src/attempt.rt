@@ -1,16 +1,23 @@
 //! One try of an import: its path is resolved, and what it resolves to is pushed.
-ghost use Rattle.std.specs.Prelude.{◌≡◌, false, IfOk, IfSome, IsTrue, OnErr, OnOk};
+ghost use Rattle.std.specs.Prelude.{◌≡◌, false, IfOk, IfSome, IsTrue, OnErr, OnOk, Some};
+ghost use Rattle.dm_base.specs.PerNs.{is_empty};
 ghost use Rattle.dm_check.specs.declared.held.HeldId.TheVariants as held;
 ghost use Rattle.dm_check.specs.Holding.{local_holds, res_holds};
 ghost use Rattle.dm_check.specs.Pushes.{push_holds};
 ghost use Rattle.dm_maps.specs.Cut.{among};
 ghost use Rattle.dm_maps.specs.Known.{knows, KnowsAll};
+ghost use Rattle.dm_maps.specs.PushRes.{with_push};
+ghost use Rattle.dm_maps.specs.World.{scope_of};
+ghost use Rattle.dm_scope.specs.Push.{globs_after, push_answer};
+ghost use Rattle.dm_retry.specs.Kinds.{is_unnamed};
 ghost use Rattle.dm_retry.specs.Known.{parts, same_import};
 ghost use Rattle.dm_retry.specs.Rounds as rounds;
 ghost use Rattle.dm_retry.specs.Rounds.{brings, brought, by_import, found, given, globs_with, local_of, meaning, world_after};
 
 use crate::kinds::{by_kind, if_any};
 use crate::pending::Pending;
+use crate::unnamed::push_trait;
+use crate::writes::would_write;
 use dm_base::ids::ModuleId;
 use dm_base::imports::ImportOrExternCrate;
 use dm_base::item_in_ns::ItemModules;
@@ -117,10 +124,65 @@ pub(crate) fn attempt(
         (among pending.now.path.segments pending.now.name ≡ false
         → brings world.new globs.new pending.now ≡ false) }
 {
-    answers_alike();
     let Some(items) = found(world, pending) else {
         return Ok(false);
     };
+    if pending.kind().is_unnamed() {
+        let answer = push_trait(world, pending, items)?;
+        Ok(answer)
+    } else {
+        let answer = push_named(world, globs, pending, items, alloc)?;
+        Ok(answer)
+    }
+}
+
+/// Pushes the items of an import under its name. Answers whether the push changed the scope. Where it does not, it takes
+/// no memory. Where an allocation fails, nothing changes.
+fn push_named(
+    world: &mut World,
+    globs: &mut PerNsGlobImports,
+    pending: &Pending,
+    items: PerNs,
+    alloc: Global,
+) -> Result<bool, AllocError>
+    requires some { is_empty items ≡ false }
+    requires known { KnowsAll world.old
+        (push_holds pending.now.origin items (by_import pending.now)) }
+    ensures answer { IfOk result
+        (λ answer.
+        answer
+        ≡ push_answer (scope_of world.old pending.now.origin) globs.old
+        pending.now.origin pending.now.name items (by_import pending.now)) }
+    ensures world { OnOk result
+        (world.new
+        ≡ with_push world.old globs.old pending.now.origin pending.now.name items
+        (by_import pending.now)) }
+    ensures globs { OnOk result
+        (globs.new
+        ≡ globs_after (scope_of world.old pending.now.origin) globs.old
+        pending.now.origin pending.now.name items (by_import pending.now)) }
+    ensures err { OnErr result (world.new ≡ world.old) }
+    ensures err_globs { OnErr result (globs.new ≡ globs.old) }
+
+    // What was known is known.
+    ensures known { (q : rounds.Pending) → KnowsAll world.old (parts q) → KnowsAll world.new (parts q) }
+
+    // Another import that would bind nothing, and has no segment of the name, would bind nothing.
+    ensures others { OnOk result
+        ((q : rounds.Pending) → same_import q.import pending.now.import ≡ false
+        → among q.path.segments pending.now.name ≡ false → brings world.old globs.old q ≡ false
+        → brings world.new globs.new q ≡ false) }
+
+    // So would this import, which found these items, if the name is none of its own segments.
+    ensures own { OnOk result
+        (is_unnamed pending.now.kind ≡ false → found world.old pending.now ≡ Some items
+        → among pending.now.path.segments pending.now.name ≡ false
+        → brings world.new globs.new pending.now ≡ false) }
+{
+    answers_alike();
+    if !would_write(world, globs, pending, &items) {
+        return Ok(false);
+    }
     let name = pending.name().copy(alloc)?;
     let import = ImportOrExternCrate::Import(pending.import());
     let answer = world.push_res(globs, (pending.origin(), name), items, Some(import))?;

@@ -10,6 +10,8 @@ ghost use Rattle.dm_maps.specs.World.{scope_of};
 ghost use Rattle.dm_scope.specs.Push.{push_answer};
 ghost use Rattle.dm_waiters.specs.Bits.{IsFirst};
 
+mod changes;
+
 use crate::add_fault::AddFault;
 use crate::attempt::{attempt, found};
 use crate::pending::Pending;

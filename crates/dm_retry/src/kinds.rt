@@ -32,6 +32,7 @@ pub(crate) fn by_kind(
         ImportKind::Plain => items.with_visibility(vis),
         ImportKind::TypeOnly => types_alone(items).with_visibility(vis),
         ImportKind::ReExport => re_exported(world, m, vis, items),
+        ImportKind::Unnamed => items.with_visibility(vis),
     }
 }
 

@@ -16,3 +16,5 @@ pub mod retry_fault;
 pub mod round_kind;
 mod rounds;
 mod settle;
+mod unnamed;
+mod writes;

@@ -10,6 +10,8 @@ ghost use Rattle.dm_retry.specs.Retries.{NoneDue, RestsAt, StopsAt, StopsAtDue};
 ghost use Rattle.dm_retry.specs.Rounds.{added, due_turns, marked, pushed_into, round, round_answer};
 ghost use Rattle.dm_retry.specs.Settling.{IsFixedPoint};
 
+mod changes;
+
 use crate::add_fault::AddFault;
 use crate::doubles::find_fault;
 use crate::imports::Imports;

@@ -1,4 +1,4 @@
-use Rattle.hir_def_map.proofs.KnownLemmas.{macro_vis-known, type_vis-known, value_vis-known}
+use Rattle.dm_maps.specs.KnownLaws.{macro_vis-known, type_vis-known, value_vis-known}
 use Rattle.dm_retry.proofs.kinds.re_exported.Goals as goal
 
 pub narrowed_item-requires-clause-own : goal.narrowed_item-requires-clause-own

@@ -6,6 +6,7 @@ use Rattle.dm_retry.specs.Known.{comes_by, parts}
 use Rattle.dm_retry.specs.Rounds.{Pending, State, awoken}
 use Rattle.dm_retry.specs.Settled.{IsSettled}
 use Rattle.dm_retry.proofs.PushLemmas.{push-settles}
+use Rattle.dm_retry.proofs.TryLemmas.{push-traits}
 use Rattle.dm_retry.proofs.imports.Imports.push_res.Goals as goal
 
 pub invariant_of-self-2 : goal.invariant_of-self-2
@@ -16,7 +17,8 @@ invariant_of-self-2 c =
     let settled = push-settles s c.push_res.new.self c.push_res.new.glob_imports a.lookup.0 a.lookup.1 a.res a.import c.self.invariant
     (record {
       alike = λ w v L K m kind S. c.answers_alike.ensures w v L K (asked m mode.Import shadow.Module None kind) S;
-      world = e.world;
+      stays = e.stays_known;
+      traits = push-traits s.world c.push_res.new.self s.globs a.lookup.0 a.lookup.1 a.res a.import e.gives.scope e.others;
       law = e.law;
       cuts = e.others_stay;
     })
