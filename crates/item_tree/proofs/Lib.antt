@@ -3,3 +3,15 @@ pub mod Runs
 pub mod OneToken
 pub mod OneCut
 pub mod RawLaws
+pub mod InText
+pub mod Partners
+pub mod Skipped
+pub mod NextItem
+pub mod Weights
+pub mod NextUseTree
+pub mod Covered
+pub mod NextMember
+pub mod Nested
+pub mod Listed
+pub mod CfgRows
+pub mod CfgWritten

@@ -23,6 +23,13 @@ since_2021 Edition2018 = false
 since_2021 Edition2021 = true
 since_2021 Edition2024 = true
 
+-- the editions with `async` as a keyword
+abbrev pub since_2018 : Edition → Bool
+since_2018 Edition2015 = false
+since_2018 Edition2018 = true
+since_2018 Edition2021 = true
+since_2018 Edition2024 = true
+
 -- punctuation of ASCII, but no backslash and no backtick
 abbrev pub is_mark : ℕ → Bool
 is_mark b = is_ascii_punctuation b && not (b == 92) && not (b == 96)

@@ -1,11 +1,45 @@
-//! A Rust text, read: its tokens, with nothing left out.
+//! A Rust text, read: its tokens, with nothing left out, and the items that it declares.
 #![tactic(auto)]
 
+pub mod attribute;
+pub mod attribute_lists;
+pub mod attribute_reader;
+pub mod attribute_rows;
+#[cfg(test)]
+mod attribute_tests;
+pub mod attributes;
 mod bodies;
+pub mod cfg;
+pub mod cfg_parser;
+#[cfg(test)]
+mod cfg_tests;
 mod characters;
+pub mod delimiters;
+pub mod fields;
+mod head;
+mod item_end;
+pub mod item_kind;
+pub mod item_parts;
+pub mod item_rows;
+#[cfg(test)]
+mod item_tests;
+pub mod items;
+pub mod laws;
+pub mod lexeme;
 pub mod lexer;
+#[cfg(test)]
+mod member_tests;
+pub mod members;
 pub mod openings;
+pub mod paths;
 pub mod rows;
+pub mod span;
 #[cfg(test)]
 mod tests;
 pub mod token;
+pub mod trees;
+#[cfg(test)]
+mod use_tests;
+pub mod use_tree;
+pub mod visibility;
+pub mod word;

@@ -77,6 +77,16 @@ fn since_2021(edition: Edition) -> bool
     }
 }
 
+/// Whether `async` is a keyword of the edition.
+pub(crate) fn since_2018(edition: Edition) -> bool
+    ensures { result ≡ spec.since_2018 edition }
+{
+    match edition {
+        Edition::Edition2015 => false,
+        Edition::Edition2018 | Edition::Edition2021 | Edition::Edition2024 => true,
+    }
+}
+
 /// Whether the text begins with a byte order mark.
 pub(crate) fn begins_order_mark(text: &[u8]) -> bool
     ensures { result ≡ spec.begins_order_mark text.now }

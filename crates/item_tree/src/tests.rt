@@ -1,6 +1,8 @@
 //! Texts and their tokens.
+use crate::lexeme::{Delimiter, Lexeme, LexemeKind, read_lexemes};
 use crate::lexer::lex;
 use crate::token::{Token, TokenKind};
+use crate::word::Word;
 use dm_ids::source::Edition;
 use std::test::Fail;
 
@@ -98,5 +100,71 @@ fn a_text_cut_at_each_byte(rt: HostRuntime) -> Result<(), Fail> {
         }
         assert_eq!(rt; len, end);
     }
+    Ok(())
+}
+
+/// A text and the kinds of its lexemes.
+const LEXEMES: [(&str, LexemeKind); 22] = [
+    ("mod", LexemeKind::Word(Word::Mod)),
+    ("r#mod", LexemeKind::Word(Word::Other)),
+    ("module", LexemeKind::Word(Word::Other)),
+    ("macro_rules", LexemeKind::Word(Word::MacroRules)),
+    ("Self", LexemeKind::Word(Word::SelfType)),
+    ("self", LexemeKind::Word(Word::SelfValue)),
+    ("_", LexemeKind::Word(Word::Underscore)),
+    ("__", LexemeKind::Word(Word::Other)),
+    ("async", LexemeKind::Word(Word::Async)),
+    ("cfg_attr", LexemeKind::Word(Word::CfgAttr)),
+    (
+        "rustc_coherence_is_core",
+        LexemeKind::Word(Word::RustcCoherenceIsCore),
+    ),
+    (
+        "rustc_builtin_macro",
+        LexemeKind::Word(Word::RustcBuiltinMacro),
+    ),
+    ("(", LexemeKind::Open(Delimiter::Parenthesis)),
+    ("]", LexemeKind::Close(Delimiter::Bracket)),
+    ("{", LexemeKind::Open(Delimiter::Brace)),
+    ("#", LexemeKind::Mark(b'#')),
+    ("'a", LexemeKind::Lifetime),
+    ("r\"\"", LexemeKind::Str),
+    ("b\"\"", LexemeKind::Str),
+    ("b'a'", LexemeKind::Literal),
+    ("1.5", LexemeKind::Literal),
+    ("`", LexemeKind::Error),
+];
+
+#[test]
+fn lexemes_of_each_kind(rt: HostRuntime) -> Result<(), Fail> {
+    let mut text = String::new(rt.alloc());
+    for (piece, _) in LEXEMES {
+        text.push_str(piece)?;
+        text.push_str(" /**/\n")?;
+    }
+    let lexemes = read_lexemes(rt.alloc(), text.as_bytes(), Edition::Edition2021)?;
+    assert_eq!(rt; lexemes.len(), LEXEMES.len());
+    let mut start: usize = 0;
+    for (lexeme, (piece, kind)) in lexemes.iter().zip(LEXEMES) {
+        let wanted = Lexeme {
+            kind,
+            start,
+            len: piece.len(),
+        };
+        assert_eq!(rt; *lexeme, wanted, "at {piece}");
+        start = start.wrapping_add(piece.len()).wrapping_add(6);
+    }
+    Ok(())
+}
+
+#[test]
+fn async_is_a_name_in_2015(rt: HostRuntime) -> Result<(), Fail> {
+    let text = "async".as_bytes();
+    let old = read_lexemes(rt.alloc(), text, Edition::Edition2015)?;
+    let kinds: [LexemeKind; 1] = [LexemeKind::Word(Word::Other)];
+    for (lexeme, kind) in old.iter().zip(kinds) {
+        assert_eq!(rt; lexeme.kind, kind);
+    }
+    assert_eq!(rt; old.len(), 1);
     Ok(())
 }

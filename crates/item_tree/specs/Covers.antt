@@ -1,0 +1,29 @@
+-- What lies in order, with nothing between.
+use Rattle.std.specs.Prelude.{◌≡◌, ◌<◌, ◌≤◌, ℕ, List, [], ◌∷◌, Option, IfSome, length}
+use Rattle.std.specs.List.{AllByRecursion}
+use Rattle.item_tree.specs.Items.{level_of, inner_range}
+use Rattle.item_tree.specs.declared.items.Item.{Item}
+use Rattle.item_tree.specs.declared.items.Range.{Range}
+use Rattle.item_tree.specs.declared.lexeme.Lexeme.{Lexeme}
+
+-- each begins where the one before it ends, the first and the last where they should, and each has a lexeme
+abbrev pub Cover : ℕ → ℕ → List Item → Type 0
+Cover first behind [] = first ≡ behind
+Cover first behind (x ∷ xs) = (x.first ≡ first) × (first < x.behind) × Cover x.behind behind xs
+
+-- a range of lexemes
+abbrev pub IsRange : ℕ → Range → Type 0
+IsRange size r = (r.first ≤ r.behind) × (r.behind ≤ size)
+
+-- one range lies within another
+abbrev pub LiesWithin : Range → Range → Type 0
+LiesWithin outer r = (outer.first ≤ r.first) × (r.first ≤ r.behind) × (r.behind ≤ outer.behind)
+
+-- each lexeme of a level lies in one item, error or inner attribute of it
+abbrev pub LevelsAreCovered : Type 0
+LevelsAreCovered = (lexemes : List Lexeme) (partners : List ℕ) (parent : Option ℕ) (r : Range) → IsRange (length lexemes) r → Cover r.first r.behind (level_of lexemes partners parent r)
+
+-- and what is in an item lies within the level
+abbrev pub LevelsNest : Type 0
+LevelsNest =
+    (lexemes : List Lexeme) (partners : List ℕ) (parent : Option ℕ) (r : Range) → AllByRecursion (λ (x : Item). IfSome (inner_range x) (LiesWithin r)) (level_of lexemes partners parent r)

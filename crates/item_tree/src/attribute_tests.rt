@@ -1,0 +1,190 @@
+//! Attributes of texts.
+use crate::attribute::{AttributeKind, lexemes_in};
+use crate::attribute_lists::{helper_list, list_items};
+use crate::attributes::{Attributes, is_active, may_hold, nodes_in, read_attributes};
+use crate::cfg::CfgOptions;
+use crate::cfg_parser::span_of;
+use crate::items::Range;
+use crate::lexeme::{Lexeme, read_lexemes};
+use crate::span::{name_text, string_text};
+use dm_ids::source::Edition;
+use dm_ids::symbol::Symbol;
+use std::test::Fail;
+
+/// A text of each kind of attribute, some of them in `cfg_attr` and `unsafe`.
+const TEXT: &str = "#!/bin/sh
+#![no_std] #![cfg_attr(not(unix), no_core)]
+#![recursion_limit = \"256\"] #![feature(a, r#b, c,)]
+#[macro_use] #[macro_use(x, y)] #[macro_export(local_inner_macros)]
+#[path = r\"p.rs\"] #[derive] #[doc = \"#[path]\"] #[a::path = \"q.rs\"]
+#[cfg_attr(unix, path = \"u.rs\", cfg_attr(windows, derive(A, b::B<(c, d)>)), unsafe(no_mangle), )]
+#[cfg_attr(all(unix), cfg_attr(feature = \"std\", cfg(windows), no_core), prelude_import)]
+#[cfg_attr(, no_std)] #[cfg(unix)] #[cfg(unix windows)] #[cfg]
+#[proc_macro_derive(Name, attributes(f, g))] #[proc_macro] #[unsafe(proc_macro_attribute)]
+# [ rustc_builtin_macro ] struct S; # 1 #! x
+fn f() { #![no_implicit_prelude] } #[rustc_coherence_is_core";
+
+/// The attributes of the text, in order: what each says, whether it is an inner one, and whether its condition leaves it
+/// out.
+const TOLD: &str = "\
+no_std, inner\n\
+no_core, inner, left out\n\
+recursion_limit, inner\n\
+feature, inner\n\
+macro_use\n\
+macro_use of\n\
+macro_export\n\
+path\n\
+malformed\n\
+unknown\n\
+unknown\n\
+path\n\
+derive, left out\n\
+unknown\n\
+cfg no\n\
+no_core\n\
+prelude_import\n\
+no_std\n\
+cfg yes\n\
+cfg yes\n\
+malformed\n\
+proc_macro_derive\n\
+proc_macro\n\
+proc_macro_attribute\n\
+rustc_builtin_macro\n\
+no_implicit_prelude, inner\n\
+rustc_coherence_is_core\n\
+";
+
+/// A word for what an attribute says.
+fn word_for(kind: AttributeKind, holds: bool) -> &'static str {
+    match kind {
+        AttributeKind::Cfg(_) if holds => "cfg yes",
+        AttributeKind::Cfg(_) => "cfg no",
+        AttributeKind::Path(_) => "path",
+        AttributeKind::MacroUse => "macro_use",
+        AttributeKind::MacroUseOf(_) => "macro_use of",
+        AttributeKind::MacroExport => "macro_export",
+        AttributeKind::Derive(_) => "derive",
+        AttributeKind::NoStd => "no_std",
+        AttributeKind::NoCore => "no_core",
+        AttributeKind::NoImplicitPrelude => "no_implicit_prelude",
+        AttributeKind::PreludeImport => "prelude_import",
+        AttributeKind::RecursionLimit(_) => "recursion_limit",
+        AttributeKind::Feature(_) => "feature",
+        AttributeKind::RustcCoherenceIsCore => "rustc_coherence_is_core",
+        AttributeKind::ProcMacro => "proc_macro",
+        AttributeKind::ProcMacroDerive(_) => "proc_macro_derive",
+        AttributeKind::ProcMacroAttribute => "proc_macro_attribute",
+        AttributeKind::RustcBuiltinMacro => "rustc_builtin_macro",
+        AttributeKind::RustcBuiltinMacroOf(_) => "rustc_builtin_macro of",
+        AttributeKind::Malformed => "malformed",
+        AttributeKind::Unknown => "unknown",
+    }
+}
+
+/// The options `unix` and `feature = "std"`.
+fn options_of(rt: HostRuntime) -> Result<CfgOptions, Fail> {
+    let mut options = CfgOptions::new(rt.alloc());
+    options.insert_atom(Symbol::new(rt.alloc(), "unix")?)?;
+    let key = Symbol::new(rt.alloc(), "feature")?;
+    options.insert_key_value(key, Symbol::new(rt.alloc(), "std")?)?;
+    Ok(options)
+}
+
+/// Whether an attribute is a `cfg` that may hold.
+fn may_be(options: &CfgOptions, table: &Attributes, kind: AttributeKind) -> bool {
+    match kind {
+        AttributeKind::Cfg(range) => {
+            may_hold(options.check(TEXT.as_bytes(), nodes_in(table.nodes(), range)))
+        }
+        _ => false,
+    }
+}
+
+#[test]
+fn attributes_of_a_text(rt: HostRuntime) -> Result<(), Fail> {
+    let options = options_of(rt)?;
+    let text = TEXT.as_bytes();
+    let lexemes = read_lexemes(rt.alloc(), text, Edition::Edition2021)?;
+    let table = read_attributes(rt.alloc(), text, lexemes.as_slice())?;
+    let active = table.active_conditions(rt.alloc(), &options, text)?;
+    let mut told = String::new(rt.alloc());
+    for attribute in table.attributes() {
+        let holds = may_be(&options, &table, attribute.kind);
+        let is_there = is_active(active.as_slice(), attribute.condition);
+        told.push_str(word_for(attribute.kind, holds))?;
+        told.push_str(if attribute.inner { ", inner" } else { "" })?;
+        told.push_str(if is_there { "\n" } else { ", left out\n" })?;
+    }
+    assert_eq!(rt; told.as_str(), TOLD);
+    assert_eq!(rt; table.errors().len(), 4);
+    assert_eq!(rt; table.conditions().len(), 6);
+    Ok(())
+}
+
+/// The strings of some attributes, in order.
+const STRINGS: [&str; 3] = ["256", "p.rs", "u.rs"];
+
+#[test]
+fn strings_of_attributes(rt: HostRuntime) -> Result<(), Fail> {
+    let text = TEXT.as_bytes();
+    let lexemes = read_lexemes(rt.alloc(), text, Edition::Edition2021)?;
+    let table = read_attributes(rt.alloc(), text, lexemes.as_slice())?;
+    let mut found: usize = 0;
+    for attribute in table.attributes() {
+        match attribute.kind {
+            AttributeKind::Path(value) | AttributeKind::RecursionLimit(value) => {
+                assert!(rt; found < 3);
+                assert_eq!(rt; string_text(text, value), STRINGS[found].as_bytes());
+                found += 1;
+            }
+            _ => {}
+        }
+    }
+    assert_eq!(rt; found, 3);
+    Ok(())
+}
+
+/// The names that the items of a list begin with.
+fn first_names(rt: HostRuntime, lexemes: &[Lexeme], list: Range) -> Result<String, Fail> {
+    let mut names = String::new(rt.alloc());
+    for item in &list_items(rt.alloc(), lexemes, list)? {
+        if let Some(first) = lexemes_in(lexemes, *item).first() {
+            let name = name_text(TEXT.as_bytes(), span_of(*first));
+            names.push_str(std::str::from_utf8(name).unwrap_or("?"))?;
+            names.push_str(" ")?;
+        }
+        if let Some(helpers) = helper_list(TEXT.as_bytes(), lexemes, *item) {
+            for helper in &list_items(rt.alloc(), lexemes, helpers)? {
+                let is_name = lexemes_in(lexemes, *helper).len() == 1;
+                names.push_str(if is_name { "helper " } else { "? " })?;
+            }
+        }
+    }
+    Ok(names)
+}
+
+#[test]
+fn lists_of_attributes(rt: HostRuntime) -> Result<(), Fail> {
+    let text = TEXT.as_bytes();
+    let lexemes = read_lexemes(rt.alloc(), text, Edition::Edition2021)?;
+    let table = read_attributes(rt.alloc(), text, lexemes.as_slice())?;
+    let mut names = String::new(rt.alloc());
+    for attribute in table.attributes() {
+        match attribute.kind {
+            AttributeKind::Feature(list)
+            | AttributeKind::MacroUseOf(list)
+            | AttributeKind::Derive(list)
+            | AttributeKind::ProcMacroDerive(list) => {
+                names.push_str(first_names(rt, lexemes.as_slice(), list)?.as_str())?;
+            }
+            _ => {}
+        }
+    }
+    assert_eq!(rt;
+        names.as_str(),
+        "a b c x y A b Name attributes helper helper "
+    );
+    Ok(())
+}

@@ -1,0 +1,30 @@
+//! What the definitions of partners, items and use trees say of texts that are easy to read wrongly.
+ghost use Rattle.std.specs.Prelude.{◌≡◌, Some, None, [], ◌∷◌};
+ghost use Rattle.item_tree.specs.ItemRows as rows;
+ghost use Rattle.item_tree.specs.declared.item_kind.ItemKind.TheVariants as item;
+ghost use Rattle.item_tree.specs.declared.use_tree.UseTreeKind.TheVariants as tree;
+
+/// Items by their kind, the ends of attributes and visibility, the places of word and name, and their end.
+pub fn difficult_items()
+    ensures qualified { rows.qualified ≡ rows.parts item.Function 2 4 8 (Some 9) 12 }
+    ensures unnamed { rows.unnamed ≡ rows.parts item.Const 0 0 0 (Some 1) 7 }
+    ensures union_call { rows.union_call ≡ rows.parts item.MacroCall 0 0 0 None 3 }
+    ensures union_item { rows.union_item ≡ rows.parts item.Union 0 0 0 (Some 1) 3 }
+    ensures braces_in_angles { rows.braces_in_angles ≡ rows.parts item.Impl 0 0 0 None 6 }
+    ensures arrow_in_angles { rows.arrow_in_angles ≡ rows.parts item.Function 0 0 0 (Some 1) 13 }
+    ensures rules { rows.rules ≡ rows.parts item.MacroRules 0 0 0 (Some 2) 5 }
+    ensures call { rows.call ≡ rows.parts item.MacroCall 0 0 0 None 8 }
+    ensures inner { rows.inner ≡ rows.parts item.InnerAttribute 0 0 0 None 3 }
+    ensures attributes_alone { rows.attributes_alone ≡ rows.parts item.Error 2 2 2 None 2 }
+{}
+
+/// Partners of delimiters that are closed by another kind, or not at all.
+pub fn difficult_groups()
+    ensures partners { rows.partners ≡ 7 ∷ 5 ∷ 2 ∷ 4 ∷ 3 ∷ 1 ∷ 6 ∷ 0 ∷ [] }
+    ensures unclosed { rows.unclosed ≡ 2 ∷ 1 ∷ 0 ∷ [] }
+{}
+
+/// Use trees in lists.
+pub fn difficult_uses()
+    ensures { rows.nested_use ≡ rows.leaf tree.Prefixed None 0 3 None 4 ∷ rows.leaf tree.Single (Some 0) 4 5 None 5 ∷ rows.leaf tree.Single (Some 0) 6 7 (Some 8) 9 ∷ rows.leaf tree.Glob (Some 0) 10 10 None 11 ∷ [] }
+{}

@@ -1,0 +1,21 @@
+//! What follows from the definitions of partners, items and use trees.
+ghost use Rattle.item_tree.specs.Lists.{UseTreesStandInLists};
+ghost use Rattle.item_tree.specs.Pairs.{PairsNest};
+ghost use Rattle.item_tree.specs.Covers.{LevelsAreCovered, LevelsNest};
+
+/// Each lexeme of a level lies in exactly one of its items, errors and inner attributes. These are in order, and what is
+/// in an item lies within the level of the item.
+pub fn items_cover_their_levels()
+    ensures covered { LevelsAreCovered }
+    ensures nested { LevelsNest }
+{}
+
+/// Partners are each the other's, the first opens and the second closes a group of one kind, and such groups nest.
+pub fn groups_nest()
+    ensures { PairsNest }
+{}
+
+/// Each use tree stands behind the one in whose list it is, and that is a list.
+pub fn use_trees_stand_in_lists()
+    ensures { UseTreesStandInLists }
+{}
