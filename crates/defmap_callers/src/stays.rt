@@ -3,19 +3,22 @@
 ghost use Rattle.std.specs.Prelude.{◌≡◌, false, IfOk, IsTrue, None, OnErr, OnOk, Some, slice_get};
 ghost use Rattle.dm_ids.specs.declared.ids.ModuleId.{ModuleId};
 ghost use Rattle.dm_base.specs.PerNs.{type_alone};
-ghost use Rattle.dm_base.specs.Tree.{same_module};
+ghost use Rattle.dm_base.specs.Tree.{IsKnown, crate_of, same_module};
+ghost use Rattle.dm_check.specs.Holding.{path_holds};
+ghost use Rattle.dm_check.specs.TablesHold.{raw_holds};
 ghost use Rattle.dm_check.specs.declared.held.HeldId.TheVariants as held;
 ghost use Rattle.dm_check.specs.Pushes.{push_holds};
 ghost use Rattle.dm_maps.specs.BuildMaps.{with_prelude};
 ghost use Rattle.dm_maps.specs.Known.{knows, KnowsAll};
+ghost use Rattle.dm_maps.specs.Trees.{tree_of};
 ghost use Rattle.dm_maps.specs.World.{crate_map, scope_of};
 ghost use Rattle.dm_def_map.specs.Maps.{LocalMap, Map};
 ghost use Rattle.dm_def_map.specs.declared.modules.modes.BuiltinShadowMode.TheVariants.{Module};
 ghost use Rattle.dm_scope.specs.Shows.{PushShows, push_of};
 ghost use Rattle.hir_def_map.specs.Paths.{asked, prelude_answer};
-ghost use Rattle.hir_def_map.specs.Questions.{IsKnownInCrate};
-ghost use Rattle.hir_def_map.specs.RawVisibilities.{IsKnownVisibility, raw_visibility};
+ghost use Rattle.hir_def_map.specs.RawVisibilities.{raw_visibility};
 ghost use Rattle.hir_def_map.specs.declared.result.ResolveMode.TheVariants.{Other};
+ghost use Rattle.defmap_callers.specs.Maps.{LiesIn};
 
 use crate::scopes;
 use dm_base::ids::{Crate, MapId, ModuleId};
@@ -83,9 +86,9 @@ pub fn in_preludes_after(
     items: PerNs,
 ) -> Result<ResolvePathResult, AllocError>
     requires krate { IsTrue (knows world.old (held.Crate krate)) }
-    requires question { (M : Map) (L : LocalMap) → crate_map world.old krate ≡ Some M →
-        slice_get world.old.local_maps krate.0 ≡ Some L →
-        IsKnownInCrate world.old M L m path.now.kind }
+    requires m { IsKnown (tree_of world.old) m }
+    requires of_crate { crate_of (tree_of world.old) m ≡ krate }
+    requires path { KnowsAll world.old (path_holds path.now.kind) }
     requires push { KnowsAll world.old (push_holds lookup.0 items None) }
     ensures { (M : Map) (L : LocalMap) → crate_map world.new krate ≡ Some M →
         slice_get world.new.local_maps krate.0 ≡ Some L →
@@ -103,6 +106,14 @@ pub fn in_preludes_after(
     Ok(map.resolve_path_fp_in_all_preludes(local, world, mode, m, path, shadow))
 }
 
+/// Whether a module lies in the map of a crate itself, and in none of its blocks.
+pub fn lies_in(world: &World, krate: Crate, m: ModuleId) -> bool
+    requires { IsTrue (knows world.now (held.Crate krate)) }
+    ensures { IsTrue result → LiesIn world.now krate m }
+{
+    crate_def_map(world, krate).has(m)
+}
+
 /// What a visibility that is written in a module of a crate's map means after a push: it may be asked, since it could
 /// be asked before.
 pub fn visibility_after(
@@ -115,9 +126,8 @@ pub fn visibility_after(
     items: PerNs,
 ) -> Result<Option<Visibility>, AllocError>
     requires krate { IsTrue (knows world.old (held.Crate krate)) }
-    requires question { (M : Map) (L : LocalMap) → crate_map world.old krate ≡ Some M →
-        slice_get world.old.local_maps krate.0 ≡ Some L →
-        IsKnownVisibility world.old M L m written.now }
+    requires m { LiesIn world.old krate m }
+    requires written { KnowsAll world.old (raw_holds written.now) }
     requires push { KnowsAll world.old (push_holds lookup.0 items None) }
     ensures { (M : Map) (L : LocalMap) → crate_map world.new krate ≡ Some M →
         slice_get world.new.local_maps krate.0 ≡ Some L →

@@ -1,4 +1,5 @@
 use Rattle.std.proofs.Common.{◌≡◌, ◌∙◌, Some, ap, slice_get, subst, sym}
+use Rattle.dm_ids.specs.declared.ids.MapId.{MapId}
 use Rattle.dm_maps.specs.World.{numbered_map}
 use Rattle.dm_def_map.specs.Maps.{LocalMap}
 use Rattle.hir_def_map.specs.Questions.{IsKnownInCrate}
@@ -17,4 +18,4 @@ resolve_path_fp_in_all_preludes-requires c =
     let found = ap (numbered_map new) (M.ensures.id ∙ sym N.ensures.id) ∙ N.ensures.own in
     let local = same-local a.krate.0 _ _ _ _ L.ensures.map K.ensures.map stays.locals in
     subst (λ (X : LocalMap). IsKnownInCrate new N.result.now X a.m a.path.now.kind) local
-    (c.questions_stay_known.ensures.preludes a.world.now new stays M.result.now N.result.now L.result.now a.m a.path.now.kind (c.requires.question M.result.now L.result.now M.ensures.map L.ensures.map) found)
+    (c.questions_stay_known.ensures.preludes a.world.now new stays M.result.now N.result.now L.result.now a.m a.path.now.kind (record { map = M.ensures.own; origin = c.requires.m; of_crate = c.requires.of_crate ∙ sym (ap (λ (i : MapId). i.krate) M.ensures.id); local_known = L.ensures.known; path_known = c.requires.path }) found)

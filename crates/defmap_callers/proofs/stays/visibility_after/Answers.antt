@@ -17,4 +17,4 @@ resolve_visibility-requires c =
     let found = ap (numbered_map new) (M.ensures.id ∙ sym N.ensures.id) ∙ N.ensures.own in
     let local = same-local a.krate.0 _ _ _ _ L.ensures.map K.ensures.map stays.locals in
     subst (λ (X : LocalMap). IsKnownVisibility new N.result.now X a.m a.written.now) local
-    (c.questions_stay_known.ensures.visibility a.world.now new stays M.result.now N.result.now L.result.now a.m a.written.now (c.requires.question M.result.now L.result.now M.ensures.map L.ensures.map) found)
+    (c.questions_stay_known.ensures.visibility a.world.now new stays M.result.now N.result.now L.result.now a.m a.written.now (record { map = M.ensures.own; origin = c.requires.m M.result.now M.ensures.map; local_known = L.ensures.known; path_known = c.requires.written }) found)
