@@ -2,6 +2,7 @@
 //! program that goes from tables to an answer.
 mod asked;
 mod built;
+mod later;
 mod pushed;
 
 use super::{Building, FILE, structure};

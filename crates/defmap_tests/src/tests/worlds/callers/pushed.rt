@@ -1,32 +1,37 @@
-//! More callers of docs/USING.md: what a push leaves of the meaning of a path.
-use super::small_tables;
+//! More callers of docs/USING.md: what is pushed by a path, and what a push leaves of the meaning of a path.
+use super::{DECLARED, path as x, small_tables};
 use crate::tests::gives;
 use crate::tests::worlds::{CRATE_MAP, module};
-use defmap_callers::paths::before_and_after;
-use dm_base::ids::{Crate, ModuleId, StructId};
+use defmap_callers::maps::map_of_item;
+use defmap_callers::paths::{before_and_after, bring_in};
+use defmap_callers::scopes::imported_type;
+use dm_base::ids::{Crate, ModuleId, StructId, UseId, UseTreeIdx};
+use dm_base::imports::{ImportId, ImportOrExternCrate};
 use dm_base::item_ids::{AdtId, ItemKind, ModuleDefId};
 use dm_base::mod_path::{ModPath, PathKind};
 use dm_base::module_tree::ModuleTree;
 use dm_base::name::Name;
 use dm_base::per_ns::PerNs;
 use dm_base::visibility::Visibility;
+use dm_maps::local_def_map::LocalDefMap;
 use dm_maps::world::World;
 use dm_scope::glob_imports::PerNsGlobImports;
+use dm_scope::scope_tables::ScopeTables;
 use std::alloc::{AllocError, Global};
 use std::test::Fail;
 
-const KRATE: Crate = Crate(0);
+pub(super) const KRATE: Crate = Crate(0);
 
-const ROOT: ModuleId = ModuleId(0);
+pub(super) const ROOT: ModuleId = ModuleId(0);
 
 /// The prelude module, which binds `x`.
-const PRELUDE: ModuleId = ModuleId(1);
+pub(super) const PRELUDE: ModuleId = ModuleId(1);
 
 /// The struct in that module.
-const STRUCT: ModuleDefId = ModuleDefId::AdtId(AdtId::StructId(StructId(0)));
+pub(super) const STRUCT: ModuleDefId = ModuleDefId::AdtId(AdtId::StructId(StructId(0)));
 
 /// The small world with a prelude module, a struct in it, and a `use` in the root.
-fn a_world(alloc: Global) -> Option<World> {
+pub(super) fn a_world(alloc: Global) -> Option<World> {
     let mut building = small_tables(alloc).ok()?;
     building
         .builder
@@ -35,6 +40,43 @@ fn a_world(alloc: Global) -> Option<World> {
     building.builder.add_item(ItemKind::Struct, PRELUDE).ok()?;
     building.builder.add_use(ROOT).ok()?;
     Some(building.world()?.into_world())
+}
+
+/// The import of the root.
+const IMPORT: ImportId = ImportId {
+    use_: UseId(0),
+    idx: UseTreeIdx(0),
+};
+
+/// Brings what `x` means in the root into it as `y`; whether that wrote something.
+fn bring(alloc: Global, world: &mut World, path: &ModPath) -> Result<Option<bool>, AllocError> {
+    let mut globs = PerNsGlobImports::new(alloc);
+    let local = LocalDefMap::new(alloc);
+    let lookup = (ROOT, Name::new(alloc, "y")?);
+    if !world.has(ROOT) || !world.knows_local(&local) || !world.knows_path(path) {
+        return Ok(None);
+    }
+    let by = Some(ImportOrExternCrate::Import(IMPORT));
+    if !world.knows_res(ROOT, &PerNs::none(), by) {
+        return Ok(None);
+    }
+    let written = bring_in(world, &mut globs, &local, path, lookup, IMPORT)?;
+    Ok(Some(written))
+}
+
+/// Whether `x` was brought, what its import stands for, and the root of the struct's map.
+fn brought(alloc: Global) -> Option<(bool, Option<ModuleDefId>, ModuleId)> {
+    let mut world = a_world(alloc)?;
+    let written = bring(alloc, &mut world, &x(alloc).ok()?).ok()??;
+    let found = imported_type(&world, world.scope_of(ROOT)?, IMPORT);
+    let root = map_of_item(&world, STRUCT)?.root_module_id();
+    Some((written, found, root))
+}
+
+#[test]
+fn an_import_brings_what_its_path_means(rt: HostRuntime) -> Result<(), Fail> {
+    let wanted = Some((true, Some(DECLARED), ROOT));
+    gives(&rt, Ok::<_, AllocError>(brought(rt.alloc())), wanted)
 }
 
 /// What `crate` means in the prelude module before and after a push into that.
