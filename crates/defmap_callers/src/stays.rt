@@ -1,6 +1,6 @@
 //! Example callers, shown in docs/USING.md: what stays where something is set, where a scope is written, and where a
 //! world is pushed into.
-ghost use Rattle.std.specs.Prelude.{◌≡◌, false, IfOk, IsTrue, None, OnErr, OnOk, Some, slice_get};
+ghost use Rattle.std.specs.Prelude.{◌≡◌, ◌↔◌, false, IfOk, IsTrue, None, OnErr, OnOk, Some, slice_get};
 ghost use Rattle.dm_ids.specs.declared.ids.ModuleId.{ModuleId};
 ghost use Rattle.dm_base.specs.PerNs.{type_alone};
 ghost use Rattle.dm_base.specs.Tree.{IsKnown, crate_of, same_module};
@@ -109,7 +109,7 @@ pub fn in_preludes_after(
 /// Whether a module lies in the map of a crate itself, and in none of its blocks.
 pub fn lies_in(world: &World, krate: Crate, m: ModuleId) -> bool
     requires { IsTrue (knows world.now (held.Crate krate)) }
-    ensures { IsTrue result → LiesIn world.now krate m }
+    ensures { IsTrue result ↔ LiesIn world.now krate m }
 {
     crate_def_map(world, krate).has(m)
 }

@@ -1,8 +1,8 @@
 -- One import more: those of before stay as they were, and the last is new.
 use Rattle.std.proofs.Common.{◌≡◌, ◌∙◌, ◌⊎◌, inl, inr, ℕ, zero, suc, Bool, true, false, cond, List, [], ◌∷◌, ◌++◌, None, Some, ap, refl, subst, sym, length, slice_get, true≢false}
 use Rattle.dm_maps.specs.Known.{KnowsAll}
-use Rattle.dm_retry.specs.Known.{add_fault, is_known, is_listed, parts, same_import}
-use Rattle.dm_retry.specs.Rounds.{Pending, State, added, brings, marked}
+use Rattle.dm_retry.specs.Known.{add_fault, is_known, is_listed, parts, same_leaf}
+use Rattle.dm_retry.specs.Rounds.{Pending, State, added, would_write, marked}
 use Rattle.dm_retry.specs.Settled.{IsSettled}
 use Rattle.dm_retry.specs.declared.add_fault.AddFault.TheVariants as adding
 use Rattle.dm_retry.proofs.StartLemmas.{any-at, import-refl, knows-from}
@@ -30,7 +30,7 @@ module _ (s : State) (p : Pending) (before : IsSettled s) (taken : add_fault s.w
   -- it is none of those of before
   other : (i : ℕ) (q : Pending) → slice_get s.pending i ≡ Some q → p.import ≡ q.import → ⊥
   other i q at same =
-      true≢false (sym (import-refl p.import) ∙ ap (same_import p.import) same ∙ any-at (λ (r : Pending). same_import p.import r.import) s.pending i q tests.0 at)
+      true≢false (sym (import-refl p.import) ∙ ap (same_leaf p.import) same ∙ any-at (λ (r : Pending). same_leaf p.import r.import) s.pending i q tests.0 at)
 
   pub adds : IsSettled (added s p)
   adds = record {
@@ -49,6 +49,6 @@ module _ (s : State) (p : Pending) (before : IsSettled s) (taken : add_fault s.w
       by-single i j q r same (inr h) (inl k) = absurd (other j r k (ap (λ (z : Pending). z.import) h.1 ∙ same))
       by-single i j q r same (inr h) (inr k) = h.0 ∙ sym k.0
 
-      by-settled : (i : ℕ) (q : Pending) → q.due ≡ false → (slice_get s.pending i ≡ Some q) ⊎ ((i ≡ length s.pending) × (marked true p ≡ q)) → brings s.world s.globs q ≡ false
+      by-settled : (i : ℕ) (q : Pending) → q.due ≡ false → (slice_get s.pending i ≡ Some q) ⊎ ((i ≡ length s.pending) × (marked true p ≡ q)) → would_write s.world s.globs q ≡ false
       by-settled i q none (inl h) = before.settled i q h none
       by-settled i q none (inr h) = absurd (true≢false (ap (λ (z : Pending). z.due) h.1 ∙ none))

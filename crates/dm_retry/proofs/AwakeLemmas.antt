@@ -9,13 +9,13 @@ use Rattle.dm_maps.specs.Cut.{among}
 use Rattle.dm_maps.specs.Known.{KnowsAll}
 use Rattle.dm_maps.specs.World.{World}
 use Rattle.dm_retry.specs.Known.{parts}
-use Rattle.dm_retry.specs.Rounds.{Pending, State, awoken, brings}
+use Rattle.dm_retry.specs.Rounds.{Pending, State, awoken, would_write}
 use Rattle.dm_retry.specs.Settled.{IsSettled}
-use Rattle.dm_retry.proofs.TryLemmas.{brings-marked}
+use Rattle.dm_retry.proofs.TryLemmas.{would_write-marked}
 
 module _ (s : State) (v : World) (h : Globs) (n : Name) (before : IsSettled s)
     (known : (q : Pending) → KnowsAll s.world (parts q) → KnowsAll v (parts q))
-    (rest : (j : ℕ) (q : Pending) → slice_get s.pending j ≡ Some q → among q.path.segments n ≡ false → brings s.world s.globs q ≡ false → brings v h q ≡ false) where
+    (rest : (j : ℕ) (q : Pending) → slice_get s.pending j ≡ Some q → among q.path.segments n ≡ false → would_write s.world s.globs q ≡ false → would_write v h q ≡ false) where
   -- an import of the list of which those with the name are due
   stood : (j : ℕ) (r : Pending) → slice_get (map (awoken n) s.pending) j ≡ Some r → (q : Pending) × (slice_get s.pending j ≡ Some q) × (awoken n q ≡ r)
   stood j r is = at (slice_get s.pending j) refl (sym (slice_get-map (awoken n) s.pending j) ∙ is)
@@ -32,7 +32,7 @@ module _ (s : State) (v : World) (h : Globs) (n : Name) (before : IsSettled s)
     settled = λ j r e none. rests j r (stood j r e) none;
   }
     where
-      rests : (j : ℕ) (r : Pending) → (q : Pending) × (slice_get s.pending j ≡ Some q) × (awoken n q ≡ r) → r.due ≡ false → brings v h r ≡ false
+      rests : (j : ℕ) (r : Pending) → (q : Pending) × (slice_get s.pending j ≡ Some q) × (awoken n q ≡ r) → r.due ≡ false → would_write v h r ≡ false
       rests j r (q, at, same) none =
           let both = or_parts q.due (among q.path.segments n) (ap (λ (p : Pending). p.due) same ∙ none) in
-          ap (brings v h) (sym same) ∙ brings-marked v h (q.due || among q.path.segments n) q ∙ rest j q at both.1 (before.settled j q at both.0)
+          ap (would_write v h) (sym same) ∙ would_write-marked v h (q.due || among q.path.segments n) q ∙ rest j q at both.1 (before.settled j q at both.0)

@@ -28,12 +28,12 @@ use Rattle.dm_maps.specs.Stays.{StaysKnown}
 use Rattle.dm_maps.specs.World.{World, scope_of}
 use Rattle.dm_retry.specs.Known.{parts}
 use Rattle.dm_retry.specs.Kinds.{is_unnamed}
-use Rattle.dm_retry.specs.Rounds.{Pending, State, answered, awoken, brings, by_import, found}
+use Rattle.dm_retry.specs.Rounds.{Pending, State, answered, awoken, would_write, by_import, to_push}
 use Rattle.dm_retry.specs.Settled.{IsSettled}
 use Rattle.dm_retry.specs.Unnamed.{is_new_trait, trait_of, unnamed_answer}
 use Rattle.dm_retry.proofs.AwakeLemmas.{woken}
 use Rattle.dm_retry.proofs.TraitLemmas.{KeepsTraits, shown-again}
-use Rattle.dm_retry.proofs.TryLemmas.{Alike, found-stays, still-rests}
+use Rattle.dm_retry.proofs.TryLemmas.{Alike, to_push-stays, still-rests}
 
 -- a scope t that answers to each push of a name as s does, and has its unnamed traits, and maybe more
 pub record Keeps (s t : Scope) : Type 0 where
@@ -124,7 +124,7 @@ pub record IsChanged (w v : World) : Type 0 where
   pub scopes : (k : ModuleId) → Keeps (scope_of w k) (scope_of v k)
   pub none : cut v [] ≡ cut w []
 
-pub change-rests : (w v : World) → IsChanged w v → (g : Globs) (q : Pending) → cut v q.path.segments ≡ cut w q.path.segments → brings w g q ≡ false → brings v g q ≡ false
+pub change-rests : (w v : World) → IsChanged w v → (g : Globs) (q : Pending) → cut v q.path.segments ≡ cut w q.path.segments → would_write w g q ≡ false → would_write v g q ≡ false
 change-rests w v change g q same none =
     still-rests w v change.alike change.stays change.none g g q same ((change.scopes q.origin).traits)
     (λ y idle. (change.scopes q.origin).answers g q.origin q.name y (by_import q) ∙ idle) none
@@ -147,7 +147,7 @@ module _ (s : State) (v : World) (before : IsSettled s) (change : IsChanged s.wo
 -- ---- An import as `_` that found some items
 
 -- whose trait is not new, if it has one
-pub quiet : (w : World) (g : Globs) (p : Pending) (x : PerNs) → is_unnamed p.kind ≡ true → found w p ≡ Some x → unnamed_answer w p.origin p.visibility x ≡ false → brings w g p ≡ false
+pub quiet : (w : World) (g : Globs) (p : Pending) (x : PerNs) → is_unnamed p.kind ≡ true → to_push w p ≡ Some x → unnamed_answer w p.origin p.visibility x ≡ false → would_write w g p ≡ false
 quiet w g p x named is none =
     ap (answered w g p) is
     ∙ ap (λ b. cond b (unnamed_answer w p.origin p.visibility x) (push_answer (scope_of w p.origin) g p.origin p.name x (by_import p))) named
@@ -164,11 +164,11 @@ module _ (w v : World) (p : Pending) (x : PerNs) (t : TraitId) (alike : Alike) (
     none = cuts [];
   }
 
-  pub trait-others : (g : Globs) (q : Pending) → brings w g q ≡ false → brings v g q ≡ false
+  pub trait-others : (g : Globs) (q : Pending) → would_write w g q ≡ false → would_write v g q ≡ false
   trait-others g q none = change-rests w v by-trait g q (cuts q.path.segments) none
 
-  pub trait-own : KnowsAll w (vis_holds p.visibility) → trait_of x ≡ Some t → (g : Globs) → is_unnamed p.kind ≡ true → found w p ≡ Some x → brings v g p ≡ false
+  pub trait-own : KnowsAll w (vis_holds p.visibility) → trait_of x ≡ Some t → (g : Globs) → is_unnamed p.kind ≡ true → to_push w p ≡ Some x → would_write v g p ≡ false
   trait-own seen is g named finds =
       let again = shown-again w v p.origin t p.visibility (Some p.import) (stays.all (vis_holds p.visibility) seen) scoped.own in
-      quiet v g p x named (found-stays w v alike stays (cuts []) p (cuts p.path.segments) ∙ finds)
+      quiet v g p x named (to_push-stays w v alike stays (cuts []) p (cuts p.path.segments) ∙ finds)
       (ap (λ o. option_map_or (λ t. is_new_trait v p.origin t p.visibility) o false) is ∙ again)

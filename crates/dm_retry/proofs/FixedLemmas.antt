@@ -4,7 +4,7 @@ use Rattle.std.specs.Option.{option_map_or}
 use Rattle.std.specs.declared.alloc.AllocError.{AllocError}
 use Rattle.std.proofs.lemmas.Bool.{cases_lt, or_parts}
 use Rattle.std.proofs.lemmas.Option.{slice_get_past}
-use Rattle.dm_retry.specs.Rounds.{Pending, State, after, any_brings, brings, is_due, marked, marked_after, round, round_answer, tried}
+use Rattle.dm_retry.specs.Rounds.{Pending, State, after, any_would_write, would_write, is_due, marked, marked_after, round, round_answer, tried}
 use Rattle.dm_retry.specs.Retries.{RestsAt}
 use Rattle.dm_retry.specs.Settling.{IsFixedPoint}
 use Rattle.dm_retry.proofs.RoundLemmas.{length-tries}
@@ -34,11 +34,11 @@ before-or-at i n h = by (cases_lt i n)
 
 -- a try that changes nothing
 module _ (s : State) (n : ℕ) where
-  idle-try : (o : Option Pending) → slice_get s.pending n ≡ o → option_map_or (brings s.world s.globs) o false ≡ false → (i : ℕ)
+  idle-try : (o : Option Pending) → slice_get s.pending n ≡ o → option_map_or (would_write s.world s.globs) o false ≡ false → (i : ℕ)
       → (i < n → is_due s i ≡ false) → i < suc n → due_at (option_map_or (tried s n) o s).pending i ≡ false
   idle-try o at none i before within = by o at none (before-or-at i n within)
     where
-      by : (o : Option Pending) → slice_get s.pending n ≡ o → option_map_or (brings s.world s.globs) o false ≡ false → (i < n) ⊎ (i ≡ n) → due_at (option_map_or (tried s n) o s).pending i ≡ false
+      by : (o : Option Pending) → slice_get s.pending n ≡ o → option_map_or (would_write s.world s.globs) o false ≡ false → (i < n) ⊎ (i ≡ n) → due_at (option_map_or (tried s n) o s).pending i ≡ false
       by None at none (inl l) = before l
       by None at none (inr e) = ap (λ j. due_at s.pending j) e ∙ ap (λ q. option_map_or (λ (p : Pending). p.due) q false) at
       by (Some p) at none split = ap (λ b. due_at (marked_after s.pending n b) i) none ∙ ap (λ l. due_at l i) (ap (λ q. option_map_or (λ x. slice_set s.pending n (marked false x)) q s.pending) at) ∙ put split
@@ -47,10 +47,10 @@ module _ (s : State) (n : ℕ) where
           put (inl l) = put-undue s.pending n i p (before l)
           put (inr e) = ap (λ j. due_at (slice_set s.pending n (marked false p)) j) e ∙ put-own s.pending n p
 
-none-due : (s : State) (n : ℕ) → any_brings s n ≡ false → (i : ℕ) → i < n → is_due (after s n) i ≡ false
+none-due : (s : State) (n : ℕ) → any_would_write s n ≡ false → (i : ℕ) → i < n → is_due (after s n) i ≡ false
 none-due s zero h i within = absurd (omega (arith, within))
 none-due s (suc n) h i within =
-    let both = or_parts (any_brings s n) _ h in
+    let both = or_parts (any_would_write s n) _ h in
     idle-try (after s n) n (slice_get (after s n).pending n) refl both.1 i (none-due s n both.0 i) within
 
 pub fixed-point : (s : State) → ((i : ℕ) → is_due (round s) i ≡ false → RestsAt (round s) i) → round_answer s ≡ false → IsFixedPoint (round s)

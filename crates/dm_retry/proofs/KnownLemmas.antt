@@ -30,7 +30,7 @@ use Rattle.dm_retry.specs.Known.{parts}
 use Rattle.dm_retry.specs.declared.import_kind.ImportKind.{ImportKind}
 use Rattle.dm_retry.specs.declared.import_kind.ImportKind.TheVariants as kinds
 use Rattle.dm_retry.specs.Kinds.{by_kind, is_foreign, narrowed, narrowed_item, re_exported, types_alone}
-use Rattle.dm_retry.specs.Rounds.{Pending, brought, by_import, found, given, meaning}
+use Rattle.dm_retry.specs.Rounds.{Pending, resolved_items, by_import, to_push, given, meaning}
 
 -- known items of each namespace, together
 together : (w : World) (x : PerNs) → KnowsAll w (option_map_or type_holds x.types []) → KnowsAll w (option_map_or value_holds x.values []) → KnowsAll w (option_map_or macro_holds x.macros []) → KnowsAll w (res_holds x)
@@ -117,7 +117,7 @@ module _ (w : World) where
             under w (narrowed t m v x.vis) (least-known t (t.map_of m) x.vis v (knows-middle w (held.Macro x.def ∷ []) (vis_holds x.vis) is k) seen) (held.Macro x.def ∷ []) (vis_holds x.vis) is k
 
     -- what an import brings of known items is known
-    kind-known : (kind : ImportKind) (x : PerNs) → KnowsAll w (res_holds x) → KnowsAll w (res_holds (by_kind t m v kind x))
+    pub kind-known : (kind : ImportKind) (x : PerNs) → KnowsAll w (res_holds x) → KnowsAll w (res_holds (by_kind t m v kind x))
     kind-known kinds.Plain x k = res-seen w v seen x k
     kind-known kinds.Unnamed x k = res-seen w v seen x k
     kind-known kinds.TypeOnly x k = res-seen w v seen (types_alone x) (together w (types_alone x) (types-known w x k) tt tt)
@@ -157,12 +157,12 @@ krate-there w m k = map-there (λ (p : Place). p.map.krate) w.places m.0 (ltb-tr
 
 -- ---- What is found
 
-pub found-is : (w : World) (p : Pending) (a : ResolvePathResult) → a ≡ meaning w p → option_and_then (given w p) (brought a) ≡ found w p
-unfolding found
-found-is w p a is = ap (λ b. option_and_then (given w p) (brought b)) is
+pub to_push-is : (w : World) (p : Pending) (a : ResolvePathResult) → a ≡ meaning w p → option_and_then (given w p) (resolved_items a) ≡ to_push w p
+unfolding to_push
+to_push-is w p a is = ap (λ b. option_and_then (given w p) (resolved_items b)) is
 
-pub brought-is : (a : ResolvePathResult) (x : PerNs) → brought a ≡ Some x → a.resolved_def ≡ x
-brought-is a x is = by (is_none a.segment_index && not (is_empty a.resolved_def)) is
+pub resolved_items-is : (a : ResolvePathResult) (x : PerNs) → resolved_items a ≡ Some x → a.resolved_def ≡ x
+resolved_items-is a x is = by (is_none a.segment_index && not (is_empty a.resolved_def)) is
   where
     by : (b : Bool) → cond b (Some a.resolved_def) None ≡ Some x → a.resolved_def ≡ x
     by true e = cc

@@ -14,18 +14,18 @@ use Rattle.dm_scope.specs.Flags.{Globs}
 use Rattle.dm_scope.specs.Push.{push_answer, types_reading}
 use Rattle.dm_maps.specs.Known.{KnowsAll}
 use Rattle.dm_maps.specs.World.{World, scope_of}
-use Rattle.dm_retry.specs.Known.{comes_by, parts, same_import}
+use Rattle.dm_retry.specs.Known.{comes_by, parts, same_leaf}
 use Rattle.dm_retry.specs.Rounds.{Pending, State, awoken, by_import}
 use Rattle.dm_retry.specs.Settled.{IsSettled}
 use Rattle.dm_retry.proofs.AwakeLemmas.{woken}
 use Rattle.dm_retry.proofs.TryLemmas.{IsPushed, others-rest}
 
 -- imports that differ one way differ the other way
-turned : (i j : ImportId) → same_import i j ≡ false → same_import j i ≡ false
-turned i j differ = by (same_import j i) refl
+turned : (i j : ImportId) → same_leaf i j ≡ false → same_leaf j i ≡ false
+turned i j differ = by (same_leaf j i) refl
   where
-    by : (b : Bool) → same_import j i ≡ b → b ≡ false
-    by true e = sym e ∙ (λ k. same_import (import_value.same-law j i e k) (sym (import_value.same-law j i e) k)) ∙ differ
+    by : (b : Bool) → same_leaf j i ≡ b → b ≡ false
+    by true e = sym e ∙ (λ k. same_leaf (import_value.same-law j i e k) (sym (import_value.same-law j i e) k)) ∙ differ
     by false e = refl
 
 -- an element of a list no element of which passes a test does not pass it
@@ -36,7 +36,7 @@ none-passes t (y ∷ ys) (suc j) x none at = none-passes t ys j x ((or_parts (t 
 
 differs : (ps : List Pending) (by : Option ImportOrExternCrate) → comes_by ps by ≡ false → (j : ℕ) (q : Pending) → slice_get ps j ≡ Some q → is_same types_reading (by_import q) by ≡ false
 differs ps None apart j q at = refl
-differs ps (Some (wide.Import i)) apart j q at = turned i q.import (none-passes (λ (p : Pending). same_import i p.import) ps j q apart at)
+differs ps (Some (wide.Import i)) apart j q at = turned i q.import (none-passes (λ (p : Pending). same_leaf i p.import) ps j q apart at)
 differs ps (Some (wide.Glob i)) apart j q at = refl
 differs ps (Some (wide.ExternCrate k)) apart j q at = refl
 

@@ -5,7 +5,7 @@ use Rattle.std.proofs.lemmas.List.{length-map, length-set}
 use Rattle.std.specs.Option.{option_map_or}
 use Rattle.dm_waiters.specs.Bits.{IsFirst}
 use Rattle.dm_retry.specs.Retries.{RestsAt}
-use Rattle.dm_retry.specs.Rounds.{Pending, State, after, any_brings, awoken, brings, brings_at, due_turns, is_due, marked, marked_after, marked_at, name_at, tried, try_at}
+use Rattle.dm_retry.specs.Rounds.{Pending, State, after, any_would_write, awoken, would_write, would_write_at, due_turns, is_due, marked, marked_after, marked_at, name_at, tried, try_at}
 
 pub length-marked : (ps : List Pending) (i : ℕ) (d : Bool) → length (marked_at ps i d) ≡ length ps
 length-marked ps i d = by (slice_get ps i)
@@ -23,7 +23,7 @@ length-try s i = by (slice_get s.pending i)
   where
     by : (o : Option Pending) → length (option_map_or (tried s i) o s).pending ≡ length s.pending
     by None = refl
-    by (Some p) = length-after s.pending i (brings s.world s.globs p)
+    by (Some p) = length-after s.pending i (would_write s.world s.globs p)
 
 pub length-tries : (s : State) (n : ℕ) → length (after s n).pending ≡ length s.pending
 length-tries s zero = refl
@@ -38,11 +38,11 @@ or_false false = refl
 -- the tries from `from` up to n change nothing, bring nothing and are of none that is due
 pub record Rests (s : State) (from n : ℕ) : Type 0 where
   pub state : after s n ≡ after s from
-  pub answer : any_brings s n ≡ any_brings s from
+  pub answer : any_would_write s n ≡ any_would_write s from
   pub turns : due_turns s n ≡ due_turns s from
 
 same : (s : State) (from n : ℕ) → n ≡ from → Rests s from n
-same s from n e = record { state = ap (after s) e; answer = ap (any_brings s) e; turns = ap (due_turns s) e }
+same s from n e = record { state = ap (after s) e; answer = ap (any_would_write s) e; turns = ap (due_turns s) e }
 
 -- where none of those is due, they do not
 gap : (s t : State) (from n : ℕ) → t ≡ after s from → from ≤ n → ((k : ℕ) → is_due t k ≡ false → RestsAt t k) → ((k : ℕ) → from ≤ k → k < n → is_due t k ≡ false) → Rests s from n
@@ -59,7 +59,7 @@ gap s t from (suc n) e le rests none = by (leb_tells from n) (λ low. gap s t fr
         let kept : due_turns s n + 0 ≡ due_turns s n = omega arith in
         record {
           state = ap (λ u. try_at u n) here ∙ rest.leaves ∙ e;
-          answer = ap (λ u. any_brings s n || brings_at u n) here ∙ ap (λ b. any_brings s n || b) rest.writes ∙ or_false (any_brings s n) ∙ r.answer;
+          answer = ap (λ u. any_would_write s n || would_write_at u n) here ∙ ap (λ b. any_would_write s n || b) rest.writes ∙ or_false (any_would_write s n) ∙ r.answer;
           turns = ap (λ u. due_turns s n + (if is_due u n then 1 else 0)) here ∙ ap (λ b. due_turns s n + (if b then 1 else 0)) idle ∙ kept ∙ r.turns;
         }
 
@@ -68,7 +68,7 @@ pub record Turn (s t u : State) (from i : ℕ) : Type 0 where
   pub here : after s i ≡ t
   pub before : due_turns s i ≡ due_turns s from
   pub state : u ≡ try_at t i → u ≡ after s (i + 1)
-  pub answer : any_brings s (i + 1) ≡ (any_brings s from || brings_at t i)
+  pub answer : any_would_write s (i + 1) ≡ (any_would_write s from || would_write_at t i)
   pub turns : due_turns s (i + 1) ≡ due_turns s from + 1
 
 pub next-turn : (s t u : State) (from i : ℕ) → t ≡ after s from → IsFirst (is_due t) from (Some i) → ((k : ℕ) → is_due t k ≡ false → RestsAt t k) → Turn s t u from i
@@ -79,7 +79,7 @@ next-turn s t u from i e first rests =
       here = here;
       before = r.turns;
       state = λ is. is ∙ ap (λ x. try_at x i) (sym here) ∙ ap (after s) (sym (add-one i));
-      answer = ap (any_brings s) (add-one i) ∙ ap (λ x. any_brings s i || brings_at x i) here ∙ ap (λ b. b || brings_at t i) r.answer;
+      answer = ap (any_would_write s) (add-one i) ∙ ap (λ x. any_would_write s i || would_write_at x i) here ∙ ap (λ b. b || would_write_at t i) r.answer;
       turns = ap (due_turns s) (add-one i) ∙ ap (λ x. due_turns s i + (if is_due x i then 1 else 0)) here ∙ ap (λ b. due_turns s i + (if b then 1 else 0)) first.1 ∙ ap (λ n. n + 1) r.turns;
     }
 

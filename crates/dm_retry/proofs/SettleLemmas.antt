@@ -8,12 +8,12 @@ use Rattle.dm_scope.specs.Flags.{Globs}
 use Rattle.dm_maps.specs.Cut.{among}
 use Rattle.dm_maps.specs.Known.{KnowsAll}
 use Rattle.dm_maps.specs.World.{World}
-use Rattle.dm_retry.specs.Known.{parts, same_import}
-use Rattle.dm_retry.specs.Rounds.{Pending, State, awoken, brings, is_due, marked, marked_after, marked_at, name_at, refused_at, tried, try_at}
+use Rattle.dm_retry.specs.Known.{parts, same_leaf}
+use Rattle.dm_retry.specs.Rounds.{Pending, State, awoken, would_write, is_due, marked, marked_after, marked_at, name_at, refused_at, tried, try_at}
 use Rattle.dm_retry.specs.Retries.{RestsAt}
 use Rattle.dm_retry.specs.Settled.{IsSettled}
 use Rattle.dm_retry.proofs.ListLemmas.{get-put}
-use Rattle.dm_retry.proofs.TryLemmas.{brings-marked, idle-table, idle-world}
+use Rattle.dm_retry.proofs.TryLemmas.{would_write-marked, idle-table, idle-world}
 use Rattle.dm_retry.proofs.WorldLemmas.{set-own}
 
 -- An import r at place j after a try of the one at place i: it is one of before but for its mark, and where it is not due, it
@@ -67,36 +67,36 @@ module _ (ps : List Pending) (i : ℕ) (p : Pending) (at : slice_get ps i ≡ So
 -- A try keeps the invariant of unresolved imports, where what was known is known, the push of the tried import leaves
 -- each other import that has no segment of its name, and itself, without effect, and a push that answers false changes
 -- nothing.
-pub settles : (s : State) (i : ℕ) (p : Pending) → IsSettled s → slice_get s.pending i ≡ Some p → (v : World) (h : Globs) (b : Bool) → b ≡ brings s.world s.globs p
+pub settles : (s : State) (i : ℕ) (p : Pending) → IsSettled s → slice_get s.pending i ≡ Some p → (v : World) (h : Globs) (b : Bool) → b ≡ would_write s.world s.globs p
     → ((q : Pending) → KnowsAll s.world (parts q) → KnowsAll v (parts q))
-    → ((q : Pending) → same_import q.import p.import ≡ false → among q.path.segments p.name ≡ false → brings s.world s.globs q ≡ false → brings v h q ≡ false)
-    → (among p.path.segments p.name ≡ false → brings v h p ≡ false)
-    → (b ≡ false → (q : Pending) → brings s.world s.globs q ≡ false → brings v h q ≡ false)
+    → ((q : Pending) → same_leaf q.import p.import ≡ false → among q.path.segments p.name ≡ false → would_write s.world s.globs q ≡ false → would_write v h q ≡ false)
+    → (among p.path.segments p.name ≡ false → would_write v h p ≡ false)
+    → (b ≡ false → (q : Pending) → would_write s.world s.globs q ≡ false → would_write v h q ≡ false)
     → IsSettled (record { world = v; globs = h; pending = marked_after s.pending i b })
 settles s i p before at v h b is known others own idle = record {
   known = λ j r e. let c = comes s.pending i p at b j r e in subst (λ (q : Pending). KnowsAll v (parts q)) (sym c.same) (known c.one (before.known j c.one c.stood));
   single = λ j k q r d e same. let c = comes s.pending i p at b j q d in let f = comes s.pending i p at b k r e in
       before.single j k c.one f.one c.stood f.stood (ap (λ (z : Pending). z.import) (sym c.same) ∙ same ∙ ap (λ (z : Pending). z.import) f.same);
   settled = λ j r e none. let c = comes s.pending i p at b j r e in
-      ap (brings v h) c.same ∙ brings-marked v h r.due c.one ∙ rests b refl j c.one c.stood (c.rests none) (λ w. ap (among c.one.path.segments) (sym name) ∙ c.apart none w);
+      ap (would_write v h) c.same ∙ would_write-marked v h r.due c.one ∙ rests b refl j c.one c.stood (c.rests none) (λ w. ap (among c.one.path.segments) (sym name) ∙ c.apart none w);
 }
   where
     name : name_at s.pending i ≡ p.name
     name = ap (λ o. option_map_or (λ (q : Pending). q.name) o []) at
 
     -- the tried import itself
-    itself : (c : Bool) → b ≡ c → (q : Pending) → q ≡ p → (c ≡ true → among q.path.segments p.name ≡ false) → brings v h q ≡ false
-    itself true w q same apart = ap (brings v h) same ∙ own (ap (λ (z : Pending). among z.path.segments p.name) (sym same) ∙ apart refl)
-    itself false w q same apart = idle w q (ap (brings s.world s.globs) same ∙ sym is ∙ w)
+    itself : (c : Bool) → b ≡ c → (q : Pending) → q ≡ p → (c ≡ true → among q.path.segments p.name ≡ false) → would_write v h q ≡ false
+    itself true w q same apart = ap (would_write v h) same ∙ own (ap (λ (z : Pending). among z.path.segments p.name) (sym same) ∙ apart refl)
+    itself false w q same apart = idle w q (ap (would_write s.world s.globs) same ∙ sym is ∙ w)
 
     one-of : (j : ℕ) (q : Pending) → slice_get s.pending j ≡ Some q → j ≡ i → q ≡ p
     one-of j q stood same = let e : Some q ≡ Some p = sym stood ∙ ap (slice_get s.pending) same ∙ at in cc
 
-    rests : (c : Bool) → b ≡ c → (j : ℕ) (q : Pending) → slice_get s.pending j ≡ Some q → (j ≡ i) ⊎ (q.due ≡ false) → (c ≡ true → among q.path.segments p.name ≡ false) → brings v h q ≡ false
+    rests : (c : Bool) → b ≡ c → (j : ℕ) (q : Pending) → slice_get s.pending j ≡ Some q → (j ≡ i) ⊎ (q.due ≡ false) → (c ≡ true → among q.path.segments p.name ≡ false) → would_write v h q ≡ false
     rests c w j q stood (inl same) apart = itself c w q (one-of j q stood same) apart
-    rests true w j q stood (inr none) apart = by (same_import q.import p.import) refl
+    rests true w j q stood (inr none) apart = by (same_leaf q.import p.import) refl
       where
-        by : (d : Bool) → same_import q.import p.import ≡ d → brings v h q ≡ false
+        by : (d : Bool) → same_leaf q.import p.import ≡ d → would_write v h q ≡ false
         by true e = itself true w q (one-of j q stood (before.single j i q p stood at (import_value.same-law q.import p.import e))) apart
         by false e = others q e (apart refl) (before.settled j q stood none)
     rests false w j q stood (inr none) apart = idle w q (before.settled j q stood none)
@@ -115,14 +115,14 @@ refuses s i p before at = subst (λ (l : List Pending). IsSettled (record s { pe
     stood : (j : ℕ) (r : Pending) → slice_get (slice_set s.pending i (marked true p)) j ≡ Some r → (q : Pending) × (slice_get s.pending j ≡ Some q) × (r.import ≡ q.import)
     stood j r e = elim (get-put s.pending i j (marked true p) r e) [ inl h ↦ (p, ap (slice_get s.pending) h.0 ∙ at, ap (λ (z : Pending). z.import) h.1) | inr h ↦ (r, h, refl) ]
 
-    by : (j : ℕ) (r : Pending) → r.due ≡ false → ((j ≡ i) × (r ≡ marked true p)) ⊎ (slice_get s.pending j ≡ Some r) → brings s.world s.globs r ≡ false
+    by : (j : ℕ) (r : Pending) → r.due ≡ false → ((j ≡ i) × (r ≡ marked true p)) ⊎ (slice_get s.pending j ≡ Some r) → would_write s.world s.globs r ≡ false
     by j r none (inl h) = absurd (true≢false (ap (λ (z : Pending). z.due) (sym h.1) ∙ none))
     by j r none (inr h) = before.settled j r h none
 
 -- ---- A try of an import that is not due
 
 module _ (s : State) (settled : IsSettled s) (i : ℕ) where
-  rest-at : (o : Option Pending) → slice_get s.pending i ≡ o → option_map_or (λ (p : Pending). p.due) o false ≡ false → option_map_or (brings s.world s.globs) o false ≡ false
+  rest-at : (o : Option Pending) → slice_get s.pending i ≡ o → option_map_or (λ (p : Pending). p.due) o false ≡ false → option_map_or (would_write s.world s.globs) o false ≡ false
   rest-at None at none = refl
   rest-at (Some p) at none = settled.settled i p at none
 
@@ -133,7 +133,7 @@ module _ (s : State) (settled : IsSettled s) (i : ℕ) where
       by None at none = refl
       by (Some p) at none =
           let idle = settled.settled i p at none in
-          let marks : marked_after s.pending i (brings s.world s.globs p) ≡ s.pending =
+          let marks : marked_after s.pending i (would_write s.world s.globs p) ≡ s.pending =
           ap (marked_after s.pending i) idle ∙ rest-is s.pending i p at false ∙ ap (λ (d : Bool). slice_set s.pending i (marked d p)) (sym none) ∙ set-own s.pending i p at in
           λ k. record { world = idle-world s.world s.globs p idle k; globs = idle-table s.world s.globs p idle k; pending = marks k }
 

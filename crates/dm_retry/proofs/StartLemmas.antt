@@ -11,7 +11,7 @@ use Rattle.dm_maps.specs.Known.{knows, KnowsAll}
 use Rattle.dm_maps.specs.World.{World}
 use Rattle.dm_retry.specs.declared.retry_fault.RetryFault.{RetryFault}
 use Rattle.dm_retry.specs.declared.retry_fault.RetryFault.TheVariants.{DoubleImport, UnknownPart}
-use Rattle.dm_retry.specs.Known.{double_from, fault_of, first_double, first_unknown, is_known, parts, same_import}
+use Rattle.dm_retry.specs.Known.{double_from, fault_of, first_double, first_unknown, is_known, parts, same_leaf}
 use Rattle.dm_retry.specs.Rounds.{Pending, marked}
 use Rattle.dm_retry.specs.Settled.{IsSettled}
 
@@ -39,7 +39,7 @@ knows-from w (h ∷ hs) all = ((and_parts (knows w h) (list_all (knows w) hs) al
 
 -- ---- Imports that are taken
 
-pub import-refl : (i : ImportId) → same_import i i ≡ true
+pub import-refl : (i : ImportId) → same_leaf i i ≡ true
 import-refl = Prim.search rules
 
 pub singles : (k : ℕ) (ps : List Pending) → double_from k ps ≡ None → (i j : ℕ) (p q : Pending) → slice_get ps i ≡ Some p → slice_get ps j ≡ Some q → p.import ≡ q.import → i ≡ j
@@ -47,12 +47,12 @@ singles k [] none i j p q a b same = cc
 singles k (x ∷ xs) none zero zero p q a b same = refl
 singles k (x ∷ xs) none zero (suc j) p q a b same =
     let is : x ≡ p = cc in
-    let differ : same_import x.import q.import ≡ false = any-at (λ (r : Pending). same_import x.import r.import) xs j q ((passed _ k (double_from (k + 1) xs) none).0) b in
-    absurd (true≢false (sym (import-refl q.import) ∙ ap (λ k. same_import k q.import) (sym (ap (λ (z : Pending). z.import) is ∙ same)) ∙ differ))
+    let differ : same_leaf x.import q.import ≡ false = any-at (λ (r : Pending). same_leaf x.import r.import) xs j q ((passed _ k (double_from (k + 1) xs) none).0) b in
+    absurd (true≢false (sym (import-refl q.import) ∙ ap (λ k. same_leaf k q.import) (sym (ap (λ (z : Pending). z.import) is ∙ same)) ∙ differ))
 singles k (x ∷ xs) none (suc i) zero p q a b same =
     let is : x ≡ q = cc in
-    let differ : same_import x.import p.import ≡ false = any-at (λ (r : Pending). same_import x.import r.import) xs i p ((passed _ k (double_from (k + 1) xs) none).0) a in
-    absurd (true≢false (sym (import-refl p.import) ∙ ap (λ k. same_import k p.import) (same ∙ sym (ap (λ (z : Pending). z.import) is)) ∙ differ))
+    let differ : same_leaf x.import p.import ≡ false = any-at (λ (r : Pending). same_leaf x.import r.import) xs i p ((passed _ k (double_from (k + 1) xs) none).0) a in
+    absurd (true≢false (sym (import-refl p.import) ∙ ap (λ k. same_leaf k p.import) (same ∙ sym (ap (λ (z : Pending). z.import) is)) ∙ differ))
 singles k (x ∷ xs) none (suc i) (suc j) p q a b same = ap suc (singles (k + 1) xs ((passed _ k (double_from (k + 1) xs) none).1) i j p q a b same)
 
 -- an import of the list of due ones is one of the list but for its mark

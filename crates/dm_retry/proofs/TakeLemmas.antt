@@ -5,7 +5,7 @@ use Rattle.std.proofs.lemmas.Option.{slice_get_cases}
 use Rattle.std.specs.Option.{option_map_or}
 use Rattle.dm_scope.specs.Flags.{Globs}
 use Rattle.dm_maps.specs.World.{World}
-use Rattle.dm_retry.specs.Rounds.{Pending, awoken, brings, found, globs_with, marked, marked_after, marked_at, name_at, world_after}
+use Rattle.dm_retry.specs.Rounds.{Pending, awoken, would_write, to_push, globs_with, marked, marked_after, marked_at, name_at, world_after}
 use Rattle.dm_retry.proofs.ListLemmas.{get-put_here, put-put}
 
 -- q, at place i of the worklist qs once the import there is taken, is p, which was there in ps
@@ -29,17 +29,17 @@ taken ps qs i q within marks is = by (slice_get_cases ps i).1
 
 -- the same push, and what it leaves
 module _ (w : World) (g : Globs) (p q : Pending) (is : q ≡ marked false p) where
-  pub same-world : world_after w g q (found w q) ≡ world_after w g p (found w p)
-  unfolding found
-  same-world = ap (λ z. world_after w g z (found w z)) is
+  pub same-world : world_after w g q (to_push w q) ≡ world_after w g p (to_push w p)
+  unfolding to_push
+  same-world = ap (λ z. world_after w g z (to_push w z)) is
 
-  pub same-globs : globs_with w g q (found w q) ≡ globs_with w g p (found w p)
-  unfolding found
-  same-globs = ap (λ z. globs_with w g z (found w z)) is
+  pub same-globs : globs_with w g q (to_push w q) ≡ globs_with w g p (to_push w p)
+  unfolding to_push
+  same-globs = ap (λ z. globs_with w g z (to_push w z)) is
 
-  pub same-brings : brings w g q ≡ brings w g p
-  unfolding found
-  same-brings = ap (brings w g) is
+  pub same-would_write : would_write w g q ≡ would_write w g p
+  unfolding to_push
+  same-would_write = ap (would_write w g) is
 
 module _ (ps qs : List Pending) (i : ℕ) (q : Pending) (t : Taken ps qs i q) where
   there : slice_get qs i ≡ Some (marked false t.p)

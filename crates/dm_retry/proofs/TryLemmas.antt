@@ -30,7 +30,7 @@ use Rattle.dm_maps.specs.World.{World, scope_of, with_scope}
 use Rattle.hir_def_map.specs.declared.result.ResolveMode.TheVariants as mode
 use Rattle.hir_def_map.specs.Paths.{answer, asked}
 use Rattle.dm_retry.specs.Kinds.{by_kind, if_any, is_unnamed}
-use Rattle.dm_retry.specs.Rounds.{Pending, answered, brings, brought, by_import, found, given, globs_with, local_of, marked, meaning, world_after}
+use Rattle.dm_retry.specs.Rounds.{Pending, answered, would_write, resolved_items, by_import, to_push, given, globs_with, local_of, marked, meaning, world_after}
 use Rattle.dm_retry.proofs.ScopeLemmas.{idle-scope, idle-globs}
 use Rattle.dm_retry.specs.Unnamed.{unnamed_answer, with_unnamed}
 use Rattle.dm_retry.proofs.TraitLemmas.{KeepsTraits, idle-unnamed, tree-same, unnamed-rests}
@@ -38,9 +38,9 @@ use Rattle.dm_retry.proofs.WorldLemmas.{scope-own}
 
 -- ---- What is found is something
 
-pub found-some : (w : World) (p : Pending) (x : PerNs) → found w p ≡ Some x → is_empty x ≡ false
-unfolding found
-found-some w p x is = of (brought (meaning w p)) is
+pub to_push-some : (w : World) (p : Pending) (x : PerNs) → to_push w p ≡ Some x → is_empty x ≡ false
+unfolding to_push
+to_push-some w p x is = of (resolved_items (meaning w p)) is
   where
     of : (o : Option PerNs) → option_and_then (given w p) o ≡ Some x → is_empty x ≡ false
     of None e = cc
@@ -55,20 +55,20 @@ found-some w p x is = of (brought (meaning w p)) is
 pub idle-push : (w : World) (g : Globs) (m : ModuleId) (n : Name) (x : PerNs) (by : Option ImportOrExternCrate) → is_empty x ≡ false → push_answer (scope_of w m) g m n x by ≡ false → with_push w g m n x by ≡ w
 idle-push w g m n x by some none = ap (with_scope w m) (idle-scope (scope_of w m) g m n x by some none) ∙ scope-own w m
 
-pub idle-world : (w : World) (g : Globs) (p : Pending) → brings w g p ≡ false → world_after w g p (found w p) ≡ w
-idle-world w g p none = by (found w p) refl none
+pub idle-world : (w : World) (g : Globs) (p : Pending) → would_write w g p ≡ false → world_after w g p (to_push w p) ≡ w
+idle-world w g p none = by (to_push w p) refl none
   where
-    by : (o : Option PerNs) → found w p ≡ o → answered w g p o ≡ false → world_after w g p o ≡ w
+    by : (o : Option PerNs) → to_push w p ≡ o → answered w g p o ≡ false → world_after w g p o ≡ w
     by None is none = refl
     by (Some x) is none = by-kind (is_unnamed p.kind) none
       where
         by-kind : (b : Bool) → cond b (unnamed_answer w p.origin p.visibility x) (push_answer (scope_of w p.origin) g p.origin p.name x (by_import p)) ≡ false
             → cond b (with_unnamed w p.origin p.visibility p.import x) (with_push w g p.origin p.name x (by_import p)) ≡ w
         by-kind true none = idle-unnamed w p.origin p.visibility p.import x none
-        by-kind false none = idle-push w g p.origin p.name x (by_import p) (found-some w p x is) none
+        by-kind false none = idle-push w g p.origin p.name x (by_import p) (to_push-some w p x is) none
 
-pub idle-table : (w : World) (g : Globs) (p : Pending) → brings w g p ≡ false → globs_with w g p (found w p) ≡ g
-idle-table w g p none = by (found w p) none
+pub idle-table : (w : World) (g : Globs) (p : Pending) → would_write w g p ≡ false → globs_with w g p (to_push w p) ≡ g
+idle-table w g p none = by (to_push w p) none
   where
     by : (o : Option PerNs) → answered w g p o ≡ false → globs_with w g p o ≡ g
     by None none = refl
@@ -80,9 +80,9 @@ idle-table w g p none = by (found w p) none
         by-kind false none = idle-globs (scope_of w p.origin) g p.origin p.name x (by_import p) none
 
 -- marks are not read
-pub brings-marked : (w : World) (g : Globs) (d : Bool) (p : Pending) → brings w g (marked d p) ≡ brings w g p
-unfolding found
-brings-marked w g d p = refl
+pub would_write-marked : (w : World) (g : Globs) (d : Bool) (p : Pending) → would_write w g (marked d p) ≡ would_write w g p
+unfolding to_push
+would_write-marked w g d p = refl
 
 -- ---- A push
 
@@ -99,23 +99,23 @@ module _ (w v : World) (alike : Alike) (stays : StaysKnown w v) (start : cut v [
       λ i. option_map_or (λ l. l) (option_and_then (λ k. slice_get (stays.locals i) k.0) (option_map (λ p. p.map.krate) (slice_get (places i) k.0))) []
 
   -- what an import finds where the world has under its segments what it had
-  pub found-stays : (q : Pending) → cut v q.path.segments ≡ cut w q.path.segments → found v q ≡ found w q
-  unfolding found
-  found-stays q same =
+  pub to_push-stays : (q : Pending) → cut v q.path.segments ≡ cut w q.path.segments → to_push v q ≡ to_push w q
+  unfolding to_push
+  to_push-stays q same =
       let S = q.path.segments in
       let means = alike w v (local_of w q.origin) (local_of v q.origin) q.origin q.path.kind S same (ap (λ L. cut_local L S) (local-stays q.origin)) in
       let tree = tree-same w v stays in
-      λ i. option_and_then (λ x. if_any (by_kind (tree i) q.origin q.visibility q.kind x)) (brought (means i))
+      λ i. option_and_then (λ x. if_any (by_kind (tree i) q.origin q.visibility q.kind x)) (resolved_items (means i))
 
   -- such an import that would bind nothing binds nothing, where its push would not write and unnamed traits are kept
   pub still-rests : (g h : Globs) (q : Pending) → cut v q.path.segments ≡ cut w q.path.segments → KeepsTraits (scope_of w q.origin) (scope_of v q.origin)
       → ((y : PerNs) → push_answer (scope_of w q.origin) g q.origin q.name y (by_import q) ≡ false → push_answer (scope_of v q.origin) h q.origin q.name y (by_import q) ≡ false)
-      → brings w g q ≡ false → brings v h q ≡ false
-  still-rests g h q same traits named none = ap (answered v h q) (found-stays q same) ∙ by-found (found w q) none
+      → would_write w g q ≡ false → would_write v h q ≡ false
+  still-rests g h q same traits named none = ap (answered v h q) (to_push-stays q same) ∙ by-to_push (to_push w q) none
     where
-      by-found : (o : Option PerNs) → answered w g q o ≡ false → answered v h q o ≡ false
-      by-found None none = refl
-      by-found (Some y) none = by-kind (is_unnamed q.kind) none
+      by-to_push : (o : Option PerNs) → answered w g q o ≡ false → answered v h q o ≡ false
+      by-to_push None none = refl
+      by-to_push (Some y) none = by-kind (is_unnamed q.kind) none
         where
           by-kind : (b : Bool) → cond b (unnamed_answer w q.origin q.visibility y) (push_answer (scope_of w q.origin) g q.origin q.name y (by_import q)) ≡ false
               → cond b (unnamed_answer v q.origin q.visibility y) (push_answer (scope_of v q.origin) h q.origin q.name y (by_import q)) ≡ false
@@ -157,15 +157,15 @@ pushed-by w v g h p x alike stays traits m n i origin name import law cuts = rec
 
 module _ (w v : World) (g h : Globs) (m : ModuleId) (n : Name) (x : PerNs) (by : Option ImportOrExternCrate) (push : IsPushed w v g h m n x by) where
   -- another import that would bind nothing, and has no segment of the pushed name, binds nothing
-  pub others-rest : (q : Pending) → is_same types_reading (by_import q) by ≡ false → among q.path.segments n ≡ false → brings w g q ≡ false → brings v h q ≡ false
+  pub others-rest : (q : Pending) → is_same types_reading (by_import q) by ≡ false → among q.path.segments n ≡ false → would_write w g q ≡ false → would_write v h q ≡ false
   others-rest q differ other none =
       still-rests w v push.alike push.stays (push.cuts [] refl) g h q (push.cuts q.path.segments other) (push.traits q.origin)
       (λ y idle. push.law.rests q.origin (push_of q.name y (by_import q)) refl differ idle) none
 
 -- and the import that was tried itself, if the name is none of its own segments
-pub own-rests : (w v : World) (g h : Globs) (p : Pending) (x : PerNs) → IsPushed w v g h p.origin p.name x (by_import p) → is_unnamed p.kind ≡ false → found w p ≡ Some x
-    → among p.path.segments p.name ≡ false → brings v h p ≡ false
+pub own-rests : (w v : World) (g h : Globs) (p : Pending) (x : PerNs) → IsPushed w v g h p.origin p.name x (by_import p) → is_unnamed p.kind ≡ false → to_push w p ≡ Some x
+    → among p.path.segments p.name ≡ false → would_write v h p ≡ false
 own-rests w v g h p x push named is other =
-    ap (answered v h p) (found-stays w v push.alike push.stays (push.cuts [] refl) p (push.cuts p.path.segments other) ∙ is)
+    ap (answered v h p) (to_push-stays w v push.alike push.stays (push.cuts [] refl) p (push.cuts p.path.segments other) ∙ is)
     ∙ ap (λ b. cond b (unnamed_answer v p.origin p.visibility x) (push_answer (scope_of v p.origin) h p.origin p.name x (by_import p))) named
     ∙ push.law.again

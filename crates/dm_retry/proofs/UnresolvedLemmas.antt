@@ -42,7 +42,7 @@ listed-more s i within b is = by ((slice_get_cases s.pending i).1)
     by (inl (x, l, at, same)) =
         let next : i + 1 ≡ suc i = omega arith in
         let first : 0 + i ≡ i = omega arith in
-        let found : finds_nothing s.world x ≡ b = sym (is ∙ ap (λ o. option_eq beq (option_map (finds_nothing s.world) o) (Some true)) at ∙ itself (finds_nothing s.world x)) in
+        let to_push : finds_nothing s.world x ≡ b = sym (is ∙ ap (λ o. option_eq beq (option_map (finds_nothing s.world) o) (Some true)) at ∙ itself (finds_nothing s.world x)) in
         ap (λ n. unresolved_from s.world 0 (take n s.pending)) next ∙ unresolved-more s.world 0 i s.pending x at
-        ∙ (λ k. unresolved_from s.world 0 (take i s.pending) ++ one-more (found k) (first k))
+        ∙ (λ k. unresolved_from s.world 0 (take i s.pending) ++ one-more (to_push k) (first k))
     by (inr (l, none)) = absurd (omega (arith, l, within))

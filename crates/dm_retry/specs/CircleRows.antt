@@ -10,7 +10,7 @@ use Rattle.dm_maps.specs.World.{World}
 use Rattle.hir_def_map.specs.Paths.{answer}
 use Rattle.hir_def_map.specs.Written.{a_map, a_module, an_item, binds_types, crate_id, leaf, module_with, number, place}
 use Rattle.dm_retry.specs.declared.import_kind.ImportKind.TheVariants as kind
-use Rattle.dm_retry.specs.Rounds.{Pending, State, found, round_answer, rounds}
+use Rattle.dm_retry.specs.Rounds.{Pending, State, to_push, round_answer, rounds}
 
 -- A glob brought the module 1 into the root as `a`. The modules 1 and 2 have each other as `b`.
 abbrev world_d : World
@@ -44,17 +44,17 @@ start = record { world = world_d; globs = by_glob; pending = turns ∷ [] }
 
 -- The first round binds `a` to the module 2, the second to 1, the third to 2 again: each round changes something, for ever.
 first_turn : round_answer start ≡ true
-unfolding answer found homes_of
+unfolding answer to_push homes_of
 first_turn = refl
 
 second_turn : round_answer (rounds 1 start) ≡ true
-unfolding answer found homes_of
+unfolding answer to_push homes_of
 second_turn = refl
 
 third_turn : round_answer (rounds 2 start) ≡ true
-unfolding answer found homes_of
+unfolding answer to_push homes_of
 third_turn = refl
 
 goes_round : rounds 3 start ≡ rounds 1 start
-unfolding answer found homes_of
+unfolding answer to_push homes_of
 goes_round = refl

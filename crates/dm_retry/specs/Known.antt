@@ -25,12 +25,12 @@ parts p = (held.Module p.origin ∷ held.Use p.import.use_ ∷ []) ++ path_holds
 abbrev pub is_known : World → Pending → Bool
 is_known w p = list_all (knows w) (parts p)
 
-abbrev pub same_import : ImportId → ImportId → Bool
-same_import = import_eq.ghosts.eq
+abbrev pub same_leaf : ImportId → ImportId → Bool
+same_leaf = import_eq.ghosts.eq
 
 -- whether an import is one of a list
 abbrev pub is_listed : List Pending → ImportId → Bool
-is_listed ps i = list_any (λ q. same_import i q.import) ps
+is_listed ps i = list_any (λ q. same_leaf i q.import) ps
 
 -- the place of the first import that is listed again behind it, where the first of these is at place i
 abbrev pub double_from : ℕ → List Pending → Option ℕ

@@ -1,7 +1,7 @@
 -- Rounds of import resolution, as contracts see them: the state, how many tries the last round began, and at which
 -- import an allocation failure stops a round.
 use Rattle.std.specs.Prelude.{◌≡◌, ◌<◌, ℕ, suc, true, false, length}
-use Rattle.dm_retry.specs.Rounds.{State, after, brings_at, due_turns, is_due, refused_at, rounds, try_at}
+use Rattle.dm_retry.specs.Rounds.{State, after, would_write_at, due_turns, is_due, refused_at, rounds, try_at}
 
 -- the state, and how many tries the last round began
 pub record Retries : Type 0 where
@@ -10,7 +10,7 @@ pub record Retries : Type 0 where
 
 -- A try of the import at a place would bind nothing, and change nothing.
 pub record RestsAt (s : State) (i : ℕ) : Type 0 where
-  pub writes : brings_at s i ≡ false
+  pub writes : would_write_at s i ≡ false
   pub leaves : try_at s i ≡ s
 
 -- No import is due.

@@ -49,25 +49,29 @@ pub record State : Type 0 where
 abbrev pub local_of : World → ModuleId → LocalMap
 local_of w m = option_map_or (λ l. l) (option_and_then (λ k. slice_get w.local_maps k.0) ((homes_of w).krate m)) []
 
--- what its path means for an import of its module
+-- what a path means for an import of module m
+abbrev pub path_meaning : World → ModuleId → Path → ResolvePathResult
+path_meaning w m p = answer w (local_of w m) (asked m mode.Import shadow.Module None p.kind) p.segments
+
+-- what the path of an import means
 abbrev pub meaning : World → Pending → ResolvePathResult
-meaning w p = answer w (local_of w p.origin) (asked p.origin mode.Import shadow.Module None p.path.kind) p.path.segments
+meaning w p = path_meaning w p.origin p.path
 
 -- what an answer has for an import: its items, where no segment is left and something is bound
-abbrev pub brought : ResolvePathResult → Option PerNs
-brought a = if is_none a.segment_index && not (is_empty a.resolved_def) then Some a.resolved_def else None
+abbrev pub resolved_items : ResolvePathResult → Option PerNs
+resolved_items a = if is_none a.segment_index && not (is_empty a.resolved_def) then Some a.resolved_def else None
 
 -- what an import brings of some items, if anything
 abbrev pub given : World → Pending → PerNs → Option PerNs
 given w p x = if_any (by_kind (tree_of w) p.origin p.visibility p.kind x)
 
 -- what a try pushes, if it pushes: what the import brings of what its path means
-unfoldable pub found : World → Pending → Option PerNs
-found w p = option_and_then (given w p) (brought (meaning w p))
+unfoldable pub to_push : World → Pending → Option PerNs
+to_push w p = option_and_then (given w p) (resolved_items (meaning w p))
 
 -- whether an import is unresolved: its path resolves to nothing, or a segment of it is left
 abbrev pub finds_nothing : World → Pending → Bool
-finds_nothing w p = is_none (found w p)
+finds_nothing w p = is_none (to_push w p)
 
 -- the indices of those that are unresolved, in order, where the first of these is at index i
 abbrev pub unresolved_from : World → ℕ → List Pending → List ℕ
@@ -100,8 +104,8 @@ answered w g p (Some x) =
     else push_answer (scope_of w p.origin) g p.origin p.name x (by_import p)
 
 -- whether a try of the import pushes, and its push changes the scope
-abbrev pub brings : World → Globs → Pending → Bool
-brings w g p = answered w g p (found w p)
+abbrev pub would_write : World → Globs → Pending → Bool
+would_write w g p = answered w g p (to_push w p)
 
 -- ---- Tries and rounds
 
@@ -128,17 +132,17 @@ marked_after ps i written = let rest = marked_at ps i false in if written then m
 -- a try of the import p at place i
 abbrev pub tried : State → ℕ → Pending → State
 tried s i p = record {
-  world = world_after s.world s.globs p (found s.world p);
-  globs = globs_with s.world s.globs p (found s.world p);
-  pending = marked_after s.pending i (brings s.world s.globs p);
+  world = world_after s.world s.globs p (to_push s.world p);
+  globs = globs_with s.world s.globs p (to_push s.world p);
+  pending = marked_after s.pending i (would_write s.world s.globs p);
 }
 
 abbrev pub try_at : State → ℕ → State
 try_at s i = option_map_or (tried s i) (slice_get s.pending i) s
 
 -- whether the push of that try changes the scope, and whether its import is due
-abbrev pub brings_at : State → ℕ → Bool
-brings_at s i = option_map_or (brings s.world s.globs) (slice_get s.pending i) false
+abbrev pub would_write_at : State → ℕ → Bool
+would_write_at s i = option_map_or (would_write s.world s.globs) (slice_get s.pending i) false
 
 abbrev pub is_due : State → ℕ → Bool
 is_due s i = option_map_or (λ p. p.due) (slice_get s.pending i) false
@@ -149,9 +153,9 @@ after s zero = s
 after s (suc n) = try_at (after s n) n
 
 -- whether a push of those tries changes a scope
-abbrev pub any_brings : State → ℕ → Bool
-any_brings s zero = false
-any_brings s (suc n) = any_brings s n || brings_at (after s n) n
+abbrev pub any_would_write : State → ℕ → Bool
+any_would_write s zero = false
+any_would_write s (suc n) = any_would_write s n || would_write_at (after s n) n
 
 -- how many of those imports are due at their turn
 abbrev pub due_turns : State → ℕ → ℕ
@@ -163,7 +167,7 @@ abbrev pub round : State → State
 round s = after s (length s.pending)
 
 abbrev pub round_answer : State → Bool
-round_answer s = any_brings s (length s.pending)
+round_answer s = any_would_write s (length s.pending)
 
 -- any number of rounds, one after another
 abbrev pub rounds : ℕ → State → State

@@ -3,9 +3,9 @@
 use Rattle.std.specs.Prelude.{◌≡◌, ℕ, false, Some, slice_get}
 use Rattle.dm_maps.specs.Known.{KnowsAll}
 use Rattle.dm_retry.specs.Known.{parts}
-use Rattle.dm_retry.specs.Rounds.{Pending, State, brings}
+use Rattle.dm_retry.specs.Rounds.{Pending, State, would_write}
 
 pub record IsSettled (s : State) : Type 0 where
   pub known : (i : ℕ) (p : Pending) → slice_get s.pending i ≡ Some p → KnowsAll s.world (parts p)
   pub single : (i j : ℕ) (p q : Pending) → slice_get s.pending i ≡ Some p → slice_get s.pending j ≡ Some q → p.import ≡ q.import → i ≡ j
-  pub settled : (i : ℕ) (p : Pending) → slice_get s.pending i ≡ Some p → p.due ≡ false → brings s.world s.globs p ≡ false
+  pub settled : (i : ℕ) (p : Pending) → slice_get s.pending i ≡ Some p → p.due ≡ false → would_write s.world s.globs p ≡ false

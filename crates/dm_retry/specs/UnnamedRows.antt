@@ -19,7 +19,7 @@ use Rattle.dm_maps.specs.World.{World, scope_of}
 use Rattle.hir_def_map.specs.Paths.{answer}
 use Rattle.hir_def_map.specs.Written.{a_map, a_module, a_struct, an_item, binds_types, crate_id, leaf, module_with, number, place, within, within_crate}
 use Rattle.dm_retry.specs.declared.import_kind.ImportKind.TheVariants as kind
-use Rattle.dm_retry.specs.Rounds.{Pending, State, finds_nothing, found, round_answer, rounds}
+use Rattle.dm_retry.specs.Rounds.{Pending, State, finds_nothing, to_push, round_answer, rounds}
 use Rattle.dm_retry.specs.Unnamed.{unnamed_answer, with_unnamed}
 
 abbrev the_trait : TraitId
@@ -94,27 +94,27 @@ start n = record { world = world_e; globs = no_globs; pending = as_unnamed n ∷
 
 -- of a trait: the first round writes, and the second does not
 first_answer : round_answer (start (codes "T")) ≡ true
-unfolding answer found homes_of tree_of
+unfolding answer to_push homes_of tree_of
 first_answer = refl
 
 second_answer : round_answer (rounds 1 (start (codes "T"))) ≡ false
-unfolding answer found homes_of tree_of
+unfolding answer to_push homes_of tree_of
 second_answer = refl
 
 written : (scope_of (rounds 2 (start (codes "T"))).world (number 0)).unnamed_traits ≡ (the_trait, Public, Some (leaf 0 0)) ∷ []
-unfolding answer found homes_of tree_of
+unfolding answer to_push homes_of tree_of
 written = refl
 
 -- and no name is bound
 no_name : bound_in (scope_of (rounds 2 (start (codes "T"))).world (number 0)) (codes "_") ≡ record { types = None; values = None; macros = None }
-unfolding answer found homes_of tree_of
+unfolding answer to_push homes_of tree_of
 no_name = refl
 
 -- of a struct: it is resolved, and writes nothing
 resolved : finds_nothing world_e (as_unnamed (codes "S")) ≡ false
-unfolding answer found homes_of tree_of
+unfolding answer to_push homes_of tree_of
 resolved = refl
 
 writes_nothing : round_answer (start (codes "S")) ≡ false
-unfolding answer found homes_of tree_of
+unfolding answer to_push homes_of tree_of
 writes_nothing = refl

@@ -1,46 +1,30 @@
 //! One try of an import: its path is resolved, and what it resolves to is pushed.
-ghost use Rattle.std.specs.Prelude.{◌≡◌, false, IfOk, IfSome, IsTrue, OnErr, OnOk, Some};
+ghost use Rattle.std.specs.Prelude.{◌≡◌, false, IfOk, IfSome, OnErr, OnOk, Some};
 ghost use Rattle.dm_base.specs.PerNs.{is_empty};
-ghost use Rattle.dm_check.specs.declared.held.HeldId.TheVariants as held;
-ghost use Rattle.dm_check.specs.Holding.{local_holds, res_holds};
+ghost use Rattle.dm_check.specs.Holding.{res_holds};
 ghost use Rattle.dm_check.specs.Pushes.{push_holds};
 ghost use Rattle.dm_maps.specs.Cut.{among};
-ghost use Rattle.dm_maps.specs.Known.{knows, KnowsAll};
+ghost use Rattle.dm_maps.specs.Known.{KnowsAll};
 ghost use Rattle.dm_maps.specs.PushRes.{with_push};
 ghost use Rattle.dm_maps.specs.World.{scope_of};
 ghost use Rattle.dm_scope.specs.Push.{globs_after, push_answer};
 ghost use Rattle.dm_retry.specs.Kinds.{is_unnamed};
-ghost use Rattle.dm_retry.specs.Known.{parts, same_import};
+ghost use Rattle.dm_retry.specs.Known.{parts, same_leaf};
 ghost use Rattle.dm_retry.specs.Rounds as rounds;
-ghost use Rattle.dm_retry.specs.Rounds.{brings, brought, by_import, found, given, globs_with, local_of, meaning, world_after};
+ghost use Rattle.dm_retry.specs.Rounds.{would_write, resolved_items, by_import, to_push, given, globs_with, meaning, world_after};
 
 use crate::kinds::{by_kind, if_any};
+use crate::meaning::path_meaning;
 use crate::pending::Pending;
 use crate::unnamed::push_trait;
 use crate::writes::would_write;
-use dm_base::ids::ModuleId;
 use dm_base::imports::ImportOrExternCrate;
-use dm_base::item_in_ns::ItemModules;
 use dm_base::per_ns::PerNs;
-use dm_maps::local_def_map::LocalDefMap;
-use dm_maps::modes::BuiltinShadowMode;
 use dm_maps::world::World;
-use dm_maps::world::maps_of::local_def_map;
 use dm_scope::glob_imports::PerNsGlobImports;
 use hir_def_map::laws::answers_alike;
-use hir_def_map::path_resolution::ResolvePath;
-use hir_def_map::result::{ResolveMode, ResolvePathResult};
+use hir_def_map::result::ResolvePathResult;
 use std::alloc::{AllocError, Global};
-
-/// The extern prelude of a module's crate.
-fn local_of(world: &World, m: ModuleId) -> &LocalDefMap
-    requires { IsTrue (knows world.now (held.Module m)) }
-    ensures value { result.now ≡ local_of world.now m }
-    ensures known { KnowsAll world.now (local_holds result.now) }
-{
-    let krate = world.module_krate(m).unwrap();
-    local_def_map(world, krate)
-}
 
 /// What the path of an import resolves to in the current state of the world.
 fn meaning(world: &World, pending: &Pending) -> ResolvePathResult
@@ -48,17 +32,12 @@ fn meaning(world: &World, pending: &Pending) -> ResolvePathResult
     ensures value { result ≡ meaning world.now pending.now }
     ensures known { KnowsAll world.now (res_holds result.resolved_def) }
 {
-    let m = pending.origin();
-    let map = world.map_of(m).unwrap();
-    let local = local_of(world, m);
-    let mode = ResolveMode::Import;
-    let shadow = BuiltinShadowMode::Module;
-    map.resolve_path_fp_with_macro(local, world, mode, m, pending.path(), shadow, None)
+    path_meaning(world, pending.origin(), pending.path())
 }
 
 /// What an answer has for an import.
-fn brought(answer: &ResolvePathResult) -> Option<PerNs>
-    ensures { result ≡ brought answer.now }
+fn resolved_items(answer: &ResolvePathResult) -> Option<PerNs>
+    ensures { result ≡ resolved_items answer.now }
 {
     if answer.segment_index.is_none() && !answer.resolved_def.is_none() {
         Some(answer.resolved_def)
@@ -80,14 +59,14 @@ fn given(world: &World, pending: &Pending, items: PerNs) -> Option<PerNs>
 }
 
 /// What an import brings in the current state of the world.
-pub(crate) fn found(world: &World, pending: &Pending) -> Option<PerNs>
+pub(crate) fn to_push(world: &World, pending: &Pending) -> Option<PerNs>
     requires known { KnowsAll world.now (parts pending.now) }
-    ensures value { result ≡ found world.now pending.now }
+    ensures value { result ≡ to_push world.now pending.now }
     ensures known { IfSome result
         (λ x. KnowsAll world.now (push_holds pending.now.origin x (by_import pending.now))) }
 {
     let answer = meaning(world, pending);
-    match brought(&answer) {
+    match resolved_items(&answer) {
         None => None,
         Some(items) => given(world, pending, items),
     }
@@ -102,11 +81,11 @@ pub(crate) fn attempt(
     alloc: Global,
 ) -> Result<bool, AllocError>
     requires known { KnowsAll world.old (parts pending.now) }
-    ensures answer { IfOk result (λ answer. answer ≡ brings world.old globs.old pending.now) }
+    ensures answer { IfOk result (λ answer. answer ≡ would_write world.old globs.old pending.now) }
     ensures world { OnOk result
-        (world.new ≡ world_after world.old globs.old pending.now (found world.old pending.now)) }
+        (world.new ≡ world_after world.old globs.old pending.now (to_push world.old pending.now)) }
     ensures globs { OnOk result
-        (globs.new ≡ globs_with world.old globs.old pending.now (found world.old pending.now)) }
+        (globs.new ≡ globs_with world.old globs.old pending.now (to_push world.old pending.now)) }
     ensures err { OnErr result (world.new ≡ world.old) }
     ensures err_globs { OnErr result (globs.new ≡ globs.old) }
 
@@ -115,16 +94,16 @@ pub(crate) fn attempt(
 
     // An import whose retry would change nothing, and whose path has no segment of the pushed name, stays such.
     ensures others { OnOk result
-        ((q : rounds.Pending) → same_import q.import pending.now.import ≡ false
-        → among q.path.segments pending.now.name ≡ false → brings world.old globs.old q ≡ false
-        → brings world.new globs.new q ≡ false) }
+        ((q : rounds.Pending) → same_leaf q.import pending.now.import ≡ false
+        → among q.path.segments pending.now.name ≡ false → would_write world.old globs.old q ≡ false
+        → would_write world.new globs.new q ≡ false) }
 
     // So does this import, if the name is none of its own segments.
     ensures own { OnOk result
         (among pending.now.path.segments pending.now.name ≡ false
-        → brings world.new globs.new pending.now ≡ false) }
+        → would_write world.new globs.new pending.now ≡ false) }
 {
-    let Some(items) = found(world, pending) else {
+    let Some(items) = to_push(world, pending) else {
         return Ok(false);
     };
     if pending.kind().is_unnamed() {
@@ -169,15 +148,15 @@ fn push_named(
 
     // Another import that would bind nothing, and has no segment of the name, would bind nothing.
     ensures others { OnOk result
-        ((q : rounds.Pending) → same_import q.import pending.now.import ≡ false
-        → among q.path.segments pending.now.name ≡ false → brings world.old globs.old q ≡ false
-        → brings world.new globs.new q ≡ false) }
+        ((q : rounds.Pending) → same_leaf q.import pending.now.import ≡ false
+        → among q.path.segments pending.now.name ≡ false → would_write world.old globs.old q ≡ false
+        → would_write world.new globs.new q ≡ false) }
 
     // So would this import, which found these items, if the name is none of its own segments.
     ensures own { OnOk result
-        (is_unnamed pending.now.kind ≡ false → found world.old pending.now ≡ Some items
+        (is_unnamed pending.now.kind ≡ false → to_push world.old pending.now ≡ Some items
         → among pending.now.path.segments pending.now.name ≡ false
-        → brings world.new globs.new pending.now ≡ false) }
+        → would_write world.new globs.new pending.now ≡ false) }
 {
     answers_alike();
     if !would_write(world, globs, pending, &items) {

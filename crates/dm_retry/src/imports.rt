@@ -1,7 +1,7 @@
 //! A world, a glob table and its unresolved imports.
 ghost use Rattle.std.specs.Prelude.{◌≡◌, ◌<◌, ℕ, None, Some, false, true, if◌then◌else◌, IfErr, IfOk, IfSome, OnErr, OnOk, length, map, option_copied, slice_get};
 ghost use Rattle.std.specs.Option.{option_map};
-ghost use Rattle.dm_retry.specs.Rounds.{added, awoken, brings_at, finds_nothing, is_due, marked, name_at, pushed_into, refused_at, try_at, unresolved};
+ghost use Rattle.dm_retry.specs.Rounds.{added, awoken, would_write_at, finds_nothing, is_due, marked, name_at, pushed_into, refused_at, try_at, unresolved};
 ghost use Rattle.dm_retry.specs.Retries.{RestsAt};
 ghost use Rattle.dm_retry.specs.Known.{add_fault, comes_by, fault_of, is_listed, unadded};
 ghost use Rattle.dm_check.specs.Pushes.{push_holds};
@@ -13,7 +13,7 @@ ghost use Rattle.dm_waiters.specs.Bits.{IsFirst};
 mod changes;
 
 use crate::add_fault::AddFault;
-use crate::attempt::{attempt, found};
+use crate::attempt::{attempt, to_push};
 use crate::pending::Pending;
 use crate::pendings::Pendings;
 use dm_base::ids::ModuleId;
@@ -117,7 +117,7 @@ impl Imports {
         ensures { result ≡ option_map (finds_nothing self.now.world) (slice_get self.now.pending i) }
     {
         let pending = self.get(i)?;
-        Some(found(&self.world, pending).is_none())
+        Some(to_push(&self.world, pending).is_none())
     }
 
     /// The places of those that are unresolved, in order.
@@ -137,7 +137,7 @@ impl Imports {
     pub(crate) fn try_at(&mut self, i: usize) -> Result<bool, AllocError>
         requires { i < length self.old.pending }
         ensures state { OnOk result (self.new ≡ try_at self.old i) }
-        ensures answer { IfOk result (λ answer. answer ≡ brings_at self.old i) }
+        ensures answer { IfOk result (λ answer. answer ≡ would_write_at self.old i) }
         ensures err { OnErr result (self.new ≡ refused_at self.old i) }
     {
         self.pendings.take(i, self.alloc)?;

@@ -1,10 +1,11 @@
 //! What an import brings of the items that its path means, by its kind.
-ghost use Rattle.std.specs.Prelude.{◌≡◌};
+ghost use Rattle.std.specs.Prelude.{◌≡◌, IsTrue};
 ghost use Rattle.std.specs.Option.{ForSome};
 ghost use Rattle.dm_base.specs.Tree.{IsKnown};
 ghost use Rattle.dm_base.specs.Visibility.{NamesKnown};
 ghost use Rattle.dm_check.specs.Holding.{res_holds, vis_holds};
-ghost use Rattle.dm_maps.specs.Known.{KnowsAll};
+ghost use Rattle.dm_check.specs.declared.held.HeldId.TheVariants as held;
+ghost use Rattle.dm_maps.specs.Known.{knows, KnowsAll};
 ghost use Rattle.dm_maps.specs.Trees.{tree_of};
 ghost use Rattle.dm_retry.specs.Kinds.{by_kind, if_any, is_foreign, narrowed, narrowed_item, re_exported, types_alone};
 
@@ -34,6 +35,21 @@ pub(crate) fn by_kind(
         ImportKind::ReExport => re_exported(world, m, vis, items),
         ImportKind::Unnamed => items.with_visibility(vis),
     }
+}
+
+/// Some items as module `m` re-exports them with a visibility: what a glob brings of what its module sees, and an import
+/// of that kind of what its path means. Does not allocate.
+///
+/// The module, and what the visibility and the items hold, have to be the world's: `knows_def`, `knows_vis` and
+/// `knows_res` test it.
+pub fn as_re_exported(world: &World, m: ModuleId, vis: Visibility, items: PerNs) -> PerNs
+    requires home { IsTrue (knows world.now (held.Module m)) }
+    requires vis { KnowsAll world.now (vis_holds vis) }
+    requires items { KnowsAll world.now (res_holds items) }
+    ensures value { result ≡ re_exported (tree_of world.now) m vis items }
+    ensures known { KnowsAll world.now (res_holds result) }
+{
+    re_exported(world, m, vis, items)
 }
 
 /// Some items, where there is one.

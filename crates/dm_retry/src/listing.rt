@@ -2,7 +2,7 @@
 ghost use Rattle.std.specs.Prelude.{◌≡◌, ◌||◌, None, IfSome};
 ghost use Rattle.indexmap.specs.IndexSet.{contains};
 ghost use Rattle.dm_ids.specs.declared.imports.ImportId.{ImportId};
-ghost use Rattle.dm_retry.specs.Known.{is_listed, same_import};
+ghost use Rattle.dm_retry.specs.Known.{is_listed, same_leaf};
 ghost use Rattle.dm_retry.specs.Listed.{IsListing, WithImport};
 
 use crate::pending::{Pending, has_import};
@@ -76,7 +76,7 @@ impl Listing {
 /// The imports of a list, if there is memory.
 fn made(alloc: Global, pendings: &[Pending]) -> Option<IndexSet<ImportId>>
     ensures listed { IfSome result (λ made. (i : ImportId) →
-        contains same_import made i ≡ is_listed pendings.now i) }
+        contains same_leaf made i ≡ is_listed pendings.now i) }
 {
     let mut listed = IndexSet::new(alloc);
     let mut rest = pendings;
@@ -90,7 +90,7 @@ fn made(alloc: Global, pendings: &[Pending]) -> Option<IndexSet<ImportId>>
 /// Imports with one more, if there is memory.
 fn with(imports: IndexSet<ImportId>, import: ImportId) -> Option<IndexSet<ImportId>>
     ensures { IfSome result (λ grown. (i : ImportId) →
-        contains same_import grown i ≡ (contains same_import imports i || same_import i import)) }
+        contains same_leaf grown i ≡ (contains same_leaf imports i || same_leaf i import)) }
 {
     let mut grown = imports;
     match grown.insert(import) {

@@ -3,7 +3,7 @@ ghost use Rattle.std.specs.Prelude.{◌≡◌, ◌↔◌, false, IsTrue, refl};
 ghost use Rattle.std.specs.List.{list_any};
 ghost use Rattle.dm_check.specs.Holding.{vis_holds};
 ghost use Rattle.dm_maps.specs.Known.{KnowsAll};
-ghost use Rattle.dm_retry.specs.Known.{first_double, first_unknown, is_known, is_listed, parts, same_import};
+ghost use Rattle.dm_retry.specs.Known.{first_double, first_unknown, is_known, is_listed, parts, same_leaf};
 ghost use Rattle.dm_retry.specs.Doubles.{number_of};
 ghost use Rattle.dm_retry.specs.Waiting.{reading};
 ghost use Rattle.dm_retry.specs.declared.import_kind.ImportKind.TheVariants as kind;

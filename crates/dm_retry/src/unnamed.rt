@@ -11,7 +11,7 @@ ghost use Rattle.dm_scope.specs.Flags.{Globs};
 ghost use Rattle.dm_retry.specs.Kinds.{is_unnamed};
 ghost use Rattle.dm_retry.specs.Known.{parts};
 ghost use Rattle.dm_retry.specs.Rounds as rounds;
-ghost use Rattle.dm_retry.specs.Rounds.{brings, by_import, found};
+ghost use Rattle.dm_retry.specs.Rounds.{would_write, by_import, to_push};
 ghost use Rattle.dm_retry.specs.Unnamed.{allows, is_as_permissive, is_new_trait, shows_trait, trait_of, unnamed_answer, with_unnamed};
 
 use crate::pending::Pending;
@@ -52,11 +52,11 @@ pub(crate) fn push_trait(
         → KnowsAll world.new (parts q) }
 
     // An import that would bind nothing would bind nothing, and so would this one, which found these items.
-    ensures others { (g : Globs) (q : rounds.Pending) → brings world.old g q ≡ false
-        → brings world.new g q ≡ false }
+    ensures others { (g : Globs) (q : rounds.Pending) → would_write world.old g q ≡ false
+        → would_write world.new g q ≡ false }
     ensures own { OnOk result
         ((g : Globs) → is_unnamed pending.now.kind ≡ true
-        → found world.old pending.now ≡ Some items → brings world.new g pending.now ≡ false) }
+        → to_push world.old pending.now ≡ Some items → would_write world.new g pending.now ≡ false) }
 {
     answers_alike();
     let Some(tr) = trait_of(&items) else {

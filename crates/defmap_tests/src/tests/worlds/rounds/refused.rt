@@ -3,6 +3,7 @@
 //! With enough memory none fails. `tools/refusals` injects faults: it runs these tests with every allocation failing in
 //! turn. Whichever it is, the import that failed is due (dirty), and the rounds come to the same end.
 mod between;
+mod changed;
 
 use super::{ROOT, STRUCT, Waiting, import, taken, the_struct, two_imports};
 use crate::tests::gives;
@@ -27,18 +28,9 @@ const FIRST: Refusal = (1, 2, Some(false), Some(true));
 /// In the second round the first import is due again.
 const SECOND: Refusal = (2, 1, Some(true), Some(false));
 
-/// A round of all tries those as well that are not due, and each that finds something allocates. A round of the due
-/// ones allocates nothing where nothing is due, so that its third never fails.
-const OF_ALL_ALONE: [Refusal; 3] = [
-    (2, 2, Some(false), Some(true)),
-    (3, 1, Some(true), Some(false)),
-    (3, 2, Some(false), Some(true)),
-];
-
-/// Whether a round of that kind may fail there.
-fn may_be(refusal: Refusal, all: bool) -> bool {
-    let is_one = refusal == INDEX || refusal == FIRST || refusal == SECOND;
-    is_one || (all && OF_ALL_ALONE.contains(&refusal))
+/// Whether a round may fail there: it allocates for what it writes alone, of either kind.
+fn may_be(refusal: Refusal) -> bool {
+    refusal == INDEX || refusal == FIRST || refusal == SECOND
 }
 
 /// What two names mean in the root, and what the first import resolves to.
@@ -53,7 +45,7 @@ impl Waiting {
                 let retry = &self.retry;
                 let refusal = (number, retry.last_tries(), retry.due(0), retry.due(1));
                 let (answer, _, _, _) = self.round(all)?;
-                Ok((answer, may_be(refusal, all)))
+                Ok((answer, may_be(refusal)))
             }
         }
     }
