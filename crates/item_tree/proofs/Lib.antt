@@ -15,3 +15,4 @@ pub mod Nested
 pub mod Listed
 pub mod CfgRows
 pub mod CfgWritten
+pub mod UpToEnd

@@ -8,9 +8,9 @@ use Rattle.std.proofs.lemmas.List.Sums.{sum_by-cons, sum_by-append, sum_by-take-
 use Rattle.std.proofs.lemmas.Option.{slice_get-get_or}
 use Rattle.std.proofs.lemmas.List.{drop-append-le, take-append-le, take_more, take_all, length-take-le, append-nil}
 use Rattle.item_tree.specs.Heads.{nothing, attributes_len, visibility_len, qualifiers_len}
-use Rattle.item_tree.specs.ItemParts.{first_item, bounded, begins_inner_attribute, inner_attribute, behind_attributes, parts_of}
+use Rattle.item_tree.specs.ItemParts.{first_item, bounded, begins_inner_attribute, inner_attribute, behind_attributes, parts_by}
 use Rattle.item_tree.specs.ItemKinds.{item_kind}
-use Rattle.item_tree.specs.ItemEnds.{item_len}
+use Rattle.item_tree.specs.ItemEnds.{item_end}
 use Rattle.item_tree.specs.declared.item_kind.ItemKind.{ItemKind}
 use Rattle.item_tree.specs.declared.item_kind.ItemKind.TheVariants as item
 use Rattle.item_tree.specs.Items.{placed, body_of, body_at, body_of_tree, items_from, level_of, within, inner_range, inner_range_of, inner_range_at, contains_items, children_from, top_level_of}
@@ -144,8 +144,8 @@ bounded_within n top h = by (n == 0) refl (nat_lt top n) refl
         let there = not_zero n e in
         record { some = there; most = less }
 
-parts_within : (k : ItemKind) (a v w : ℕ) (ts : List Tree) → 0 < length ts → Within (parts_of k a v w ts).len (length ts)
-parts_within k a v w ts h = bounded_within (w + item_len k (drop w ts)) (length ts) h
+parts_within : (k : ItemKind) (a v w : ℕ) (ts : List Tree) → 0 < length ts → Within (parts_by k a v w ts).len (length ts)
+parts_within k a v w ts h = bounded_within (w + (item_end k (drop w ts)).len) (length ts) h
 
 behind_within : (a : ℕ) (ts : List Tree) → 0 < length ts → Within (behind_attributes a ts).len (length ts)
 behind_within a ts h =
@@ -280,4 +280,5 @@ an_item = record {
   name = None;
   behind = 0;
   body = None;
+  missing = None;
 }

@@ -52,6 +52,7 @@ placed parent end parts ts =
       name = name_at ts parts.name end;
       behind = place_at ts parts.len end;
       body = body_at ts (parts.len - 1);
+      missing = parts.missing;
     }
 
 -- the items of some trees, but for the first so many, which are in an item before

@@ -12,6 +12,8 @@ pub mod Innermost
 pub mod Trees
 pub mod Heads
 pub mod ItemKinds
+pub mod ItemNames
+pub mod Beginnings
 pub mod ItemEnds
 pub mod ItemParts
 pub mod Items

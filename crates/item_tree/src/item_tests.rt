@@ -120,6 +120,32 @@ fn errors_lose_no_other_item(rt: HostRuntime) -> Result<(), Fail> {
 }
 
 #[test]
+fn items_without_end_lose_no_other(rt: HostRuntime) -> Result<(), Fail> {
+    let read = printed(
+        rt.alloc(),
+        "use a::b use crate::c; struct S(u8) unsafe impl T for S {} const A: bool = a < b #[c] fn f() {} mod m pub mod n {}",
+    )?;
+    let wanted =
+        "Use : use a::b | Use : use crate::c; | Struct S: struct S(u8) | Impl : unsafe impl T for S {} | Const A: const A: bool = a < b | Function f: #[c] fn f() {} | Mod m: mod m | Mod n: pub mod n {} | ";
+    assert_eq!(rt; read.as_str(), wanted);
+    let read = printed(
+        rt.alloc(),
+        "fn f<T(a: T) -> *const T async fn g<const N: usize>() {} m!(a) type A = u8 static mut B: fn() = f const _: () = {}; macro_rules! r enum E {}",
+    )?;
+    let wanted =
+        "Function f: fn f<T(a: T) -> *const T | Function g: async fn g<const N: usize>() {} | MacroCall : m!(a) | TypeAlias A: type A = u8 | Static B: static mut B: fn() = f | Const _: const _: () = {}; | MacroRules r: macro_rules! r | Enum E: enum E {} | ";
+    assert_eq!(rt; read.as_str(), wanted);
+    let read = printed(
+        rt.alloc(),
+        "fn a() -> impl A + use<'a> where *const N: B {} static F: extern \"C\" fn() = static || {}; impl const a::B for C {} type D = &raw const E;",
+    )?;
+    let wanted =
+        "Function a: fn a() -> impl A + use<'a> where *const N: B {} | Static F: static F: extern \"C\" fn() = static || {}; | Impl : impl const a::B for C {} | TypeAlias D: type D = &raw const E; | ";
+    assert_eq!(rt; read.as_str(), wanted);
+    Ok(())
+}
+
+#[test]
 fn items_in_items(rt: HostRuntime) -> Result<(), Fail> {
     let text =
         "mod a { mod b { use c; } trait T { const C: u8; } } impl S { fn f() { fn g() {} } }";

@@ -2,6 +2,7 @@
 ghost use Rattle.std.specs.Prelude.{◌≡◌, ◌<◌, ◌≤◌, ◌++◌, ℕ, IfOk, IfSome, OnOk, Some, None, length, take, vec_len};
 ghost use Rattle.item_tree.specs.Items as spec;
 
+use crate::expected::Expected;
 use crate::item_kind::ItemKind;
 use crate::item_parts::{ItemParts, first_item};
 use crate::lexeme::{Delimiter, Lexeme, LexemeKind};
@@ -35,6 +36,8 @@ pub struct Item {
     pub behind: usize,
     /// What stands between the braces that it ends with.
     pub body: Option<Range>,
+    /// What it should end with and does not.
+    pub missing: Option<Expected>,
 }
 
 /// The items of a text: those of the top level, and then those in the body of each, in order.
@@ -136,6 +139,7 @@ fn placed(trees: &[Tree], parts: ItemParts, end: usize, parent: Option<usize>) -
         name: name_at(trees, parts.name, end),
         behind: place_at(trees, parts.len, end),
         body: body_at(trees, parts.len - 1),
+        missing: parts.missing,
     }
 }
 

@@ -8,6 +8,7 @@ pub mod attribute_rows;
 #[cfg(test)]
 mod attribute_tests;
 pub mod attributes;
+mod beginnings;
 mod bodies;
 pub mod cfg;
 pub mod cfg_parser;
@@ -15,10 +16,12 @@ pub mod cfg_parser;
 mod cfg_tests;
 mod characters;
 pub mod delimiters;
+pub mod expected;
 pub mod fields;
 mod head;
-mod item_end;
+pub mod item_end;
 pub mod item_kind;
+mod item_name;
 pub mod item_parts;
 pub mod item_rows;
 #[cfg(test)]
