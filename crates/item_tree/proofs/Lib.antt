@@ -16,3 +16,4 @@ pub mod Listed
 pub mod CfgRows
 pub mod CfgWritten
 pub mod UpToEnd
+pub mod NoErrors

@@ -17,6 +17,8 @@ pub mod Beginnings
 pub mod ItemEnds
 pub mod ItemParts
 pub mod Items
+pub mod ExpectedTexts
+pub mod SyntaxErrors
 pub mod Visibilities
 pub mod UseTrees
 pub mod Covers

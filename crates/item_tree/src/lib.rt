@@ -37,6 +37,9 @@ pub mod openings;
 pub mod paths;
 pub mod rows;
 pub mod span;
+pub mod syntax_error;
+#[cfg(test)]
+mod syntax_error_tests;
 #[cfg(test)]
 mod tests;
 pub mod token;
