@@ -1,11 +1,15 @@
 -- Items that are easy to read wrongly, and how they are read.
-use Rattle.std.specs.Prelude.{◌+◌, ℕ, List, [], ◌∷◌, Option, Some, None}
+use Rattle.std.specs.Prelude.{◌+◌, ◌-◌, ℕ, List, [], ◌∷◌, Option, Some, None, length}
 use Rattle.item_tree.specs.Delimiters.{partners_of}
 use Rattle.item_tree.specs.ItemParts.{first_item}
+use Rattle.item_tree.specs.Items.{level_of}
 use Rattle.item_tree.specs.UseTrees.{use_trees_of}
+use Rattle.item_tree.specs.declared.cfg_if.LevelKind.TheVariants.{FirstArm}
 use Rattle.item_tree.specs.declared.expected.Expected.{Expected}
 use Rattle.item_tree.specs.declared.item_kind.ItemKind.{ItemKind}
+use Rattle.item_tree.specs.declared.item_kind.ItemKind.TheVariants as item
 use Rattle.item_tree.specs.declared.item_parts.ItemParts.{ItemParts}
+use Rattle.item_tree.specs.declared.items.Item.{Item}
 use Rattle.item_tree.specs.declared.lexeme.Delimiter.TheVariants.{Parenthesis, Bracket, Brace}
 use Rattle.item_tree.specs.declared.lexeme.Lexeme.{Lexeme}
 use Rattle.item_tree.specs.declared.lexeme.LexemeKind.{LexemeKind}
@@ -115,6 +119,33 @@ cut_call = first (name ∷ Mark 33 ∷ Open Parenthesis ∷ name ∷ [])
 
 abbrev pub cut_rules : ItemParts
 cut_rules = first (Word word.MacroRules ∷ Mark 33 ∷ name ∷ Word word.Mod ∷ name ∷ Mark 59 ∷ [])
+
+abbrev pub arms_in : List Lexeme → List Item
+arms_in ls = level_of ls (partners_of ls) (Some 0) (record { kind = FirstArm; range = record { first = 0; behind = length ls } })
+
+abbrev pub arm : ℕ → ℕ → ℕ → Item
+arm first_at braces behind_at =
+    record {
+      kind = item.CfgIfArm;
+      parent = Some 0;
+      first = first_at;
+      visibility = braces;
+      qualifiers = braces;
+      word = braces;
+      name = None;
+      behind = behind_at;
+      body = Some (record { first = braces + 1; behind = behind_at - 1 });
+      missing = None;
+    }
+
+abbrev pub no_arm : ℕ → Item
+no_arm i = record { kind = item.Error; parent = Some 0; first = i; visibility = i; qualifiers = i; word = i; name = None; behind = i + 1; body = None; missing = None }
+
+-- if # [ ] { a } else if # [ ] { } else { } else
+abbrev pub arms : List Item
+arms =
+    arms_in
+    (lexemes_at 0 (Word word.If ∷ Mark 35 ∷ Open Bracket ∷ Close Bracket ∷ Open Brace ∷ name ∷ Close Brace ∷ Word word.Else ∷ Word word.If ∷ Mark 35 ∷ Open Bracket ∷ Close Bracket ∷ Open Brace ∷ Close Brace ∷ Word word.Else ∷ Open Brace ∷ Close Brace ∷ Word word.Else ∷ []))
 
 -- { ( ] { } ) [ }
 abbrev pub partners : List ℕ

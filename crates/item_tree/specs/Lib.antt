@@ -16,6 +16,7 @@ pub mod ItemNames
 pub mod Beginnings
 pub mod ItemEnds
 pub mod ItemParts
+pub mod CfgIfs
 pub mod Items
 pub mod ExpectedTexts
 pub mod SyntaxErrors

@@ -24,6 +24,8 @@ pub(crate) fn name_place(kind: ItemKind, trees: &[Tree]) -> Option<usize>
         | ItemKind::ExternBlock
         | ItemKind::Impl
         | ItemKind::MacroCall
+        | ItemKind::CfgIf
+        | ItemKind::CfgIfArm
         | ItemKind::InnerAttribute
         | ItemKind::Error => None,
         _ => Some(1),

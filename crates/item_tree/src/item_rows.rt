@@ -33,6 +33,11 @@ pub fn items_without_end()
     ensures of_rules { rows.cut_rules ≡ rows.cut item.MacroRules (Some 2) 3 expected.Group }
 {}
 
+/// The arms of a `cfg_if!`, and what is none behind the last.
+pub fn arms_of_cfg_if()
+    ensures { rows.arms ≡ rows.arm 0 4 7 ∷ rows.arm 7 12 14 ∷ rows.arm 14 15 17 ∷ rows.no_arm 17 ∷ [] }
+{}
+
 /// Partners of delimiters that are closed by another kind, or not at all.
 pub fn difficult_groups()
     ensures partners { rows.partners ≡ 7 ∷ 5 ∷ 2 ∷ 4 ∷ 3 ∷ 1 ∷ 6 ∷ 0 ∷ [] }

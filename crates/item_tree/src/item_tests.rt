@@ -163,3 +163,33 @@ fn items_in_items(rt: HostRuntime) -> Result<(), Fail> {
     assert_eq!(rt; tree.top_level, 2);
     Ok(())
 }
+
+#[test]
+fn arms_of_cfg_if(rt: HostRuntime) -> Result<(), Fail> {
+    let text =
+        "a::cfg_if! { if #[cfg(b)] { use c; cfg_if! { if #[cfg(d)] { fn e() {} } else { mod f; } } } else if #[cfg(g)] { h!(); } else { use i; } } use j;";
+    let read = printed(rt.alloc(), text)?;
+    let wanted =
+        "CfgIf : a::cfg_if! { if #[cfg(b)] { use c; cfg_if! { if #[cfg(d)] { fn e() {} } else { mod f; } } } else if #[cfg(g)] { h!(); } else { use i; } } | Use : use j; | CfgIfArm : if #[cfg(b)] { use c; cfg_if! { if #[cfg(d)] { fn e() {} } else { mod f; } } } | CfgIfArm : else if #[cfg(g)] { h!(); } | CfgIfArm : else { use i; } | Use : use c; | CfgIf : cfg_if! { if #[cfg(d)] { fn e() {} } else { mod f; } } | MacroCall : h!(); | Use : use i; | CfgIfArm : if #[cfg(d)] { fn e() {} } | CfgIfArm : else { mod f; } | Function e: fn e() {} | Mod f: mod f; | ";
+    assert_eq!(rt; read.as_str(), wanted);
+    let lexemes = read_lexemes(rt.alloc(), text.as_bytes(), Edition::Edition2021)?;
+    let partners = partners(rt.alloc(), lexemes.as_slice())?;
+    let tree = item_tree(rt.alloc(), lexemes.as_slice(), partners.as_slice())?;
+    let mut heads = String::new(rt.alloc());
+    for item in &tree.items {
+        heads.push_str(text_of(text, lexemes.as_slice(), item.first, item.visibility))?;
+        let parent = format!(in rt.alloc(); " {:?}; ", item.parent)?;
+        heads.push_str(parent.as_str())?;
+    }
+    let wanted =
+        " None;  None; if #[cfg(b)] Some(0); else if #[cfg(g)] Some(0); else Some(0);  Some(2);  Some(2);  Some(3);  Some(4); if #[cfg(d)] Some(6); else Some(6);  Some(9);  Some(10); ";
+    assert_eq!(rt; heads.as_str(), wanted);
+    let read = printed(
+        rt.alloc(),
+        "cfg_if! { else {} if #[a] {} if #[b] {} else if {} else { ; } else {} } cfg_if!(b); cfg_if!{}",
+    )?;
+    let wanted =
+        "CfgIf : cfg_if! { else {} if #[a] {} if #[b] {} else if {} else { ; } else {} } | MacroCall : cfg_if!(b); | CfgIf : cfg_if!{} | Error : else | Error : {} | CfgIfArm : if #[a] {} | Error : if | Error : # | Error : [b] | Error : {} | Error : else | Error : if | Error : {} | CfgIfArm : else { ; } | Error : else | Error : {} | Error : ; | ";
+    assert_eq!(rt; read.as_str(), wanted);
+    Ok(())
+}

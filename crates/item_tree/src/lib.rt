@@ -11,6 +11,7 @@ pub mod attributes;
 mod beginnings;
 mod bodies;
 pub mod cfg;
+pub mod cfg_if;
 pub mod cfg_parser;
 #[cfg(test)]
 mod cfg_tests;
