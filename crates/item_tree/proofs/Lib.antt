@@ -16,4 +16,5 @@ pub mod Listed
 pub mod CfgRows
 pub mod CfgWritten
 pub mod UpToEnd
+pub mod NoneTaken
 pub mod NoErrors

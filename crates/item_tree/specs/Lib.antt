@@ -15,6 +15,7 @@ pub mod ItemKinds
 pub mod ItemNames
 pub mod Beginnings
 pub mod ItemEnds
+pub mod NoneTaken
 pub mod ItemParts
 pub mod CfgIfs
 pub mod Items

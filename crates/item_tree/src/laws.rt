@@ -1,6 +1,7 @@
 //! What follows from the definitions of partners, items and use trees.
 ghost use Rattle.item_tree.specs.Lists.{UseTreesStandInLists};
 ghost use Rattle.item_tree.specs.Pairs.{PairsNest};
+ghost use Rattle.item_tree.specs.NoneTaken.{ItemsTakeNoOther};
 ghost use Rattle.item_tree.specs.SyntaxErrors.{WholeTextsHaveNoErrors};
 ghost use Rattle.item_tree.specs.Covers.{LevelsAreCovered, LevelsNest};
 
@@ -9,6 +10,11 @@ ghost use Rattle.item_tree.specs.Covers.{LevelsAreCovered, LevelsNest};
 pub fn items_cover_their_levels()
     ensures covered { LevelsAreCovered }
     ensures nested { LevelsNest }
+{}
+
+/// What an item takes behind its own words, with an end or without, has nothing that begins an item wherever it stands.
+pub fn items_take_no_other()
+    ensures { ItemsTakeNoOther }
 {}
 
 /// A text whose items are whole, and whose delimiters have partners, has no errors.
