@@ -3,11 +3,13 @@ use Rattle.std.proofs.Common.{◌≡◌, ◌+◌, ◌-◌, ◌<◌, ◌≤◌, �
 use Rattle.std.specs.Prelude.{Option, Some, None, IfSome, nat_lt, ◌&&◌}
 use Rattle.std.specs.List.{AllByRecursion}
 use Rattle.std.proofs.lemmas.Bool.{ltb-true, ltb-false}
-use Rattle.item_tree.specs.Covers.{Cover, IsRange, LiesWithin}
-use Rattle.item_tree.specs.ItemParts.{first_item}
-use Rattle.item_tree.specs.Items.{placed, place_at, body_of, body_at, items_from, level_of, inner_range, contains_items}
+use Rattle.item_tree.specs.Covers.{Cover, IsRange, LiesWithin, IsWithin}
+use Rattle.item_tree.specs.CfgIfs.{first_in, kind_behind, level_kind}
+use Rattle.item_tree.specs.Items.{placed, place_at, body_of, body_at, items_from, level_of, level_in, contains_items}
 use Rattle.item_tree.specs.Trees.{single, tree_of, partner_at, trees_from, trees_of}
 use Rattle.item_tree.specs.declared.items.Item.{Item}
+use Rattle.item_tree.specs.declared.cfg_if.LevelKind.{LevelKind}
+use Rattle.item_tree.specs.declared.items.Level.{Level}
 use Rattle.item_tree.specs.declared.items.Range.{Range}
 use Rattle.item_tree.specs.declared.lexeme.Delimiter.{Delimiter}
 use Rattle.item_tree.specs.declared.lexeme.Delimiter.TheVariants.{Parenthesis, Bracket, Brace}
@@ -15,7 +17,7 @@ use Rattle.item_tree.specs.declared.lexeme.Lexeme.{Lexeme}
 use Rattle.item_tree.specs.declared.lexeme.LexemeKind.{LexemeKind}
 use Rattle.item_tree.specs.declared.lexeme.LexemeKind.TheVariants.{Word, Open, Close, Mark, Lifetime, Str, Literal, Error}
 use Rattle.item_tree.specs.declared.trees.Tree.{Tree}
-use Rattle.item_tree.proofs.Weights.{Sized, tree_sized, first_within, both_hold}
+use Rattle.item_tree.proofs.Weights.{Sized, tree_sized, level_within, both_hold}
 
 -- each tree begins where the one before it ends
 abbrev pub TreesCover : ℕ → ℕ → List Tree → Type 0
@@ -58,32 +60,34 @@ place_up (t ∷ []) i end (suc zero) cover some most = let a = cover.1 in let b 
 place_up (t ∷ (u ∷ ts)) i end (suc zero) cover some most = let a = cover.1 in let b = cover.3.0 in omega arith
 place_up (t ∷ ts) i end (suc (suc n)) cover some most = let a = cover.1 in let rest = place_up ts t.behind end (suc n) cover.3 (omega arith) (omega arith) in omega arith
 
-items_cover : (parent : Option ℕ) (end n i : ℕ) (ts : List Tree) → TreesCover i end ts → Cover (place_at ts n end) end (items_from parent end n ts)
-items_cover parent end n i [] cover = refl
-items_cover parent end zero i (t ∷ ts) cover =
-    let p = first_item (t ∷ ts) in
-    let w = first_within (t ∷ ts) (omega arith) in
+items_cover : (kind : LevelKind) (parent : Option ℕ) (end n i : ℕ) (ts : List Tree) → TreesCover i end ts → Cover (place_at ts n end) end (items_from kind parent end n ts)
+items_cover kind parent end n i [] cover = refl
+items_cover kind parent end zero i (t ∷ ts) cover =
+    let p = first_in kind (t ∷ ts) in
+    let w = level_within kind (t ∷ ts) (omega arith) in
     let some = w.some in
     let up : i < place_at (t ∷ ts) p.len end = place_up (t ∷ ts) i end p.len cover w.some w.most in
     let begins = cover.0 in
     let m = p.len - 1 in
     let more : p.len ≡ suc m = omega arith in
     let place : place_at ts m end ≡ place_at (t ∷ ts) p.len end = ap (λ k. place_at (t ∷ ts) k end) (sym more) in
-    (refl, omega arith, subst (λ k. Cover k end (items_from parent end m ts)) place (items_cover parent end m t.behind ts cover.3))
-items_cover parent end (suc n) i (t ∷ ts) cover = items_cover parent end n t.behind ts cover.3
+    (refl, omega arith, subst (λ k. Cover k end (items_from (kind_behind kind p) parent end m ts)) place (items_cover (kind_behind kind p) parent end m t.behind ts cover.3))
+items_cover kind parent end (suc n) i (t ∷ ts) cover = items_cover kind parent end n t.behind ts cover.3
 
 level_begins : (i end : ℕ) (ts : List Tree) → TreesCover i end ts → place_at ts 0 end ≡ i
 level_begins i end [] cover = sym cover
 level_begins i end (t ∷ ts) cover = cover.0
 
-pub level_covered : (lexemes : List Lexeme) (partners : List ℕ) (parent : Option ℕ) (r : Range) → IsRange (length lexemes) r → Cover r.first r.behind (level_of lexemes partners parent r)
-level_covered lexemes partners parent r is =
+pub level_covered : (lexemes : List Lexeme) (partners : List ℕ) (parent : Option ℕ) (l : Level) → IsRange (length lexemes) l.range
+    → Cover l.range.first l.range.behind (level_of lexemes partners parent l)
+level_covered lexemes partners parent l is =
+    let r = l.range in
     let ts = trees_of lexemes partners r.first r.behind in
     let forward = is.0 in
     let within = is.1 in
     let all : TreesCover (r.first + 0) r.behind ts = trees_cover partners r.behind 0 r.first (drop r.first lexemes) (omega arith) (omega (arith, length-drop r.first lexemes)) in
     let cover : TreesCover r.first r.behind ts = subst (λ k. TreesCover k r.behind ts) (nothing_more r.first) all in
-    subst (λ k. Cover k r.behind (level_of lexemes partners parent r)) (level_begins r.first r.behind ts cover) (items_cover parent r.behind 0 r.first ts cover)
+    subst (λ k. Cover k r.behind (level_of lexemes partners parent l)) (level_begins r.first r.behind ts cover) (items_cover l.kind parent r.behind 0 r.first ts cover)
   where
     nothing_more : (k : ℕ) → k + 0 ≡ k
     nothing_more k = omega arith
@@ -133,21 +137,21 @@ body_at_in r [] i all = tt
 body_at_in r (t ∷ ts) zero all = all.0
 body_at_in r (t ∷ ts) (suc i) all = body_at_in r ts i all.1
 
-inner_in : (r : Range) (x : Item) → IfSome x.body (LiesWithin r) → IfSome (inner_range x) (LiesWithin r)
-inner_in r x h = by (contains_items x.kind)
+inner_in : (r : Range) (x : Item) → IfSome x.body (LiesWithin r) → IsWithin r x
+inner_in r x h = by (contains_items x.kind) x.body h
   where
-    by : (b : Bool) → IfSome (cond b x.body None) (LiesWithin r)
-    by true = h
-    by false = tt
+    by : (b : Bool) (body : Option Range) → IfSome body (LiesWithin r) → IfSome (cond b (level_in (level_kind x.kind) body) None) (λ (l : Level). LiesWithin r l.range)
+    by true None h = tt
+    by true (Some range) h = h
+    by false body h = tt
 
-items_nest : (r : Range) (parent : Option ℕ) (end n : ℕ) (ts : List Tree) → AllByRecursion (HasBodyIn r) ts
-    → AllByRecursion (λ (x : Item). IfSome (inner_range x) (LiesWithin r)) (items_from parent end n ts)
-items_nest r parent end n [] all = tt
-items_nest r parent end zero (t ∷ ts) all =
-    let p = first_item (t ∷ ts) in
-    (inner_in r (placed parent end p (t ∷ ts)) (body_at_in r (t ∷ ts) (p.len - 1) all), items_nest r parent end (p.len - 1) ts all.1)
-items_nest r parent end (suc n) (t ∷ ts) all = items_nest r parent end n ts all.1
+items_nest : (r : Range) (kind : LevelKind) (parent : Option ℕ) (end n : ℕ) (ts : List Tree) → AllByRecursion (HasBodyIn r) ts → AllByRecursion (IsWithin r) (items_from kind parent end n ts)
+items_nest r kind parent end n [] all = tt
+items_nest r kind parent end zero (t ∷ ts) all =
+    let p = first_in kind (t ∷ ts) in
+    (inner_in r (placed parent end p (t ∷ ts)) (body_at_in r (t ∷ ts) (p.len - 1) all), items_nest r (kind_behind kind p) parent end (p.len - 1) ts all.1)
+items_nest r kind parent end (suc n) (t ∷ ts) all = items_nest r kind parent end n ts all.1
 
-pub level_nests : (lexemes : List Lexeme) (partners : List ℕ) (parent : Option ℕ) (r : Range) → AllByRecursion (λ (x : Item). IfSome (inner_range x) (LiesWithin r)) (level_of lexemes partners parent r)
-level_nests lexemes partners parent r =
-    items_nest r parent r.behind 0 (trees_of lexemes partners r.first r.behind) (tree_bodies r partners 0 r.first (drop r.first lexemes) (omega arith))
+pub level_nests : (lexemes : List Lexeme) (partners : List ℕ) (parent : Option ℕ) (l : Level) → AllByRecursion (IsWithin l.range) (level_of lexemes partners parent l)
+level_nests lexemes partners parent l =
+    items_nest l.range l.kind parent l.range.behind 0 (trees_of lexemes partners l.range.first l.range.behind) (tree_bodies l.range partners 0 l.range.first (drop l.range.first lexemes) (omega arith))

@@ -15,3 +15,6 @@ pub mod Nested
 pub mod Listed
 pub mod CfgRows
 pub mod CfgWritten
+pub mod UpToEnd
+pub mod NoneTaken
+pub mod NoErrors

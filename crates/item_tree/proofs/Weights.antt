@@ -8,12 +8,15 @@ use Rattle.std.proofs.lemmas.List.Sums.{sum_by-cons, sum_by-append, sum_by-take-
 use Rattle.std.proofs.lemmas.Option.{slice_get-get_or}
 use Rattle.std.proofs.lemmas.List.{drop-append-le, take-append-le, take_more, take_all, length-take-le, append-nil}
 use Rattle.item_tree.specs.Heads.{nothing, attributes_len, visibility_len, qualifiers_len}
-use Rattle.item_tree.specs.ItemParts.{first_item, bounded, begins_inner_attribute, inner_attribute, behind_attributes, parts_of}
+use Rattle.item_tree.specs.ItemParts.{first_item, bounded, begins_inner_attribute, inner_attribute, behind_attributes, parts_by}
+use Rattle.item_tree.specs.CfgIfs.{arm_head, arm_by, first_in, kind_behind, level_kind}
 use Rattle.item_tree.specs.ItemKinds.{item_kind}
-use Rattle.item_tree.specs.ItemEnds.{item_len}
+use Rattle.item_tree.specs.ItemEnds.{item_end}
+use Rattle.item_tree.specs.declared.cfg_if.LevelKind.{LevelKind}
+use Rattle.item_tree.specs.declared.cfg_if.LevelKind.TheVariants.{Items, FirstArm, OtherArm, NoArm}
 use Rattle.item_tree.specs.declared.item_kind.ItemKind.{ItemKind}
 use Rattle.item_tree.specs.declared.item_kind.ItemKind.TheVariants as item
-use Rattle.item_tree.specs.Items.{placed, body_of, body_at, body_of_tree, items_from, level_of, within, inner_range, inner_range_of, inner_range_at, contains_items, children_from, top_level_of}
+use Rattle.item_tree.specs.Items.{placed, body_of, body_at, body_of_tree, items_from, level_of, within, level_in, inner_level, inner_level_of, inner_level_at, contains_items, children_from, top_level_of}
 use Rattle.item_tree.specs.Trees.{single, tree_of, partner_at, trees_from, trees_of}
 use Rattle.item_tree.specs.declared.items.Item.{Item}
 use Rattle.item_tree.specs.declared.items.Range.{Range}
@@ -144,8 +147,8 @@ bounded_within n top h = by (n == 0) refl (nat_lt top n) refl
         let there = not_zero n e in
         record { some = there; most = less }
 
-parts_within : (k : ItemKind) (a v w : ℕ) (ts : List Tree) → 0 < length ts → Within (parts_of k a v w ts).len (length ts)
-parts_within k a v w ts h = bounded_within (w + item_len k (drop w ts)) (length ts) h
+parts_within : (k : ItemKind) (a v w : ℕ) (ts : List Tree) → 0 < length ts → Within (parts_by k a v w ts).len (length ts)
+parts_within k a v w ts h = bounded_within (w + (item_end k (drop w ts)).len) (length ts) h
 
 behind_within : (a : ℕ) (ts : List Tree) → 0 < length ts → Within (behind_attributes a ts).len (length ts)
 behind_within a ts h =
@@ -161,12 +164,21 @@ first_within ts h = by (begins_inner_attribute ts)
     by true = bounded_within 3 (length ts) h
     by false = behind_within (attributes_len nothing ts) ts h
 
+arm_within : (head : ℕ) (ts : List Tree) → 0 < length ts → Within (arm_by head ts).len (length ts)
+arm_within head ts h = bounded_within (head + 1) (length ts) h
+
+pub level_within : (kind : LevelKind) (ts : List Tree) → 0 < length ts → Within (first_in kind ts).len (length ts)
+level_within Items ts h = first_within ts h
+level_within FirstArm ts h = arm_within (arm_head FirstArm ts) ts h
+level_within OtherArm ts h = arm_within (arm_head OtherArm ts) ts h
+level_within NoArm ts h = arm_within (arm_head NoArm ts) ts h
+
 -- the items of a level weigh no more than its trees
-items_weigh : (parent : Option ℕ) (end n : ℕ) (ts : List Tree) → AllByRecursion IsSized ts → sum_by weight (items_from parent end n ts) ≤ sum_by size (drop n ts)
-items_weigh parent end n [] all = omega arith
-items_weigh parent end zero (t ∷ ts) all =
-    let p = first_item (t ∷ ts) in
-    let w = first_within (t ∷ ts) (omega arith) in
+items_weigh : (kind : LevelKind) (parent : Option ℕ) (end n : ℕ) (ts : List Tree) → AllByRecursion IsSized ts → sum_by weight (items_from kind parent end n ts) ≤ sum_by size (drop n ts)
+items_weigh kind parent end n [] all = omega arith
+items_weigh kind parent end zero (t ∷ ts) all =
+    let p = first_in kind (t ∷ ts) in
+    let w = level_within kind (t ∷ ts) (omega arith) in
     let some = w.some in
     let most = w.most in
     let m = p.len - 1 in
@@ -178,38 +190,39 @@ items_weigh parent end zero (t ∷ ts) all =
     let split = sum_by-drop_more size (t ∷ ts) m t there in
     let same_rest : sum_by size (drop (m + 1) (t ∷ ts)) ≡ sum_by size (drop m ts) = ap (λ n. sum_by size (drop n (t ∷ ts))) (add-one m) in
     let parts = sum_by-take-drop size (t ∷ ts) m in
-    let rest = items_weigh parent end m ts all.1 in
-    let sums = sum_by-cons weight (placed parent end p (t ∷ ts)) (items_from parent end m ts) in
+    let rest = items_weigh (kind_behind kind p) parent end m ts all.1 in
+    let sums = sum_by-cons weight (placed parent end p (t ∷ ts)) (items_from (kind_behind kind p) parent end m ts) in
     omega arith
-items_weigh parent end (suc n) (t ∷ ts) all = items_weigh parent end n ts all.1
+items_weigh kind parent end (suc n) (t ∷ ts) all = items_weigh kind parent end n ts all.1
 
-level_weighs : (lexemes : List Lexeme) (partners : List ℕ) (parent : Option ℕ) (range : Range) → sum_by weight (level_of lexemes partners parent range) ≤ range.behind - range.first
-level_weighs lexemes partners parent range =
+level_weighs : (lexemes : List Lexeme) (partners : List ℕ) (parent : Option ℕ) (kind : LevelKind) (range : Range)
+    → sum_by weight (level_of lexemes partners parent (record { kind = kind; range = range })) ≤ range.behind - range.first
+level_weighs lexemes partners parent kind range =
     let fit = trees_fit partners range.behind 0 range.first (drop range.first lexemes) in
     let total = fit.total in
-    let items = items_weigh parent range.behind 0 (trees_of lexemes partners range.first range.behind) fit.each in
+    let items = items_weigh kind parent range.behind 0 (trees_of lexemes partners range.first range.behind) fit.each in
     omega arith
 
-within_weighs : (lexemes : List Lexeme) (partners : List ℕ) (n : ℕ) (x : Item) → sum_by weight (within lexemes partners n (inner_range x)) < weight x
+within_weighs : (lexemes : List Lexeme) (partners : List ℕ) (n : ℕ) (x : Item) → sum_by weight (within lexemes partners n (inner_level x)) < weight x
 within_weighs lexemes partners n x = by (contains_items x.kind) x.body
   where
-    by : (b : Bool) (body : Option Range) → sum_by weight (within lexemes partners n (cond b body None)) < range_size body + 1
+    by : (b : Bool) (body : Option Range) → sum_by weight (within lexemes partners n (cond b (level_in (level_kind x.kind) body) None)) < range_size body + 1
     by true None = omega arith
-    by true (Some range) = let h = level_weighs lexemes partners (Some n) range in omega arith
+    by true (Some range) = let h = level_weighs lexemes partners (Some n) (level_kind x.kind) range in omega arith
     by false None = omega arith
     by false (Some range) = omega arith
 
 -- an item by its number
-at_number : (items : List Item) (n : ℕ) (d : Item) → n < length items → inner_range_at items n ≡ inner_range (get_or items n d)
-at_number items n d h = ap inner_range_of (slice_get-get_or items n d h)
+at_number : (items : List Item) (n : ℕ) (d : Item) → n < length items → inner_level_at items n ≡ inner_level (get_or items n d)
+at_number items n d h = ap inner_level_of (slice_get-get_or items n d h)
 
 -- once the items in the next one stand behind the others, less is left
 pub less_left : (lexemes : List Lexeme) (partners : List ℕ) (items more : List Item) (n : ℕ) (d : Item) → n < length items
-    → more ≡ items ++ within lexemes partners n (inner_range_at items n) → sum_by weight (drop (n + 1) more) < sum_by weight (drop n items)
+    → more ≡ items ++ within lexemes partners n (inner_level_at items n) → sum_by weight (drop (n + 1) more) < sum_by weight (drop n items)
 less_left lexemes partners items more n d h is =
     let x = get_or items n d in
-    let inner = within lexemes partners n (inner_range_at items n) in
-    let same : sum_by weight inner ≡ sum_by weight (within lexemes partners n (inner_range x)) = ap (λ r. sum_by weight (within lexemes partners n r)) (at_number items n d h) in
+    let inner = within lexemes partners n (inner_level_at items n) in
+    let same : sum_by weight inner ≡ sum_by weight (within lexemes partners n (inner_level x)) = ap (λ r. sum_by weight (within lexemes partners n r)) (at_number items n d h) in
     let light = within_weighs lexemes partners n x in
     let low : n + 1 ≤ length items = omega arith in
     let cut : sum_by weight (drop (n + 1) more) ≡ sum_by weight (drop (n + 1) items ++ inner) = ap (λ xs. sum_by weight (drop (n + 1) xs)) is ∙ ap (sum_by weight) (drop-append-le (n + 1) items inner low) in
@@ -218,12 +231,12 @@ less_left lexemes partners items more n d h is =
     omega arith
 
 children_more : (lexemes : List Lexeme) (partners : List ℕ) (k : ℕ) (xs : List Item) (x : Item)
-    → children_from lexemes partners k (xs ++ x ∷ []) ≡ children_from lexemes partners k xs ++ within lexemes partners (k + length xs) (inner_range x)
-children_more lexemes partners k [] x = append-nil (within lexemes partners k (inner_range x)) ∙ ap (λ n. within lexemes partners n (inner_range x)) (none_more k)
+    → children_from lexemes partners k (xs ++ x ∷ []) ≡ children_from lexemes partners k xs ++ within lexemes partners (k + length xs) (inner_level x)
+children_more lexemes partners k [] x = append-nil (within lexemes partners k (inner_level x)) ∙ ap (λ n. within lexemes partners n (inner_level x)) (none_more k)
 children_more lexemes partners k (y ∷ xs) x =
-    ap (λ zs. within lexemes partners k (inner_range y) ++ zs) (children_more lexemes partners (k + 1) xs x)
-    ∙ (sym (append_assoc (within lexemes partners k (inner_range y)) (children_from lexemes partners (k + 1) xs) (within lexemes partners ((k + 1) + length xs) (inner_range x)))
-    ∙ ap (λ n. (within lexemes partners k (inner_range y) ++ children_from lexemes partners (k + 1) xs) ++ within lexemes partners n (inner_range x)) (one_further k (length xs)))
+    ap (λ zs. within lexemes partners k (inner_level y) ++ zs) (children_more lexemes partners (k + 1) xs x)
+    ∙ (sym (append_assoc (within lexemes partners k (inner_level y)) (children_from lexemes partners (k + 1) xs) (within lexemes partners ((k + 1) + length xs) (inner_level x)))
+    ∙ ap (λ n. (within lexemes partners k (inner_level y) ++ children_from lexemes partners (k + 1) xs) ++ within lexemes partners n (inner_level x)) (one_further k (length xs)))
 
 -- the items of the top level, and those in the first so many items
 pub record Reading (lexemes : List Lexeme) (partners : List ℕ) (top number : ℕ) (items : List Item) : Type 0 where
@@ -233,20 +246,20 @@ pub record Reading (lexemes : List Lexeme) (partners : List ℕ) (top number : �
   pub read : items ≡ top_level_of lexemes partners ++ children_from lexemes partners 0 (take number items)
 
 pub read_more : (lexemes : List Lexeme) (partners : List ℕ) (top number : ℕ) (items more : List Item) (d : Item) → number < length items → Reading lexemes partners top number items
-    → more ≡ items ++ within lexemes partners number (inner_range_at items number) → Reading lexemes partners top (number + 1) more
+    → more ≡ items ++ within lexemes partners number (inner_level_at items number) → Reading lexemes partners top (number + 1) more
 read_more lexemes partners top number items more d h r is =
-    let inner = within lexemes partners number (inner_range_at items number) in
+    let inner = within lexemes partners number (inner_level_at items number) in
     let x = get_or items number d in
     let longer : length more ≡ length items + length inner = ap length is ∙ length-append items inner in
     let high = r.top_in_range in
     let low : number + 1 ≤ length items = omega arith in
-    let within_is : inner ≡ within lexemes partners number (inner_range x) = ap (λ o. within lexemes partners number o) (at_number items number d h) in
+    let within_is : inner ≡ within lexemes partners number (inner_level x) = ap (λ o. within lexemes partners number o) (at_number items number d h) in
     let front : take (number + 1) more ≡ take number items ++ x ∷ [] = ap (take (number + 1)) is ∙ (take-append-le (number + 1) items inner low ∙ take_more items number d h) in
     let size_is : 0 + length (take number items) ≡ number = omega (arith, length-take-le number items r.in_range) in
     let all : children_from lexemes partners 0 (take (number + 1) more) ≡ children_from lexemes partners 0 (take number items) ++ inner
     = ap (λ xs. children_from lexemes partners 0 xs) front
     ∙ (children_more lexemes partners 0 (take number items) x
-    ∙ (ap (λ n. children_from lexemes partners 0 (take number items) ++ within lexemes partners n (inner_range x)) size_is ∙ ap (λ zs. children_from lexemes partners 0 (take number items) ++ zs) (sym within_is))) in
+    ∙ (ap (λ n. children_from lexemes partners 0 (take number items) ++ within lexemes partners n (inner_level x)) size_is ∙ ap (λ zs. children_from lexemes partners 0 (take number items) ++ zs) (sym within_is))) in
     record {
       in_range = omega arith;
       top_in_range = omega arith;
@@ -280,4 +293,5 @@ an_item = record {
   name = None;
   behind = 0;
   body = None;
+  missing = None;
 }

@@ -1,8 +1,9 @@
 -- What lies in order, with nothing between.
 use Rattle.std.specs.Prelude.{◌≡◌, ◌<◌, ◌≤◌, ℕ, List, [], ◌∷◌, Option, IfSome, length}
 use Rattle.std.specs.List.{AllByRecursion}
-use Rattle.item_tree.specs.Items.{level_of, inner_range}
+use Rattle.item_tree.specs.Items.{level_of, inner_level}
 use Rattle.item_tree.specs.declared.items.Item.{Item}
+use Rattle.item_tree.specs.declared.items.Level.{Level}
 use Rattle.item_tree.specs.declared.items.Range.{Range}
 use Rattle.item_tree.specs.declared.lexeme.Lexeme.{Lexeme}
 
@@ -21,9 +22,12 @@ LiesWithin outer r = (outer.first ≤ r.first) × (r.first ≤ r.behind) × (r.b
 
 -- each lexeme of a level lies in one item, error or inner attribute of it
 abbrev pub LevelsAreCovered : Type 0
-LevelsAreCovered = (lexemes : List Lexeme) (partners : List ℕ) (parent : Option ℕ) (r : Range) → IsRange (length lexemes) r → Cover r.first r.behind (level_of lexemes partners parent r)
+LevelsAreCovered =
+    (lexemes : List Lexeme) (partners : List ℕ) (parent : Option ℕ) (l : Level) → IsRange (length lexemes) l.range → Cover l.range.first l.range.behind (level_of lexemes partners parent l)
+
+abbrev pub IsWithin : Range → Item → Type 0
+IsWithin r x = IfSome (inner_level x) (λ (l : Level). LiesWithin r l.range)
 
 -- and what is in an item lies within the level
 abbrev pub LevelsNest : Type 0
-LevelsNest =
-    (lexemes : List Lexeme) (partners : List ℕ) (parent : Option ℕ) (r : Range) → AllByRecursion (λ (x : Item). IfSome (inner_range x) (LiesWithin r)) (level_of lexemes partners parent r)
+LevelsNest = (lexemes : List Lexeme) (partners : List ℕ) (parent : Option ℕ) (l : Level) → AllByRecursion (IsWithin l.range) (level_of lexemes partners parent l)

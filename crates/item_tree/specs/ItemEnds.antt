@@ -1,7 +1,12 @@
 -- Where items end.
-use Rattle.std.specs.Prelude.{◌==◌, ◌+◌, ◌-◌, ◌||◌, ◌&&◌, ℕ, Bool, not, List, [], ◌∷◌, drop, if◌then◌else◌}
+use Rattle.std.specs.Prelude.{◌==◌, ◌+◌, ◌-◌, ◌||◌, ◌&&◌, ℕ, Bool, true, false, not, List, [], ◌∷◌, Some, None, drop, if◌then◌else◌}
+use Rattle.item_tree.specs.Beginnings.{another_begins}
 use Rattle.item_tree.specs.Heads.{kind_at, is_mark, is_brace, nothing}
 use Rattle.item_tree.specs.ItemKinds.{path_len, is_group}
+use Rattle.item_tree.specs.ItemNames.{words_len}
+use Rattle.item_tree.specs.declared.expected.Expected.{Expected}
+use Rattle.item_tree.specs.declared.expected.Expected.TheVariants as expected
+use Rattle.item_tree.specs.declared.item_end.ItemEnd.{ItemEnd}
 use Rattle.item_tree.specs.declared.item_kind.ItemKind.{ItemKind}
 use Rattle.item_tree.specs.declared.item_kind.ItemKind.TheVariants as item
 use Rattle.item_tree.specs.declared.item_kind.PathPart.TheVariants.{Start}
@@ -11,13 +16,18 @@ use Rattle.item_tree.specs.declared.trees.Tree.{Tree}
 abbrev pub is_semicolon : LexemeKind → Bool
 is_semicolon k = is_mark 59 k
 
-abbrev pub before_semicolon : List Tree → ℕ
-before_semicolon [] = 0
-before_semicolon (t ∷ ts) = if not (is_semicolon t.kind) then 1 + before_semicolon ts else 0
+-- these end with a semicolon; the others may have a body in its place
+abbrev pub may_have_body : ItemKind → Bool
+may_have_body item.Use = false
+may_have_body item.ExternCrate = false
+may_have_body item.Const = false
+may_have_body item.Static = false
+may_have_body item.TypeAlias = false
+may_have_body _ = true
 
--- a body is braces outside of angle brackets; a semicolon may stand in its place
-abbrev pub ends_item : ℕ → LexemeKind → Bool
-ends_item depth k = is_semicolon k || (is_brace k && (depth == 0))
+-- a body is braces outside of angle brackets
+abbrev pub ends_item : ItemKind → ℕ → LexemeKind → Bool
+ends_item kind depth k = is_semicolon k || (is_brace k && (depth == 0) && may_have_body kind)
 
 -- how many angle brackets are open behind a tree; that of an arrow closes none
 abbrev pub depth_behind : LexemeKind → ℕ → LexemeKind → ℕ
@@ -26,31 +36,58 @@ depth_behind before depth k =
     else if is_mark 62 k && not (is_mark 45 before) && not (depth == 0) then depth - 1
     else depth
 
--- how many trees stand before the body or its semicolon, behind a tree with so many angle brackets open
-abbrev pub before_body : LexemeKind → ℕ → List Tree → ℕ
-before_body before depth [] = 0
-before_body before depth (t ∷ ts) = if not (ends_item depth t.kind) then 1 + before_body t.kind (depth_behind before depth t.kind) ts else 0
+-- in the values of constants and statics they may be comparisons, and are not counted
+abbrev pub depth_in : ItemKind → LexemeKind → ℕ → LexemeKind → ℕ
+depth_in item.Const before depth k = depth
+depth_in item.Static before depth k = depth
+depth_in _ before depth k = depth_behind before depth k
 
--- the group of a macro call, and a semicolon behind it where it is not of braces
-abbrev pub group_len : List Tree → ℕ
-group_len ts =
-    if not (is_group (kind_at ts 0)) then 0
-    else if not (is_brace (kind_at ts 0)) && is_semicolon (kind_at ts 1) then 2
-    else 1
+-- an end behind so many trees
+abbrev pub complete : ℕ → ItemEnd
+complete n = record { len = n; missing = None }
 
-abbrev pub call_len : List Tree → ℕ
-call_len ts = path_len Start ts + group_len (drop (path_len Start ts) ts)
+abbrev pub lacking : ℕ → Expected → ItemEnd
+lacking n e = record { len = n; missing = Some e }
 
--- how many trees an item takes from its own word on, where its level goes on so far: up to a semicolon, up to a
--- body or its semicolon, or a macro's path and group; an error takes what may be a path
-unfoldable pub item_len : ItemKind → List Tree → ℕ
-item_len item.Use ts = before_semicolon ts + 1
-item_len item.ExternCrate ts = before_semicolon ts + 1
-item_len item.Const ts = before_semicolon ts + 1
-item_len item.Static ts = before_semicolon ts + 1
-item_len item.TypeAlias ts = before_semicolon ts + 1
-item_len item.MacroCall ts = call_len ts
-item_len item.MacroRules ts = 3 + group_len (drop 3 ts)
-item_len item.InnerAttribute ts = 3
-item_len item.Error ts = path_len Start ts
-item_len _ ts = before_body nothing 0 ts + 1
+abbrev pub later : ℕ → ItemEnd → ItemEnd
+later n e = record { len = n + e.len; missing = e.missing }
+
+abbrev pub awaited : ItemKind → Expected
+awaited kind = if may_have_body kind then expected.Body else expected.Semicolon
+
+-- an item without its end
+abbrev pub cut : ItemKind → ItemEnd
+cut kind = lacking 0 (awaited kind)
+
+-- an item goes on up to its semicolon or body, but not where another item begins, nor behind its level
+abbrev pub up_to_end : ItemKind → LexemeKind → ℕ → List Tree → ItemEnd
+up_to_end kind before depth [] = cut kind
+up_to_end kind before depth (t ∷ ts) =
+    if another_begins kind depth before (t ∷ ts) then cut kind
+    else if ends_item kind depth t.kind then complete 1
+    else later 1 (up_to_end kind t.kind (depth_in kind before depth t.kind) ts)
+
+-- its own words stand before that
+abbrev pub behind_words : ItemKind → List Tree → ItemEnd
+behind_words kind ts = later (words_len kind ts) (up_to_end kind nothing 0 (drop (words_len kind ts) ts))
+
+-- the group of a macro, and a semicolon behind it where it is not of braces
+abbrev pub group_end : List Tree → ItemEnd
+group_end ts =
+    if not (is_group (kind_at ts 0)) then lacking 0 expected.Group
+    else if is_brace (kind_at ts 0) then complete 1
+    else if is_semicolon (kind_at ts 1) then complete 2
+    else lacking 1 expected.Semicolon
+
+abbrev pub call_end : List Tree → ItemEnd
+call_end ts = later (path_len Start ts) (group_end (drop (path_len Start ts) ts))
+
+-- how many trees an item takes from its own word on, where its level goes on so far, and what it lacks: it goes on up
+-- to its semicolon or body, or is a macro's path and group; an error takes what may be a path
+unfoldable pub item_end : ItemKind → List Tree → ItemEnd
+item_end item.MacroCall ts = call_end ts
+item_end item.CfgIf ts = call_end ts
+item_end item.MacroRules ts = later 3 (group_end (drop 3 ts))
+item_end item.InnerAttribute ts = complete 3
+item_end item.Error ts = complete (path_len Start ts)
+item_end k ts = behind_words k ts

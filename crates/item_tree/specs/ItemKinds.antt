@@ -87,9 +87,14 @@ abbrev pub is_group : LexemeKind → Bool
 is_group (Open d) = true
 is_group _ = false
 
+-- a call of `cfg_if` with braces is read, whatever its path
+abbrev pub group_kind : LexemeKind → LexemeKind → ItemKind
+group_kind (Word word.CfgIf) group = if is_brace group then item.CfgIf else item.MacroCall
+group_kind _ group = item.MacroCall
+
 -- a macro call is a path, its `!`, and a group
 abbrev pub call_of : ℕ → List Tree → ItemKind
-call_of len ts = if nat_lt 1 len && is_mark 33 (kind_at ts (len - 1)) && is_group (kind_at ts len) then item.MacroCall else item.Error
+call_of len ts = if nat_lt 1 len && is_mark 33 (kind_at ts (len - 1)) && is_group (kind_at ts len) then group_kind (kind_at ts (len - 2)) (kind_at ts len) else item.Error
 
 abbrev pub call_kind : List Tree → ItemKind
 call_kind ts = call_of (path_len Start ts) ts

@@ -1,25 +1,14 @@
 -- The parts of an item.
 use Rattle.std.specs.Prelude.{◌==◌, ◌+◌, ◌&&◌, ℕ, Bool, List, Option, Some, None, length, drop, nat_lt, if◌then◌else◌}
 use Rattle.item_tree.specs.Heads.{kind_at, is_mark, is_bracket, nothing, attributes_len, visibility_len, qualifiers_len}
-use Rattle.item_tree.specs.ItemKinds.{item_kind, is_mutable}
-use Rattle.item_tree.specs.ItemEnds.{item_len}
+use Rattle.item_tree.specs.ItemKinds.{item_kind}
+use Rattle.item_tree.specs.ItemEnds.{item_end}
+use Rattle.item_tree.specs.ItemNames.{name_place}
+use Rattle.item_tree.specs.declared.item_end.ItemEnd.{ItemEnd}
 use Rattle.item_tree.specs.declared.item_kind.ItemKind.{ItemKind}
 use Rattle.item_tree.specs.declared.item_kind.ItemKind.TheVariants as item
 use Rattle.item_tree.specs.declared.item_parts.ItemParts.{ItemParts}
 use Rattle.item_tree.specs.declared.trees.Tree.{Tree}
-
--- the name stands behind the item's own word; behind `macro_rules` and `!`, `extern` and `crate`, `static` and `mut`
-abbrev pub name_place : ItemKind → List Tree → Option ℕ
-name_place item.MacroRules ts = Some 2
-name_place item.ExternCrate ts = Some 2
-name_place item.Static ts = if is_mutable (kind_at ts 1) then Some 2 else Some 1
-name_place item.Use ts = None
-name_place item.ExternBlock ts = None
-name_place item.Impl ts = None
-name_place item.MacroCall ts = None
-name_place item.InnerAttribute ts = None
-name_place item.Error ts = None
-name_place _ ts = Some 1
 
 abbrev pub from_item : ℕ → Option ℕ → Option ℕ
 from_item word None = None
@@ -34,22 +23,26 @@ abbrev pub begins_inner_attribute : List Tree → Bool
 begins_inner_attribute ts = is_mark 35 (kind_at ts 0) && is_mark 33 (kind_at ts 1) && is_bracket (kind_at ts 2)
 
 abbrev pub inner_attribute : List Tree → ItemParts
-inner_attribute ts = record { kind = item.InnerAttribute; attributes = 0; visibility = 0; word = 0; name = None; len = bounded 3 (length ts) }
+inner_attribute ts = record { kind = item.InnerAttribute; attributes = 0; visibility = 0; word = 0; name = None; len = bounded 3 (length ts); missing = None }
 
-abbrev pub parts_of : ItemKind → ℕ → ℕ → ℕ → List Tree → ItemParts
-parts_of k attributes visibility word ts =
+abbrev pub parts_of : ItemKind → ItemEnd → ℕ → ℕ → ℕ → List Tree → ItemParts
+parts_of k end attributes visibility word ts =
     record {
       kind = k;
       attributes = attributes;
       visibility = visibility;
       word = word;
       name = from_item word (name_place k (drop word ts));
-      len = bounded (word + item_len k (drop word ts)) (length ts);
+      len = bounded (word + end.len) (length ts);
+      missing = end.missing;
     }
+
+abbrev pub parts_by : ItemKind → ℕ → ℕ → ℕ → List Tree → ItemParts
+parts_by k attributes visibility word ts = parts_of k (item_end k (drop word ts)) attributes visibility word ts
 
 -- the parts of an item whose own word stands at a place
 abbrev pub parts : ℕ → ℕ → ℕ → List Tree → ItemParts
-parts attributes visibility word ts = parts_of (item_kind (drop word ts)) attributes visibility word ts
+parts attributes visibility word ts = parts_by (item_kind (drop word ts)) attributes visibility word ts
 
 -- behind attributes there may be a visibility, and behind that qualifiers
 abbrev pub behind_visibility : ℕ → ℕ → List Tree → ItemParts

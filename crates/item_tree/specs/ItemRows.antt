@@ -1,14 +1,19 @@
 -- Items that are easy to read wrongly, and how they are read.
-use Rattle.std.specs.Prelude.{◌+◌, ℕ, List, [], ◌∷◌, Option}
+use Rattle.std.specs.Prelude.{◌+◌, ◌-◌, ℕ, List, [], ◌∷◌, Option, Some, None, length}
 use Rattle.item_tree.specs.Delimiters.{partners_of}
 use Rattle.item_tree.specs.ItemParts.{first_item}
+use Rattle.item_tree.specs.Items.{level_of}
 use Rattle.item_tree.specs.UseTrees.{use_trees_of}
+use Rattle.item_tree.specs.declared.cfg_if.LevelKind.TheVariants.{FirstArm}
+use Rattle.item_tree.specs.declared.expected.Expected.{Expected}
 use Rattle.item_tree.specs.declared.item_kind.ItemKind.{ItemKind}
+use Rattle.item_tree.specs.declared.item_kind.ItemKind.TheVariants as item
 use Rattle.item_tree.specs.declared.item_parts.ItemParts.{ItemParts}
+use Rattle.item_tree.specs.declared.items.Item.{Item}
 use Rattle.item_tree.specs.declared.lexeme.Delimiter.TheVariants.{Parenthesis, Bracket, Brace}
 use Rattle.item_tree.specs.declared.lexeme.Lexeme.{Lexeme}
 use Rattle.item_tree.specs.declared.lexeme.LexemeKind.{LexemeKind}
-use Rattle.item_tree.specs.declared.lexeme.LexemeKind.TheVariants.{Word, Open, Close, Mark, Str}
+use Rattle.item_tree.specs.declared.lexeme.LexemeKind.TheVariants.{Word, Open, Close, Mark, Lifetime, Str}
 use Rattle.item_tree.specs.declared.trees.Tree.{Tree}
 use Rattle.item_tree.specs.declared.use_tree.UseTree.{UseTree}
 use Rattle.item_tree.specs.declared.use_tree.UseTreeKind.{UseTreeKind}
@@ -27,7 +32,11 @@ abbrev pub name : LexemeKind
 name = Word word.Other
 
 abbrev pub parts : ItemKind → ℕ → ℕ → ℕ → Option ℕ → ℕ → ItemParts
-parts k attributes visibility own name_at len = record { kind = k; attributes = attributes; visibility = visibility; word = own; name = name_at; len = len }
+parts k attributes visibility own name_at len = record { kind = k; attributes = attributes; visibility = visibility; word = own; name = name_at; len = len; missing = None }
+
+-- those of an item that misses its end
+abbrev pub cut : ItemKind → Option ℕ → ℕ → Expected → ItemParts
+cut k name_at len e = record { kind = k; attributes = 0; visibility = 0; word = 0; name = name_at; len = len; missing = Some e }
 
 abbrev pub first : List LexemeKind → ItemParts
 first ks = first_item (trees_at 0 ks)
@@ -69,6 +78,74 @@ inner = first (Mark 35 ∷ Mark 33 ∷ Open Bracket ∷ Word word.Use ∷ [])
 
 abbrev pub attributes_alone : ItemParts
 attributes_alone = first (Mark 35 ∷ Open Bracket ∷ Mark 59 ∷ [])
+
+-- use a :: b const fn, and use a extern crate
+abbrev pub cut_use : ItemParts
+cut_use = first (Word word.Use ∷ name ∷ Mark 58 ∷ Mark 58 ∷ name ∷ Word word.Const ∷ Word word.Fn ∷ name ∷ Open Parenthesis ∷ Open Brace ∷ [])
+
+abbrev pub cut_crate : ItemParts
+cut_crate = first (Word word.Extern ∷ Word word.Crate ∷ name ∷ Word word.Extern ∷ Word word.Crate ∷ name ∷ Mark 59 ∷ [])
+
+-- const a : * const a = a < {..} pub, and type a < #[..] a > = impl a + use < 'a > const _ : a
+abbrev pub cut_const : ItemParts
+cut_const =
+    first (Word word.Const ∷ name ∷ Mark 58 ∷ Mark 42 ∷ Word word.Const ∷ name ∷ Mark 61 ∷ name ∷ Mark 60 ∷ Open Brace ∷ Word word.Pub ∷ Word word.Fn ∷ Mark 59 ∷ [])
+
+abbrev pub cut_type : ItemParts
+cut_type =
+    first
+    (Word word.Type ∷ name ∷ Mark 60 ∷ Mark 35 ∷ Open Bracket ∷ name ∷ Mark 62 ∷ Mark 61 ∷ Word word.Impl ∷ name ∷ Mark 43 ∷ Word word.Use ∷ Mark 60 ∷ Lifetime ∷ Mark 62 ∷ Word word.Const ∷ Word word.Underscore ∷ Mark 58 ∷ name ∷ [])
+
+-- struct a (..) impl a {..}, and static a : a = static | | {..} macro_rules ! a {..}
+abbrev pub cut_struct : ItemParts
+cut_struct = first (Word word.Struct ∷ name ∷ Open Parenthesis ∷ Word word.Impl ∷ name ∷ Open Brace ∷ [])
+
+abbrev pub cut_static : ItemParts
+cut_static =
+    first (Word word.Static ∷ name ∷ Mark 58 ∷ name ∷ Mark 61 ∷ Word word.Static ∷ Mark 124 ∷ Mark 124 ∷ Open Brace ∷ Word word.MacroRules ∷ Mark 33 ∷ name ∷ Open Brace ∷ [])
+
+-- fn a < const a : a (..) - > unsafe fn (..) unsafe trait a {..}, and fn a (..) alone
+abbrev pub cut_function : ItemParts
+cut_function =
+    first
+    (Word word.Fn ∷ name ∷ Mark 60 ∷ Word word.Const ∷ name ∷ Mark 58 ∷ name ∷ Open Parenthesis ∷ Mark 45 ∷ Mark 62 ∷ Word word.Unsafe ∷ Word word.Fn ∷ Open Parenthesis ∷ Word word.Unsafe ∷ Word word.Trait ∷ name ∷ Open Brace ∷ [])
+
+abbrev pub cut_level : ItemParts
+cut_level = first (Word word.Fn ∷ name ∷ Open Parenthesis ∷ [])
+
+-- a ! (..) a, and macro_rules ! a
+abbrev pub cut_call : ItemParts
+cut_call = first (name ∷ Mark 33 ∷ Open Parenthesis ∷ name ∷ [])
+
+abbrev pub cut_rules : ItemParts
+cut_rules = first (Word word.MacroRules ∷ Mark 33 ∷ name ∷ Word word.Mod ∷ name ∷ Mark 59 ∷ [])
+
+abbrev pub arms_in : List Lexeme → List Item
+arms_in ls = level_of ls (partners_of ls) (Some 0) (record { kind = FirstArm; range = record { first = 0; behind = length ls } })
+
+abbrev pub arm : ℕ → ℕ → ℕ → Item
+arm first_at braces behind_at =
+    record {
+      kind = item.CfgIfArm;
+      parent = Some 0;
+      first = first_at;
+      visibility = braces;
+      qualifiers = braces;
+      word = braces;
+      name = None;
+      behind = behind_at;
+      body = Some (record { first = braces + 1; behind = behind_at - 1 });
+      missing = None;
+    }
+
+abbrev pub no_arm : ℕ → Item
+no_arm i = record { kind = item.Error; parent = Some 0; first = i; visibility = i; qualifiers = i; word = i; name = None; behind = i + 1; body = None; missing = None }
+
+-- if # [ ] { a } else if # [ ] { } else { } else
+abbrev pub arms : List Item
+arms =
+    arms_in
+    (lexemes_at 0 (Word word.If ∷ Mark 35 ∷ Open Bracket ∷ Close Bracket ∷ Open Brace ∷ name ∷ Close Brace ∷ Word word.Else ∷ Word word.If ∷ Mark 35 ∷ Open Bracket ∷ Close Bracket ∷ Open Brace ∷ Close Brace ∷ Word word.Else ∷ Open Brace ∷ Close Brace ∷ Word word.Else ∷ []))
 
 -- { ( ] { } ) [ }
 abbrev pub partners : List ℕ

@@ -12,9 +12,15 @@ pub mod Innermost
 pub mod Trees
 pub mod Heads
 pub mod ItemKinds
+pub mod ItemNames
+pub mod Beginnings
 pub mod ItemEnds
+pub mod NoneTaken
 pub mod ItemParts
+pub mod CfgIfs
 pub mod Items
+pub mod ExpectedTexts
+pub mod SyntaxErrors
 pub mod Visibilities
 pub mod UseTrees
 pub mod Covers

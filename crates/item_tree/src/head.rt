@@ -120,7 +120,7 @@ fn qualifies(word: Word, behind: &[Tree]) -> bool
 }
 
 /// Whether a tree is a qualifier, or the name of an interface behind `extern`.
-fn is_qualifier(before: LexemeKind, kind: LexemeKind, behind: &[Tree]) -> bool
+pub(crate) fn is_qualifier(before: LexemeKind, kind: LexemeKind, behind: &[Tree]) -> bool
     ensures { result ≡ spec.is_qualifier before kind behind.now }
 {
     match kind {

@@ -26,6 +26,10 @@ pub enum ItemKind {
     Mod,
     /// A macro call among items.
     MacroCall,
+    /// A call of `cfg_if!` with braces.
+    CfgIf,
+    /// One of the groups of items that a `cfg_if!` chooses among.
+    CfgIfArm,
     MacroRules,
     /// `macro`
     Macro2,
@@ -185,13 +189,29 @@ pub(crate) fn is_group(kind: LexemeKind) -> bool
     matches!(kind, LexemeKind::Open(_))
 }
 
+/// The kind of a macro call, by the last segment of its path and by its group.
+fn group_kind(name: LexemeKind, group: LexemeKind) -> ItemKind
+    ensures { result ≡ spec.group_kind name group }
+{
+    match name {
+        LexemeKind::Word(Word::CfgIf) => {
+            if is_brace(group) {
+                ItemKind::CfgIf
+            } else {
+                ItemKind::MacroCall
+            }
+        }
+        _ => ItemKind::MacroCall,
+    }
+}
+
 /// A macro call where a path with a `!` and a group begin the trees.
 fn call_kind(trees: &[Tree]) -> ItemKind
     ensures { result ≡ spec.call_kind trees.now }
 {
     let len = path_len(trees);
     if len > 1 && is_mark(b'!', kind_at(trees, len - 1)) && is_group(kind_at(trees, len)) {
-        ItemKind::MacroCall
+        group_kind(kind_at(trees, len - 2), kind_at(trees, len))
     } else {
         ItemKind::Error
     }

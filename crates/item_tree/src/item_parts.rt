@@ -2,9 +2,11 @@
 ghost use Rattle.std.specs.Prelude.{◌≡◌, ◌+◌, ◌<◌, ◌≤◌, ◌^◌, IfSome, length};
 ghost use Rattle.item_tree.specs.ItemParts as spec;
 
+use crate::expected::Expected;
 use crate::head::{attributes_len, is_bracket, is_mark, kind_at, qualifiers_len, visibility_len};
-use crate::item_end::item_len;
-use crate::item_kind::{ItemKind, behind, is_mutable, item_kind};
+use crate::item_end::item_end;
+use crate::item_kind::{ItemKind, behind, item_kind};
+use crate::item_name::name_place;
 use crate::trees::Tree;
 
 /// An item of a level, in trees from its own first one on.
@@ -21,30 +23,8 @@ pub struct ItemParts {
     pub name: Option<usize>,
     /// Where it ends.
     pub len: usize,
-}
-
-/// Where the name of an item stands, from its own word on.
-fn name_place(kind: ItemKind, trees: &[Tree]) -> Option<usize>
-    ensures small { IfSome result (λ place. place ≤ 2) }
-    ensures exact { result ≡ spec.name_place kind trees.now }
-{
-    match kind {
-        ItemKind::MacroRules | ItemKind::ExternCrate => Some(2),
-        ItemKind::Static => {
-            if is_mutable(kind_at(trees, 1)) {
-                Some(2)
-            } else {
-                Some(1)
-            }
-        }
-        ItemKind::Use
-        | ItemKind::ExternBlock
-        | ItemKind::Impl
-        | ItemKind::MacroCall
-        | ItemKind::InnerAttribute
-        | ItemKind::Error => None,
-        _ => Some(1),
-    }
+    /// What it should end with and does not.
+    pub missing: Option<Expected>,
 }
 
 /// A place that is counted from the item's own word on, counted from the item on.
@@ -94,14 +74,15 @@ fn parts(trees: &[Tree], attributes: usize, visibility: usize, word: usize) -> I
 {
     let own = behind(trees, word);
     let kind = item_kind(own);
-    let len = bounded(word + item_len(kind, own), trees.len());
+    let end = item_end(kind, own);
     ItemParts {
         kind,
         attributes,
         visibility,
         word,
         name: from_item(word, name_place(kind, own)),
-        len,
+        len: bounded(word + end.len, trees.len()),
+        missing: end.missing,
     }
 }
 
@@ -121,6 +102,7 @@ pub(crate) fn first_item(trees: &[Tree]) -> ItemParts
             word: 0,
             name: None,
             len: bounded(3, trees.len()),
+            missing: None,
         };
     }
     let attributes = attributes_len(trees);

@@ -1,6 +1,7 @@
 //! What the definitions of partners, items and use trees say of texts that are easy to read wrongly.
 ghost use Rattle.std.specs.Prelude.{◌≡◌, Some, None, [], ◌∷◌};
 ghost use Rattle.item_tree.specs.ItemRows as rows;
+ghost use Rattle.item_tree.specs.declared.expected.Expected.TheVariants as expected;
 ghost use Rattle.item_tree.specs.declared.item_kind.ItemKind.TheVariants as item;
 ghost use Rattle.item_tree.specs.declared.use_tree.UseTreeKind.TheVariants as tree;
 
@@ -16,6 +17,25 @@ pub fn difficult_items()
     ensures call { rows.call ≡ rows.parts item.MacroCall 0 0 0 None 8 }
     ensures inner { rows.inner ≡ rows.parts item.InnerAttribute 0 0 0 None 3 }
     ensures attributes_alone { rows.attributes_alone ≡ rows.parts item.Error 2 2 2 None 2 }
+{}
+
+/// Items that miss their end, and end where another begins.
+pub fn items_without_end()
+    ensures of_use { rows.cut_use ≡ rows.cut item.Use None 5 expected.Semicolon }
+    ensures of_crate { rows.cut_crate ≡ rows.cut item.ExternCrate (Some 2) 3 expected.Semicolon }
+    ensures of_const { rows.cut_const ≡ rows.cut item.Const (Some 1) 10 expected.Semicolon }
+    ensures of_type { rows.cut_type ≡ rows.cut item.TypeAlias (Some 1) 15 expected.Semicolon }
+    ensures of_struct { rows.cut_struct ≡ rows.cut item.Struct (Some 1) 3 expected.Body }
+    ensures of_static { rows.cut_static ≡ rows.cut item.Static (Some 1) 9 expected.Semicolon }
+    ensures of_function { rows.cut_function ≡ rows.cut item.Function (Some 1) 13 expected.Body }
+    ensures of_level { rows.cut_level ≡ rows.cut item.Function (Some 1) 3 expected.Body }
+    ensures of_call { rows.cut_call ≡ rows.cut item.MacroCall None 3 expected.Semicolon }
+    ensures of_rules { rows.cut_rules ≡ rows.cut item.MacroRules (Some 2) 3 expected.Group }
+{}
+
+/// The arms of a `cfg_if!`, and what is none behind the last.
+pub fn arms_of_cfg_if()
+    ensures { rows.arms ≡ rows.arm 0 4 7 ∷ rows.arm 7 12 14 ∷ rows.arm 14 15 17 ∷ rows.no_arm 17 ∷ [] }
 {}
 
 /// Partners of delimiters that are closed by another kind, or not at all.

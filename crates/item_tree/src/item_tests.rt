@@ -120,6 +120,32 @@ fn errors_lose_no_other_item(rt: HostRuntime) -> Result<(), Fail> {
 }
 
 #[test]
+fn items_without_end_lose_no_other(rt: HostRuntime) -> Result<(), Fail> {
+    let read = printed(
+        rt.alloc(),
+        "use a::b use crate::c; struct S(u8) unsafe impl T for S {} const A: bool = a < b #[c] fn f() {} mod m pub mod n {}",
+    )?;
+    let wanted =
+        "Use : use a::b | Use : use crate::c; | Struct S: struct S(u8) | Impl : unsafe impl T for S {} | Const A: const A: bool = a < b | Function f: #[c] fn f() {} | Mod m: mod m | Mod n: pub mod n {} | ";
+    assert_eq!(rt; read.as_str(), wanted);
+    let read = printed(
+        rt.alloc(),
+        "fn f<T(a: T) -> *const T async fn g<const N: usize>() {} m!(a) type A = u8 static mut B: fn() = f const _: () = {}; macro_rules! r enum E {}",
+    )?;
+    let wanted =
+        "Function f: fn f<T(a: T) -> *const T | Function g: async fn g<const N: usize>() {} | MacroCall : m!(a) | TypeAlias A: type A = u8 | Static B: static mut B: fn() = f | Const _: const _: () = {}; | MacroRules r: macro_rules! r | Enum E: enum E {} | ";
+    assert_eq!(rt; read.as_str(), wanted);
+    let read = printed(
+        rt.alloc(),
+        "fn a() -> impl A + use<'a> where *const N: B {} static F: extern \"C\" fn() = static || {}; impl const a::B for C {} type D = &raw const E;",
+    )?;
+    let wanted =
+        "Function a: fn a() -> impl A + use<'a> where *const N: B {} | Static F: static F: extern \"C\" fn() = static || {}; | Impl : impl const a::B for C {} | TypeAlias D: type D = &raw const E; | ";
+    assert_eq!(rt; read.as_str(), wanted);
+    Ok(())
+}
+
+#[test]
 fn items_in_items(rt: HostRuntime) -> Result<(), Fail> {
     let text =
         "mod a { mod b { use c; } trait T { const C: u8; } } impl S { fn f() { fn g() {} } }";
@@ -135,5 +161,35 @@ fn items_in_items(rt: HostRuntime) -> Result<(), Fail> {
         assert_eq!(rt; item.parent, parent);
     }
     assert_eq!(rt; tree.top_level, 2);
+    Ok(())
+}
+
+#[test]
+fn arms_of_cfg_if(rt: HostRuntime) -> Result<(), Fail> {
+    let text =
+        "a::cfg_if! { if #[cfg(b)] { use c; cfg_if! { if #[cfg(d)] { fn e() {} } else { mod f; } } } else if #[cfg(g)] { h!(); } else { use i; } } use j;";
+    let read = printed(rt.alloc(), text)?;
+    let wanted =
+        "CfgIf : a::cfg_if! { if #[cfg(b)] { use c; cfg_if! { if #[cfg(d)] { fn e() {} } else { mod f; } } } else if #[cfg(g)] { h!(); } else { use i; } } | Use : use j; | CfgIfArm : if #[cfg(b)] { use c; cfg_if! { if #[cfg(d)] { fn e() {} } else { mod f; } } } | CfgIfArm : else if #[cfg(g)] { h!(); } | CfgIfArm : else { use i; } | Use : use c; | CfgIf : cfg_if! { if #[cfg(d)] { fn e() {} } else { mod f; } } | MacroCall : h!(); | Use : use i; | CfgIfArm : if #[cfg(d)] { fn e() {} } | CfgIfArm : else { mod f; } | Function e: fn e() {} | Mod f: mod f; | ";
+    assert_eq!(rt; read.as_str(), wanted);
+    let lexemes = read_lexemes(rt.alloc(), text.as_bytes(), Edition::Edition2021)?;
+    let partners = partners(rt.alloc(), lexemes.as_slice())?;
+    let tree = item_tree(rt.alloc(), lexemes.as_slice(), partners.as_slice())?;
+    let mut heads = String::new(rt.alloc());
+    for item in &tree.items {
+        heads.push_str(text_of(text, lexemes.as_slice(), item.first, item.visibility))?;
+        let parent = format!(in rt.alloc(); " {:?}; ", item.parent)?;
+        heads.push_str(parent.as_str())?;
+    }
+    let wanted =
+        " None;  None; if #[cfg(b)] Some(0); else if #[cfg(g)] Some(0); else Some(0);  Some(2);  Some(2);  Some(3);  Some(4); if #[cfg(d)] Some(6); else Some(6);  Some(9);  Some(10); ";
+    assert_eq!(rt; heads.as_str(), wanted);
+    let read = printed(
+        rt.alloc(),
+        "cfg_if! { else {} if #[a] {} if #[b] {} else if {} else { ; } else {} } cfg_if!(b); cfg_if!{}",
+    )?;
+    let wanted =
+        "CfgIf : cfg_if! { else {} if #[a] {} if #[b] {} else if {} else { ; } else {} } | MacroCall : cfg_if!(b); | CfgIf : cfg_if!{} | Error : else | Error : {} | CfgIfArm : if #[a] {} | Error : if | Error : # | Error : [b] | Error : {} | Error : else | Error : if | Error : {} | CfgIfArm : else { ; } | Error : else | Error : {} | Error : ; | ";
+    assert_eq!(rt; read.as_str(), wanted);
     Ok(())
 }

@@ -1,9 +1,11 @@
-//! The items of a text, with those in modules, traits, implementations and extern blocks.
+//! The items of a text, with those in modules, traits, implementations, extern blocks and the arms of `cfg_if!`.
 ghost use Rattle.std.specs.Prelude.{◌≡◌, ◌<◌, ◌≤◌, ◌++◌, ℕ, IfOk, IfSome, OnOk, Some, None, length, take, vec_len};
 ghost use Rattle.item_tree.specs.Items as spec;
 
+use crate::cfg_if::{LevelKind, first_in, kind_behind, level_kind};
+use crate::expected::Expected;
 use crate::item_kind::ItemKind;
-use crate::item_parts::{ItemParts, first_item};
+use crate::item_parts::ItemParts;
 use crate::lexeme::{Delimiter, Lexeme, LexemeKind};
 use crate::trees::{Tree, trees};
 use std::alloc::{AllocError, Global};
@@ -15,7 +17,15 @@ pub struct Range {
     pub behind: usize,
 }
 
-/// An item, an error or an inner attribute, by the places of its lexemes.
+/// Lexemes that are cut into items, or into the arms of a `cfg_if!`.
+#[derive(Clone, Copy, PartialEq, Eq, Debug)]
+pub struct Level {
+    pub kind: LevelKind,
+    pub range: Range,
+}
+
+/// An item, an error or an inner attribute, by the places of its lexemes. An arm of a `cfg_if!` has its attribute and the
+/// words around it before its visibility, and its braces in the place of that.
 #[derive(Clone, Copy)]
 pub struct Item {
     pub kind: ItemKind,
@@ -35,6 +45,8 @@ pub struct Item {
     pub behind: usize,
     /// What stands between the braces that it ends with.
     pub body: Option<Range>,
+    /// What it should end with and does not.
+    pub missing: Option<Expected>,
 }
 
 /// The items of a text: those of the top level, and then those in the body of each, in order.
@@ -136,6 +148,7 @@ fn placed(trees: &[Tree], parts: ItemParts, end: usize, parent: Option<usize>) -
         name: name_at(trees, parts.name, end),
         behind: place_at(trees, parts.len, end),
         body: body_at(trees, parts.len - 1),
+        missing: parts.missing,
     }
 }
 
@@ -143,15 +156,17 @@ fn placed(trees: &[Tree], parts: ItemParts, end: usize, parent: Option<usize>) -
 fn add_items(
     items: &mut Vec<Item>,
     trees: &[Tree],
-    end: usize,
+    level: Level,
     parent: Option<usize>,
 ) -> Result<(), AllocError>
-    ensures { OnOk result (items.new.items ≡ items.old.items ++ spec.items_of parent end trees.now) }
+    ensures { OnOk result (items.new.items ≡ items.old.items ++ spec.items_of level.kind parent level.range.behind trees.now) }
 {
+    let mut kind = level.kind;
     let mut at: usize = 0;
     while at < trees.len() {
-        let parts = first_item(&trees[at..]);
-        items.push(placed(&trees[at..], parts, end, parent))?;
+        let parts = first_in(kind, &trees[at..]);
+        items.push(placed(&trees[at..], parts, level.range.behind, parent))?;
+        kind = kind_behind(kind, parts);
         at += parts.len;
     }
     Ok(())
@@ -163,13 +178,14 @@ fn add_level(
     alloc: Global,
     lexemes: &[Lexeme],
     partners: &[usize],
-    range: Range,
+    level: Level,
     parent: Option<usize>,
 ) -> Result<(), AllocError>
-    ensures { OnOk result (items.new.items ≡ items.old.items ++ spec.level_of lexemes.now partners.now parent range) }
+    ensures { OnOk result (items.new.items ≡ items.old.items ++ spec.level_of lexemes.now partners.now parent level) }
 {
+    let range = level.range;
     let trees = trees(alloc, lexemes, partners, range.first, range.behind)?;
-    add_items(items, trees.as_slice(), range.behind, parent)?;
+    add_items(items, trees.as_slice(), level, parent)?;
     Ok(())
 }
 
@@ -179,21 +195,37 @@ fn contains_items(kind: ItemKind) -> bool
 {
     matches!(
         kind,
-        ItemKind::Mod | ItemKind::Trait | ItemKind::Impl | ItemKind::ExternBlock
+        ItemKind::Mod
+            | ItemKind::Trait
+            | ItemKind::Impl
+            | ItemKind::ExternBlock
+            | ItemKind::CfgIf
+            | ItemKind::CfgIfArm
     )
 }
 
-/// The lexemes of the items in the item of a number.
-fn inner_range(items: &[Item], number: usize) -> Option<Range>
-    ensures { result ≡ spec.inner_range_at items.now number }
+fn level_in(kind: LevelKind, body: Option<Range>) -> Option<Level>
+    ensures { result ≡ spec.level_in kind body }
+{
+    match body {
+        None => None,
+        Some(range) => Some(Level { kind, range }),
+    }
+}
+
+/// What stands in the item of a number.
+fn inner_level(items: &[Item], number: usize) -> Option<Level>
+    ensures { result ≡ spec.inner_level_at items.now number }
 {
     match items.get(number) {
         None => None,
-        Some(item) => if contains_items(item.kind) {
-            item.body
-        } else {
-            None
-        },
+        Some(item) => {
+            if contains_items(item.kind) {
+                level_in(level_kind(item.kind), item.body)
+            } else {
+                None
+            }
+        }
     }
 }
 
@@ -205,11 +237,11 @@ fn add_children(
     partners: &[usize],
     number: usize,
 ) -> Result<(), AllocError>
-    ensures { OnOk result (items.new.items ≡ items.old.items ++ spec.within lexemes.now partners.now number (spec.inner_range_at items.old.items number)) }
+    ensures { OnOk result (items.new.items ≡ items.old.items ++ spec.within lexemes.now partners.now number (spec.inner_level_at items.old.items number)) }
 {
-    match inner_range(items.as_slice(), number) {
+    match inner_level(items.as_slice(), number) {
         None => {}
-        Some(range) => add_level(items, alloc, lexemes, partners, range, Some(number))?,
+        Some(level) => add_level(items, alloc, lexemes, partners, level, Some(number))?,
     }
     Ok(())
 }
@@ -229,9 +261,12 @@ pub fn item_tree(
     ensures whole { IfOk result (λ tree. tree.items.items ≡ spec.top_level_of lexemes.now partners.now ++ spec.children_from lexemes.now partners.now 0 tree.items.items) }
 {
     let mut items = Vec::new(alloc);
-    let whole = Range {
-        first: 0,
-        behind: lexemes.len(),
+    let whole = Level {
+        kind: LevelKind::Items,
+        range: Range {
+            first: 0,
+            behind: lexemes.len(),
+        },
     };
     add_level(&mut items, alloc, lexemes, partners, whole, None)?;
     let top_level = items.len();

@@ -1,6 +1,8 @@
 //! What follows from the definitions of partners, items and use trees.
 ghost use Rattle.item_tree.specs.Lists.{UseTreesStandInLists};
 ghost use Rattle.item_tree.specs.Pairs.{PairsNest};
+ghost use Rattle.item_tree.specs.NoneTaken.{ItemsTakeNoOther};
+ghost use Rattle.item_tree.specs.SyntaxErrors.{WholeTextsHaveNoErrors};
 ghost use Rattle.item_tree.specs.Covers.{LevelsAreCovered, LevelsNest};
 
 /// Each lexeme of a level lies in exactly one of its items, errors and inner attributes. These are in order, and what is
@@ -8,6 +10,16 @@ ghost use Rattle.item_tree.specs.Covers.{LevelsAreCovered, LevelsNest};
 pub fn items_cover_their_levels()
     ensures covered { LevelsAreCovered }
     ensures nested { LevelsNest }
+{}
+
+/// What an item takes behind its own words, with an end or without, has nothing that begins an item wherever it stands.
+pub fn items_take_no_other()
+    ensures { ItemsTakeNoOther }
+{}
+
+/// A text whose items are whole, and whose delimiters have partners, has no errors.
+pub fn whole_texts_have_no_errors()
+    ensures { WholeTextsHaveNoErrors }
 {}
 
 /// Partners are each the other's, the first opens and the second closes a group of one kind, and such groups nest.

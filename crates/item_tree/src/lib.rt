@@ -8,17 +8,21 @@ pub mod attribute_rows;
 #[cfg(test)]
 mod attribute_tests;
 pub mod attributes;
+mod beginnings;
 mod bodies;
 pub mod cfg;
+pub mod cfg_if;
 pub mod cfg_parser;
 #[cfg(test)]
 mod cfg_tests;
 mod characters;
 pub mod delimiters;
+pub mod expected;
 pub mod fields;
 mod head;
-mod item_end;
+pub mod item_end;
 pub mod item_kind;
+mod item_name;
 pub mod item_parts;
 pub mod item_rows;
 #[cfg(test)]
@@ -34,6 +38,9 @@ pub mod openings;
 pub mod paths;
 pub mod rows;
 pub mod span;
+pub mod syntax_error;
+#[cfg(test)]
+mod syntax_error_tests;
 #[cfg(test)]
 mod tests;
 pub mod token;

@@ -1,11 +1,11 @@
 use Rattle.std.proofs.Common.{refl}
-use Rattle.item_tree.specs.ItemEnds.{item_len}
+use Rattle.item_tree.specs.ItemEnds.{item_end}
 use Rattle.item_tree.specs.ItemKinds.{item_kind}
 use Rattle.item_tree.specs.ItemParts.{first_item}
 use Rattle.item_tree.proofs.item_rows.difficult_items.Goals as goal
 
 pub returns : goal.returns
-unfolding first_item item_kind item_len
+unfolding first_item item_kind item_end
 returns c = record {
   qualified = refl;
   unnamed = refl;
