@@ -15,3 +15,6 @@ pub mod Nested
 pub mod Listed
 pub mod CfgRows
 pub mod CfgWritten
+pub mod InOrder
+pub mod Segments
+pub mod ByParent

@@ -15,6 +15,7 @@ pub mod ItemKinds
 pub mod ItemEnds
 pub mod ItemParts
 pub mod Items
+pub mod Children
 pub mod Visibilities
 pub mod UseTrees
 pub mod Covers
@@ -31,5 +32,7 @@ pub mod CfgGrammar
 pub mod AttributeReading
 pub mod AttributeKinds
 pub mod Attributes
+pub mod ItemAttributes
+pub mod Ids
 pub mod AttributeLists
 pub mod AttributeRows

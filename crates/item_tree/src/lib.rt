@@ -14,9 +14,12 @@ pub mod cfg_parser;
 #[cfg(test)]
 mod cfg_tests;
 mod characters;
+pub mod children;
 pub mod delimiters;
 pub mod fields;
 mod head;
+pub mod ids;
+pub mod item_attributes;
 mod item_end;
 pub mod item_kind;
 pub mod item_parts;

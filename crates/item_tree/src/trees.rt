@@ -54,7 +54,7 @@ fn tree_of(kind: LexemeKind, at: usize, partner: usize, end: usize) -> Tree
 }
 
 /// The partner of the lexeme at a place, as far as one is told.
-fn partner_at(partners: &[usize], at: usize) -> usize
+pub(crate) fn partner_at(partners: &[usize], at: usize) -> usize
     ensures { result ≡ spec.partner_at partners.now at }
 {
     match partners.get(at) {
