@@ -18,3 +18,6 @@ pub mod CfgWritten
 pub mod InOrder
 pub mod Segments
 pub mod ByParent
+pub mod UseHeads
+pub mod UseWritten
+pub mod UseLaw

@@ -18,6 +18,8 @@ pub mod Items
 pub mod Children
 pub mod Visibilities
 pub mod UseTrees
+pub mod UseGrammar
+pub mod UseLeaves
 pub mod Covers
 pub mod Members
 pub mod Fields
