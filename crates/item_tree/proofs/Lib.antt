@@ -21,3 +21,4 @@ pub mod ByParent
 pub mod UseHeads
 pub mod UseWritten
 pub mod UseLaw
+pub mod ImportPaths

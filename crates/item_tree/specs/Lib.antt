@@ -20,6 +20,7 @@ pub mod Visibilities
 pub mod UseTrees
 pub mod UseGrammar
 pub mod UseLeaves
+pub mod Imports
 pub mod Covers
 pub mod Members
 pub mod Fields

@@ -19,6 +19,7 @@ pub mod delimiters;
 pub mod fields;
 mod head;
 pub mod ids;
+pub mod imports;
 pub mod item_attributes;
 mod item_end;
 pub mod item_kind;
