@@ -39,6 +39,8 @@ pub mod paths;
 pub mod rows;
 pub mod span;
 #[cfg(test)]
+mod test_texts;
+#[cfg(test)]
 mod tests;
 pub mod token;
 pub mod trees;
