@@ -18,3 +18,10 @@ pub mod CfgWritten
 pub mod UpToEnd
 pub mod NoneTaken
 pub mod NoErrors
+pub mod InOrder
+pub mod Segments
+pub mod ByParent
+pub mod UseHeads
+pub mod UseWritten
+pub mod UseLaw
+pub mod ImportPaths

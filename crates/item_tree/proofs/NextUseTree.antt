@@ -21,7 +21,7 @@ use_trees_skipped end trees parent (suc n) i [] = refl
 use_trees_skipped end trees parent (suc n) i (l ∷ ls) = use_trees_skipped end trees parent n (i + 1) ls ∙ ap (λ k. use_trees_from end trees parent 0 k (drop n ls)) (one_further i n)
 
 -- one step at the first of some lexemes
-one_step : (end : ℕ) (trees : List UseTree) (parent : Option ℕ) (i : ℕ) (ls : List Lexeme) (s : Step) → 0 < length ls → i < end → s ≡ step_of trees parent i ls → i < s.behind
+pub one_step : (end : ℕ) (trees : List UseTree) (parent : Option ℕ) (i : ℕ) (ls : List Lexeme) (s : Step) → 0 < length ls → i < end → s ≡ step_of trees parent i ls → i < s.behind
     → use_trees_from end trees parent 0 i ls ≡ use_trees_from end (with_tree trees s.tree) s.parent 0 s.behind (drop (s.behind - i) ls)
 one_step end trees parent i [] s some before is forward = absurd (omega arith)
 one_step end trees parent i (l ∷ ls) s some before is forward =
@@ -46,7 +46,7 @@ next_use_tree lexemes seen end trees shown more parent i s within before same sa
     ap (λ ts. use_trees_from end ts s.parent 0 s.behind (drop s.behind lexemes)) added
     ∙ (ap (λ ls. use_trees_from end (with_tree trees s.tree) s.parent 0 s.behind ls) (sym moved) ∙ sym (one_step end trees parent i (drop i lexemes) s some before whole forward))
 
-nothing_read : (end : ℕ) (trees : List UseTree) (parent : Option ℕ) (i : ℕ) (ls : List Lexeme) → end ≤ i → use_trees_from end trees parent 0 i ls ≡ trees
+pub nothing_read : (end : ℕ) (trees : List UseTree) (parent : Option ℕ) (i : ℕ) (ls : List Lexeme) → end ≤ i → use_trees_from end trees parent 0 i ls ≡ trees
 nothing_read end trees parent i [] h = refl
 nothing_read end trees parent i (l ∷ ls) h = let test : nat_lt i end ≡ false = le-ltb i end h in rw test refl
 

@@ -3,6 +3,7 @@ use Rattle.std.specs.Prelude.{◌+◌, ◌-◌, ℕ, List, [], ◌∷◌, Option
 use Rattle.item_tree.specs.Delimiters.{partners_of}
 use Rattle.item_tree.specs.ItemParts.{first_item}
 use Rattle.item_tree.specs.Items.{level_of}
+use Rattle.item_tree.specs.UseGrammar.{Nothing, Behind, Written, Name, Renamed, Glob, List_, WrittenList, Last, More}
 use Rattle.item_tree.specs.UseTrees.{use_trees_of}
 use Rattle.item_tree.specs.declared.cfg_if.LevelKind.TheVariants.{FirstArm}
 use Rattle.item_tree.specs.declared.expected.Expected.{Expected}
@@ -160,8 +161,22 @@ abbrev pub leaf : UseTreeKind → Option ℕ → ℕ → ℕ → Option ℕ → 
 leaf k parent from end alias behind = record { kind = k; parent = parent; path = record { first = from; behind = end }; alias = alias; behind = behind }
 
 -- a :: { self , b as _ , * }
+abbrev pub nested_lexemes : List Lexeme
+nested_lexemes =
+    lexemes_at 0 (name ∷ Mark 58 ∷ Mark 58 ∷ Open Brace ∷ Word word.SelfValue ∷ Mark 44 ∷ name ∷ Word word.As ∷ Word word.Underscore ∷ Mark 44 ∷ Mark 42 ∷ Close Brace ∷ [])
+
 abbrev pub nested_use : List UseTree
-nested_use =
-    use_trees_of
-    (lexemes_at 0 (name ∷ Mark 58 ∷ Mark 58 ∷ Open Brace ∷ Word word.SelfValue ∷ Mark 44 ∷ name ∷ Word word.As ∷ Word word.Underscore ∷ Mark 44 ∷ Mark 42 ∷ Close Brace ∷ []))
-    (record { first = 0; behind = 12 })
+nested_use = use_trees_of nested_lexemes (record { first = 0; behind = 12 })
+
+-- the same by the grammar
+abbrev pub at : ℕ → LexemeKind → Lexeme
+at i k = record { kind = k; start = i; len = 1 }
+
+abbrev pub written_list : WrittenList
+written_list =
+    More (Name Nothing (at 4 (Word word.SelfValue))) (at 5 (Mark 44)) (
+    More (Renamed Nothing (at 6 name) (at 7 (Word word.As)) (at 8 (Word word.Underscore))) (at 9 (Mark 44)) (
+    Last (Glob Nothing (at 10 (Mark 42))) (at 11 (Close Brace))))
+
+abbrev pub written_use : Written
+written_use = List_ (Behind Nothing (at 0 name) (at 1 (Mark 58)) (at 2 (Mark 58))) (at 3 (Open Brace)) written_list

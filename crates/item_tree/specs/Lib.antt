@@ -21,8 +21,12 @@ pub mod CfgIfs
 pub mod Items
 pub mod ExpectedTexts
 pub mod SyntaxErrors
+pub mod Children
 pub mod Visibilities
 pub mod UseTrees
+pub mod UseGrammar
+pub mod UseLeaves
+pub mod Imports
 pub mod Covers
 pub mod Members
 pub mod Fields
@@ -37,5 +41,7 @@ pub mod CfgGrammar
 pub mod AttributeReading
 pub mod AttributeKinds
 pub mod Attributes
+pub mod ItemAttributes
+pub mod Ids
 pub mod AttributeLists
 pub mod AttributeRows

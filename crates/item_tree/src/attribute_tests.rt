@@ -4,7 +4,10 @@ use crate::attribute_lists::{helper_list, list_items};
 use crate::attributes::{Attributes, is_active, may_hold, nodes_in, read_attributes};
 use crate::cfg::CfgOptions;
 use crate::cfg_parser::span_of;
-use crate::items::Range;
+use crate::children::children_of;
+use crate::delimiters::partners;
+use crate::item_attributes::{inner_attributes, outer_attributes};
+use crate::items::{Range, item_tree};
 use crate::lexeme::{Lexeme, read_lexemes};
 use crate::span::{name_text, string_text};
 use dm_ids::source::Edition;
@@ -24,22 +27,22 @@ const TEXT: &str = "#!/bin/sh
 # [ rustc_builtin_macro ] struct S; # 1 #! x
 fn f() { #![no_implicit_prelude] } #[rustc_coherence_is_core";
 
-/// The attributes of the text, in order: what each says, whether it is an inner one, and whether its condition leaves it
-/// out.
+/// The attributes of the text, in order: what each says, with its string, or the words that the items of its list begin
+/// with; whether it is an inner one, and whether its condition leaves it out.
 const TOLD: &str = "\
 no_std, inner\n\
 no_core, inner, left out\n\
-recursion_limit, inner\n\
-feature, inner\n\
+recursion_limit 256, inner\n\
+feature a b c, inner\n\
 macro_use\n\
-macro_use of\n\
+macro_use of x y\n\
 macro_export\n\
-path\n\
+path p.rs\n\
 malformed\n\
 unknown\n\
 unknown\n\
-path\n\
-derive, left out\n\
+path u.rs\n\
+derive A b, left out\n\
 unknown\n\
 cfg no\n\
 no_core\n\
@@ -48,7 +51,7 @@ no_std\n\
 cfg yes\n\
 cfg yes\n\
 malformed\n\
-proc_macro_derive\n\
+proc_macro_derive Name attributes helper helper\n\
 proc_macro\n\
 proc_macro_attribute\n\
 rustc_builtin_macro\n\
@@ -102,6 +105,41 @@ fn may_be(options: &CfgOptions, table: &Attributes, kind: AttributeKind) -> bool
     }
 }
 
+/// The names that the items of a list begin with.
+fn first_names(rt: HostRuntime, lexemes: &[Lexeme], list: Range) -> Result<String, Fail> {
+    let mut names = String::new(rt.alloc());
+    for item in &list_items(rt.alloc(), lexemes, list)? {
+        if let Some(first) = lexemes_in(lexemes, *item).first() {
+            let name = name_text(TEXT.as_bytes(), span_of(*first));
+            names.push_str(" ")?;
+            names.push_str(std::str::from_utf8(name).unwrap_or("?"))?;
+        }
+        if let Some(helpers) = helper_list(TEXT.as_bytes(), lexemes, *item) {
+            for helper in &list_items(rt.alloc(), lexemes, helpers)? {
+                let is_name = lexemes_in(lexemes, *helper).len() == 1;
+                names.push_str(if is_name { " helper" } else { " ?" })?;
+            }
+        }
+    }
+    Ok(names)
+}
+
+/// What an attribute has behind its name: a string, or a list.
+fn input_words(rt: HostRuntime, lexemes: &[Lexeme], kind: AttributeKind) -> Result<String, Fail> {
+    match kind {
+        AttributeKind::Feature(list)
+        | AttributeKind::MacroUseOf(list)
+        | AttributeKind::Derive(list)
+        | AttributeKind::ProcMacroDerive(list) => first_names(rt, lexemes, list),
+        AttributeKind::Path(value) | AttributeKind::RecursionLimit(value) => {
+            let value = std::str::from_utf8(string_text(TEXT.as_bytes(), value)).unwrap_or("?");
+            let shown = format!(in rt.alloc(); " {value}")?;
+            Ok(shown)
+        }
+        _ => Ok(String::new(rt.alloc())),
+    }
+}
+
 #[test]
 fn attributes_of_a_text(rt: HostRuntime) -> Result<(), Fail> {
     let options = options_of(rt)?;
@@ -113,7 +151,9 @@ fn attributes_of_a_text(rt: HostRuntime) -> Result<(), Fail> {
     for attribute in table.attributes() {
         let holds = may_be(&options, &table, attribute.kind);
         let is_there = is_active(active.as_slice(), attribute.condition);
+        let words = input_words(rt, lexemes.as_slice(), attribute.kind)?;
         told.push_str(word_for(attribute.kind, holds))?;
+        told.push_str(words.as_str())?;
         told.push_str(if attribute.inner { ", inner" } else { "" })?;
         told.push_str(if is_there { "\n" } else { ", left out\n" })?;
     }
@@ -123,68 +163,42 @@ fn attributes_of_a_text(rt: HostRuntime) -> Result<(), Fail> {
     Ok(())
 }
 
-/// The strings of some attributes, in order.
-const STRINGS: [&str; 3] = ["256", "p.rs", "u.rs"];
+/// Items with attributes, and modules with inner ones; those in bodies of functions and of variants are theirs not.
+const ITEMS: &str = "#![cfg_attr(unix, no_std)]
+#[cfg(unix)] #[inline] fn a() { #![cfg(windows)] }
+#[cfg(windows)] struct B;
+#[cfg_attr(windows, cfg(windows))] mod c { #![cfg(unix)] #[cfg(unix)] enum D { #[cfg(windows)] E } }
+#[cfg(unix windows)] use f;
+#[cfg_attr(unix, cfg(windows))] mod g { #![cfg(windows)] #![doc] fn h() {} #![cfg(unix)] }";
 
 #[test]
-fn strings_of_attributes(rt: HostRuntime) -> Result<(), Fail> {
-    let text = TEXT.as_bytes();
+fn attributes_of_items(rt: HostRuntime) -> Result<(), Fail> {
+    let options = options_of(rt)?;
+    let text = ITEMS.as_bytes();
     let lexemes = read_lexemes(rt.alloc(), text, Edition::Edition2021)?;
+    let partners = partners(rt.alloc(), lexemes.as_slice())?;
+    let tree = item_tree(rt.alloc(), lexemes.as_slice(), partners.as_slice())?;
     let table = read_attributes(rt.alloc(), text, lexemes.as_slice())?;
-    let mut found: usize = 0;
-    for attribute in table.attributes() {
-        match attribute.kind {
-            AttributeKind::Path(value) | AttributeKind::RecursionLimit(value) => {
-                assert!(rt; found < 3);
-                assert_eq!(rt; string_text(text, value), STRINGS[found].as_bytes());
-                found += 1;
-            }
-            _ => {}
-        }
+    let active = table.active_conditions(rt.alloc(), &options, text)?;
+    let mut told = String::new(rt.alloc());
+    for (number, item) in tree.items.iter().enumerate() {
+        let outer = outer_attributes(*item);
+        let own = children_of(tree.items.as_slice(), number);
+        let inner = inner_attributes(item.body.map_or(0, |body: Range| body.first), own);
+        let count = table.attributes_in(outer).len();
+        let inside = table.attributes_in(inner).len();
+        let is_there = table.is_cfg_enabled(&options, text, active.as_slice(), outer);
+        let opens = table.is_cfg_enabled(&options, text, active.as_slice(), inner);
+        let kind = item.kind;
+        let shown = format!(in rt.alloc(); "{kind:?} {count} {is_there} {inside} {opens}, ")?;
+        told.push_str(shown.as_str())?;
     }
-    assert_eq!(rt; found, 3);
+    assert_eq!(rt; told.as_str(), OF_ITEMS);
     Ok(())
 }
 
-/// The names that the items of a list begin with.
-fn first_names(rt: HostRuntime, lexemes: &[Lexeme], list: Range) -> Result<String, Fail> {
-    let mut names = String::new(rt.alloc());
-    for item in &list_items(rt.alloc(), lexemes, list)? {
-        if let Some(first) = lexemes_in(lexemes, *item).first() {
-            let name = name_text(TEXT.as_bytes(), span_of(*first));
-            names.push_str(std::str::from_utf8(name).unwrap_or("?"))?;
-            names.push_str(" ")?;
-        }
-        if let Some(helpers) = helper_list(TEXT.as_bytes(), lexemes, *item) {
-            for helper in &list_items(rt.alloc(), lexemes, helpers)? {
-                let is_name = lexemes_in(lexemes, *helper).len() == 1;
-                names.push_str(if is_name { "helper " } else { "? " })?;
-            }
-        }
-    }
-    Ok(names)
-}
-
-#[test]
-fn lists_of_attributes(rt: HostRuntime) -> Result<(), Fail> {
-    let text = TEXT.as_bytes();
-    let lexemes = read_lexemes(rt.alloc(), text, Edition::Edition2021)?;
-    let table = read_attributes(rt.alloc(), text, lexemes.as_slice())?;
-    let mut names = String::new(rt.alloc());
-    for attribute in table.attributes() {
-        match attribute.kind {
-            AttributeKind::Feature(list)
-            | AttributeKind::MacroUseOf(list)
-            | AttributeKind::Derive(list)
-            | AttributeKind::ProcMacroDerive(list) => {
-                names.push_str(first_names(rt, lexemes.as_slice(), list)?.as_str())?;
-            }
-            _ => {}
-        }
-    }
-    assert_eq!(rt;
-        names.as_str(),
-        "a b c x y A b Name attributes helper helper "
-    );
-    Ok(())
-}
+/// Of each item how many attributes it has, whether they leave it there, and the same of inner ones.
+const OF_ITEMS: &str =
+    "InnerAttribute 0 true 0 true, Function 2 true 0 true, Struct 1 false 0 true, \
+Mod 1 true 1 true, Use 1 true 0 true, Mod 1 false 2 false, InnerAttribute 0 true 0 true, Enum 1 true 0 true, \
+InnerAttribute 0 true 0 true, InnerAttribute 0 true 0 true, Function 0 true 0 true, InnerAttribute 0 true 0 true, ";

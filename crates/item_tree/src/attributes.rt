@@ -1,6 +1,10 @@
 //! The attributes of a file that matter to names, and the predicates that they stand under.
-ghost use Rattle.std.specs.Prelude.{◌≡◌, IfOk, OnOk};
+ghost use Rattle.std.specs.Prelude.{◌≡◌, ◌≤◌, true, false, length, nat_le, IfOk, OnOk};
+ghost use Rattle.std.specs.List.Sorted.{IsPartitionPoint};
 ghost use Rattle.item_tree.specs.Attributes as spec;
+ghost use Rattle.item_tree.specs.ItemAttributes as own;
+ghost use Rattle.item_tree.specs.ItemAttributes.{InOrder};
+ghost use Rattle.item_tree.specs.declared.attributes.Attribute.{Attribute};
 
 use crate::attribute::{AttributeInput, AttributeKind, NodeRange, input_of, kind_of, lexemes_in};
 use crate::attribute_reader::{AttributePlace, ConditionPlace, find_attributes};
@@ -32,16 +36,16 @@ pub struct Condition {
     pub predicate: NodeRange,
 }
 
-/// The attributes of a file.
+/// The attributes of a file, so far as they are read.
 #[derive(Drop)]
-pub struct Attributes {
+struct AttributeTable {
     attributes: Vec<Attribute>,
     conditions: Vec<Condition>,
     nodes: Vec<CfgNode>,
     errors: Vec<usize>,
 }
 
-impl Model for Attributes {
+impl Model for AttributeTable {
     ghost use Rattle.item_tree.specs.Attributes.{Table};
 
     ghost Value = { Table };
@@ -54,44 +58,16 @@ impl Model for Attributes {
     } };
 }
 
-impl Attributes {
-    fn new(alloc: Global) -> Attributes
+impl AttributeTable {
+    fn new(alloc: Global) -> AttributeTable
         ensures { result ≡ spec.empty }
     {
-        Attributes {
+        AttributeTable {
             attributes: Vec::new(alloc),
             conditions: Vec::new(alloc),
             nodes: Vec::new(alloc),
             errors: Vec::new(alloc),
         }
-    }
-
-    /// The attributes, in order.
-    pub fn attributes(&self) -> &[Attribute]
-        ensures { result.now ≡ self.now.attributes }
-    {
-        self.attributes.as_slice()
-    }
-
-    /// The conditions that attributes are under, each behind the one that it is under itself.
-    pub fn conditions(&self) -> &[Condition]
-        ensures { result.now ≡ self.now.conditions }
-    {
-        self.conditions.as_slice()
-    }
-
-    /// The nodes of all predicates.
-    pub fn nodes(&self) -> &[CfgNode]
-        ensures { result.now ≡ self.now.nodes }
-    {
-        self.nodes.as_slice()
-    }
-
-    /// The lexemes where a predicate goes wrong, and those behind the names of malformed attributes.
-    pub fn errors(&self) -> &[usize]
-        ensures { result.now ≡ self.now.errors }
-    {
-        self.errors.as_slice()
     }
 
     /// Adds the nodes of a predicate. One that cannot be read is `Invalid`.
@@ -202,6 +178,84 @@ impl Attributes {
         }
         Ok(())
     }
+}
+
+/// The attributes of a file.
+#[derive(Drop)]
+pub struct Attributes {
+    table: AttributeTable,
+}
+
+impl Model for Attributes {
+    ghost use Rattle.item_tree.specs.Attributes.{Table};
+    ghost use Rattle.item_tree.specs.ItemAttributes.{InOrder};
+
+    ghost Value = { Table };
+
+    ghost view = { λ t. t.table };
+
+    ghost invariant = { λ t. InOrder t.table.attributes };
+}
+
+impl Attributes {
+    ghost use Rattle.item_tree.specs.ItemAttributes.{InOrder, attributes_in, is_cfg_enabled};
+
+    /// The attributes, in order.
+    pub fn attributes(&self) -> &[Attribute]
+        ensures exact { result.now ≡ self.now.attributes }
+        ensures in_order { InOrder self.now.attributes }
+    {
+        self.table.attributes.as_slice()
+    }
+
+    /// The conditions that attributes are under, each behind the one that it is under itself.
+    pub fn conditions(&self) -> &[Condition]
+        ensures { result.now ≡ self.now.conditions }
+    {
+        self.table.conditions.as_slice()
+    }
+
+    /// The nodes of all predicates.
+    pub fn nodes(&self) -> &[CfgNode]
+        ensures { result.now ≡ self.now.nodes }
+    {
+        self.table.nodes.as_slice()
+    }
+
+    /// The lexemes where a predicate goes wrong, and those behind the names of malformed attributes.
+    pub fn errors(&self) -> &[usize]
+        ensures { result.now ≡ self.now.errors }
+    {
+        self.table.errors.as_slice()
+    }
+
+    /// The attributes that begin in a range of lexemes, in order, as those of an item in what stands before its
+    /// visibility. The time is logarithmic.
+    pub fn attributes_in(&self, range: Range) -> &[Attribute]
+        ensures { result.now ≡ attributes_in range self.now.attributes }
+    {
+        let attributes = self.attributes();
+        let first = count_up_to(attributes, range.first);
+        let behind = count_up_to(attributes, range.behind);
+        &attributes[first..behind.max(first)]
+    }
+
+    /// Whether the attributes that begin in a range leave what they belong to where it is: each `cfg` of them that is
+    /// active, by the answers of `active_conditions`, may hold.
+    pub fn is_cfg_enabled(
+        &self,
+        options: &CfgOptions,
+        text: &[u8],
+        active: &[bool],
+        range: Range,
+    ) -> bool
+        ensures { result ≡ is_cfg_enabled options.now text.now active.now range self.now }
+    {
+        let nodes = self.nodes();
+        self.attributes_in(range).iter().all(|attribute| leaves(
+            options, text, nodes, active, *attribute,
+        ))
+    }
 
     /// For each condition whether attributes stand under it: where its own predicate, and those around it, are not
     /// known not to hold.
@@ -219,8 +273,8 @@ impl Attributes {
             (λ active. active.items ≡ spec.active_conditions options.now text.now self.now) }
     {
         let mut active = Vec::new(alloc);
-        for condition in &self.conditions {
-            let nodes = nodes_in(self.nodes.as_slice(), condition.predicate);
+        for condition in &self.table.conditions {
+            let nodes = nodes_in(self.table.nodes.as_slice(), condition.predicate);
             let holds = may_hold(options.check(text, nodes));
             let is_active = holds && is_active(active.as_slice(), condition.outer);
             active.push(is_active)?;
@@ -235,6 +289,34 @@ pub fn nodes_in(nodes: &[CfgNode], range: NodeRange) -> &[CfgNode]
 {
     let rest = &nodes[range.start.min(nodes.len())..];
     &rest[..range.len.min(rest.len())]
+}
+
+/// How many attributes have their first lexeme before a place.
+fn count_up_to(attributes: &[Attribute], place: usize) -> usize
+    requires { InOrder attributes.now }
+    ensures within { result ≤ length attributes.now }
+    ensures parted { IsPartitionPoint (λ (a : Attribute). nat_le a.input.first place ≡ true)
+        (λ (a : Attribute). nat_le a.input.first place ≡ false) attributes.now result }
+{
+    attributes.partition_point(|attribute| attribute.input.first <= place)
+}
+
+/// Whether an attribute leaves what it belongs to where it is.
+fn leaves(
+    options: &CfgOptions,
+    text: &[u8],
+    nodes: &[CfgNode],
+    active: &[bool],
+    attribute: Attribute,
+) -> bool
+    ensures { result ≡ own.leaves options.now text.now nodes.now active.now attribute }
+{
+    match attribute.kind {
+        AttributeKind::Cfg(predicate) if is_active(active, attribute.condition) => {
+            may_hold(options.check(text, nodes_in(nodes, predicate)))
+        }
+        _ => true,
+    }
 }
 
 /// Whether what is under a predicate stays: also where nobody knows.
@@ -274,8 +356,8 @@ pub fn read_attributes(
     ensures { IfOk result (λ table. table ≡ spec.attributes_of text.now lexemes.now) }
 {
     let places = find_attributes(alloc, lexemes)?;
-    let mut table = Attributes::new(alloc);
+    let mut table = AttributeTable::new(alloc);
     table.add_conditions(alloc, text, lexemes, places.conditions.as_slice())?;
     table.add_attributes(alloc, text, lexemes, places.attributes.as_slice())?;
-    Ok(table)
+    Ok(Attributes { table })
 }

@@ -2,6 +2,8 @@
 ghost use Rattle.std.specs.Prelude.{◌≡◌, Some, None, [], ◌∷◌};
 ghost use Rattle.item_tree.specs.ItemRows as rows;
 ghost use Rattle.item_tree.specs.declared.expected.Expected.TheVariants as expected;
+ghost use Rattle.item_tree.specs.UseGrammar.{IsUseTree, leaves, lexemes_of};
+ghost use Rattle.item_tree.specs.UseLeaves.{leaves_of};
 ghost use Rattle.item_tree.specs.declared.item_kind.ItemKind.TheVariants as item;
 ghost use Rattle.item_tree.specs.declared.use_tree.UseTreeKind.TheVariants as tree;
 
@@ -47,4 +49,11 @@ pub fn difficult_groups()
 /// Use trees in lists.
 pub fn difficult_uses()
     ensures { rows.nested_use ≡ rows.leaf tree.Prefixed None 0 3 None 4 ∷ rows.leaf tree.Single (Some 0) 4 5 None 5 ∷ rows.leaf tree.Single (Some 0) 6 7 (Some 8) 9 ∷ rows.leaf tree.Glob (Some 0) 10 10 None 11 ∷ [] }
+{}
+
+/// Those use trees by the grammar: it writes the same lexemes, and says that they import the same.
+pub fn grammar_of_a_use()
+    ensures grammar { IsUseTree rows.written_use }
+    ensures lexemes { lexemes_of rows.written_use ≡ rows.nested_lexemes }
+    ensures imports { leaves_of rows.nested_lexemes rows.nested_use ≡ leaves [] rows.written_use }
 {}

@@ -1,5 +1,6 @@
 //! The items of a text, with those in modules, traits, implementations, extern blocks and the arms of `cfg_if!`.
 ghost use Rattle.std.specs.Prelude.{◌≡◌, ◌<◌, ◌≤◌, ◌++◌, ℕ, IfOk, IfSome, OnOk, Some, None, length, take, vec_len};
+ghost use Rattle.item_tree.specs.Children.{ByParent};
 ghost use Rattle.item_tree.specs.Items as spec;
 
 use crate::cfg_if::{LevelKind, first_in, kind_behind, level_kind};
@@ -259,6 +260,7 @@ pub fn item_tree(
     ensures counted { IfOk result (λ tree. tree.top_level ≤ length tree.items.items) }
     ensures top_level { IfOk result (λ tree. take tree.top_level tree.items.items ≡ spec.top_level_of lexemes.now partners.now) }
     ensures whole { IfOk result (λ tree. tree.items.items ≡ spec.top_level_of lexemes.now partners.now ++ spec.children_from lexemes.now partners.now 0 tree.items.items) }
+    ensures by_parent { IfOk result (λ tree. ByParent tree.items.items) }
 {
     let mut items = Vec::new(alloc);
     let whole = Level {

@@ -16,10 +16,14 @@ pub mod cfg_parser;
 #[cfg(test)]
 mod cfg_tests;
 mod characters;
+pub mod children;
 pub mod delimiters;
 pub mod expected;
 pub mod fields;
 mod head;
+pub mod ids;
+pub mod imports;
+pub mod item_attributes;
 pub mod item_end;
 pub mod item_kind;
 mod item_name;
@@ -41,6 +45,8 @@ pub mod span;
 pub mod syntax_error;
 #[cfg(test)]
 mod syntax_error_tests;
+#[cfg(test)]
+mod test_texts;
 #[cfg(test)]
 mod tests;
 pub mod token;

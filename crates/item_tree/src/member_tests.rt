@@ -1,105 +1,76 @@
-//! Texts of structs and enums and their members.
-use crate::delimiters::partners;
+//! Texts of structs, unions and enums, and their members.
 use crate::fields::item_fields;
-use crate::items::{Range, item_tree};
-use crate::lexeme::{Lexeme, read_lexemes};
-use crate::members::{FieldsShape, MemberKind, members};
+use crate::item_kind::ItemKind;
+use crate::items::{Item, Range};
+use crate::members::{Fields, FieldsShape, MemberKind, members};
+use crate::test_texts::{Parsed, lexeme_text, read_text};
 use crate::visibility::raw_visibility;
-use dm_ids::source::Edition;
 use std::alloc::Global;
 use std::test::Fail;
 
-/// The text of a lexeme.
-fn text_of<'a>(text: &'a str, lexemes: &[Lexeme], place: usize) -> &'a str {
-    match lexemes.get(place) {
-        Some(lexeme) => {
-            match text.get(lexeme.start..lexeme.start.wrapping_add(lexeme.len)) {
-                Some(own) => own,
-                None => "",
-            }
-        }
-        None => "",
-    }
-}
-
-/// The fields of the structs and unions of a text: each with its visibility, and the first lexeme of its name or type.
-fn printed(alloc: Global, text: &str) -> Result<String, Fail> {
-    let lexemes = read_lexemes(alloc, text.as_bytes(), Edition::Edition2021)?;
-    let partners = partners(alloc, lexemes.as_slice())?;
-    let tree = item_tree(alloc, lexemes.as_slice(), partners.as_slice())?;
-    let mut out = String::new(alloc);
-    for item in &tree.items {
-        let fields = item_fields(alloc, lexemes.as_slice(), partners.as_slice(), *item)?;
-        let kind = match fields.shape {
-            FieldsShape::Record => MemberKind::RecordField,
-            FieldsShape::Tuple | FieldsShape::Unit => MemberKind::TupleField,
-        };
-        let shown = format!(in alloc; "{:?}: ", fields.shape)?;
-        out.push_str(shown.as_str())?;
-        let range = fields.range;
-        for member in &members(alloc, lexemes.as_slice(), partners.as_slice(), range, kind)? {
-            let written = Range {
-                first: member.visibility,
-                behind: member.name,
-            };
-            let visibility = raw_visibility(lexemes.as_slice(), written);
-            let shown = format!(in alloc; "{visibility:?} ")?;
-            out.push_str(shown.as_str())?;
-            out.push_str(text_of(text, lexemes.as_slice(), member.name))?;
-            out.push_str(if member.named { " named, " } else { ", " })?;
-        }
-        out.push_str("| ")?;
-    }
-    Ok(out)
-}
-
-/// The variants in the braces of a text that is an enum without parameters.
-fn variants(alloc: Global, text: &str) -> Result<String, Fail> {
-    let lexemes = read_lexemes(alloc, text.as_bytes(), Edition::Edition2021)?;
-    let partners = partners(alloc, lexemes.as_slice())?;
-    let body = Range {
-        first: 3,
-        behind: lexemes.len().wrapping_sub(1),
-    };
-    let kind = MemberKind::Variant;
-    let mut out = String::new(alloc);
-    for member in &members(alloc, lexemes.as_slice(), partners.as_slice(), body, kind)? {
-        out.push_str(text_of(text, lexemes.as_slice(), member.name))?;
-        let shown = format!(in alloc; " {} {:?} | ", member.named, member.fields.shape)?;
-        out.push_str(shown.as_str())?;
-    }
-    Ok(out)
-}
-
-#[test]
-fn fields_of_structs(rt: HostRuntime) -> Result<(), Fail> {
-    let read = printed(
-        rt.alloc(),
+/// Texts, and the fields or variants of their items: each with its visibility, the first lexeme of its name or type,
+/// whether that is a name, and the shape of its own fields.
+const TEXTS: [(&str, &str); 3] = [
+    (
         "struct S; struct S where A: Fn(B); struct S {} union U<T> where T: Fn(A) { pub r#fn: B<C, D>, union: fn(E) -> F, pub(self) g: [u8; 3] }",
-    )?;
-    let wanted =
-        "Unit: | Unit: | Record: | Record: Public r#fn named, Inherited union named, PubSelf g named, | ";
-    assert_eq!(rt; read.as_str(), wanted);
-    let read = printed(
-        rt.alloc(),
+        "Unit: | Unit: | Record: | Record: Public r#fn true Unit, Inherited union true Unit, PubSelf g true Unit, | ",
+    ),
+    (
         "struct S<T: Fn(A) -> B>(pub a::B, #[c] pub(crate) D<E, F>, pub (G, H), pub(super) I,) where T: J;",
-    )?;
-    assert_eq!(rt;
-        read.as_str(),
-        "Tuple: Public a, PubCrate D, Public (, PubSuper I, | "
-    );
+        "Tuple: Public a false Unit, PubCrate D false Unit, Public ( false Unit, PubSuper I false Unit, | ",
+    ),
+    (
+        "enum E { A, #[b] B(u8, u8), C { x: u8 } = 1 << 2, r#D = 3 }",
+        "Record: Inherited A true Unit, Inherited B true Tuple, Inherited C true Record, Inherited r#D true Unit, | ",
+    ),
+];
+
+/// What the members of an item are.
+fn kind_of(item: Item, fields: Fields) -> MemberKind {
+    match (item.kind, fields.shape) {
+        (ItemKind::Enum, _) => MemberKind::Variant,
+        (_, FieldsShape::Record) => MemberKind::RecordField,
+        _ => MemberKind::TupleField,
+    }
+}
+
+fn print_members(
+    alloc: Global,
+    out: &mut String,
+    text: &str,
+    read: &Parsed,
+    item: Item,
+) -> Result<(), Fail> {
+    let lexemes = read.lexemes.as_slice();
+    let partners = read.partners.as_slice();
+    let fields = item_fields(alloc, lexemes, partners, item)?;
+    let kind = kind_of(item, fields);
+    let shown = format!(in alloc; "{:?}: ", fields.shape)?;
+    out.push_str(shown.as_str())?;
+    for member in &members(alloc, lexemes, partners, fields.range, kind)? {
+        let written = Range {
+            first: member.visibility,
+            behind: member.name,
+        };
+        let visibility = raw_visibility(lexemes, written);
+        let name = lexeme_text(text, lexemes, member.name);
+        let (named, shape) = (member.named, member.fields.shape);
+        let shown = format!(in alloc; "{visibility:?} {name} {named} {shape:?}, ")?;
+        out.push_str(shown.as_str())?;
+    }
     Ok(())
 }
 
 #[test]
-fn variants_of_enums(rt: HostRuntime) -> Result<(), Fail> {
-    let read = variants(
-        rt.alloc(),
-        "enum E { A, #[b] B(u8, u8), C { x: u8 } = 1 << 2, r#D = 3 }",
-    )?;
-    assert_eq!(rt;
-        read.as_str(),
-        "A true Unit | B true Tuple | C true Record | r#D true Unit | "
-    );
+fn members_of_items(rt: HostRuntime) -> Result<(), Fail> {
+    for (text, wanted) in TEXTS {
+        let read = read_text(rt.alloc(), text)?;
+        let mut out = String::new(rt.alloc());
+        for item in &read.tree.items {
+            print_members(rt.alloc(), &mut out, text, &read, *item)?;
+            out.push_str("| ")?;
+        }
+        assert_eq!(rt; out.as_str(), wanted);
+    }
     Ok(())
 }

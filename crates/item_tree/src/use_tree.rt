@@ -1,5 +1,7 @@
 //! The use trees of a `use` item.
-ghost use Rattle.std.specs.Prelude.{◌≡◌, ◌+◌, ◌-◌, ◌<◌, ◌≤◌, ◌^◌, IfOk, OnOk, length};
+ghost use Rattle.std.specs.Prelude.{[], ◌≡◌, ◌+◌, ◌-◌, ◌<◌, ◌≤◌, ◌^◌, IfOk, OnOk, length};
+ghost use Rattle.item_tree.specs.UseGrammar.{Written, Writes, leaves};
+ghost use Rattle.item_tree.specs.UseLeaves.{leaves_of};
 ghost use Rattle.item_tree.specs.UseTrees as spec;
 ghost use Rattle.item_tree.specs.declared.item_kind.PathPart.TheVariants as part;
 
@@ -266,11 +268,7 @@ fn push_some(trees: &mut Vec<UseTree>, tree: Option<UseTree>) -> Result<(), Allo
 }
 
 /// The use trees of the lexemes of a range, each behind the one in whose list it stands.
-///
-/// # Errors
-///
-/// Fails only where memory runs out.
-pub fn use_trees(
+fn read_use_trees(
     alloc: Global,
     lexemes: &[Lexeme],
     range: Range,
@@ -286,5 +284,25 @@ pub fn use_trees(
         parent = step.parent;
         at = step.behind;
     }
+    Ok(trees)
+}
+
+/// The use trees of the lexemes of a range, as those behind the `use` of an item, each behind the one in whose list it
+/// stands. The paths of its names and globs, behind those of the lists around, are those of the tree that is written.
+///
+/// # Errors
+///
+/// Fails only where memory runs out.
+pub fn use_trees(
+    alloc: Global,
+    lexemes: &[Lexeme],
+    range: Range,
+) -> Result<Vec<UseTree>, AllocError>
+    ensures exact { IfOk result (λ found. found.items ≡ spec.use_trees_of lexemes.now range) }
+    ensures written { IfOk result
+        (λ found. (t : Written) → Writes lexemes.now range t →
+        leaves_of lexemes.now found.items ≡ leaves [] t) }
+{
+    let trees = read_use_trees(alloc, lexemes, range)?;
     Ok(trees)
 }

@@ -1,5 +1,6 @@
 use Rattle.std.proofs.Common.{◌≡◌, ◌<◌, ◌≤◌, length, rules}
 use Rattle.item_tree.specs.Items.{top_level_of}
+use Rattle.item_tree.proofs.ByParent.{by_parent}
 use Rattle.item_tree.proofs.Weights.{less_left, read_more, read_top, all_read, an_item}
 use Rattle.item_tree.proofs.items.item_tree.Goals as goal
 
@@ -23,8 +24,10 @@ loop-number-preserved c =
 pub returns : goal.returns
 returns c =
     let all : length c.loop-number.items.items ≤ c.loop-number.number = search rules in
+    let whole = all_read c.args.lexemes.now c.args.partners.now c.len-top_level.result c.loop-number.number c.loop-number.items.items all c.loop-number.invariant in
     record {
       counted = c.loop-number.invariant.top_in_range;
       top_level = c.loop-number.invariant.top_level;
-      whole = all_read c.args.lexemes.now c.args.partners.now c.len-top_level.result c.loop-number.number c.loop-number.items.items all c.loop-number.invariant;
+      whole = whole;
+      by_parent = by_parent c.args.lexemes.now c.args.partners.now c.loop-number.items.items whole;
     }

@@ -1,6 +1,6 @@
 use Rattle.std.proofs.Common.{◌≡◌, drop}
 use Rattle.item_tree.specs.Attributes.{with_attributes}
-use Rattle.item_tree.proofs.attributes.Attributes.add_attributes.Given as goal
+use Rattle.item_tree.proofs.attributes.AttributeTable.add_attributes.Given as goal
 
 abbrev pub invariant-loop-place : goal.invariant-loop-place
 invariant-loop-place l = with_attributes l.text l.lexemes (drop l.place-index l.places) l.self ≡ with_attributes l.text l.lexemes l.places l.fn.self

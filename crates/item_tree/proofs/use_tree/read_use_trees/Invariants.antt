@@ -1,6 +1,6 @@
 use Rattle.std.proofs.Common.{◌≡◌, ◌-◌, drop}
 use Rattle.item_tree.specs.UseTrees.{use_trees_from, use_trees_of}
-use Rattle.item_tree.proofs.use_tree.use_trees.Given as goal
+use Rattle.item_tree.proofs.use_tree.read_use_trees.Given as goal
 
 abbrev pub invariant-loop-at : goal.invariant-loop-at
 invariant-loop-at l = record {
