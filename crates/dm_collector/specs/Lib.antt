@@ -1,3 +1,5 @@
 pub mod Paths
 pub mod ModDirs
 pub mod ModRows
+pub mod CrateGraphs
+pub mod OrderSearch
