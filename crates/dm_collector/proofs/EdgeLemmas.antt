@@ -1,7 +1,6 @@
 -- One dependency more.
-use Rattle.std.proofs.Common.{◌≡◌, ◌+◌, ◌<◌, ◌≤◌, ◌++◌, ◌∷◌, [], ℕ, zero, suc, List, length, All, slice_set, slice_index_or, refl, arith, ap, sym, ◌∙◌, subst, length-set}
-use Rattle.std.proofs.lemmas.List.{get_or_default}
-use Rattle.std.proofs.lemmas.List.Elements.{All-push, All-set, All-get_or}
+use Rattle.std.proofs.Common.{◌≡◌, ◌<◌, ◌∷◌, [], ℕ, zero, suc, length, All, slice_set, slice_index_or, arith, ap, sym, subst, length-set}
+use Rattle.std.proofs.lemmas.List.Elements.{All-push, All-set}
 use Rattle.dm_collector.specs.declared.dependency.Dependency.{Dependency}
 use Rattle.dm_collector.specs.CrateGraphs.{AreKnown, Data, Graph, IsGraph, with_dependency, with_edge}
 

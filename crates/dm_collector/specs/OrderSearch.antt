@@ -1,5 +1,5 @@
 -- How the order of a graph's crates is found: depth first.
-use Rattle.std.specs.Prelude.{◌≡◌, ◌≢◌, ◌+◌, ◌-◌, ◌<◌, ◌≤◌, ◌++◌, ◌⊎◌, ℕ, List, [], ◌∷◌, Option, Some, None, length, map, take, drop, replicate, slice_index, slice_index_or, slice_set}
+use Rattle.std.specs.Prelude.{◌≡◌, ◌≢◌, ◌+◌, ◌-◌, ◌<◌, ◌≤◌, ◌++◌, ◌⊎◌, ℕ, List, [], ◌∷◌, Option, Some, None, length, map, take, replicate, slice_index, slice_index_or, slice_set}
 use Rattle.dm_collector.specs.CrateGraphs.{DependsOn, row}
 
 -- a search: for each crate 0 where it stands in the order, and else one more than how many of its dependencies are not
