@@ -3,10 +3,10 @@ use Rattle.std.proofs.Common.{◌≡◌, ◌≢◌, ◌+◌, ◌-◌, ◌<◌, �
 use Rattle.std.proofs.lemmas.List.{get_or_append_left, get_or_push, get_or-take, get_or-drop, length_push, length-drop, length-take-le}
 use Rattle.std.proofs.lemmas.Bool.{cases_eq, cases_lt}
 use Rattle.dm_collector.specs.CrateGraphs.{DependsOn, IsCircle, row}
-use Rattle.dm_collector.specs.OrderSearch.{IsBelow, IsListed, IsSearch, Search, closed, left_of, looked, opened, place_of}
+use Rattle.dm_collector.specs.OrderSearch.{IsBelow, IsListed, IsSearch, State, closed, left_of, looked, opened, place_of}
 
 -- what a list has after a write, at the place and elsewhere
-at-set : {A : Type 0} (l : List A) (i j : ℕ) (a d : A) → i < length l → ((j ≡ i) × (get_or (set l i a) j d ≡ a)) ⊎ ((j ≢ i) × (get_or (set l i a) j d ≡ get_or l j d))
+pub at-set : {A : Type 0} (l : List A) (i j : ℕ) (a d : A) → i < length l → ((j ≡ i) × (get_or (set l i a) j d ≡ a)) ⊎ ((j ≢ i) × (get_or (set l i a) j d ≡ get_or l j d))
 at-set l i j a d within = elim (cases_eq j i) [
   | inl same ↦ inl (same, ap (λ k. get_or (set l i a) k d) same ∙ get_or-set_same l i a d within)
   | inr other ↦ inr (other, get_or-set_other l i j a d other)
@@ -23,14 +23,14 @@ depends : (rs : List (List ℕ)) (a a' b b' : ℕ) → a ≡ a' → b ≡ b' →
 depends rs a a' b b' e f d = subst (λ x. DependsOn rs x b') e (subst (λ y. DependsOn rs a y) f d)
 
 -- a crate on the path: its place on it is the only one
-one-place : (rs : List (List ℕ)) (s : Search) → IsSearch rs s → (i j : ℕ) → i < length s.path → j < length s.path → get_or s.path i 0 ≡ get_or s.path j 0 → i ≡ j
+one-place : (rs : List (List ℕ)) (s : State) → IsSearch rs s → (i j : ℕ) → i < length s.path → j < length s.path → get_or s.path i 0 ≡ get_or s.path j 0 → i ≡ j
 one-place rs s is i j wi wj same =
     let a : place_of s (get_or s.path i 0) ≡ Some i = (is.on_path i wi).2 in
     let b : place_of s (get_or s.path j 0) ≡ Some j = (is.on_path j wj).2 in
     let c : place_of s (get_or s.path i 0) ≡ place_of s (get_or s.path j 0) = ap (place_of s) same in
     cc
 
-module _ (rs : List (List ℕ)) (s : Search) (is : IsSearch rs s) where
+module _ (rs : List (List ℕ)) (s : State) (is : IsSearch rs s) where
   module _ (c : ℕ) (known : c < length rs) (two : 1 < left_of s c)
       (next : (left_of s (get_or (row rs c) (length (row rs c) + 1 - left_of s c) 0) ≡ 0) ⊎ IsBelow s c (get_or (row rs c) (length (row rs c) + 1 - left_of s c) 0)) where
     looked-left : (j : ℕ) → ((j ≡ c) × (left_of (looked c s) j ≡ left_of s c - 1)) ⊎ ((j ≢ c) × (left_of (looked c s) j ≡ left_of s j))

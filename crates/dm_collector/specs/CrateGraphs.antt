@@ -54,6 +54,10 @@ row rs a = slice_index_or rs a []
 abbrev pub DependsOn : List (List ℕ) → ℕ → ℕ → Type 0
 DependsOn rs a b = (k : ℕ) × (k < length (row rs a)) × (slice_index (row rs a) k ≡ b)
 
+-- all these are crates of the graph
+abbrev pub AreInside : List (List ℕ) → Type 0
+AreInside rs = (a k : ℕ) → a < length rs → k < length (row rs a) → slice_index (row rs a) k < length rs
+
 -- each crate stands in the order once, and each that it depends on stands before it
 pub record IsOrder (rs : List (List ℕ)) (order : List ℕ) : Type 0 where
   pub all : (c : ℕ) → c < length rs → (j : ℕ) × (j < length order) × (slice_index order j ≡ c)

@@ -3,3 +3,5 @@ pub mod ModDirs
 pub mod ModRows
 pub mod CrateGraphs
 pub mod OrderSearch
+pub mod OrderFaults
+pub mod CrateLaws

@@ -1,8 +1,10 @@
 //! Graphs of crates: which crate depends on which.
-ghost use Rattle.std.specs.Prelude.{◌≡◌, ◌↔◌, ◌<◌, ◌++◌, ◌∷◌, [], length, All, IfOk, IsTrue, OnErr, OnOk, slice_get};
-ghost use Rattle.dm_collector.specs.CrateGraphs.{AreKnown, IsGraph, with_edge};
+ghost use Rattle.std.specs.Prelude.{◌≡◌, ◌↔◌, ◌<◌, ◌++◌, ◌∷◌, [], length, All, IfErr, IfOk, IsTrue, OnErr, OnOk, slice_get};
+ghost use Rattle.dm_collector.specs.CrateGraphs.{AreKnown, IsGraph, IsOrder, numbers, rows, with_edge};
+ghost use Rattle.dm_collector.specs.OrderFaults.{IsFaultOf};
 
 use crate::crate_data::CrateData;
+use crate::crate_order::{OrderFault, order_of};
 use crate::dependency::Dependency;
 use dm_ids::ids::Crate;
 use std::alloc::{AllocError, Global};
@@ -100,6 +102,19 @@ impl CrateGraph {
     {
         let added = add_edge(&mut self.crates, from.0 as usize, dependency)?;
         Ok(added)
+    }
+
+    /// The crates in an order in which each stands behind all that it depends on. The time is linear in the number of
+    /// crates and dependencies.
+    ///
+    /// # Errors
+    ///
+    /// Fails with a circle where there is one, and where memory runs out.
+    pub fn crates_in_topological_order(&self, alloc: Global) -> Result<Vec<Crate>, OrderFault>
+        ensures order { IfOk result (λ order. IsOrder (rows self.now) (numbers order.items)) }
+        ensures fault { IfErr result (IsFaultOf (rows self.now)) }
+    {
+        order_of(alloc, self.crates.as_slice())
     }
 }
 

@@ -4,7 +4,10 @@
 
 pub mod crate_data;
 pub mod crate_graph;
+pub mod crate_laws;
+pub mod crate_order;
 pub mod dependency;
 pub mod mod_resolution;
 pub mod mod_rows;
+mod order_search;
 mod paths;
