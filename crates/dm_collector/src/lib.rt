@@ -11,3 +11,5 @@ pub mod mod_resolution;
 pub mod mod_rows;
 mod order_search;
 mod paths;
+#[cfg(test)]
+mod tests;
