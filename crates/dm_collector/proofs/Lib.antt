@@ -1,0 +1,6 @@
+pub mod PathLemmas
+pub mod EdgeLemmas
+pub mod SearchLemmas
+pub mod NumberLemmas
+pub mod StepLemmas
+pub mod CircleLemmas

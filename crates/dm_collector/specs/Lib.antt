@@ -1,0 +1,7 @@
+pub mod Paths
+pub mod ModDirs
+pub mod ModRows
+pub mod CrateGraphs
+pub mod OrderSearch
+pub mod OrderFaults
+pub mod CrateLaws

@@ -1,0 +1,15 @@
+//! From item trees to def maps, without macro expansion: where the files of modules are looked for, and the graph
+//! of crates.
+#![tactic(auto)]
+
+pub mod crate_data;
+pub mod crate_graph;
+pub mod crate_laws;
+pub mod crate_order;
+pub mod dependency;
+pub mod mod_resolution;
+pub mod mod_rows;
+mod order_search;
+mod paths;
+#[cfg(test)]
+mod tests;
