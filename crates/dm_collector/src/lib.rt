@@ -1,5 +1,5 @@
-//! From item trees to def maps, without macro expansion: where the files of modules are looked for, and the graph
-//! of crates.
+//! From item trees to def maps, without macro expansion: where the files of modules are looked for, the graph of crates,
+//! and imports and globs settled to a fixed point.
 #![tactic(auto)]
 
 pub mod crate_data;
@@ -7,9 +7,15 @@ pub mod crate_graph;
 pub mod crate_laws;
 pub mod crate_order;
 pub mod dependency;
+pub mod globs;
 pub mod mod_resolution;
 pub mod mod_rows;
 mod order_search;
 mod paths;
+pub mod settle;
+#[cfg(test)]
+mod settle_tests;
+pub mod sources;
 #[cfg(test)]
 mod tests;
+pub mod widening;

@@ -1,0 +1,90 @@
+-- Globs: what one brings into its module, and when it brings nothing more.
+use Rattle.std.specs.Prelude.{◌≡◌, true, List, [], IfSome, Option, Some, None, Contains, is_none, map, if◌then◌else◌}
+use Rattle.std.specs.Option.{option_and_then, option_map, option_map_or}
+use Rattle.dm_ids.specs.Names.{Name, find_name}
+use Rattle.dm_ids.specs.declared.ids.EnumVariantId.{EnumVariantId}
+use Rattle.dm_ids.specs.declared.ids.ModuleId.{ModuleId}
+use Rattle.dm_ids.specs.declared.item_ids.AdtId.TheVariants as adt
+use Rattle.dm_ids.specs.declared.item_ids.ModuleDefId.{ModuleDefId}
+use Rattle.dm_ids.specs.declared.item_ids.ModuleDefId.TheVariants as def
+use Rattle.dm_base.specs.declared.per_ns.PerNs.{PerNs}
+use Rattle.dm_base.specs.declared.visibility.Visibility.{Visibility}
+use Rattle.dm_base.specs.PerNs.{is_empty, nothing, seen_by}
+use Rattle.dm_base.specs.Tree.{sees}
+use Rattle.dm_maps.specs.GoesOn.{variants_if_known}
+use Rattle.dm_maps.specs.Readings.{variants_of}
+use Rattle.dm_maps.specs.Trees.{tree_of}
+use Rattle.dm_maps.specs.World.{World, scope_of}
+use Rattle.dm_scope.specs.Scope.{bound_in}
+use Rattle.dm_scope.specs.Sorted.{names_of}
+use Rattle.dm_retry.specs.Kinds.{re_exported}
+use Rattle.dm_retry.specs.Rounds.{path_meaning}
+use Rattle.hir_def_map.specs.declared.result.ResolvePathResult.{ResolvePathResult}
+use Rattle.dm_collector.specs.declared.globs.Glob.{Glob}
+use Rattle.dm_collector.specs.declared.sources.GlobImport.{GlobImport}
+use Rattle.dm_collector.specs.declared.sources.GlobSource.{GlobSource}
+use Rattle.dm_collector.specs.declared.sources.GlobSource.TheVariants as source
+
+-- ---- The source of a glob
+
+-- a module or an enum
+abbrev pub source_in : ModuleDefId → Option GlobSource
+source_in (def.ModuleId m) = Some (source.Module m)
+source_in (def.AdtId (adt.EnumId e)) = Some (source.Enum e)
+source_in _ = None
+
+-- the source that an answer has, where no segment is left
+abbrev pub source_meant : ResolvePathResult → Option GlobSource
+source_meant a = if is_none a.segment_index then option_and_then (λ i. source_in i.def) a.resolved_def.types else None
+
+-- a glob with the source that its path means, if it means one
+abbrev pub resolved : World → GlobImport → Option Glob
+resolved w g = option_map (λ from. record { into = g.into; from = from; vis = g.vis; import = g.import }) (source_meant (path_meaning w g.into g.path))
+
+-- its names: those of the module's scope, or of the enum's variants
+abbrev pub source_names : World → GlobSource → List Name
+source_names w (source.Module m) = names_of (scope_of w m)
+source_names w (source.Enum e) = option_map_or (map (λ v. v.0)) (variants_if_known w e) []
+
+-- ---- What a glob brings
+
+-- a variant, as a type and as a value
+abbrev pub variant_items : Visibility → EnumVariantId → PerNs
+variant_items vis v = record {
+  types = Some (record { def = def.EnumVariantId v; vis = vis; import = None });
+  values = Some (record { def = def.EnumVariantId v; vis = vis; import = None });
+  macros = None;
+}
+
+-- what a source shows module m under a name: the items that m sees in a module, each as m re-exports them with a
+-- visibility; the variant of an enum, with that visibility
+abbrev pub shown_to : World → ModuleId → Visibility → Name → GlobSource → PerNs
+shown_to w m vis n (source.Module from) = re_exported (tree_of w) m vis (seen_by (λ v. sees (tree_of w) v m) (bound_in (scope_of w from) n))
+shown_to w m vis n (source.Enum e) = option_map_or (λ v. variant_items vis v.0) (find_name n (variants_of w e)) nothing
+
+abbrev pub shown : World → Glob → Name → PerNs
+shown w g n = shown_to w g.into g.vis n g.from
+
+-- an item, where nothing is bound
+abbrev pub if_vacant : {B X : Type 0} → Option B → Option X → Option X
+if_vacant bound x = if is_none bound then x else None
+
+-- some items, in those namespaces alone where nothing is bound: a glob shadows nothing
+abbrev pub vacant : PerNs → PerNs → PerNs
+vacant bound x = record {
+  types = if_vacant bound.types x.types;
+  values = if_vacant bound.values x.values;
+  macros = if_vacant bound.macros x.macros;
+}
+
+-- what a glob has yet to bind under a name
+abbrev pub missing : World → Glob → Name → PerNs
+missing w g n = vacant (bound_in (scope_of w g.into) n) (shown w g n)
+
+-- A glob is filled: under no name of its source it has anything yet to bind.
+abbrev pub IsFilled : World → Glob → Type 0
+IsFilled w g = (n : Name) → Contains (source_names w g.from) n → is_empty (missing w g n) ≡ true
+
+-- Where its path means a source, it is filled from that.
+abbrev pub IsFilledBySource : World → GlobImport → Type 0
+IsFilledBySource w g = IfSome (resolved w g) (IsFilled w)

@@ -1,0 +1,169 @@
+//! The sources of globs: what their paths mean.
+ghost use Rattle.std.specs.Prelude.{◌≡◌, ◌++◌, [], true, Contains, IfOk, IsTrue, OnOk, map};
+ghost use Rattle.dm_check.specs.declared.held.HeldId.TheVariants as held;
+ghost use Rattle.dm_check.specs.Holding.{path_holds};
+ghost use Rattle.dm_maps.specs.Known.{knows, KnowsAll};
+ghost use Rattle.dm_ids.specs.Names.{Name};
+ghost use Rattle.std.specs.Option.{option_map_or};
+ghost use Rattle.dm_maps.specs.GoesOn.{variants_if_known};
+ghost use Rattle.dm_maps.specs.World.{scope_of};
+ghost use Rattle.dm_scope.specs.Sorted.{deref_entry, names_of, seen};
+ghost use Rattle.dm_collector.specs.Globs.{resolved, source_in, source_meant, source_names};
+
+use crate::globs::Glob;
+use dm_base::ids::{EnumId, ModuleId};
+use dm_base::imports::GlobId;
+use dm_base::item_ids::{AdtId, ModuleDefId};
+use dm_base::mod_path::ModPath;
+use dm_base::name::Name;
+use dm_base::per_ns::PerNs;
+use dm_base::visibility::Visibility;
+use dm_maps::world::World;
+use dm_maps::world::variants::Variants;
+use dm_retry::meaning::path_meaning;
+use dm_scope::scope_tables::ScopeTables;
+use hir_def_map::result::ResolvePathResult;
+use std::alloc::{AllocError, Global};
+
+/// What a glob brings the names of.
+#[derive(Clone, Copy)]
+pub enum GlobSource {
+    Module(ModuleId),
+    Enum(EnumId),
+}
+
+/// A glob import (`use path::*`).
+#[derive(Drop)]
+pub struct GlobImport {
+    /// The module that it imports into.
+    pub into: ModuleId,
+    pub path: ModPath,
+    /// Who may see what it brings, at most.
+    pub vis: Visibility,
+    pub import: GlobId,
+}
+
+impl GlobImport {
+    /// The glob with the module or enum that its path means in the current state of the world; none where it means
+    /// neither. Does not allocate.
+    ///
+    /// Its module has to be the world's, and so has the crate of the path's `$crate`: `knows_def` and `knows_path` test it.
+    pub fn resolved(&self, world: &World) -> Option<Glob>
+        requires module_known { IsTrue (knows world.now (held.Module self.now.into)) }
+        requires path_known { KnowsAll world.now (path_holds self.now.path.kind) }
+        ensures { result ≡ resolved world.now self.now }
+    {
+        let from = source_meant(&path_meaning(world, self.into, &self.path))?;
+        Some(Glob {
+            into: self.into,
+            from,
+            vis: self.vis,
+            import: self.import,
+        })
+    }
+}
+
+/// The source that an answer has, where no segment is left.
+fn source_meant(answer: &ResolvePathResult) -> Option<GlobSource>
+    ensures { result ≡ source_meant answer.now }
+{
+    if answer.segment_index.is_some() {
+        return None;
+    }
+    let item = answer.resolved_def.types?;
+    source_in(item.def)
+}
+
+/// The source that a definition is, if it is one.
+fn source_in(def: ModuleDefId) -> Option<GlobSource>
+    ensures { result ≡ source_in def }
+{
+    match def {
+        ModuleDefId::ModuleId(m) => Some(GlobSource::Module(m)),
+        ModuleDefId::AdtId(AdtId::EnumId(e)) => Some(GlobSource::Enum(e)),
+        _ => None,
+    }
+}
+
+/// The names of a source.
+pub(crate) fn source_names(
+    world: &World,
+    from: GlobSource,
+    alloc: Global,
+) -> Result<Vec<&Name>, AllocError>
+    ensures { IfOk result
+        (λ names. (n : Name) → Contains (source_names world.now from) n → Contains (seen names.items) n) }
+{
+    match from {
+        GlobSource::Module(m) => module_names(world, m, alloc),
+        GlobSource::Enum(e) => variant_names(world, e, alloc),
+    }
+}
+
+/// The names that a module binds, in their order.
+fn module_names(world: &World, m: ModuleId, alloc: Global) -> Result<Vec<&Name>, AllocError>
+    ensures { IfOk result
+        (λ names. (n : Name) → Contains (names_of (scope_of world.now m)) n → Contains (seen names.items) n) }
+{
+    let mut names = Vec::new(alloc);
+    let Some(scope) = world.scope_of(m) else {
+        return Ok(names);
+    };
+    let entries = scope.entries()?;
+    add_names(&mut names, entries.as_slice())?;
+    Ok(names)
+}
+
+/// The names of the variants of an enum.
+fn variant_names(world: &World, e: EnumId, alloc: Global) -> Result<Vec<&Name>, AllocError>
+    ensures { IfOk result
+        (λ names. (n : Name) → Contains (option_map_or (map (λ v. v.0)) (variants_if_known world.now e) []) n
+        → Contains (seen names.items) n) }
+{
+    let mut names = Vec::new(alloc);
+    let Some(variants) = world.variants(e) else {
+        return Ok(names);
+    };
+    add_variants(&mut names, variants)?;
+    Ok(names)
+}
+
+/// Adds the names of entries.
+fn add_names<'a>(names: &mut Vec<&'a Name>, entries: &[(&'a Name, PerNs)]) -> Result<(), AllocError>
+    ensures { OnOk result
+        (seen names.new.items ≡ seen names.old.items ++ map (λ e. e.0) (map deref_entry entries.now)) }
+{
+    for (name, _bound) in entries {
+        names.push(*name)?;
+    }
+    Ok(())
+}
+
+/// Adds the names of variants.
+fn add_variants<'a>(names: &mut Vec<&'a Name>, variants: Variants<'a>) -> Result<(), AllocError>
+    ensures { OnOk result
+        (seen names.new.items ≡ seen names.old.items ++ map (λ v. v.0) variants.entry) }
+{
+    for (name, _variant) in variants {
+        names.push(name)?;
+    }
+    Ok(())
+}
+
+/// Adds a name with a value, unless that is nothing.
+pub(crate) fn add_unless<T: Copy>(
+    names: &mut Vec<(Name, T)>,
+    name: &Name,
+    value: T,
+    is_nothing: bool,
+    alloc: Global,
+) -> Result<(), AllocError>
+    ensures { OnOk result
+        (names.new.items ≡ [] → (names.old.items ≡ []) × (is_nothing ≡ true)) }
+{
+    if is_nothing {
+        return Ok(());
+    }
+    names.push((name.copy(alloc)?, value))?;
+    Ok(())
+}
