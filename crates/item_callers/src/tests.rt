@@ -11,8 +11,7 @@ const TEXT: &str = "pub mod a { pub fn f() {} fn g() {} pub(crate) struct S;
 mod d { pub const C: u8 = 1; }";
 
 /// The public items of the text, those of a module behind all of the modules around it.
-const LISTED: &str =
-    "Mod a\nFunction a::f\nMod a::b\nConst d::C\nUse a::b::_\nStruct a::b::T\n";
+const LISTED: &str = "Mod a\nFunction a::f\nMod a::b\nConst d::C\nUse a::b::_\nStruct a::b::T\n";
 
 #[test]
 fn public_items_of_nested_modules(rt: HostRuntime) -> Result<(), Fail> {

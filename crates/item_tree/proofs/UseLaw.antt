@@ -4,7 +4,7 @@ use Rattle.std.specs.Prelude.{Option, Some, None, slice_get}
 use Rattle.std.proofs.lemmas.List.{take-append-drop}
 use Rattle.std.proofs.Math.Seq.{drop-append_seam, take-append_seam}
 use Rattle.item_tree.specs.AttributeKinds.{lexemes_in}
-use Rattle.item_tree.specs.UseGrammar.{prefix_of, Written, Name, Renamed, Glob, List_, WrittenList, End, Last, More, lexemes_of, list_lexemes_of, leaves, list_leaves, Writes}
+use Rattle.item_tree.specs.UseGrammar.{prefix_of, Written, Name, Renamed, Glob, List_, WrittenList, End, Last, More, lexemes_of, list_lexemes_of, leaves, list_leaves, Writes, Leaf}
 use Rattle.item_tree.specs.UseLeaves.{outer_path, path_or_none, whole_path, alias_of, leaf_of, leaves_from, leaves_of}
 use Rattle.item_tree.specs.UseTrees.{with_tail}
 use Rattle.item_tree.specs.declared.items.Range.{Range}
@@ -21,6 +21,12 @@ get_kept (y ∷ xs) ys (suc n) x e = get_kept xs ys n x e
 get_seam : {X : Type 0} (xs : List X) (x : X) (ys : List X) → slice_get (xs ++ x ∷ ys) (length xs) ≡ Some x
 get_seam [] x ys = refl
 get_seam (y ∷ xs) x ys = get_seam xs x ys
+
+abbrev named : List Lexeme → Option Lexeme → List Leaf
+named path alias = record { path = path; kind = tree.Single; alias = alias } ∷ []
+
+same_leaf : (p q : List Lexeme) (a b : Option Lexeme) → p ≡ q → a ≡ b → named p a ≡ named q b
+same_leaf p q a b e f = ap (λ path. named path a) e ∙ ap (named q) f
 
 -- the lexemes of a range between others
 in_range : (front head back : List Lexeme) (i n : ℕ) → length front ≡ i → length head ≡ n → lexemes_in (front ++ (head ++ back)) (record { first = i; behind = i + n }) ≡ head
@@ -103,9 +109,9 @@ module _ (ls : List Lexeme) where
         = omega (arith, length-append front (own ++ s ∷ a ∷ []), length-append own (s ∷ a ∷ [])) in
         let alias : slice_get ls (i + (length own + 1) + 1) ≡ Some m
         = ap (λ k. slice_get ls k) place ∙ ap (λ xs. slice_get xs (length (front ++ (own ++ s ∷ a ∷ [])))) before ∙ get_seam (front ++ (own ++ s ∷ a ∷ [])) m back in
-        ap (λ path. record { path = path; kind = tree.Single; alias = slice_get ls (i + (length own + 1) + 1) } ∷ [])
-        (whole_is front (own ++ s ∷ []) (a ∷ m ∷ back) i (length own + 1) row paths pre parted at (length-append own (s ∷ [])) refl outer)
-        ∙ ap (λ name. record { path = pre ++ (own ++ s ∷ []); kind = tree.Single; alias = name } ∷ []) alias
+        let whole : whole_path ls paths row ≡ pre ++ (own ++ s ∷ [])
+        = whole_is front (own ++ s ∷ []) (a ∷ m ∷ back) i (length own + 1) row paths pre parted at (length-append own (s ∷ [])) refl outer in
+        same_leaf (whole_path ls paths row) (pre ++ (own ++ s ∷ [])) (slice_get ls (i + (length own + 1) + 1)) (Some m) whole alias
     leaves_are (Glob p star) front back i n parent paths pre is at count outer =
         let own = prefix_of p in
         let row = with_tail i parent (length own) (record { kind = tree.Glob; alias = false; len = 1 }) in
