@@ -4,3 +4,4 @@ pub mod SearchLemmas
 pub mod NumberLemmas
 pub mod StepLemmas
 pub mod CircleLemmas
+pub mod LineLemmas

@@ -5,3 +5,5 @@ pub mod CrateGraphs
 pub mod OrderSearch
 pub mod OrderFaults
 pub mod CrateLaws
+pub mod LineIndexes
+pub mod LineRows

@@ -1,5 +1,5 @@
-//! From item trees to def maps, without macro expansion: where the files of modules are looked for, and the graph
-//! of crates.
+//! From item trees to def maps, without macro expansion: where the files of modules are looked for, the graph of
+//! crates, and lines and columns.
 #![tactic(auto)]
 
 pub mod crate_data;
@@ -7,6 +7,8 @@ pub mod crate_graph;
 pub mod crate_laws;
 pub mod crate_order;
 pub mod dependency;
+pub mod line_index;
+pub mod line_rows;
 pub mod mod_resolution;
 pub mod mod_rows;
 mod order_search;
