@@ -5,3 +5,4 @@ pub mod NumberLemmas
 pub mod StepLemmas
 pub mod CircleLemmas
 pub mod KnownLemmas
+pub mod LineLemmas

@@ -19,9 +19,6 @@ last-known rs s c is last =
 less-by-one : (xs : List ℕ) (i v : ℕ) → i < length xs → v + 1 ≡ get_or xs i 0 → sum (set xs i v) + 1 ≡ sum xs
 less-by-one xs i v within e = let h = sum_by-set (λ x. x) xs i v 0 within in omega (arith, h, e)
 
-pub meets-still : (rs : List (List ℕ)) (s : State) (c next : ℕ) → IsSearch rs s → left_of s next ≡ 0 → Meets rs s s c next
-meets-still rs s c next is z = record { kept = is; met = inl z; left = refl; begun = λ r h. h }
-
 begun-opened : (s : State) (d r : ℕ) → HasBegun s r → HasBegun (opened d s) r
 begun-opened s d r h = elim h [
   | inl z ↦ inl z
@@ -125,10 +122,6 @@ AreInside-rows (x ∷ g) is a k within there =
     let inside : get_or (needs (get_or (x ∷ g) a x)) k 0 < length (x ∷ g) = known k 0 (subst (λ xs. k < length xs) r there) in
     let same : get_or (row (rows (x ∷ g)) a) k 0 ≡ get_or (needs (get_or (x ∷ g) a x)) k 0 = ap (λ xs. get_or xs k 0) r in
     omega (arith, inside, same, length-map (x ∷ g) needs)
-
--- where no crate is on the path, a search from a crate is through once it has begun
-pub begun-through : (s : State) (r : ℕ) → length s.path ≡ 0 → HasBegun s r → left_of s r ≡ 0
-begun-through s r idle h = elim h [ inl z ↦ z | inr first ↦ absurd (omega (arith, first.0, idle)) ]
 
 no-place : (n c : ℕ) → get_or (replicate n None) c (let o : Option ℕ = None in o) ≡ None
 no-place n c = elim (cases_lt c n) [

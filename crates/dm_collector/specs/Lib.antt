@@ -7,3 +7,5 @@ pub mod OrderFaults
 pub mod CrateLaws
 pub mod Globs
 pub mod Widening
+pub mod LineIndexes
+pub mod LineRows

@@ -1,5 +1,5 @@
 //! From item trees to def maps, without macro expansion: where the files of modules are looked for, the graph of crates,
-//! and imports and globs settled to a fixed point.
+//! lines and columns, and imports and globs settled to a fixed point.
 #![tactic(auto)]
 
 pub mod crate_data;
@@ -8,13 +8,13 @@ pub mod crate_laws;
 pub mod crate_order;
 pub mod dependency;
 pub mod globs;
+pub mod line_index;
+pub mod line_rows;
 pub mod mod_resolution;
 pub mod mod_rows;
 mod order_search;
 mod paths;
 pub mod settle;
-#[cfg(test)]
-mod settle_tests;
 pub mod sources;
 #[cfg(test)]
 mod tests;

@@ -3,6 +3,7 @@ use crate::crate_data::CrateData;
 use crate::crate_graph::CrateGraph;
 use crate::crate_order::OrderFault;
 use crate::dependency::Dependency;
+use crate::line_index::LineIndex;
 use crate::mod_resolution::{Candidate, ModDir};
 use dm_ids::ids::{Crate, FileId};
 use dm_ids::name::Name;
@@ -95,5 +96,21 @@ fn orders_of_crates(rt: HostRuntime) -> Result<(), Fail> {
     assert_eq!(rt; text.as_str(), "circle [Crate(1)]");
     let text = order_text(alloc, 0, &[])?;
     assert_eq!(rt; text.as_str(), "[]");
+    Ok(())
+}
+
+#[test]
+fn lines_of_offsets(rt: HostRuntime) -> Result<(), Fail> {
+    let text = "a\n\u{e9}x\n";
+    let index = LineIndex::new(rt.alloc(), text.as_bytes())?;
+    let mut out = String::new(rt.alloc());
+    for offset in 0..7 {
+        if offset <= text.len() {
+            let found = index.line_col(offset);
+            let line = format!(in rt.alloc(); "{}:{} ", found.line, found.col)?;
+            out.push_str(line.as_str())?;
+        }
+    }
+    assert_eq!(rt; out.as_str(), "1:1 1:2 2:1 2:2 2:2 2:3 3:1 ");
     Ok(())
 }
