@@ -7,7 +7,7 @@ use Rattle.std.proofs.lemmas.List.Sorted.{IsNonDecreasingBy-short, IsNonDecreasi
 use Rattle.std.proofs.Math.ListN.{get_or-map}
 use Rattle.item_tree.specs.AttributeReading as reads
 use Rattle.item_tree.specs.AttributeReading.{Reading, is_in_group, found, finished, finished_from, closed, closed_from, opened, conditioned, to, outside, behind_hash, started, opened_behind, ended_input, closed_input, in_input, behind_name, in_predicate, behind, step, step_from, run, reading}
-use Rattle.item_tree.specs.Attributes.{Table, pushed, with_kind, with_attribute, with_conditions, with_attributes, attributes_of, empty}
+use Rattle.item_tree.specs.Attributes.{Table, with_kind, with_attribute, with_conditions, with_attributes, attributes_of, empty}
 use Rattle.item_tree.specs.AttributeKinds.{input_of}
 use Rattle.item_tree.specs.ItemAttributes.{InOrder}
 use Rattle.item_tree.specs.declared.attribute.AttributeInput.{AttributeInput}
@@ -19,7 +19,7 @@ use Rattle.item_tree.specs.declared.attribute_reader.AttributeLevel.TheVariants.
 use Rattle.item_tree.specs.declared.attribute_reader.AttributePhase.{AttributePhase}
 use Rattle.item_tree.specs.declared.attribute_reader.AttributePhase.TheVariants.{Outside, Hash, Bang, Start, Named, Input, Predicate, Behind}
 use Rattle.item_tree.specs.declared.attributes.Attribute.{Attribute}
-use Rattle.item_tree.specs.declared.lexeme.Delimiter.TheVariants.{Parenthesis, Bracket, Brace}
+use Rattle.item_tree.specs.declared.lexeme.Delimiter.TheVariants.{Parenthesis, Bracket}
 use Rattle.item_tree.specs.declared.lexeme.LexemeKind.{LexemeKind}
 use Rattle.item_tree.specs.declared.lexeme.LexemeKind.TheVariants as kind
 use Rattle.item_tree.specs.declared.lexeme.Lexeme.{Lexeme}

@@ -73,7 +73,7 @@ pub fn use_tree_idx(number: usize) -> Option<UseTreeIdx>
     }
 }
 
-/// What an item of a kind is known by. None for errors and inner attributes.
+/// What an item of a kind is known by. None for errors, inner attributes, and what only chooses among items.
 pub fn mod_item_id(kind: ItemKind, id: FileAstId) -> Option<ModItemId>
     ensures { result ≡ spec.mod_item_id kind id }
 {
@@ -94,6 +94,7 @@ pub fn mod_item_id(kind: ItemKind, id: FileAstId) -> Option<ModItemId>
         ItemKind::TypeAlias => Some(ModItemId::TypeAlias(id)),
         ItemKind::Union => Some(ModItemId::Union(id)),
         ItemKind::Use => Some(ModItemId::Use(id)),
+        ItemKind::CfgIf | ItemKind::CfgIfArm => None,
         ItemKind::InnerAttribute | ItemKind::Error => None,
     }
 }
