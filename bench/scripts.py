@@ -11,6 +11,7 @@ crates     thin trees of 20 modules, each a crate that knows four crates before 
 blocks     a thin tree, with half of the modules in blocks, up to eight in one another
 histories  a module for each ten, each with 60 pushes under six names, by globs, imports and declarations
 flat, row  modules alone, all in the root or each in the one before: nothing is pushed or asked
+roots      blocks of one module, each with its root alone: nothing is pushed or asked
 """
 import argparse
 import random
@@ -47,14 +48,23 @@ class Script:
         return sum(len(it.split()) - len("path MODULE MODE SHADOW EXPECT KIND".split()) for it in self.paths)
 
     def text(self, *parts):
-        """The lines of these parts. Questions come behind a line that checks."""
+        """The lines of these parts. Questions, late pushes and dumps come behind a line that checks."""
         lines = self.build + (self.pushes if "pushes" in parts else [])
         if "check" in parts:
             lines = lines + ["check"]
-        for part in ("paths", "sees"):
+        behind = {"late": self.pushes, "paths": self.paths, "sees": self.sees, "dumps": self.dumps()}
+        for part, more in behind.items():
             if part in parts:
-                lines = lines + getattr(self, part)
+                lines = lines + more
         return "\n".join(lines) + "\n"
+
+    def names(self):
+        """How many names the pushes bind: each module's names, each once."""
+        return len({tuple(it.split()[1:3]) for it in self.pushes})
+
+    def dumps(self):
+        """A dump of each module."""
+        return [f"dump {m}" for m in range(self.modules())]
 
 
 @dataclass
@@ -245,7 +255,12 @@ def row(size, _paths, _sees):
     return Script(["crate 2021 0"] + [f"module {m - 1} m pub" for m in range(1, size)])
 
 
-SHAPES = {it.__name__: it for it in (thin, line, crates, blocks, histories, flat, row)}
+def roots(size, _paths, _sees):
+    """Blocks of one module, each with its root alone."""
+    return Script(["crate 2021 0"] + [f"block 0 {m}" for m in range(1, size)])
+
+
+SHAPES = {it.__name__: it for it in (thin, line, crates, blocks, histories, flat, row, roots)}
 
 
 def main():

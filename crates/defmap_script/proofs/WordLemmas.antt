@@ -1,17 +1,17 @@
 -- The parsers of words give what the specification says.
-use Rattle.std.proofs.Common.{◌≡◌, ◌≢◌, ℕ, ◌+◌, ◌<◌, ◌^◌, Bool, true, false, List, [], ◌∷◌, ◌++◌, Option, Some, None, Result, Ok, Err, length, get_or, arith, refl, sym, ◌∙◌, suc, ap, eqb, ◌&&◌, cond, take, drop}
+use Rattle.std.proofs.Common.{◌≡◌, ◌≢◌, ℕ, ◌+◌, ◌<◌, ◌^◌, Bool, true, false, List, [], ◌∷◌, ◌++◌, Option, Some, None, Result, Ok, Err, length, get_or, arith, refl, sym, ◌∙◌, suc, ap, eqb, ◌&&◌, cond, take, drop, inl, inr, subst, true≢false}
 use Rattle.std.specs.Option.{option_map, MatchOption}
 use Rattle.std.specs.Result.{OkIff, result_ok}
 use Rattle.std.specs.Char.{is_ascii_digit}
 use Rattle.std.specs.List.{list_all, position, position_from}
 use Rattle.std.specs.Str.{all_ascii_digits}
-use Rattle.std.specs.Str.Parse.{ParsesUnsigned, digits_value}
-use Rattle.std.proofs.lemmas.Bool.{eq-eqb, ne_eqb, eqb-true, eqb-false}
+use Rattle.std.specs.Str.Parse.{IsNumeral, ParsesUnsigned, digits_value}
+use Rattle.std.proofs.lemmas.Bool.{cases_Bool, eq-eqb, ne_eqb, eqb-true, eqb-false}
 use Rattle.std.proofs.lemmas.Iterator.Adapters.{position_from-zero}
 use Rattle.std.proofs.lemmas.List.{take-append-drop, drop_more, get_or-take, length-take}
 use Rattle.std.proofs.lemmas.List.Quantifiers.{position-Some}
 use Rattle.std.proofs.lemmas.Bool.Decides.{nat_tests}
-use Rattle.std.proofs.lemmas.Str.Parse.{IsNumeralModel, numerals_by_value, tells_all_ascii_digits, parse_digits}
+use Rattle.std.proofs.lemmas.Str.Parse.{IsNumeralModel, numerals_by_value, tells_all_ascii_digits, parse_digits, without_leading_plus_none}
 use Rattle.std.proofs.lemmas.Str.Pattern.{IsSplitOnceResult, split_parts}
 use denote.Ref.{Bor}
 use Rattle.defmap_script.specs.Words.{number, cut}
@@ -29,8 +29,30 @@ number-from w (Ok v) d h = rw d (grind (arith, nat_tests))
 number-from w (Err e) d h = rw d (grind (arith, nat_tests))
 
 -- digits alone, read by `parse`
-pub number-parsed : {E : Type 0} → (w : List ℕ) (r : Result ℕ E) → ParsesUnsigned 32 10 w r → list_all is_ascii_digit w ≡ true → result_ok r ≡ number w
+number-parsed : {E : Type 0} → (w : List ℕ) (r : Result ℕ E) → ParsesUnsigned 32 10 w r → list_all is_ascii_digit w ≡ true → result_ok r ≡ number w
 number-parsed w r h d = number-from w r d (parse_digits own 32 w r h (all_ascii_digits-all w ∙ d))
+
+no-number : (w : List ℕ) → list_all is_ascii_digit w ≡ false → number w ≡ None
+no-number w d = rw d refl
+
+-- what `parse` takes without a plus is digits alone
+digits-parsed : {E : Type 0} → (w : List ℕ) (r : Result ℕ E) → ParsesUnsigned 32 10 w r → get_or w 0 0 ≢ 43 → list_all is_ascii_digit w ≡ false → result_ok r ≡ number w
+digits-parsed w (Ok v) h plain other =
+    let read : IsNumeral 10 w = subst (IsNumeral 10) (without_leading_plus_none w plain) h.0.0 in
+    absurd (true≢false (sym (sym (all_ascii_digits-all w) ∙ own.from w read.1) ∙ other))
+digits-parsed w (Err e) h plain other = sym (no-number w other)
+
+-- a text without a plus, read by `parse`
+pub number-read : {E : Type 0} → (w : List ℕ) (r : Result ℕ E) → ParsesUnsigned 32 10 w r → get_or w 0 0 ≢ 43 → result_ok r ≡ number w
+number-read w r h plain = elim (cases_Bool (list_all is_ascii_digit w)) [
+  | inl digits ↦ number-parsed w r h digits
+  | inr other ↦ digits-parsed w r h plain other
+]
+
+-- a plus begins no number
+pub plus-no-number : (w : List ℕ) → get_or w 0 0 ≡ 43 → number w ≡ None
+plus-no-number [] e = refl
+plus-no-number (c ∷ cs) e = rw e refl
 
 later : (c x : ℕ) (xs : List ℕ) → ((i : ℕ) → i < length (x ∷ xs) → get_or (x ∷ xs) i 0 ≢ c) → (i : ℕ) → i < length xs → get_or xs i 0 ≢ c
 later c x xs h i l = h (suc i) (omega arith)

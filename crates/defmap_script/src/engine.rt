@@ -1,9 +1,11 @@
 //! The interpreter: the state of a run, and what a command does to it.
-ghost use Rattle.std.specs.Prelude.{◌≡◌, Some, IfOk};
+ghost use Rattle.std.specs.Prelude.{◌≡◌, Some, IfOk, IfSome};
+ghost use Rattle.std.specs.String.{string_bytes};
 ghost use Rattle.hir_def_map.specs.Paths as paths;
 ghost use Rattle.hir_def_map.specs.Questions as questions;
 ghost use Rattle.defmap_script.specs.Engine.{fresh, Answers, Finds, PushesInto, PushesWithin, reply_text, Steps};
 ghost use Rattle.defmap_script.specs.Lines.{asked, asking, Checks, Reopens, words_left};
+ghost use Rattle.defmap_script.specs.declared.engine.Reply.TheVariants.{Sees};
 
 use crate::building::add;
 use crate::dump_text::DumpText;
@@ -28,6 +30,9 @@ use hir_def_map::result::ResolvePathResult;
 use std::alloc::{AllocError, Global};
 use std::marker::Model;
 use std::{fmt, mem};
+
+/// The bytes that most lines fit into.
+const ROOM: usize = 96;
 
 /// The state: a builder's tables, or a checked world.
 #[derive(Drop)]
@@ -54,14 +59,45 @@ impl fmt::Display for Reply {
     fn fmt<W: fmt::Write>(&self, f: &mut fmt::Formatter<W>) -> fmt::Result {
         match self {
             Reply::Nothing => Ok(()),
-            Reply::Pushed(true) | Reply::Sees(true) => f.write_str("true\n"),
-            Reply::Pushed(false) | Reply::Sees(false) => f.write_str("false\n"),
+            Reply::Pushed(answer) | Reply::Sees(answer) => f.write_str(truth(*answer)),
             Reply::Answered(answer) => write!(f, "{}\n", AnswerWords(*answer)),
             Reply::Ended(items) => write!(f, "{}\n", ItemWords(*items)),
             Reply::Compared(None) => f.write_str("none\n"),
             Reply::Compared(Some(visibility)) => write!(f, "{}\n", VisibilityWord(*visibility)),
             Reply::Dumped(dump) => f.write_str(dump.as_str()),
         }
+    }
+}
+
+impl Reply {
+    /// All that the reply prints, where it is a word that is known beforehand.
+    pub(crate) fn word(&self) -> Option<&'static str>
+        ensures { IfSome result (λ word. word.now ≡ reply_text self.now) }
+    {
+        match self {
+            Reply::Nothing => Some(""),
+            Reply::Pushed(answer) | Reply::Sees(answer) => Some(truth(*answer)),
+            Reply::Compared(None) => Some("none\n"),
+            _ => None,
+        }
+    }
+}
+
+/// The line of an answer that is true or false.
+fn truth(answer: bool) -> &'static str
+    ensures { result.now ≡ reply_text (Sees answer) }
+{
+    if answer { "true\n" } else { "false\n" }
+}
+
+/// What a reply prints, as a text that has room for most lines from the beginning.
+pub(crate) fn text_of(alloc: Global, reply: Reply) -> Result<String, AllocError>
+    ensures { IfOk result (λ text. string_bytes text ≡ reply_text reply) }
+{
+    let mut f = fmt::Formatter::new(String::with_capacity(alloc, ROOM)?);
+    match f.write(reply) {
+        Ok(()) => Ok(f.into_inner()),
+        Err(_) => Err(AllocError),
     }
 }
 
@@ -261,7 +297,7 @@ fn known<'a>(
 fn names(alloc: Global, words: Words<'_>) -> Result<Vec<Name>, AllocError>
     ensures { IfOk result (λ names. names.items ≡ words_left words.entry) }
 {
-    let mut names = Vec::new(alloc);
+    let mut names = Vec::with_capacity(alloc, 8)?;
     for word in words {
         names.push(Name::new(alloc, word)?)?;
     }

@@ -1,15 +1,16 @@
 //! Runs a script line by line.
-ghost use Rattle.std.specs.Prelude.{ℕ, List, ◌≡◌, ◌==◌, ◌<◌, ◌++◌, ◌⊎◌, IfSome, length, position};
+ghost use Rattle.std.specs.Prelude.{ℕ, List, ◌≡◌, ◌==◌, ◌<◌, ◌++◌, ◌⊎◌, IfSome, OnErr, OnOk, length, position};
 ghost use Rattle.std.specs.Iterator.{YieldsFirstRef, item_count};
 ghost use Rattle.std.specs.Option.{option_map};
-ghost use Rattle.defmap_script.specs.Engine.{fresh, LineSteps};
+ghost use Rattle.defmap_script.specs.Engine.{fresh, LineSteps, reply_text};
 ghost use Rattle.defmap_script.specs.Faults.{refusal};
 ghost use Rattle.defmap_script.specs.Runs.{lines, lines_left, end_of, Runs};
 ghost use Rattle.defmap_script.specs.Words.{cut};
 
-use crate::engine::Engine;
+use crate::engine::{Engine, Reply, text_of};
 use crate::fault::Fault;
 use crate::lines::read_line;
+use std::alloc::AllocError;
 
 /// How a run ended.
 #[derive(Clone, Copy, PartialEq, Eq, Debug)]
@@ -48,7 +49,27 @@ fn run_line(engine: &mut Engine, line: &[u8], out: &mut Vec<u8>) -> Result<(), F
         return Ok(());
     };
     let reply = engine.run(command)?;
-    let text = format!(in *out.allocator(); "{reply}")?;
+    print(reply, out)?;
+    Ok(())
+}
+
+/// Appends what a line prints, whole or not at all. A word is appended at once, and a longer text is written first.
+fn print(reply: Reply, out: &mut Vec<u8>) -> Result<(), AllocError>
+    ensures ok { OnOk result (out.new.items ≡ out.old.items ++ reply_text reply) }
+    ensures err { OnErr result (out.new.items ≡ out.old.items) }
+{
+    if let Some(word) = reply.word() {
+        return append(out, word);
+    }
+    let text = text_of(*out.allocator(), reply)?;
+    append(out, text.as_str())
+}
+
+/// Appends a text, whole or not at all.
+fn append(out: &mut Vec<u8>, text: &str) -> Result<(), AllocError>
+    ensures ok { OnOk result (out.new.items ≡ out.old.items ++ text.now) }
+    ensures err { OnErr result (out.new.items ≡ out.old.items) }
+{
     out.extend_from_slice(text.as_bytes())?;
     Ok(())
 }

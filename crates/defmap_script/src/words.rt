@@ -1,7 +1,5 @@
 //! Parses one word of a script; none where it has another form.
-ghost use Rattle.std.specs.Prelude.{◌≡◌, drop};
-ghost use Rattle.std.specs.Char.{is_ascii_digit};
-ghost use Rattle.std.specs.List.{list_all};
+ghost use Rattle.std.specs.Prelude.{◌≡◌, ◌==◌, drop, slice_index};
 ghost use Rattle.std.specs.Option.{option_map};
 ghost use Rattle.dm_ids.specs.Builtins.{builtin_words};
 ghost use Rattle.dm_ids.specs.Names.{find_name};
@@ -25,16 +23,20 @@ use hir_def_map::result::ResolveMode;
 pub(crate) fn number(word: &str) -> Option<u32>
     ensures { result ≡ number word.now }
 {
-    if !is_digits(word) {
+    if has_plus(word) {
         return None;
     }
     word.parse().ok()
 }
 
-fn is_digits(word: &str) -> bool
-    ensures { result ≡ list_all is_ascii_digit word.now }
+/// Whether a plus stands first, the one sign that `parse` takes.
+fn has_plus(word: &str) -> bool
+    ensures { result ≡ (slice_index word.now 0 == 43) }
 {
-    word.as_bytes().iter().all(|byte| byte.is_ascii_digit())
+    match word.as_bytes().first() {
+        None => false,
+        Some(byte) => *byte == b'+',
+    }
 }
 
 /// The parts before and behind the first `:`.

@@ -14,5 +14,5 @@ pub mod value_eq;
 pub mod visibility;
 
 pub use dm_ids::{
-    builtin_type, fields_shape, ids, imports, item_ids, macros, name, source, symbol,
+    builtin_type, fields_shape, ids, imports, item_ids, macros, name, name_hasher, source, symbol,
 };

@@ -1,5 +1,5 @@
 -- Globs: what one brings into its module, and when it brings nothing more.
-use Rattle.std.specs.Prelude.{◌≡◌, true, List, [], IfSome, Option, Some, None, Contains, is_none, map, if◌then◌else◌}
+use Rattle.std.specs.Prelude.{◌≡◌, true, List, [], ◌∷◌, ◌++◌, IfSome, Option, Some, None, Contains, is_none, map, if◌then◌else◌}
 use Rattle.std.specs.Option.{option_and_then, option_map, option_map_or}
 use Rattle.dm_ids.specs.Names.{Name, find_name}
 use Rattle.dm_ids.specs.declared.ids.EnumVariantId.{EnumVariantId}
@@ -11,7 +11,11 @@ use Rattle.dm_base.specs.declared.per_ns.PerNs.{PerNs}
 use Rattle.dm_base.specs.declared.visibility.Visibility.{Visibility}
 use Rattle.dm_base.specs.PerNs.{is_empty, nothing, seen_by}
 use Rattle.dm_base.specs.Tree.{sees}
+use Rattle.dm_check.specs.Holding.{path_holds, vis_holds}
+use Rattle.dm_check.specs.declared.held.HeldId.{HeldId}
+use Rattle.dm_check.specs.declared.held.HeldId.TheVariants as held
 use Rattle.dm_maps.specs.GoesOn.{variants_if_known}
+use Rattle.dm_maps.specs.Known.{KnowsAll}
 use Rattle.dm_maps.specs.Readings.{variants_of}
 use Rattle.dm_maps.specs.Trees.{tree_of}
 use Rattle.dm_maps.specs.World.{World, scope_of}
@@ -40,6 +44,14 @@ source_meant a = if is_none a.segment_index then option_and_then (λ i. source_i
 -- a glob with the source that its path means, if it means one
 abbrev pub resolved : World → GlobImport → Option Glob
 resolved w g = option_map (λ from. record { into = g.into; from = from; vis = g.vis; import = g.import }) (source_meant (path_meaning w g.into g.path))
+
+-- all that a glob names: its module, its use, the crate of its path's `$crate`, and what its visibility names
+abbrev pub glob_holds : GlobImport → List HeldId
+glob_holds g = (held.Module g.into ∷ held.Use g.import.use_ ∷ []) ++ path_holds g.path.kind ++ vis_holds g.vis
+
+-- One of some globs names what the world does not have.
+abbrev pub HasUnknown : World → List GlobImport → Type 0
+HasUnknown w gs = (g : GlobImport) × Contains gs g × ¬ (KnowsAll w (glob_holds g))
 
 -- its names: those of the module's scope, or of the enum's variants
 abbrev pub source_names : World → GlobSource → List Name

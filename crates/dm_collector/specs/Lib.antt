@@ -1,11 +1,5 @@
-pub mod Paths
-pub mod ModDirs
-pub mod ModRows
-pub mod CrateGraphs
-pub mod OrderSearch
-pub mod OrderFaults
-pub mod CrateLaws
 pub mod Globs
 pub mod Widening
-pub mod LineIndexes
-pub mod LineRows
+pub mod UnnamedTraits
+pub mod Steps
+pub mod GlobRows

@@ -1,5 +1,5 @@
 -- Globs that show one definition to more: when the visibility of a binding grows.
-use Rattle.std.specs.Prelude.{◌≡◌, ◌&&◌, Bool, not, IfSome, Option, Some, None, Contains, if◌then◌else◌}
+use Rattle.std.specs.Prelude.{◌≡◌, ◌&&◌, Bool, not, IfSome, Option, Some, None, Contains, is_none, if◌then◌else◌}
 use Rattle.std.specs.Option.{option_eq}
 use Rattle.dm_ids.specs.Names.{Name}
 use Rattle.dm_ids.specs.Imports.{is_glob, is_glob_or_import}
@@ -46,6 +46,9 @@ wider w g n = wider_of (tree_of w) g.into (bound_in (scope_of w g.into) n) (show
 -- no binding gets another visibility
 abbrev pub nothing_wider : NewVisibilities
 nothing_wider = record { types = None; values = None; macros = None }
+
+abbrev pub is_nothing_wider : NewVisibilities → Bool
+is_nothing_wider v = is_none v.types && is_none v.values && is_none v.macros
 
 -- A glob is wide: under no name of its source it has any visibility yet to give.
 abbrev pub IsWide : World → Glob → Type 0

@@ -1,8 +1,8 @@
 //! Globs: what one brings into its module.
-ghost use Rattle.std.specs.Prelude.{◌≡◌, [], IfOk, IsTrue};
+ghost use Rattle.std.specs.Prelude.{◌≡◌, [], false, All, IfOk, IsTrue};
 ghost use Rattle.std.specs.Option.{ForSome, option_map_or};
 ghost use Rattle.dm_ids.specs.Names.{find_name};
-ghost use Rattle.dm_base.specs.PerNs.{keep, nothing, seen_by};
+ghost use Rattle.dm_base.specs.PerNs.{is_empty, keep, nothing, seen_by};
 ghost use Rattle.dm_base.specs.Tree.{IsKnown, sees};
 ghost use Rattle.dm_base.specs.Visibility.{NamesKnown};
 ghost use Rattle.dm_scope.specs.Scope.{bound_in};
@@ -114,7 +114,8 @@ pub(crate) fn shown(world: &World, glob: Glob, name: &Name) -> PerNs
 pub(crate) fn missing(world: &World, glob: Glob, name: &Name) -> PerNs
     requires into { IsTrue (knows world.now (held.Module glob.into)) }
     requires vis { KnowsAll world.now (vis_holds glob.vis) }
-    ensures { result ≡ missing world.now glob name.now }
+    ensures value { result ≡ missing world.now glob name.now }
+    ensures known { KnowsAll world.now (res_holds result) }
 {
     let shown = shown(world, glob, name);
     let bound = world.bound_in(glob.into, name);
@@ -125,23 +126,26 @@ pub(crate) fn missing(world: &World, glob: Glob, name: &Name) -> PerNs
     }
 }
 
-/// What a glob has yet to bind, by names of its source, in their order. Fails where an allocation fails.
+/// The names of a glob's source under which it has yet to bind something, in their order. Fails where an allocation
+/// fails.
 ///
 /// Its module, and what its visibility names, have to be the world's.
 pub(crate) fn missing_names(
     world: &World,
     glob: Glob,
     alloc: Global,
-) -> Result<Vec<(Name, PerNs)>, AllocError>
+) -> Result<Vec<Name>, AllocError>
     requires into { IsTrue (knows world.now (held.Module glob.into)) }
     requires vis { KnowsAll world.now (vis_holds glob.vis) }
+    ensures some { IfOk result
+        (λ names. All (λ n. is_empty (missing world.now glob n) ≡ false) names.items) }
     ensures filled { IfOk result (λ names. names.items ≡ [] → IsFilled world.now glob) }
 {
     let sources = source_names(world, glob.from, alloc)?;
     let mut names = Vec::new(alloc);
     for name in sources.as_slice() {
         let items = missing(world, glob, name);
-        add_unless(&mut names, name, items, items.is_none(), alloc)?;
+        add_unless(&mut names, name, items.is_none(), alloc)?;
     }
     Ok(names)
 }

@@ -1,18 +1,20 @@
 //! The sources of globs: what their paths mean.
-ghost use Rattle.std.specs.Prelude.{◌≡◌, ◌++◌, [], true, Contains, IfOk, IsTrue, OnOk, map};
+ghost use Rattle.std.specs.Prelude.{◌≡◌, ◌↔◌, ◌++◌, ◌∷◌, [], true, if◌then◌else◌, Contains, IfErr, IfOk, IfSome, IsTrue, OnOk, map};
 ghost use Rattle.dm_check.specs.declared.held.HeldId.TheVariants as held;
-ghost use Rattle.dm_check.specs.Holding.{path_holds};
+ghost use Rattle.dm_check.specs.Holding.{path_holds, vis_holds};
 ghost use Rattle.dm_maps.specs.Known.{knows, KnowsAll};
 ghost use Rattle.dm_ids.specs.Names.{Name};
 ghost use Rattle.std.specs.Option.{option_map_or};
 ghost use Rattle.dm_maps.specs.GoesOn.{variants_if_known};
 ghost use Rattle.dm_maps.specs.World.{scope_of};
 ghost use Rattle.dm_scope.specs.Sorted.{deref_entry, names_of, seen};
-ghost use Rattle.dm_collector.specs.Globs.{resolved, source_in, source_meant, source_names};
+ghost use Rattle.dm_collector.specs.Globs.{glob_holds, resolved, source_in, source_meant, source_names};
+ghost use Rattle.dm_collector.specs.declared.glob_fault.GlobFault.TheVariants as faults;
 
+use crate::glob_fault::GlobFault;
 use crate::globs::Glob;
 use dm_base::ids::{EnumId, ModuleId};
-use dm_base::imports::GlobId;
+use dm_base::imports::{GlobId, ImportOrExternCrate};
 use dm_base::item_ids::{AdtId, ModuleDefId};
 use dm_base::mod_path::ModPath;
 use dm_base::name::Name;
@@ -44,6 +46,18 @@ pub struct GlobImport {
 }
 
 impl GlobImport {
+    /// Whether all that the glob names is the world's: its module, its use, the crate of its path's `$crate`, and what
+    /// its visibility names. Does not allocate.
+    pub fn is_known(&self, world: &World) -> bool
+        ensures { IsTrue result ↔ KnowsAll world.now (glob_holds self.now) }
+    {
+        let import = Some(ImportOrExternCrate::Glob(self.import));
+        let placed = world.knows_res(self.into, &PerNs::none(), import);
+        let begun = world.knows_path(&self.path);
+        let seen = world.knows_vis(self.vis);
+        placed && begun && seen
+    }
+
     /// The glob with the module or enum that its path means in the current state of the world; none where it means
     /// neither. Does not allocate.
     ///
@@ -61,6 +75,23 @@ impl GlobImport {
             import: self.import,
         })
     }
+}
+
+/// A glob with its source, where its path means one. Fails where the glob names what the world does not have.
+pub(crate) fn known(world: &World, glob: &GlobImport) -> Result<Option<Glob>, GlobFault>
+    ensures value { IfOk result (λ found. found ≡ resolved world.now glob.now) }
+    ensures into { IfOk result
+        (λ found. IfSome found (λ g. IsTrue (knows world.now (held.Module g.into)))) }
+    ensures used { IfOk result
+        (λ found. IfSome found (λ g. IsTrue (knows world.now (held.Use g.import.use_)))) }
+    ensures vis { IfOk result (λ found. IfSome found (λ g. KnowsAll world.now (vis_holds g.vis))) }
+    ensures err { IfErr result
+        (λ fault. (fault ≡ faults.Unknown) × ¬ (KnowsAll world.now (glob_holds glob.now))) }
+{
+    if !glob.is_known(world) {
+        return Err(GlobFault::Unknown);
+    }
+    Ok(glob.resolved(world))
 }
 
 /// The source that an answer has, where no segment is left.
@@ -150,20 +181,22 @@ fn add_variants<'a>(names: &mut Vec<&'a Name>, variants: Variants<'a>) -> Result
     Ok(())
 }
 
-/// Adds a name with a value, unless that is nothing.
-pub(crate) fn add_unless<T: Copy>(
-    names: &mut Vec<(Name, T)>,
+/// Adds a name, unless there is nothing under it.
+pub(crate) fn add_unless(
+    names: &mut Vec<Name>,
     name: &Name,
-    value: T,
     is_nothing: bool,
     alloc: Global,
 ) -> Result<(), AllocError>
-    ensures { OnOk result
+    ensures value { OnOk result
+        (names.new.items
+        ≡ (if is_nothing then names.old.items else names.old.items ++ name.now ∷ [])) }
+    ensures none { OnOk result
         (names.new.items ≡ [] → (names.old.items ≡ []) × (is_nothing ≡ true)) }
 {
     if is_nothing {
         return Ok(());
     }
-    names.push((name.copy(alloc)?, value))?;
+    names.push(name.copy(alloc)?)?;
     Ok(())
 }

@@ -1,5 +1,5 @@
 //! What a glob shows to more than its module shows it to: the visibility of that binding grows.
-ghost use Rattle.std.specs.Prelude.{◌≡◌, [], true, IfOk, IsTrue, None};
+ghost use Rattle.std.specs.Prelude.{◌≡◌, [], false, true, All, IfOk, IfSome, IsSome, IsTrue, None};
 ghost use Rattle.std.specs.Option.{ForSome};
 ghost use Rattle.dm_base.specs.Tree.{IsKnown};
 ghost use Rattle.dm_base.specs.Visibility.{NamesKnown};
@@ -7,8 +7,10 @@ ghost use Rattle.dm_check.specs.declared.held.HeldId.TheVariants as held;
 ghost use Rattle.dm_check.specs.Holding.{res_holds, vis_holds};
 ghost use Rattle.dm_maps.specs.Known.{knows, KnowsAll};
 ghost use Rattle.dm_maps.specs.Trees.{tree_of};
+ghost use Rattle.dm_maps.specs.World.{scope_of};
 ghost use Rattle.dm_scope.specs.Bindings.{is_glob_by};
-ghost use Rattle.dm_collector.specs.Widening.{is_wider, IsWide, nothing_wider, wider, wider_item, wider_of};
+ghost use Rattle.dm_scope.specs.Scope.{bound_in};
+ghost use Rattle.dm_collector.specs.Widening.{is_nothing_wider, is_wider, IsWide, nothing_wider, wider, wider_item, wider_of};
 
 use crate::globs::{Glob, shown};
 use crate::sources::{add_unless, source_names};
@@ -31,7 +33,8 @@ pub struct NewVisibilities {
 
 impl NewVisibilities {
     fn is_none(&self) -> bool
-        ensures { result ≡ true → self.now ≡ nothing_wider }
+        ensures value { result ≡ is_nothing_wider self.now }
+        ensures nothing { result ≡ true → self.now ≡ nothing_wider }
     {
         self.types.is_none() && self.values.is_none() && self.macros.is_none()
     }
@@ -64,7 +67,10 @@ fn wider_item<D: Copy + PartialEq, I: ImportSource>(
     requires home { IsKnown (tree_of world.now) m }
     requires bound { ForSome bound (λ i. NamesKnown (tree_of world.now) i.vis) }
     requires shown { ForSome shown (λ i. NamesKnown (tree_of world.now) i.vis) }
-    ensures { result ≡ wider_item D.eq I.globs (tree_of world.now) m bound shown }
+    requires known { ForSome shown (λ i. KnowsAll world.now (vis_holds i.vis)) }
+    ensures value { result ≡ wider_item D.eq I.globs (tree_of world.now) m bound shown }
+    ensures bound { IfSome result (λ v. IsSome bound) }
+    ensures known { IfSome result (λ v. KnowsAll world.now (vis_holds v)) }
 {
     let old = bound?;
     let new = shown?;
@@ -89,7 +95,13 @@ fn is_glob<I: ImportSource>(import: Option<I>) -> bool
 pub(crate) fn wider(world: &World, glob: Glob, name: &Name) -> NewVisibilities
     requires into { IsTrue (knows world.now (held.Module glob.into)) }
     requires vis { KnowsAll world.now (vis_holds glob.vis) }
-    ensures { result ≡ wider world.now glob name.now }
+    ensures value { result ≡ wider world.now glob name.now }
+    ensures types { IfSome result.types
+        (λ v. IsSome (bound_in (scope_of world.now glob.into) name.now).types × KnowsAll world.now (vis_holds v)) }
+    ensures values { IfSome result.values
+        (λ v. IsSome (bound_in (scope_of world.now glob.into) name.now).values × KnowsAll world.now (vis_holds v)) }
+    ensures macros { IfSome result.macros
+        (λ v. IsSome (bound_in (scope_of world.now glob.into) name.now).macros × KnowsAll world.now (vis_holds v)) }
 {
     let shown = shown(world, glob, name);
     let bound = world.bound_in(glob.into, name);
@@ -100,23 +112,22 @@ pub(crate) fn wider(world: &World, glob: Glob, name: &Name) -> NewVisibilities
     }
 }
 
-/// The visibilities that a glob has yet to give, by names of its source, in their order. Fails where an allocation fails.
+/// The names of a glob's source under which it has yet to give a visibility, in their order. Fails where an allocation
+/// fails.
 ///
 /// Its module, and what its visibility names, have to be the world's.
-pub(crate) fn wider_names(
-    world: &World,
-    glob: Glob,
-    alloc: Global,
-) -> Result<Vec<(Name, NewVisibilities)>, AllocError>
+pub(crate) fn wider_names(world: &World, glob: Glob, alloc: Global) -> Result<Vec<Name>, AllocError>
     requires into { IsTrue (knows world.now (held.Module glob.into)) }
     requires vis { KnowsAll world.now (vis_holds glob.vis) }
+    ensures some { IfOk result
+        (λ names. All (λ n. is_nothing_wider (wider world.now glob n) ≡ false) names.items) }
     ensures wide { IfOk result (λ names. names.items ≡ [] → IsWide world.now glob) }
 {
     let sources = source_names(world, glob.from, alloc)?;
     let mut names = Vec::new(alloc);
     for name in sources.as_slice() {
         let wider = wider(world, glob, name);
-        add_unless(&mut names, name, wider, wider.is_none(), alloc)?;
+        add_unless(&mut names, name, wider.is_none(), alloc)?;
     }
     Ok(names)
 }

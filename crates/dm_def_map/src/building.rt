@@ -92,6 +92,18 @@ pub fn change(map: &mut DefMap, change: MapChange, alloc: Global) -> Result<(), 
     Ok(())
 }
 
+/// Gives back memory that the tables of a map do not need, where a smaller place can be had. The contents stay. The
+/// scopes of its modules keep theirs.
+pub fn shrink_to_fit(map: &mut DefMap)
+    ensures { map.new ≡ map.old }
+{
+    map.modules.shrink_to_fit();
+    map.macro_use_prelude.shrink_to_fit();
+    map.macro_defs.shrink_to_fit();
+    map.derive_helpers.shrink_to_fit();
+    map.diagnostics.shrink_to_fit();
+}
+
 /// The module at index `i`, counted from the root.
 pub fn nth(map: &DefMap, i: usize) -> Option<&ModuleData>
     ensures { option_copied result ≡ nth_module map.now.modules i }

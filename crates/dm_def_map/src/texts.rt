@@ -4,11 +4,11 @@ ghost use Rattle.std.specs.List.{list_any};
 ghost use Rattle.dm_ids.specs.Names.{find_name, same_name};
 
 use dm_base::name::Name;
-use indexmap::IndexMap;
+use indexmap::map::Slice;
 
 /// Whether a table has an entry under the name of that text. It compares with each name, and does not allocate.
-pub fn has_text<V>(table: &IndexMap<Name, V>, text: &str) -> bool
-    ensures { result ≡ is_some (find_name text.now table.now.entries) }
+pub fn has_text<V>(table: Slice<'_, Name, V>, text: &str) -> bool
+    ensures { result ≡ is_some (find_name text.now table.entry) }
 {
     is_among(table.keys().as_slice(), text)
 }

@@ -4,3 +4,4 @@ pub mod Builtins
 pub mod Kinds
 pub mod Styles
 pub mod Files
+pub mod NameHashers

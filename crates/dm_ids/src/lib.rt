@@ -8,6 +8,7 @@ pub mod imports;
 pub mod item_ids;
 pub mod macros;
 pub mod name;
+pub mod name_hasher;
 pub mod source;
 pub mod symbol;
 mod text;

@@ -1,6 +1,6 @@
 //! Owned text: what names and symbols are made of, seen by contracts as its bytes.
 ghost use Rattle.std.specs.Prelude.{◌≡◌, IfOk, Some, nat_eq, refl};
-ghost use Rattle.std.specs.Hash as fed;
+ghost use Rattle.dm_ids.specs.Names.{digest, fed_text};
 ghost use Rattle.std.specs.Ordering.{nat_cmp};
 ghost use Rattle.std.specs.Cmp.Lexicographic.{pointwise, slice_cmp, nat_list_eq_equiv, nat_list_cmp_total, texts_po, texts_ties};
 ghost use Rattle.std.specs.Cmp.{partial_equiv_from_equiv};
@@ -9,22 +9,27 @@ ghost use Rattle.std.proofs.Common.{rules};
 
 use std::alloc::{AllocError, Global};
 use std::cmp::Ordering;
-use std::hash::{Hash, Hasher};
+use std::hash::{FoldHasher, Hash, Hasher};
 use std::marker::Model;
 
-/// A text, which a contract sees as its bytes.
+/// A text, which a contract sees as its bytes. It carries the hash of its bytes, made once when the text is made, so that
+/// no look-up hashes the bytes anew.
 #[derive(Drop)]
 pub struct Text {
     text: String,
+    hash: u64,
 }
 
 impl Model for Text {
-    ghost use Rattle.std.specs.Prelude.{ℕ, List};
+    ghost use Rattle.std.specs.Prelude.{◌≡◌, ℕ, List};
     ghost use Rattle.std.specs.String.{string_bytes};
+    ghost use Rattle.dm_ids.specs.Names.{digest};
 
     ghost Value = { List ℕ };
 
     ghost view = { λ t. string_bytes t.text };
+
+    ghost invariant = { λ t. t.hash ≡ digest (string_bytes t.text) };
 }
 
 impl Text {
@@ -36,6 +41,7 @@ impl Text {
     {
         Ok(Text {
             text: String::from_str(alloc, text)?,
+            hash: digest(text.as_bytes()),
         })
     }
 
@@ -45,6 +51,15 @@ impl Text {
     {
         self.text.as_str()
     }
+}
+
+/// The hash of some bytes.
+fn digest(bytes: &[u8]) -> u64
+    ensures { result ≡ digest bytes.now }
+{
+    let mut hasher = FoldHasher::default();
+    hasher.write(bytes);
+    hasher.finish()
 }
 
 impl PartialEq for Text {
@@ -87,11 +102,11 @@ impl Ord for Text {
 }
 
 impl Hash for Text {
-    ghost hash_input = { fed.str };
+    ghost hash_input = { fed_text };
 
     ghost respects_eq = { Prim.search (hashing, rules) };
 
     fn hash<H: Hasher>(&self, state: &mut H) {
-        self.as_str().hash(state);
+        self.hash.hash(state);
     }
 }

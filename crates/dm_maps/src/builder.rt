@@ -16,6 +16,7 @@ mod growth;
 mod scopes;
 mod set_crate_data;
 mod set_tables;
+mod spare_room;
 mod tables;
 
 use crate::builder::block_list::BlockList;

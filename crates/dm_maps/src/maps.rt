@@ -8,7 +8,7 @@ ghost use Rattle.dm_maps.specs.Maps.{IsFree, map_at, maps_with, maps_with_child,
 
 pub(crate) mod share;
 
-use dm_base::ids::{MapId, ModuleId};
+use dm_base::ids::{BlockId, Crate, MapId, ModuleId};
 use dm_base::name::Name;
 use dm_def_map::building;
 use dm_def_map::def_map::DefMap;
@@ -117,6 +117,50 @@ impl Maps {
         match self.get_mut(id) {
             None => unreachable!(),
             Some(map) => building::change(map, change, alloc),
+        }
+    }
+
+    /// Gives back memory that the tables of the maps do not need. The contents stay.
+    pub(crate) fn shrink_to_fit(&mut self)
+        ensures { self.new ≡ self.old }
+    {
+        self.shrink_crates();
+        self.shrink_blocks();
+    }
+
+    fn shrink_crates(&mut self)
+        ensures { self.new ≡ self.old }
+    {
+        for k in 0..self.crates.len() {
+            if let Ok(number) = u32::try_from(k) {
+                self.shrink_map(MapId {
+                    krate: Crate(number),
+                    block: None,
+                });
+            }
+        }
+    }
+
+    fn shrink_blocks(&mut self)
+        ensures { self.new ≡ self.old }
+    {
+        for b in 0..self.blocks.len() {
+            if let Ok(number) = u32::try_from(b) {
+                self.shrink_map(MapId {
+                    krate: Crate(0),
+                    block: Some(BlockId(number)),
+                });
+            }
+        }
+    }
+
+    /// Gives back memory that the tables of that map do not need, if it is there.
+    #[tactic(auto, using(crate::proofs::MapWrites::put_own))]
+    fn shrink_map(&mut self, id: MapId)
+        ensures { self.new ≡ self.old }
+    {
+        if let Some(map) = self.get_mut(id) {
+            building::shrink_to_fit(map);
         }
     }
 

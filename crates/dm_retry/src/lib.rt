@@ -17,5 +17,5 @@ pub mod retry_fault;
 pub mod round_kind;
 mod rounds;
 mod settle;
-mod unnamed;
+pub mod unnamed;
 mod writes;

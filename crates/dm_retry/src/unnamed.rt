@@ -82,8 +82,10 @@ fn trait_of(items: &PerNs) -> Option<TraitId>
     }
 }
 
-/// Whether no unnamed trait of a module is that trait, and lets all those see it whom `vis` lets.
-fn is_new_trait(world: &World, m: ModuleId, tr: TraitId, vis: Visibility) -> bool
+/// Whether no unnamed trait of a module is that trait, and lets all those see it whom `vis` lets. Does not allocate.
+///
+/// The module, and what the visibility names, have to be the world's: `knows_def` and `knows_vis` test it.
+pub fn is_new_trait(world: &World, m: ModuleId, tr: TraitId, vis: Visibility) -> bool
     requires there { IsTrue (knows world.now (held.Module m)) }
     requires home { IsKnown (tree_of world.now) m }
     requires named { NamesKnown (tree_of world.now) vis }

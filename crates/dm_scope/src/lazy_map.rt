@@ -8,17 +8,21 @@ ghost use Rattle.dm_scope.specs.Entries.{add_entry, is_new, without_new};
 ghost use Rattle.dm_scope.specs.LazyMaps.{entries_of};
 
 use dm_base::name::Name;
+use dm_base::name_hasher::NameHasherBuilder;
 use indexmap::IndexMap;
 use indexmap::map::Slice;
 use std::alloc::{AllocError, Global};
 use std::hash::Hash;
 use std::marker::Model;
 
+/// A map in order of insertion, which takes the hashes that names carry as they are.
+pub type Table<K, V> = IndexMap<K, V, NameHasherBuilder>;
+
 /// A map in order of insertion, behind a handle. It is allocated when something is first put into it: until then there
 /// is only the handle. Contracts see its entries, and a map that was not made as an empty one.
 #[derive(Drop)]
-pub(crate) struct LazyMap<K: Eq + Hash, V> {
-    pub(crate) map: Option<Box<IndexMap<K, V>>>,
+pub struct LazyMap<K: Eq + Hash, V> {
+    pub(crate) map: Option<Box<Table<K, V>>>,
     alloc: Global,
 }
 
@@ -34,14 +38,14 @@ impl<K: Eq + Hash, V> Model for LazyMap<K, V> {
 
 impl<K: Eq + Hash + Drop, V: Drop> LazyMap<K, V> {
     /// An empty map. Takes no memory.
-    pub(crate) fn new(alloc: Global) -> LazyMap<K, V>
+    pub fn new(alloc: Global) -> LazyMap<K, V>
         ensures { result ≡ [] }
     {
         LazyMap { map: None, alloc }
     }
 
     /// The map, if it was made.
-    pub(crate) fn made(&self) -> Option<&IndexMap<K, V>>
+    pub(crate) fn made(&self) -> Option<&Table<K, V>>
         ensures { entries_of (option_copied result) ≡ self.now }
     {
         match &self.map {
@@ -51,7 +55,7 @@ impl<K: Eq + Hash + Drop, V: Drop> LazyMap<K, V> {
     }
 
     /// The value at a key. Takes no memory: one look-up.
-    pub(crate) fn get(&self, key: &K) -> Option<&V>
+    pub fn get(&self, key: &K) -> Option<&V>
         ensures { option_copied result ≡ lookup (K.eq key.now) self.now }
     {
         let map = self.made()?;
@@ -69,7 +73,7 @@ impl<K: Eq + Hash + Drop, V: Drop> LazyMap<K, V> {
     }
 
     /// The entries, in order. Takes no memory.
-    pub(crate) fn as_slice<'a>(&'a self) -> Slice<'a, K, V>
+    pub fn as_slice<'a>(&'a self) -> Slice<'a, K, V>
         ensures { result ≡ self.now }
     {
         let Some(map) = self.made() else {
@@ -79,7 +83,7 @@ impl<K: Eq + Hash + Drop, V: Drop> LazyMap<K, V> {
     }
 
     /// The number of entries.
-    pub(crate) fn len(&self) -> usize
+    pub fn len(&self) -> usize
         ensures { result ≡ length self.now }
     {
         match self.made() {
@@ -90,7 +94,7 @@ impl<K: Eq + Hash + Drop, V: Drop> LazyMap<K, V> {
 
     /// Puts a value at a key: a key that is there keeps its place, and a new one goes last. Where an allocation fails,
     /// nothing changes.
-    pub(crate) fn insert(&mut self, key: K, value: V) -> Result<(), AllocError>
+    pub fn insert(&mut self, key: K, value: V) -> Result<(), AllocError>
         ensures ok { OnOk result (self.new ≡ insert_entry K.eq self.old key value) }
         ensures err { OnErr result (self.new ≡ self.old) }
     {
@@ -153,7 +157,7 @@ impl<K: Eq + Hash + Drop, V: Drop> LazyMap<K, V> {
     }
 
     /// Gives back memory that is not needed, where a smaller place can be had. The contents stay.
-    pub(crate) fn shrink_to_fit(&mut self)
+    pub fn shrink_to_fit(&mut self)
         ensures { self.new ≡ self.old }
     {
         if let Some(map) = &mut self.map {
@@ -163,21 +167,24 @@ impl<K: Eq + Hash + Drop, V: Drop> LazyMap<K, V> {
 
     /// The map, taken out to be changed and put back, and made if it was not. Where an allocation fails, nothing
     /// changes.
-    fn taken(&mut self) -> Result<Box<IndexMap<K, V>>, AllocError>
+    fn taken(&mut self) -> Result<Box<Table<K, V>>, AllocError>
         ensures ok { IfOk result (λ b. b.value.entries ≡ self.old) }
         ensures err { OnErr result (self.new ≡ self.old) }
     {
         match self.map.take() {
             Some(map) => Ok(map),
             None => {
-                let made = Box::new(self.alloc, IndexMap::new(self.alloc))?;
+                let made = Box::new(
+                    self.alloc,
+                    IndexMap::with_hasher(self.alloc, NameHasherBuilder),
+                )?;
                 Ok(made)
             }
         }
     }
 
     /// Puts a map that was taken out back.
-    fn put(&mut self, map: Box<IndexMap<K, V>>)
+    fn put(&mut self, map: Box<Table<K, V>>)
         ensures { self.new ≡ map.value.entries }
     {
         self.map = Some(map);
@@ -201,7 +208,7 @@ impl<V: Drop> LazyMap<Name, V> {
 }
 
 fn insert<K: Eq + Hash + Drop, V: Drop>(
-    map: &mut IndexMap<K, V>,
+    map: &mut Table<K, V>,
     key: K,
     value: V,
 ) -> Result<(), AllocError>
@@ -212,7 +219,7 @@ fn insert<K: Eq + Hash + Drop, V: Drop>(
     Ok(())
 }
 
-fn set<K: Eq + Hash + Drop, V: Drop>(map: &mut IndexMap<K, V>, key: &K, value: V)
+fn set<K: Eq + Hash + Drop, V: Drop>(map: &mut Table<K, V>, key: &K, value: V)
     ensures { map.new.entries ≡ set_value (K.eq key.now) map.old.entries value }
 {
     if let Some(slot) = map.get_mut(key) {
@@ -220,13 +227,13 @@ fn set<K: Eq + Hash + Drop, V: Drop>(map: &mut IndexMap<K, V>, key: &K, value: V
     }
 }
 
-fn shift_remove<K: Eq + Hash + Drop, V: Drop>(map: &mut IndexMap<K, V>, key: &K)
+fn shift_remove<K: Eq + Hash + Drop, V: Drop>(map: &mut Table<K, V>, key: &K)
     ensures { map.new.entries ≡ remove_entry (K.eq key.now) map.old.entries }
 {
     map.shift_remove(key);
 }
 
-fn take_off<K: Eq + Hash + Drop, V: Drop>(map: &mut IndexMap<K, V>, new: bool)
+fn take_off<K: Eq + Hash + Drop, V: Drop>(map: &mut Table<K, V>, new: bool)
     ensures { map.new.entries ≡ without_new new map.old.entries }
 {
     if new {
@@ -234,7 +241,7 @@ fn take_off<K: Eq + Hash + Drop, V: Drop>(map: &mut IndexMap<K, V>, new: bool)
     }
 }
 
-fn shrink<K: Eq + Hash + Drop, V: Drop>(map: &mut IndexMap<K, V>)
+fn shrink<K: Eq + Hash + Drop, V: Drop>(map: &mut Table<K, V>)
     ensures { map.new.entries ≡ map.old.entries }
 {
     map.shrink_to_fit();

@@ -9,7 +9,7 @@ pub mod glob_imports;
 pub mod import_records;
 pub mod item_scope;
 pub mod iterators;
-mod lazy_map;
+pub mod lazy_map;
 pub mod macro_calls;
 pub mod name_order;
 mod picked;

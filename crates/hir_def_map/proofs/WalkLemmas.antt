@@ -99,7 +99,7 @@ walk-stop t a pos (s ∷ S) = by a.here.types (λ b. walk-stop t b (pos + 1) S)
 
     chosen : ModuleId → Bool → Stand
     chosen m b =
-        let e : Entered = cond b (record { differing = a.differing; origin = a.origin; asked = m }) (record { differing = true; origin = home t m; asked = home t m }) in
+        let e : Entered = cond b (record { differing = a.differing; origin = a.origin; krate = crate_of t a.origin; asked = m }) (record { differing = true; origin = home t m; krate = crate_of t (home t m); asked = home t m }) in
         record { differing = e.differing; origin = e.origin; here = seen_in t e.origin s e.asked }
 
     by_module : (i : Item ModuleDefId ImportOrExternCrate) (m : ModuleId) (b : Bool) → same_crate (crate_of t m) (crate_of t a.origin) ≡ b

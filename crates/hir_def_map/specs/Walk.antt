@@ -40,8 +40,8 @@ standing d f x = record { differing = d; origin = f; here = in_types x }
 abbrev pub entry : Tree → Bool → ModuleId → ModuleId → Entered
 entry t d f m =
     if same_crate (crate_of t m) (crate_of t f)
-    then record { differing = d; origin = f; asked = m }
-    else record { differing = true; origin = home t m; asked = home t m }
+    then record { differing = d; origin = f; krate = crate_of t f; asked = m }
+    else record { differing = true; origin = home t m; krate = crate_of t (home t m); asked = home t m }
 
 -- through a module and a segment
 abbrev pub through : Tree → Stand → ModuleId → Reading → Stand

@@ -2,7 +2,7 @@
 ghost use Rattle.std.specs.Prelude.{◌≡◌, ◌≤◌, [], ◌∷◌, map};
 ghost use Rattle.std.specs.Option.{ForSome, option_copied};
 ghost use Rattle.dm_base.specs.PerNs.{keep, seen_by};
-ghost use Rattle.dm_base.specs.Tree.{IsKnown, sees};
+ghost use Rattle.dm_base.specs.Tree.{IsKnown, crate_of, sees};
 ghost use Rattle.dm_base.specs.Visibility.{NamesKnown};
 ghost use Rattle.dm_scope.specs.Scope.{bound_in};
 ghost use Rattle.dm_maps.specs.Known.{KnowsAll};
@@ -16,18 +16,20 @@ ghost use Rattle.hir_def_map.specs.Walk.{in_types, standing, starting, entry, le
 
 use crate::answers::{crossed, nothing_no, reached, stopped, variant_answer};
 use crate::result::ResolvePathResult;
-use dm_base::ids::{EnumId, ModuleId};
+use dm_base::ids::{Crate, EnumId, ModuleId};
 use dm_base::item_ids::{AdtId, ModuleDefId};
 use dm_base::module_tree::ModuleTree;
 use dm_base::name::Name;
 use dm_base::per_ns::{Item, PerNs, TypesItem};
 use dm_maps::world::World;
 
-/// A module that a walk goes into: whether it lies in another crate than the walk began in, from where it is seen, and which it is.
+/// A module that a walk goes into: whether it lies in another crate than the walk began in, from where it is seen and the
+/// crate of that, and which it is.
 #[derive(Clone, Copy)]
 pub(crate) struct Entered {
     differing: bool,
     origin: ModuleId,
+    krate: Crate,
     asked: ModuleId,
 }
 
@@ -82,16 +84,25 @@ fn seen_type_in<'a>(
 
 /// Into a module: one of another crate is entered at the nearest module that is no block's root.
 #[inline(always)]
-fn entry(world: &World, differing: bool, origin: ModuleId, m: ModuleId) -> Entered
+fn entry(
+    world: &World,
+    differing: bool,
+    origin: ModuleId,
+    krate: Crate,
+    m: ModuleId,
+) -> Entered
     requires origin { IsKnown (tree_of world.now) origin }
+    requires krate { krate ≡ crate_of (tree_of world.now) origin }
     requires module_known { IsKnown (tree_of world.now) m }
     ensures value { result ≡ entry (tree_of world.now) differing origin m }
     ensures origin { IsKnown (tree_of world.now) result.origin }
+    ensures krate { result.krate ≡ crate_of (tree_of world.now) result.origin }
 {
-    if world.krate(m) == world.krate(origin) {
+    if world.krate(m) == krate {
         return Entered {
             differing,
             origin,
+            krate,
             asked: m,
         };
     }
@@ -99,6 +110,7 @@ fn entry(world: &World, differing: bool, origin: ModuleId, m: ModuleId) -> Enter
     Entered {
         differing: true,
         origin: inside,
+        krate: world.krate(inside),
         asked: inside,
     }
 }
@@ -175,11 +187,13 @@ fn last_answer(
     world: &World,
     differing: bool,
     origin: ModuleId,
+    krate: Crate,
     types: Option<&TypesItem>,
     position: usize,
     segment: &Name,
 ) -> ResolvePathResult
     requires origin { IsKnown (tree_of world.now) origin }
+    requires krate { krate ≡ crate_of (tree_of world.now) origin }
     requires known { KnowsAll world.now (res_holds (in_types (option_copied types))) }
     ensures value { (L : LocalMap) →
         result ≡ walk (tree_of world.now) (standing differing origin (option_copied types.entry))
@@ -192,7 +206,7 @@ fn last_answer(
     let Some(m) = module_in(item.def) else {
         return crossed(differing, left_at(world, *item, position, segment, true));
     };
-    let into = entry(world, differing, origin, m);
+    let into = entry(world, differing, origin, krate, m);
     let found = seen_in(world, into.origin, into.asked, segment);
     crossed(into.differing, reached(found))
 }
@@ -220,6 +234,7 @@ pub(crate) fn walk(
         return reached(*here);
     };
     let (mut differing, mut origin, mut types) = (false, from, here.types.as_ref());
+    let mut krate = world.krate(from);
     let (mut segment, mut rest, mut passed) = (first, others, position);
     'segments: while let Some((next, after)) = rest.split_first() {
         let Some(item) = types else {
@@ -228,13 +243,14 @@ pub(crate) fn walk(
         let Some(m) = module_in(item.def) else {
             return crossed(differing, left_at(world, *item, passed, segment, false));
         };
-        let into = entry(world, differing, origin, m);
+        let into = entry(world, differing, origin, krate, m);
         types = seen_type_in(world, into.origin, into.asked, segment);
         differing = into.differing;
         origin = into.origin;
+        krate = into.krate;
         passed += 1;
         segment = next;
         rest = after;
     }
-    last_answer(world, differing, origin, types, passed, segment)
+    last_answer(world, differing, origin, krate, types, passed, segment)
 }

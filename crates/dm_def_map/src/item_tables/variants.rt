@@ -67,7 +67,7 @@ impl EnumVariants {
     pub fn contains(&self, text: &str) -> bool
         ensures { result ≡ is_some (find_name text.now self.now) }
     {
-        has_text(&self.variants, text)
+        has_text(self.variants.as_slice(), text)
     }
 
     /// The variants in order, each under its name. Does not allocate.

@@ -15,12 +15,13 @@ use dm_scope::item_scope::ItemScope;
 use indexmap::IndexMap;
 use std::alloc::{AllocError, Global};
 
-/// The modules of a new map: its root alone.
+/// The modules of a new map: its root alone, with no room for others, since most maps are blocks' and have no other.
 pub fn with_root(m: ModuleId, added: ModuleData, alloc: Global) -> Result<ModulesMap, AllocError>
     ensures { IfOk result (λ modules. modules ≡ (m, added) ∷ []) }
 {
     let mut entries = IndexMap::new(alloc);
     put_last(&mut entries, m, added)?;
+    entries.shrink_to_fit();
     Ok(ModulesMap { entries })
 }
 

@@ -13,7 +13,8 @@ use dm_base::name::Name;
 use dm_base::source::HirFileId;
 use dm_base::visibility::Visibility;
 use dm_scope::item_scope::ItemScope;
-use indexmap::IndexMap;
+use dm_scope::lazy_map::LazyMap;
+use indexmap::map::Slice;
 use std::alloc::{AllocError, Global};
 use std::marker::Model;
 
@@ -22,7 +23,7 @@ pub struct ModuleData {
     origin: ModuleOrigin,
     visibility: Visibility,
     parent: Option<ModuleId>,
-    children: IndexMap<Name, ModuleId>,
+    children: LazyMap<Name, ModuleId>,
     scope: ItemScope,
 }
 
@@ -44,7 +45,7 @@ impl Model for ModuleData {
 
     ghost Value = { Module };
 
-    ghost view = { λ d. record { origin = d.origin; visibility = d.visibility; parent = d.parent; children = d.children.entries; scope = d.scope } };
+    ghost view = { λ d. record { origin = d.origin; visibility = d.visibility; parent = d.parent; children = d.children; scope = d.scope } };
 }
 
 impl ModuleData {
@@ -61,7 +62,7 @@ impl ModuleData {
             origin,
             visibility,
             parent,
-            children: IndexMap::new(alloc),
+            children: LazyMap::new(alloc),
             scope: ItemScope::new(alloc),
         }
     }
@@ -87,11 +88,11 @@ impl ModuleData {
         self.parent
     }
 
-    /// The children, by name, in order of number.
-    pub fn children(&self) -> &IndexMap<Name, ModuleId>
-        ensures { result.now.entries ≡ self.now.children }
+    /// The children, each under its name, in order of number. `child` looks one up.
+    pub fn children(&self) -> Slice<'_, Name, ModuleId>
+        ensures { result ≡ self.now.children }
     {
-        &self.children
+        self.children.as_slice()
     }
 
     /// The file, or the expansion of a macro, that has the module's items.
@@ -120,15 +121,19 @@ impl ModuleData {
     pub fn has_child(&self, text: &str) -> bool
         ensures { result ≡ is_some (find_name text.now self.now.children) }
     {
-        has_text(&self.children, text)
+        has_text(self.children.as_slice(), text)
     }
 
-    /// Adds a child. A name that is there would keep its place and take the new child.
+    /// Adds a child. A name that is there would keep its place and take the new child. Most modules have few children: so
+    /// the first is given room for itself alone.
     pub(crate) fn add_child(&mut self, name: Name, m: ModuleId) -> Result<(), AllocError>
         ensures ok { OnOk result (self.new ≡ with_child self.old name m) }
         ensures err { OnErr result (self.new ≡ self.old) }
     {
         self.children.insert(name, m)?;
+        if self.children.len() == 1 {
+            self.children.shrink_to_fit();
+        }
         Ok(())
     }
 

@@ -51,6 +51,13 @@ impl ModulesMap {
         &self.entries
     }
 
+    /// Gives back memory that is not needed. The contents stay.
+    pub(crate) fn shrink_to_fit(&mut self)
+        ensures { self.new ≡ self.old }
+    {
+        self.entries.shrink_to_fit();
+    }
+
     /// The module at index `i`, counted from the root.
     pub fn nth(&self, i: usize) -> Option<&ModuleData>
         ensures { option_copied result ≡ nth_module self.now i }

@@ -207,8 +207,7 @@ fn path_of(world: &World, path: &str, name: &Name) -> Result<String, AllocError>
 fn child_names<'a>(world: &World, parent: &'a ModuleData) -> Result<Vec<&'a Name>, AllocError>
     ensures { IfOk result (λ v. seen v.items ≡ in_order (map (λ e. e.0) parent.now.children)) }
 {
-    let children = parent.children().as_slice();
-    names_in_order(world, children.keys().as_slice())
+    names_in_order(world, parent.children().keys().as_slice())
 }
 
 /// Names in order of their bytes, each once.

@@ -5,6 +5,7 @@ ghost use Rattle.dm_ids.specs.Names.{find_name};
 ghost use Rattle.dm_scope.specs.Changes.{is_of, without_binding, with_vis, with_def, change_item, change_all, censored, censored_macro, is_own_proc_macro};
 
 use super::Bindings;
+use crate::lazy_map::Table;
 use dm_base::definition::Definition;
 use dm_base::ids::Crate;
 use dm_base::import_source::ImportSource;
@@ -13,7 +14,6 @@ use dm_base::item_ids::MacroId;
 use dm_base::name::Name;
 use dm_base::per_ns::{Item, MacrosItem};
 use dm_base::visibility::Visibility;
-use indexmap::IndexMap;
 
 impl<D: Definition, I: ImportSource> Bindings<D, I> {
     /// Removes a binding, where it is of the definition. The order of the others stays, and so do the import records.
@@ -81,7 +81,7 @@ impl Bindings<MacroId, ImportOrExternCrate> {
 
 /// Changes the visibility of a binding.
 fn set_visibility<D: Definition, I: ImportSource>(
-    items: &mut IndexMap<Name, Item<D, I>>,
+    items: &mut Table<Name, Item<D, I>>,
     name: &Name,
     vis: Visibility,
 )
@@ -94,7 +94,7 @@ fn set_visibility<D: Definition, I: ImportSource>(
 
 /// Changes what a name is bound to, and its visibility.
 fn set_def<D: Definition, I: ImportSource>(
-    items: &mut IndexMap<Name, Item<D, I>>,
+    items: &mut Table<Name, Item<D, I>>,
     name: &Name,
     def: D,
     vis: Visibility,
@@ -109,7 +109,7 @@ fn set_def<D: Definition, I: ImportSource>(
 }
 
 /// Restricts each binding to the crate.
-fn censor<D: Definition, I: ImportSource>(items: &mut IndexMap<Name, Item<D, I>>, krate: Crate)
+fn censor<D: Definition, I: ImportSource>(items: &mut Table<Name, Item<D, I>>, krate: Crate)
     ensures { items.new.entries ≡ map (λ e. (e.0, censored krate e.1)) items.old.entries }
 {
     // Nothing is taken out: of the loops over a table, `retain` is the one that says what it writes.
@@ -120,7 +120,7 @@ fn censor<D: Definition, I: ImportSource>(items: &mut IndexMap<Name, Item<D, I>>
 }
 
 /// Restricts each macro to the crate, except procedural ones that are no import.
-fn censor_macros(items: &mut IndexMap<Name, MacrosItem>, krate: Crate)
+fn censor_macros(items: &mut Table<Name, MacrosItem>, krate: Crate)
     ensures { items.new.entries ≡ map (λ e. (e.0, censored_macro krate e.1)) items.old.entries }
 {
     items.retain(|_, item| {

@@ -5,8 +5,5 @@ use Rattle.defmap_script.proofs.script.run_line.Goals as goal
 pub returns-in_err-reply : goal.returns-in_err-reply
 returns-in_err-reply c = search (rules, refused-line)
 
-pub returns-in_err-text : goal.returns-in_err-text
-returns-in_err-text c = search (rules, unprinted-line)
-
-pub returns-in_err-extend_from_slice : goal.returns-in_err-extend_from_slice
-returns-in_err-extend_from_slice c = search (rules, unprinted-line)
+pub returns-in_err-print : goal.returns-in_err-print
+returns-in_err-print c = search (rules, unprinted-line)

@@ -1,4 +1,4 @@
-use Rattle.std.proofs.Common.{◌≡◌, ◌∙◌, Bor, ap, subst, sym, true}
+use Rattle.std.proofs.Common.{◌≡◌, ◌∙◌, Bor, ap, false, subst, sym, true}
 use Rattle.std.proofs.lemmas.List.{take_all}
 use Rattle.std.proofs.lemmas.List.Elements.{All-contains, All-map, All-more}
 use Rattle.std.specs.List.{All}
@@ -6,20 +6,24 @@ use Rattle.dm_ids.specs.Names.{Name}
 use Rattle.dm_base.specs.PerNs.{is_empty}
 use Rattle.dm_scope.specs.Sorted.{seen}
 use Rattle.dm_collector.specs.Globs.{missing}
+use Rattle.dm_collector.proofs.ListLemmas.{added-all}
 use Rattle.dm_collector.proofs.globs.missing_names.Goals as goal
 
 pub loop-name-preserved : goal.loop-name-preserved
-loop-name-preserved c = λ empty.
-    let Q : Bor Name → Type 0 = λ b. is_empty (missing c.args.world.now c.args.glob b.now) ≡ true in
-    let both = c.in_ok-add_unless.ensures empty in
-    let own : Q c.name-item.result = ap is_empty (sym c.missing-items.ensures) ∙ sym c.is_none.ensures ∙ both.1 in
-    All-more Q c.as_slice-name-items.result.now c.loop-name.name-index c.name-item.result c.loop-name-test.true (c.loop-name.invariant both.0) (subst Q c.name-item.is own)
+loop-name-preserved c =
+    let own : is_empty (missing c.args.world.now c.args.glob c.name-item.result.now) ≡ c.is_none.result = ap is_empty (sym c.missing-items.ensures.value) ∙ sym c.is_none.ensures in
+    record {
+      some = added-all (λ n. is_empty (missing c.args.world.now c.args.glob n) ≡ false) c.loop-name.names.items c.name-item.result.now c.is_none.result _ c.in_ok-add_unless.ensures.value c.loop-name.invariant.some (λ no. own ∙ no);
+      none = λ empty.
+          let Q : Bor Name → Type 0 = λ b. is_empty (missing c.args.world.now c.args.glob b.now) ≡ true in
+          let both = c.in_ok-add_unless.ensures.none empty in
+          let here : Q c.name-item.result = own ∙ both.1 in
+          All-more Q c.as_slice-name-items.result.now c.loop-name.name-index c.name-item.result c.loop-name-test.true (c.loop-name.invariant.none both.0) (subst Q c.name-item.is here);
+    }
 
-pub returns : goal.returns
-returns c = record {
-  filled = λ none n has.
-      let P : Name → Type 0 = λ m. is_empty (missing c.args.world.now c.args.glob m) ≡ true in
-      let Q : Bor Name → Type 0 = λ b. P b.now in
-      let all = subst (All Q) (take_all _ _ c.loop-name-test.false ∙ c.as_slice-name-items.ensures.value) (c.loop-name.invariant none) in
-      All-contains P (seen c.in_ok-sources.sources.items) n (All-map P (λ b. b.now) c.in_ok-sources.sources.items all) (c.in_ok-sources.ensures n has);
-}
+pub returns-clause-filled : goal.returns-clause-filled
+returns-clause-filled c = λ none n has.
+    let P : Name → Type 0 = λ m. is_empty (missing c.args.world.now c.args.glob m) ≡ true in
+    let Q : Bor Name → Type 0 = λ b. P b.now in
+    let all = subst (All Q) (take_all _ _ c.loop-name-test.false ∙ c.as_slice-name-items.ensures.value) (c.loop-name.invariant.none none) in
+    All-contains P (seen c.in_ok-sources.sources.items) n (All-map P (λ b. b.now) c.in_ok-sources.sources.items all) (c.in_ok-sources.ensures n has)

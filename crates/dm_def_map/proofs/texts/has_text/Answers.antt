@@ -7,4 +7,4 @@ use Rattle.dm_def_map.proofs.texts.has_text.Goals as goal
 pub returns : goal.returns
 returns g c =
     let test = same_name c.args.text.now in
-    c.is_among.ensures ∙ ap (list_any test) (c.as_slice.ensures ∙ c.keys.ensures.rest) ∙ sym (is_some-lookup test c.args.table.now.entries)
+    c.is_among.ensures ∙ ap (list_any test) (c.as_slice.ensures ∙ c.keys.ensures.rest) ∙ sym (is_some-lookup test c.args.table)

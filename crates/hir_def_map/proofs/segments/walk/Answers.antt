@@ -42,6 +42,7 @@ segments-preserved c =
     let before = c.segments.invariant.counted in
     record {
       origin = c.entry-into.ensures.origin;
+      krate = c.entry-into.ensures.krate;
       known = c.seen_type_in-types.ensures.known;
       counted = omega arith;
       same = λ L.

@@ -1,0 +1,15 @@
+pub mod PathLemmas
+pub mod EdgeLemmas
+pub mod SearchLemmas
+pub mod NumberLemmas
+pub mod StepLemmas
+pub mod CircleLemmas
+pub mod LineLemmas
+pub mod FileLemmas
+pub mod ModuleLemmas
+pub mod SourceLemmas
+pub mod TextLemmas
+pub mod BelowLemmas
+pub mod ThereLemmas
+pub mod ModLemmas
+pub mod StandingLemmas

@@ -1,0 +1,83 @@
+//! Crates, as a graph has them.
+ghost use Rattle.std.specs.Prelude.{◌≡◌, OnErr, OnOk};
+ghost use Rattle.crate_modules.specs.CrateGraphs.{with_dependency};
+
+use crate::dependency::Dependency;
+use dm_ids::ids::FileId;
+use dm_ids::source::Edition;
+use std::alloc::AllocError;
+use std::marker::Model;
+
+/// What a graph has of a crate: the file of its root, its edition, whether it has procedural macros, and what it
+/// depends on.
+#[derive(Drop)]
+pub struct CrateData {
+    root_file_id: FileId,
+    edition: Edition,
+    is_proc_macro: bool,
+    dependencies: Vec<Dependency>,
+}
+
+impl Model for CrateData {
+    ghost use Rattle.crate_modules.specs.CrateGraphs.{Data};
+
+    ghost Value = { Data };
+
+    ghost view = { λ c. record { root_file_id = c.root_file_id; edition = c.edition; is_proc_macro = c.is_proc_macro; dependencies = c.dependencies.items } };
+}
+
+impl CrateData {
+    /// A crate of these parts.
+    pub fn new(
+        root_file_id: FileId,
+        edition: Edition,
+        is_proc_macro: bool,
+        dependencies: Vec<Dependency>,
+    ) -> CrateData
+        ensures { result ≡ record { root_file_id = root_file_id; edition = edition; is_proc_macro = is_proc_macro; dependencies = dependencies.items } }
+    {
+        CrateData {
+            root_file_id,
+            edition,
+            is_proc_macro,
+            dependencies,
+        }
+    }
+
+    /// The file of its root.
+    pub fn root_file_id(&self) -> FileId
+        ensures { result ≡ self.now.root_file_id }
+    {
+        self.root_file_id
+    }
+
+    /// Its edition.
+    pub fn edition(&self) -> Edition
+        ensures { result ≡ self.now.edition }
+    {
+        self.edition
+    }
+
+    /// Whether it has procedural macros.
+    pub fn is_proc_macro(&self) -> bool
+        ensures { result ≡ self.now.is_proc_macro }
+    {
+        self.is_proc_macro
+    }
+
+    /// What it depends on.
+    pub fn dependencies(&self) -> &[Dependency]
+        ensures { result.now ≡ self.now.dependencies }
+    {
+        self.dependencies.as_slice()
+    }
+
+    /// Adds what it depends on. Where memory runs out, nothing changes.
+    pub(crate) fn add_dependency(&mut self, dependency: Dependency) -> Result<(), AllocError>
+        ensures ok { OnOk result (self.new ≡ with_dependency dependency self.old) }
+        ensures err { OnErr result (self.new ≡ self.old) }
+    {
+        self.dependencies.push(dependency)?;
+        Ok(())
+    }
+}

@@ -1,5 +1,0 @@
-use Rattle.dm_collector.proofs.CircleLemmas.{no-circle}
-use Rattle.dm_collector.proofs.crate_laws.ordered_graphs_have_no_circle.Goals as goal
-
-pub returns : goal.returns
-returns c = no-circle

@@ -1,0 +1,39 @@
+use Rattle.std.proofs.Common.{◌∙◌, ◌||◌, inl, inr, subst, sym}
+use Rattle.std.proofs.lemmas.Bool.{or_cases}
+use Rattle.dm_retry.specs.Retries.{Retries}
+use Rattle.dm_collector.specs.Steps.{IsReached, SeeMacro, SeeType, SeeValue}
+use Rattle.dm_collector.proofs.ReachLemmas.{reached-by, reached-more, reached-then, reached-written}
+use Rattle.dm_collector.proofs.settle.widen.see.Goals as goal
+
+pub returns-in_err-written-2-clause-reached : goal.returns-in_err-written-2-clause-reached
+returns-in_err-written-2-clause-reached c = λ gs has.
+    subst (λ (r : Retries). IsReached gs 0 c.args.retry.now.state r.state) (sym c.in_err-written-2.ensures.err)
+    (reached-by gs _ _ (SeeType c.args.glob.now c.args.name.now) has c.in_ok-written.ensures.ok)
+
+pub returns-in_err-written-3-clause-reached : goal.returns-in_err-written-3-clause-reached
+returns-in_err-written-3-clause-reached c = λ gs has.
+    subst (λ (r : Retries). IsReached gs 0 c.args.retry.now.state r.state) (sym c.in_err-written-3.ensures.err)
+    (reached-more gs 0 _ _ _ (SeeValue c.args.glob.now c.args.name.now) (reached-by gs _ _ (SeeType c.args.glob.now c.args.name.now) has c.in_ok-written.ensures.ok) has c.in_ok-written-2.ensures.ok)
+
+pub returns-clause-reached : goal.returns-clause-reached
+returns-clause-reached c = λ gs has.
+    let first = reached-by gs _ _ (SeeType c.args.glob.now c.args.name.now) has c.in_ok-written.ensures.ok in
+    let second = reached-more gs 0 _ _ _ (SeeValue c.args.glob.now c.args.name.now) first has c.in_ok-written-2.ensures.ok in
+    reached-more gs 0 _ _ _ (SeeMacro c.args.glob.now c.args.name.now) second has c.in_ok-written-3.ensures.ok
+
+pub returns-clause-written : goal.returns-clause-written
+returns-clause-written c = λ some gs has.
+    let g = c.args.glob.now in
+    let n = c.args.name.now in
+    let one = c.in_ok-written in
+    let two = c.in_ok-written-2 in
+    let three = c.in_ok-written-3 in
+    let first = reached-by gs _ _ (SeeType g n) has one.ensures.ok in
+    let second = reached-more gs 0 _ _ _ (SeeValue g n) first has two.ensures.ok in
+    elim (or_cases (one.written || two.field-0) three.field-0 some) [
+      | inl early ↦ reached-more gs 1 _ _ _ (SeeMacro g n) (elim (or_cases one.written two.field-0 early) [
+        | inl x ↦ reached-more gs 1 _ _ _ (SeeValue g n) (reached-written gs _ _ (SeeType g n) has one.ensures.ok (sym one.ensures.answer ∙ x)) has two.ensures.ok
+        | inr y ↦ reached-then gs 0 1 _ _ _ first (reached-written gs _ _ (SeeValue g n) has two.ensures.ok (sym two.ensures.answer ∙ y))
+      ]) has three.ensures.ok
+      | inr z ↦ reached-then gs 0 1 _ _ _ second (reached-written gs _ _ (SeeMacro g n) has three.ensures.ok (sym three.ensures.answer ∙ z))
+    ]

@@ -1,0 +1,118 @@
+-- What settling writes on its way, step by step.
+use Rattle.std.specs.Prelude.{◌≡◌, ◌⊎◌, ◌+◌, ◌≤◌, ℕ, Bool, false, not, is_some, IfSome, List, [], ◌∷◌, Option, Some, None, Contains, if◌then◌else◌}
+use Rattle.std.specs.List.{AllByRecursion}
+use Rattle.std.specs.Option.{option_map_or}
+use Rattle.dm_ids.specs.Names.{Name}
+use Rattle.dm_ids.specs.declared.imports.ImportOrExternCrate.TheVariants as wide
+use Rattle.dm_base.specs.PerNs.{is_empty}
+use Rattle.dm_maps.specs.GoesOn.{with_macro_seen, with_type_seen, with_unnamed_trait, with_value_seen}
+use Rattle.dm_retry.specs.Retries.{Stops}
+use Rattle.dm_retry.specs.Rounds.{State, changed_beside, changed_under, pushed_into, round, round_answer}
+use Rattle.dm_collector.specs.Globs.{missing, resolved}
+use Rattle.dm_collector.specs.UnnamedTraits.{missing_trait}
+use Rattle.dm_collector.specs.Widening.{wider}
+use Rattle.dm_collector.specs.declared.globs.Glob.{Glob}
+use Rattle.dm_collector.specs.declared.glob_fault.GlobFault.{GlobFault}
+use Rattle.dm_collector.specs.declared.glob_fault.GlobFault.TheVariants as fault
+use Rattle.dm_collector.specs.declared.sources.GlobImport.{GlobImport}
+
+-- A step: a round of imports; a glob binds a name, brings the unnamed trait at a place of its source, or lets more see the
+-- type, the value or the macro of a name.
+pub data Step : Type 0 where
+  Resolve : Step
+  Bind : GlobImport → Name → Step
+  Bring : GlobImport → ℕ → Step
+  SeeType : GlobImport → Name → Step
+  SeeValue : GlobImport → Name → Step
+  SeeMacro : GlobImport → Name → Step
+
+-- ---- What a glob writes with the source that its path means
+
+-- it pushes what it has yet to bind under a name, if anything
+abbrev pub bound : State → Glob → Name → State
+bound s g n =
+    if is_empty (missing s.world g n) then s else pushed_into s g.into n (missing s.world g n) (Some (wide.Glob g.import))
+
+-- its module gets the unnamed trait at a place of the source, if it has yet to bring that: whom the glob lets sees it, and it
+-- keeps its import
+abbrev pub brought : State → Glob → ℕ → State
+brought s g i =
+    option_map_or (λ e. changed_beside s (with_unnamed_trait s.world g.into e.0 g.vis e.2)) (missing_trait s.world g i) s
+
+-- what its module binds under a name gets, in one namespace, the visibility that the glob has yet to give, if any
+abbrev pub with_wider_type : State → Glob → Name → State
+with_wider_type s g n = option_map_or (λ v. changed_under s n (with_type_seen s.world g.into n v)) (wider s.world g n).types s
+
+abbrev pub with_wider_value : State → Glob → Name → State
+with_wider_value s g n = option_map_or (λ v. changed_under s n (with_value_seen s.world g.into n v)) (wider s.world g n).values s
+
+abbrev pub with_wider_macro : State → Glob → Name → State
+with_wider_macro s g n = option_map_or (λ v. changed_under s n (with_macro_seen s.world g.into n v)) (wider s.world g n).macros s
+
+-- ---- Steps
+
+-- The state after a step. What a glob's path means, and what it has yet to write, is looked up when the step is made; where the
+-- path means no source, nothing is written.
+abbrev pub after_step : Step → State → State
+after_step Resolve s = round s
+after_step (Bind g n) s = option_map_or (λ r. bound s r n) (resolved s.world g) s
+after_step (Bring g i) s = option_map_or (λ r. brought s r i) (resolved s.world g) s
+after_step (SeeType g n) s = option_map_or (λ r. with_wider_type s r n) (resolved s.world g) s
+after_step (SeeValue g n) s = option_map_or (λ r. with_wider_value s r n) (resolved s.world g) s
+after_step (SeeMacro g n) s = option_map_or (λ r. with_wider_macro s r n) (resolved s.world g) s
+
+-- the state after some, one after another
+abbrev pub made : List Step → State → State
+made [] s = s
+made (x ∷ xs) s = made xs (after_step x s)
+
+-- whether a step writes anything
+abbrev pub writes : Step → State → Bool
+writes Resolve s = round_answer s
+writes (Bind g n) s = option_map_or (λ r. not (is_empty (missing s.world r n))) (resolved s.world g) false
+writes (Bring g i) s = option_map_or (λ r. is_some (missing_trait s.world r i)) (resolved s.world g) false
+writes (SeeType g n) s = option_map_or (λ r. is_some (wider s.world r n).types) (resolved s.world g) false
+writes (SeeValue g n) s = option_map_or (λ r. is_some (wider s.world r n).values) (resolved s.world g) false
+writes (SeeMacro g n) s = option_map_or (λ r. is_some (wider s.world r n).macros) (resolved s.world g) false
+
+-- how many of some steps do, one after another
+abbrev pub writes_of : List Step → State → ℕ
+writes_of [] s = 0
+writes_of (x ∷ xs) s = (if writes x s then 1 else 0) + writes_of xs (after_step x s)
+
+-- A glob lets no more see what is bound under a name, in any namespace.
+abbrev pub SeesNothing : State → GlobImport → Name → Type 0
+SeesNothing s g n = (writes (SeeType g n) s ≡ false) × (writes (SeeValue g n) s ≡ false) × (writes (SeeMacro g n) s ≡ false)
+
+-- the glob of a step; a round has none
+abbrev pub glob_of : Step → Option GlobImport
+glob_of Resolve = None
+glob_of (Bind g n) = Some g
+glob_of (Bring g i) = Some g
+glob_of (SeeType g n) = Some g
+glob_of (SeeValue g n) = Some g
+glob_of (SeeMacro g n) = Some g
+
+-- A step is of some globs: its glob, if it has one, is one of them.
+abbrev pub IsOf : List GlobImport → Step → Type 0
+IsOf gs x = IfSome (glob_of x) (Contains gs)
+
+-- ---- Where settling leads
+
+-- State t is reached from s by steps of these globs, of which so many at least write: nothing else is written.
+pub record IsReached (gs : List GlobImport) (count : ℕ) (s t : State) : Type 0 where
+  pub steps : List Step
+  pub own : AllByRecursion (IsOf gs) steps
+  pub state : t ≡ made steps s
+  pub enough : count ≤ writes_of steps s
+
+-- State t is reached but for the end of a round, which an allocation failure stopped at one of its imports.
+pub record IsCutOff (gs : List GlobImport) (s t : State) : Type 0 where
+  pub last : State
+  pub reached : IsReached gs 0 s last
+  pub stops : Stops last t
+
+-- what a fault leaves: an unknown glob stops no round
+abbrev pub IsLeftBy : GlobFault → List GlobImport → State → State → Type 0
+IsLeftBy fault.Unknown gs s t = IsReached gs 0 s t
+IsLeftBy fault.OutOfMemory gs s t = IsReached gs 0 s t ⊎ IsCutOff gs s t
