@@ -1,6 +1,6 @@
 -- What lexemes name.
 use Rattle.std.specs.Prelude.{ℕ, Bool, true, false, not, List, Option, Some, None, slice_get, if◌then◌else◌}
-use Rattle.std.specs.Str.{is_utf8}
+use Rattle.crate_modules.specs.Modules.{as_name}
 use Rattle.dm_ids.specs.Names.{Name}
 use Rattle.item_tree.specs.Spans.{name_text}
 use Rattle.item_tree.specs.Visibilities.{lexeme_at}
@@ -9,10 +9,6 @@ use Rattle.item_tree.specs.declared.lexeme.LexemeKind.{LexemeKind}
 use Rattle.item_tree.specs.declared.lexeme.LexemeKind.TheVariants as kind
 use Rattle.item_tree.specs.declared.word.Word.{Word}
 use Rattle.item_tree.specs.declared.word.Word.TheVariants as word
-
--- bytes that are no UTF-8 are no name
-abbrev pub as_name : List ℕ → Option Name
-as_name bytes = if is_utf8 bytes then Some bytes else None
 
 -- `_` names nothing, and neither do the words that begin paths
 abbrev pub names_nothing : Word → Bool
@@ -27,7 +23,7 @@ abbrev pub is_named : LexemeKind → Bool
 is_named (kind.Word w) = not (names_nothing w)
 is_named _ = false
 
--- what a lexeme names: its text, without the `r#` of a raw name
+-- what a lexeme names: its text, without the `r#` of a raw name; what is no UTF-8 is no name
 abbrev pub lexeme_name : List ℕ → Lexeme → Option Name
 lexeme_name text l =
     if is_named l.kind then as_name (name_text text (record { start = l.start; len = l.len })) else None

@@ -1,5 +1,5 @@
 -- The items of the modules of a crate.
-use Rattle.std.specs.Prelude.{◌≡◌, ◌+◌, ◌&&◌, ◌++◌, ℕ, Bool, true, false, List, [], ◌∷◌, Option, Some, None, map, slice_get, if◌then◌else◌}
+use Rattle.std.specs.Prelude.{◌≡◌, ◌<◌, ◌+◌, ◌&&◌, ◌++◌, ℕ, Bool, true, false, List, [], ◌∷◌, Option, Some, None, map, slice_get, if◌then◌else◌}
 use Rattle.std.specs.List.Sorted.{IsPermutation, IsSortedByKey, IsStableByKey}
 use Rattle.std.specs.Ordering.{nat_cmp}
 use Rattle.crate_items.specs.declared.module_items.ModuleItem.{ModuleItem}
@@ -70,6 +70,10 @@ pub record IsInTextOrder (in_tree items : List Placed) : Type 0 where
 -- an item of the module of a number
 abbrev pub row_of : ℕ → Module → Placed → ModuleItem
 row_of n m x = record { «module» = n; file = m.file; item = x.item }
+
+-- the module of a row is in a list of so many
+abbrev pub IsBelow : ℕ → ModuleItem → Type 0
+IsBelow k r = r.«module» < k
 
 -- the items of the modules from a number on: those of each in the order of the text, and behind them those of the next
 abbrev pub AreItemsFrom : List (Option Source) → ℕ → List Module → List ModuleItem → Type 0

@@ -1,6 +1,7 @@
 //! What lexemes name.
-ghost use Rattle.std.specs.Prelude.{◌≡◌, IfOk, slice_get};
+ghost use Rattle.std.specs.Prelude.{◌≡◌, IfOk};
 ghost use Rattle.crate_items.specs.LexemeNames as spec;
+ghost use Rattle.crate_modules.specs.Modules.{as_name};
 
 use dm_ids::name::Name;
 use item_tree::lexeme::{Lexeme, LexemeKind};
@@ -10,7 +11,7 @@ use std::alloc::{AllocError, Global};
 
 /// A name of these bytes, if they are text.
 fn as_name(alloc: Global, bytes: &[u8]) -> Result<Option<Name>, AllocError>
-    ensures { IfOk result (λ name. name ≡ spec.as_name bytes.now) }
+    ensures { IfOk result (λ name. name ≡ as_name bytes.now) }
 {
     match std::str::from_utf8(bytes) {
         Err(_) => Ok(None),

@@ -1,7 +1,7 @@
 //! What numbers of rows stand for.
 ghost use Rattle.std.specs.Prelude.{◌≡◌, slice_get};
 ghost use Rattle.std.specs.Option.{option_copied};
-ghost use Rattle.crate_modules.specs.Files as files;
+ghost use Rattle.crate_modules.specs.Files as tables;
 
 use crate_modules::file_table::FileTable;
 use crate_modules::source::Source;
@@ -10,7 +10,7 @@ use item_tree::items::Item;
 
 /// The text of a file; nothing, where there is no such file.
 pub(crate) fn text_of(files: &FileTable, file: FileId) -> &[u8]
-    ensures { result.now ≡ files.text_of files.now file }
+    ensures { result.now ≡ tables.text_of files.now file }
 {
     if files.contains(file) {
         files.text(file)

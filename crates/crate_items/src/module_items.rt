@@ -149,8 +149,8 @@ fn items_of_source(
     source: &Source,
     outer: Option<usize>,
 ) -> Result<Vec<Placed>, AllocError>
-    ensures { IfOk result
-        (spec.IsInTextOrder (spec.items_from source.now outer 0 source.now.items)) }
+    ensures { IfOk result (λ found. spec.IsInTextOrder
+        (spec.items_from source.now outer 0 source.now.items) found.items) }
 {
     let mut found = items_in_tree(alloc, source, outer)?;
     found.sort_by_key(|placed| placed.place)?;
@@ -202,6 +202,8 @@ fn push_rows(
 pub fn module_items(alloc: Global, list: &CrateModules) -> Result<Vec<ModuleItem>, AllocError>
     ensures exact { IfOk result (λ rows.
         spec.AreItemsFrom list.now.sources 0 list.now.modules rows.items) }
+    ensures within { IfOk result
+        (λ rows. All (spec.IsBelow (length list.now.modules)) rows.items) }
 {
     let mut rows = Vec::new(alloc);
     for (number, outer) in list.modules().iter().enumerate() {

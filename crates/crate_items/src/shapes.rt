@@ -22,7 +22,11 @@ pub(crate) fn as_shape(shape: members::FieldsShape) -> FieldsShape
 }
 
 /// The shape of a struct; of any other item that of a record.
-pub(crate) fn item_shape(alloc: Global, source: &Source, item: Item) -> Result<FieldsShape, AllocError>
+pub(crate) fn item_shape(
+    alloc: Global,
+    source: &Source,
+    item: Item,
+) -> Result<FieldsShape, AllocError>
     ensures { IfOk result (λ shape. shape ≡ spec.item_shape source.now item item.kind) }
 {
     match item.kind {

@@ -104,10 +104,7 @@ fn start_of(lexemes: &[Lexeme], places: &[usize]) -> Option<Start>
 {
     match places.first() {
         None => Some(plain()),
-        Some(first) => start_with(
-            kind_at(lexemes, *first),
-            supers(lexemes, behind(places, 1)),
-        ),
+        Some(first) => start_with(kind_at(lexemes, *first), supers(lexemes, behind(places, 1))),
     }
 }
 
