@@ -10,6 +10,7 @@ use crate_modules::file_table::FileTable;
 use crate_modules::modules::CrateModules;
 use dm_ids::ids::FileId;
 use dm_ids::name::Name;
+use dm_ids::symbol::Symbol;
 use item_tree::attribute::{AttributeKind, lexemes_in};
 use item_tree::lexeme::Lexeme;
 use item_tree::span::string_text;
@@ -24,7 +25,7 @@ pub enum CrateAttribute {
     /// How deep macros may expand.
     RecursionLimit(u32),
     /// An unstable feature that is enabled.
-    Feature(Name),
+    Feature(Symbol),
 }
 
 /// Whether a plus stands first, the one sign that `parse` takes.
@@ -71,11 +72,16 @@ fn push_limit(found: &mut Vec<CrateAttribute>, limit: Option<u32>) -> Result<(),
 }
 
 /// Adds features of these names.
-fn push_features(found: &mut Vec<CrateAttribute>, names: Vec<Name>) -> Result<(), AllocError>
-    ensures { OnOk result (found.new.items ≡ found.old.items ++ map spec.feature names.items) }
+fn push_features(
+    found: &mut Vec<CrateAttribute>,
+    alloc: Global,
+    names: &[Name],
+) -> Result<(), AllocError>
+    ensures { OnOk result (found.new.items ≡ found.old.items ++ map spec.feature names.now) }
 {
     for name in names {
-        found.push(CrateAttribute::Feature(name))?;
+        let feature = Symbol::new(alloc, name.as_str())?;
+        found.push(CrateAttribute::Feature(feature))?;
     }
     Ok(())
 }
@@ -108,7 +114,7 @@ fn push_set(
         }
         AttributeKind::Feature(range) => {
             let names = names_among(alloc, text, lexemes_in(lexemes, range))?;
-            push_features(found, names)
+            push_features(found, alloc, names.as_slice())
         }
         _ => Ok(()),
     }
