@@ -1,5 +1,5 @@
 -- Which macros are exported, and which textual macros of modules and extern crates stay behind these.
-use Rattle.std.specs.Prelude.{ℕ, Bool, true, false, List, [], Option, Some, None}
+use Rattle.std.specs.Prelude.{ℕ, Bool, true, false, List, []}
 use Rattle.std.specs.List.{flat_map, list_any}
 use Rattle.crate_items.specs.ItemAttributes.{item_attributes}
 use Rattle.crate_items.specs.LexemeNames.{lexeme_names}

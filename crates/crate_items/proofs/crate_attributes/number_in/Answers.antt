@@ -1,4 +1,4 @@
-use Rattle.std.proofs.Common.{◌≡◌, ◌∙◌, ap, rules}
+use Rattle.std.proofs.Common.{◌≡◌, ◌∙◌, rules}
 use Rattle.crate_items.specs.CrateAttributes.{number}
 use Rattle.crate_items.proofs.NumberLemmas.{no_text_number, text_number}
 use Rattle.crate_items.proofs.crate_attributes.number_in.Goals as goal

@@ -1,7 +1,6 @@
-use Rattle.std.proofs.Common.{◌≡◌, ◌<◌, ◌≤◌, ◌+◌, ◌++◌, ◌∙◌, List, [], length, map, get_or, ap, arith, rules, subst, sym}
+use Rattle.std.proofs.Common.{◌≡◌, ◌<◌, ◌≤◌, ◌+◌, ◌++◌, ◌∙◌, [], length, map, get_or, ap, arith, rules, subst, sym}
 use Rattle.std.proofs.lemmas.List.{append_assoc, append-nil}
 use Rattle.crate_items.specs.ModuleItems.{AreItemsFrom, IsInTextOrder, items_in, row_of}
-use Rattle.crate_items.specs.declared.module_items.ModuleItem.{ModuleItem}
 use Rattle.crate_modules.specs.Sources.{source_at}
 use Rattle.crate_items.proofs.ItemLemmas.{all_below, none_left, one_before}
 use Rattle.crate_items.proofs.module_items.module_items.Goals as goal
