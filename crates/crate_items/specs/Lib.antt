@@ -1,3 +1,4 @@
+pub mod FileItems
 pub mod ModuleItems
 pub mod LexemeNames
 pub mod Shapes

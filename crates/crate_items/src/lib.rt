@@ -8,6 +8,7 @@ pub mod declared_import;
 pub mod declared_item;
 pub mod declared_macro;
 pub mod declared_variant;
+mod file_items;
 pub mod item_attributes;
 mod lexeme_names;
 mod lookups;
