@@ -1,0 +1,5 @@
+pub mod ChildLemmas
+pub mod GrownLemmas
+pub mod TableLemmas
+pub mod RootLemmas
+pub mod StepLemmas

@@ -1,0 +1,5 @@
+pub mod Visibilities
+pub mod CrateTables
+pub mod NewModules
+pub mod CrateMaps
+pub mod CrateRoots
