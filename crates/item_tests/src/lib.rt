@@ -1,5 +1,6 @@
-//! Tests of `item_tree`: texts with the tokens, items, attributes and errors that they have; and of `crate_modules`: the
-//! modules of small crates. They stand in a crate of their own, since a crate with tests is proved twice.
+//! Tests of `item_tree`: texts with the tokens, items, attributes and errors that they have; of `crate_modules`: the
+//! modules of small crates; and of `crate_items`: their items, variants and imports. They stand in a crate of their own,
+//! since a crate with tests is proved twice.
 #![tactic(auto)]
 
 #[cfg(test)]
@@ -8,6 +9,8 @@ mod attribute_tests;
 mod cfg_tests;
 #[cfg(test)]
 mod crate_tests;
+#[cfg(test)]
+mod declared_tests;
 #[cfg(test)]
 mod item_list_tests;
 #[cfg(test)]

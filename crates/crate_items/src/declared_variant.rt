@@ -1,0 +1,166 @@
+//! The variants of enums.
+ghost use Rattle.std.specs.Prelude.{◌≡◌, ◌++◌, IfOk, OnOk};
+ghost use Rattle.std.specs.List.{flat_map};
+ghost use Rattle.crate_items.specs.DeclaredVariants as spec;
+
+use crate::declared_item::DeclaredItem;
+use crate::lexeme_names::name_at;
+use crate::lookups::{item_at, text_of};
+use crate::shapes::as_shape;
+use crate_modules::file_table::FileTable;
+use crate_modules::modules::CrateModules;
+use crate_modules::source::Source;
+use dm_ids::fields_shape::FieldsShape;
+use dm_ids::name::Name;
+use item_tree::cfg::CfgOptions;
+use item_tree::item_kind::ItemKind;
+use item_tree::items::{Item, Range};
+use item_tree::members::{Member, MemberKind, members};
+use std::alloc::{AllocError, Global};
+
+/// A variant of an enum.
+#[derive(Drop)]
+pub struct DeclaredVariant {
+    /// Its name, without the `r#` of a raw one.
+    pub name: Name,
+    pub shape: FieldsShape,
+    /// The lexeme of its name, by its number in the file.
+    pub place: usize,
+}
+
+/// Whether a member has a name, and each `cfg` before it may hold.
+fn is_left(options: &CfgOptions, text: &[u8], source: &Source, member: Member) -> bool
+    ensures { result ≡ spec.is_left options.now text.now source.now member }
+{
+    let outer = Range {
+        first: member.first,
+        behind: member.visibility,
+    };
+    member.named
+        && source
+            .attributes()
+            .is_cfg_enabled(options, text, source.active_conditions(), outer)
+}
+
+/// Adds a member of this name, if there is one.
+fn push_named(
+    found: &mut Vec<DeclaredVariant>,
+    member: Member,
+    name: Option<Name>,
+) -> Result<(), AllocError>
+    ensures { OnOk result (found.new.items ≡ found.old.items ++ spec.of_name member name) }
+{
+    match name {
+        None => Ok(()),
+        Some(name) => {
+            found.push(DeclaredVariant {
+                name,
+                shape: as_shape(member.fields.shape),
+                place: member.name,
+            })?;
+            Ok(())
+        }
+    }
+}
+
+/// Adds the variant that a member is, if the crate has it.
+fn push_variant(
+    found: &mut Vec<DeclaredVariant>,
+    alloc: Global,
+    options: &CfgOptions,
+    text: &[u8],
+    source: &Source,
+    member: Member,
+) -> Result<(), AllocError>
+    ensures { OnOk result (found.new.items ≡ found.old.items
+        ++ spec.variant_of options.now text.now source.now member) }
+{
+    if is_left(options, text, source, member) {
+        let name = name_at(alloc, text, source.lexemes(), member.name)?;
+        push_named(found, member, name)?;
+    }
+    Ok(())
+}
+
+/// The variants that some members are.
+fn variants_among(
+    alloc: Global,
+    options: &CfgOptions,
+    text: &[u8],
+    source: &Source,
+    members: &[Member],
+) -> Result<Vec<DeclaredVariant>, AllocError>
+    ensures { IfOk result (λ found. found.items ≡
+        flat_map (spec.variant_of options.now text.now source.now) members.now) }
+{
+    let mut found = Vec::new(alloc);
+    for member in members {
+        push_variant(&mut found, alloc, options, text, source, *member)?;
+    }
+    Ok(found)
+}
+
+/// The variants in the body of an enum.
+fn variants_in_body(
+    alloc: Global,
+    options: &CfgOptions,
+    text: &[u8],
+    source: &Source,
+    body: Option<Range>,
+) -> Result<Vec<DeclaredVariant>, AllocError>
+    ensures { IfOk result (λ found. found.items ≡
+        spec.variants_in_body options.now text.now source.now body) }
+{
+    match body {
+        None => Ok(Vec::new(alloc)),
+        Some(range) => {
+            let kind = MemberKind::Variant;
+            let all = members(alloc, source.lexemes(), source.partners(), range, kind)?;
+            variants_among(alloc, options, text, source, all.as_slice())
+        }
+    }
+}
+
+/// The variants of an item of a tree.
+fn variants_of_item(
+    alloc: Global,
+    options: &CfgOptions,
+    text: &[u8],
+    source: &Source,
+    item: Item,
+) -> Result<Vec<DeclaredVariant>, AllocError>
+    ensures { IfOk result (λ found. found.items ≡
+        spec.variants_of_item options.now text.now source.now item.kind item.body) }
+{
+    match item.kind {
+        ItemKind::Enum => variants_in_body(alloc, options, text, source, item.body),
+        _ => Ok(Vec::new(alloc)),
+    }
+}
+
+/// The variants of an enum that the crate has, by its options, in order: each with its name and the shape of its fields.
+/// What is no enum has none.
+///
+/// # Errors
+///
+/// Fails only where memory runs out.
+pub fn declared_variants(
+    alloc: Global,
+    options: &CfgOptions,
+    list: &CrateModules,
+    files: &FileTable,
+    item: &DeclaredItem,
+) -> Result<Vec<DeclaredVariant>, AllocError>
+    ensures { IfOk result (λ found. found.items ≡
+        spec.declared_variants options.now list.now files.now item.now) }
+{
+    match list.sources().get(item.file) {
+        None => Ok(Vec::new(alloc)),
+        Some(source) => match item_at(source, item.item) {
+            None => Ok(Vec::new(alloc)),
+            Some(read) => {
+                variants_of_item(alloc, options, text_of(files, item.file), source, read)
+            }
+        },
+    }
+}

@@ -1,0 +1,27 @@
+//! What numbers of rows stand for.
+ghost use Rattle.std.specs.Prelude.{◌≡◌, slice_get};
+ghost use Rattle.std.specs.Option.{option_copied};
+ghost use Rattle.crate_modules.specs.Files as tables;
+
+use crate_modules::file_table::FileTable;
+use crate_modules::source::Source;
+use dm_ids::ids::FileId;
+use item_tree::items::Item;
+
+/// The text of a file; nothing, where there is no such file.
+pub(crate) fn text_of(files: &FileTable, file: FileId) -> &[u8]
+    ensures { result.now ≡ tables.text_of files.now file }
+{
+    if files.contains(file) {
+        files.text(file)
+    } else {
+        &[]
+    }
+}
+
+/// The item of a number.
+pub(crate) fn item_at(source: &Source, number: usize) -> Option<Item>
+    ensures { result ≡ slice_get source.now.items number }
+{
+    source.items().get(number).copied()
+}
