@@ -3,3 +3,5 @@ pub mod GrownLemmas
 pub mod TableLemmas
 pub mod RootLemmas
 pub mod StepLemmas
+pub mod VariantLemmas
+pub mod DefLemmas

@@ -1,9 +1,9 @@
 -- Tables of a crate hold what is the builder's, also when the builder grows and the tables do.
-use Rattle.std.proofs.Common.{◌++◌, [], Option, Some, None}
+use Rattle.std.proofs.Common.{◌++◌, ◌∷◌, [], Option, Some, None}
 use Rattle.std.specs.Prelude.{IfSome, IsTrue}
 use Rattle.std.proofs.lemmas.List.Elements.{All-push, All-weaker}
 use Rattle.crate_tables.proofs.GrownLemmas.{ids-more, ids-on}
-use Rattle.crate_tables.specs.CrateTables.{IsNameOf, IsTableOf, Table, left_out, module_name, with_id, with_name}
+use Rattle.crate_tables.specs.CrateTables.{IsLeafOf, IsNameOf, IsTableOf, Table, left_out, module_name, with_id, with_name}
 use Rattle.crate_tables.specs.declared.declared_name.DeclaredName.{DeclaredName}
 use Rattle.dm_base.specs.PerNs.{type_alone}
 use Rattle.dm_base.specs.declared.visibility.Visibility.{Visibility}
@@ -26,15 +26,16 @@ table-on v w k t grown is = record {
   krate = grown.known (held.Crate k) is.krate;
   ids = ids-on v w t.ids grown is.ids;
   names = All-weaker (IsNameOf v) (IsNameOf w) (λ d known. grown.all (push_holds d.home d.items None) known) t.names is.names;
+  leaves = All-weaker (IsLeafOf v) (IsLeafOf w) (λ x known. grown.all ((held.Module x.home ∷ held.Use x.use_ ∷ []) ++ vis_holds x.visibility) known) t.leaves is.leaves;
 }
 
 -- so is one with a module more that is left out
 pub table-without : (w : World) (k : Crate) (t : Table) → IsTableOf w k t → IsTableOf w k (left_out t)
-table-without w k t is = record { krate = is.krate; ids = ids-more w t.ids None is.ids tt; names = is.names }
+table-without w k t is = record { krate = is.krate; ids = ids-more w t.ids None is.ids tt; names = is.names; leaves = is.leaves }
 
 -- and with a name more that is known
 pub table-named : (w : World) (k : Crate) (t : Table) (d : DeclaredName) → IsTableOf w k t → IsNameOf w d → IsTableOf w k (with_name t d)
-table-named w k t d is known = record { krate = is.krate; ids = is.ids; names = All-push (IsNameOf w) t.names d is.names known }
+table-named w k t d is known = record { krate = is.krate; ids = is.ids; names = All-push (IsNameOf w) t.names d is.names known; leaves = is.leaves }
 
 -- a type alone is known where its definition is, and what its visibility names
 pub type-known : (w : World) (d : ModuleDefId) (v : Visibility) → KnowsAll w (def_holds d) → KnowsAll w (vis_holds v) → KnowsAll w (res_holds (type_alone d v None))
@@ -53,4 +54,5 @@ table-child v w k t p n vis (Some m) grown kp km is kv =
       ids = ids-more w t.ids (Some m) on.ids km;
       names = All-push (IsNameOf w) t.names (module_name p n vis m) on.names
           (grown.known (held.Module p) kp, type-known w (def.ModuleId m) vis (km, tt) (grown.all (vis_holds vis) kv));
+      leaves = on.leaves;
     }

@@ -1,7 +1,7 @@
 -- The modules of a crate in a builder.
 use Rattle.std.specs.Prelude.{Bool, true, false, List, [], ◌∷◌, Option, None, Some, drop, if◌then◌else◌}
 use Rattle.crate_modules.specs.DeclaredModules.{Module}
-use Rattle.crate_tables.specs.CrateTables.{Table, left_out, with_id}
+use Rattle.crate_tables.specs.CrateTables.{Table, left_out, no_table, with_id}
 use Rattle.crate_tables.specs.NewModules.{CrateView, new_module, origin_of}
 use Rattle.crate_tables.specs.Visibilities.{id_at, visibility_of}
 use Rattle.crate_tables.specs.declared.new_module.NewModule.{NewModule}
@@ -50,10 +50,14 @@ abbrev pub with_modules : CrateView → Filled → List Module → Filled
 with_modules v s [] = s
 with_modules v s (m ∷ ms) = with_modules v (with_one v.krate v.edition s (new_module v m)) ms
 
+-- the table of a crate that has its root alone
+abbrev pub root_alone : ModuleId → Table
+root_alone root = record no_table { ids = Some root ∷ [] }
+
 -- those of a crate, whose root is there
 abbrev pub with_crate_modules : CrateView → World → ModuleId → Filled
 with_crate_modules v w root =
-    with_modules v (record { world = w; table = record { ids = Some root ∷ []; names = [] } }) (drop 1 v.list.modules)
+    with_modules v (record { world = w; table = root_alone root }) (drop 1 v.list.modules)
 
 -- memory or numbers ran out
 abbrev pub is_shortage : BuildFault → Bool

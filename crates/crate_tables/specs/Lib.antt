@@ -3,3 +3,4 @@ pub mod CrateTables
 pub mod NewModules
 pub mod CrateMaps
 pub mod CrateRoots
+pub mod CrateDefs

@@ -18,11 +18,13 @@ use Rattle.dm_ids.specs.declared.source.Edition.{Edition}
 use Rattle.dm_ids.specs.declared.source.EditionedFileId.{EditionedFileId}
 use Rattle.dm_ids.specs.declared.source.HirFileId.TheVariants as file
 use Rattle.dm_ids.specs.declared.source.TreeId.{TreeId}
+use Rattle.item_tree.specs.declared.cfg.CfgAtom.{CfgAtom}
 
--- a crate: its number in the builder, its edition, its modules, and the files
+-- a crate: its number in the builder, its edition and options, its modules, and the files
 pub record CrateView : Type 0 where
   pub krate : Crate
   pub edition : Edition
+  pub options : List CfgAtom
   pub list : Listing
   pub files : List SourceFile
 

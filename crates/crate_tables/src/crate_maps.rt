@@ -103,8 +103,8 @@ fn add_seen(
     Ok(())
 }
 
-/// The id of the module that another stands in.
-fn parent_id(
+/// The id of the module that something stands in.
+pub(crate) fn parent_id(
     builder: &WorldBuilder,
     krate: Crate,
     table: &CrateTable,
@@ -206,7 +206,7 @@ fn root_alone(
 ) -> Result<CrateTable, AllocError>
     requires krate { IsTrue (knows builder.now (held.Crate krate)) }
     requires root { IsTrue (knows builder.now (held.Module root)) }
-    ensures exact { IfOk result (λ table. table ≡ record { ids = Some root ∷ []; names = [] }) }
+    ensures exact { IfOk result (λ table. table ≡ spec.root_alone root) }
     ensures kept { IfOk result (IsTableOf builder.now krate) }
 {
     let _world = builder;

@@ -1,9 +1,11 @@
 //! What a crate has in a builder.
-ghost use Rattle.std.specs.Prelude.{◌≡◌, ◌++◌, ◌∷◌, [], Some, OnErr, OnOk};
+ghost use Rattle.std.specs.Prelude.{◌≡◌, ◌++◌, ◌∷◌, [], OnOk, map};
 ghost use Rattle.crate_tables.specs.CrateTables as spec;
 
 use crate::declared_name::DeclaredName;
-use dm_base::ids::ModuleId;
+use crate::use_leaf::UseLeaf;
+use crate_items::declared_import::DeclaredImport;
+use dm_base::ids::{ModuleId, UseId};
 use dm_base::item_ids::ModuleDefId;
 use dm_base::name::Name;
 use dm_base::per_ns::PerNs;
@@ -11,12 +13,13 @@ use dm_base::visibility::Visibility;
 use std::alloc::{AllocError, Global};
 use std::marker::Model;
 
-/// What a crate has in a builder: for each module of its list the id, unless it was left out, and the names that its
-/// modules declare.
+/// What a crate has in a builder: for each module of its list the id, unless it was left out, the names that its modules
+/// declare, and what they import.
 #[derive(Drop)]
 pub struct CrateTable {
     ids: Vec<Option<ModuleId>>,
     names: Vec<DeclaredName>,
+    leaves: Vec<UseLeaf>,
 }
 
 impl Model for CrateTable {
@@ -24,17 +27,18 @@ impl Model for CrateTable {
 
     ghost Value = { Table };
 
-    ghost view = { λ t. record { ids = t.ids.items; names = t.names.items } };
+    ghost view = { λ t. record { ids = t.ids.items; names = t.names.items; leaves = t.leaves.items } };
 }
 
 impl CrateTable {
     /// A table of nothing. Allocates nothing.
     pub(crate) fn new(alloc: Global) -> CrateTable
-        ensures { result ≡ record { ids = []; names = [] } }
+        ensures { result ≡ spec.no_table }
     {
         CrateTable {
             ids: Vec::new(alloc),
             names: Vec::new(alloc),
+            leaves: Vec::new(alloc),
         }
     }
 
@@ -52,11 +56,19 @@ impl CrateTable {
         self.names.as_slice()
     }
 
-    /// The names alone.
-    pub fn into_names(self) -> Vec<DeclaredName>
-        ensures { result.items ≡ self.names }
+    /// The imports, in order: the leaves of each use together.
+    pub fn leaves(&self) -> &[UseLeaf]
+        ensures { result.now ≡ self.now.leaves }
     {
-        self.names
+        self.leaves.as_slice()
+    }
+
+    /// The names and the imports alone.
+    pub fn into_parts(self) -> (Vec<DeclaredName>, Vec<UseLeaf>)
+        ensures names { result.0.items ≡ self.names }
+        ensures leaves { result.1.items ≡ self.leaves }
+    {
+        (self.names, self.leaves)
     }
 
     /// Lists the id of a module.
@@ -100,4 +112,58 @@ impl CrateTable {
             }
         }
     }
+
+    /// Declares a definition under its name, if it has one.
+    pub(crate) fn push_named(
+        &mut self,
+        home: ModuleId,
+        name: Option<Name>,
+        items: PerNs,
+    ) -> Result<(), AllocError>
+        ensures { OnOk result (self.new ≡ spec.with_named self.old home name items) }
+    {
+        match name {
+            None => Ok(()),
+            Some(name) => {
+                self.push_name(DeclaredName { home, name, items })?;
+                Ok(())
+            }
+        }
+    }
+
+    /// Adds the leaves of a use.
+    pub(crate) fn push_leaves(
+        &mut self,
+        home: ModuleId,
+        visibility: Visibility,
+        use_: UseId,
+        imports: Vec<DeclaredImport>,
+    ) -> Result<(), AllocError>
+        ensures { OnOk result (self.new ≡ spec.with_leaves self.old home visibility use_ imports.items) }
+    {
+        let added = add_leaves(&mut self.leaves, home, visibility, use_, imports)?;
+        Ok(added)
+    }
+}
+
+/// Adds the leaves of a use to some others.
+fn add_leaves(
+    leaves: &mut Vec<UseLeaf>,
+    home: ModuleId,
+    visibility: Visibility,
+    use_: UseId,
+    imports: Vec<DeclaredImport>,
+) -> Result<(), AllocError>
+    ensures { OnOk result
+        (leaves.new.items ≡ leaves.old.items ++ map (spec.leaf_in home visibility use_) imports.items) }
+{
+    for import in imports {
+        leaves.push(UseLeaf {
+            home,
+            visibility,
+            use_,
+            import,
+        })?;
+    }
+    Ok(())
 }

@@ -12,15 +12,17 @@ use dm_base::ids::{Crate, FileAstId, FileId};
 use dm_base::name::Name;
 use dm_base::source::{Edition, EditionedFileId, HirFileId, TreeId};
 use dm_maps::module_origin::ModuleOrigin;
+use item_tree::cfg::CfgOptions;
 use item_tree::visibility::RawVisibility;
 use std::alloc::{AllocError, Global};
 use std::marker::Model;
 
-/// A crate: its number in a builder, its edition, the modules that it declares, and the files.
+/// A crate: its number in a builder, its edition and options, the modules that it declares, and the files.
 #[derive(Drop)]
 pub struct CrateView<'a> {
     pub krate: Crate,
     pub edition: Edition,
+    pub options: &'a CfgOptions,
     pub list: &'a CrateModules,
     pub files: &'a FileTable,
 }
@@ -33,6 +35,7 @@ impl<'a> Model for CrateView<'a> {
     ghost view = { λ v. record {
       krate = v.krate;
       edition = v.edition;
+      options = v.options.now;
       list = v.list.now;
       files = v.files.now;
     } };
