@@ -5,3 +5,7 @@ pub mod DeclaredItems
 pub mod DeclaredVariants
 pub mod UsePaths
 pub mod DeclaredImports
+pub mod ItemAttributes
+pub mod DeclaredMacros
+pub mod MacroCalls
+pub mod CrateAttributes

@@ -1,7 +1,7 @@
 -- The paths of use trees.
 use Rattle.std.specs.Prelude.{◌==◌, ◌+◌, ℕ, Bool, true, false, List, [], ◌∷◌, Option, Some, None, drop, length, nat_lt, if◌then◌else◌}
 use Rattle.std.specs.List.{flat_map, prefix_len}
-use Rattle.crate_items.specs.LexemeNames.{kind_at, name_at}
+use Rattle.crate_items.specs.LexemeNames.{kind_at, listed, name_at}
 use Rattle.crate_items.specs.declared.use_paths.Start.{Start}
 use Rattle.dm_base.specs.Path.{Path}
 use Rattle.dm_base.specs.declared.mod_path.PathKind.{PathKind}
@@ -41,10 +41,6 @@ start_with _ supers = Some plain
 abbrev pub start_of : List Lexeme → List ℕ → Option Start
 start_of ls [] = Some plain
 start_of ls (p ∷ ps) = start_with (kind_at ls p) (prefix_len (is_super_at ls) ps)
-
-abbrev pub listed : Option Name → List Name
-listed None = []
-listed (Some name) = name ∷ []
 
 abbrev pub name_list : List ℕ → List Lexeme → ℕ → List Name
 name_list text ls i = listed (name_at text ls i)

@@ -2,11 +2,15 @@
 //! variants and imports. No def map is needed for that.
 #![tactic(auto)]
 
+pub mod crate_attributes;
 pub mod declared_import;
 pub mod declared_item;
+pub mod declared_macro;
 pub mod declared_variant;
+pub mod item_attributes;
 mod lexeme_names;
 mod lookups;
+pub mod macro_call;
 pub mod module_items;
 mod shapes;
 mod use_paths;
