@@ -43,6 +43,13 @@ impl CrateGraph {
         self.crates.len()
     }
 
+    /// The crates, each at its number.
+    pub fn crates(&self) -> &[CrateData]
+        ensures { result.now ≡ self.now }
+    {
+        self.crates.as_slice()
+    }
+
     /// Whether there is no crate.
     pub fn is_empty(&self) -> bool
         ensures { IsTrue result ↔ (self.now ≡ []) }

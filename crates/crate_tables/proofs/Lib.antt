@@ -1,0 +1,7 @@
+pub mod ChildLemmas
+pub mod GrownLemmas
+pub mod TableLemmas
+pub mod RootLemmas
+pub mod StepLemmas
+pub mod VariantLemmas
+pub mod DefLemmas

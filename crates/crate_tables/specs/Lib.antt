@@ -1,0 +1,6 @@
+pub mod Visibilities
+pub mod CrateTables
+pub mod NewModules
+pub mod CrateMaps
+pub mod CrateRoots
+pub mod CrateDefs

@@ -1,0 +1,11 @@
+//! The tables of a world, filled from crates: their roots, modules and extern preludes.
+#![tactic(auto)]
+
+pub mod crate_defs;
+pub mod crate_maps;
+pub mod crate_roots;
+pub mod crate_table;
+pub mod declared_name;
+pub mod new_module;
+pub mod use_leaf;
+pub mod visibilities;
