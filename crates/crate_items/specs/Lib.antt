@@ -11,3 +11,4 @@ pub mod DeclaredMacros
 pub mod MacroCalls
 pub mod CrateAttributes
 pub mod ChildModules
+pub mod ItemRows

@@ -10,6 +10,7 @@ pub mod declared_macro;
 pub mod declared_variant;
 mod file_items;
 pub mod item_attributes;
+pub mod item_rows;
 mod lexeme_names;
 mod lookups;
 pub mod macro_call;
