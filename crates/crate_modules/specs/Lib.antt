@@ -1,4 +1,5 @@
 pub mod Paths
+pub mod PreludeModules
 pub mod ModDirs
 pub mod ModRows
 pub mod CrateGraphs

@@ -20,6 +20,7 @@ pub mod module_visibility;
 pub mod modules;
 mod order_search;
 mod paths;
+pub mod prelude_module;
 pub mod source;
 pub mod sources;
 pub mod standing;

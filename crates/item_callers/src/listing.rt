@@ -1,10 +1,10 @@
 //! The public items of a text.
 ghost use Rattle.std.specs.Prelude.{◌≡◌, IfOk, filter};
-ghost use Rattle.item_callers.specs.Listing.{is_public};
+ghost use Rattle.item_callers.specs.Listing.{AreItemsOf, AreLexemesOf, is_public, name_of};
 
 use dm_ids::source::Edition;
 use item_tree::delimiters::partners;
-use item_tree::items::{Item, Range, item_tree};
+use item_tree::items::{Item, ItemTree, Range, item_tree};
 use item_tree::lexeme::{Lexeme, read_lexemes};
 use item_tree::span::{Span, name_text};
 use item_tree::visibility::{RawVisibility, raw_visibility};
@@ -36,37 +36,45 @@ pub fn public_items(
         .collect(alloc)
 }
 
-/// The name of an item, or `_` where it has none.
-fn name_of<'a>(text: &'a str, lexemes: &[Lexeme], item: Item) -> &'a str {
-    match item.name.and_then(|place| lexemes.get(place)) {
-        None => "_",
-        Some(lexeme) => {
-            let (start, len) = (lexeme.start, lexeme.len);
-            let name = name_text(text.as_bytes(), Span { start, len });
-            std::str::from_utf8(name).unwrap_or("_")
-        }
-    }
+/// What a text declares: its lexemes, its items, and the public ones among these.
+#[derive(Drop)]
+pub struct Listing {
+    pub lexemes: Vec<Lexeme>,
+    pub tree: ItemTree,
+    pub public: Vec<Item>,
 }
 
-/// The public items of a text, each in a line: its kind, and its name behind the names of the items around.
-pub fn listed(alloc: Global, text: &str) -> Result<String, AllocError> {
-    let lexemes = read_lexemes(alloc, text.as_bytes(), Edition::Edition2021)?;
+/// Reads a text, and lists its public items: those of modules behind those of the modules around.
+pub fn listed(alloc: Global, text: &[u8]) -> Result<Listing, AllocError>
+    ensures lexemes { IfOk result (λ listing. AreLexemesOf text.now listing.lexemes.items) }
+    ensures items { IfOk result
+        (λ listing. AreItemsOf listing.lexemes.items listing.tree.items.items) }
+    ensures public { IfOk result (λ listing. listing.public.items
+        ≡ filter (is_public listing.lexemes.items) listing.tree.items.items) }
+{
+    let lexemes = read_lexemes(alloc, text, Edition::Edition2021)?;
     let partners = partners(alloc, lexemes.as_slice())?;
     let tree = item_tree(alloc, lexemes.as_slice(), partners.as_slice())?;
-    let mut paths: Vec<String> = Vec::new(alloc);
-    let mut listed = String::new(alloc);
-    for item in &tree.items {
-        let name = name_of(text, lexemes.as_slice(), *item);
-        // An item stands behind the one that it is in.
-        let path = match item.parent.and_then(|parent| paths.get(parent)) {
-            None => String::from_str(alloc, name)?,
-            Some(around) => format!(in alloc; "{around}::{name}")?,
-        };
-        if is_public(lexemes.as_slice(), *item) {
-            let line = format!(in alloc; "{:?} {path}\n", item.kind)?;
-            listed.push_str(line.as_str())?;
-        }
-        paths.push(path)?;
+    let public = public_items(alloc, lexemes.as_slice(), tree.items.as_slice())?;
+    Ok(Listing {
+        lexemes,
+        tree,
+        public,
+    })
+}
+
+/// The name of an item in its text, without the `r#` of a raw one; nothing where it has none.
+pub fn name_of<'a>(text: &'a [u8], lexemes: &[Lexeme], item: Item) -> &'a [u8]
+    ensures { result.now ≡ name_of text.now lexemes.now item }
+{
+    match item.name {
+        None => &[],
+        Some(place) => match lexemes.get(place) {
+            None => &[],
+            Some(lexeme) => {
+                let (start, len) = (lexeme.start, lexeme.len);
+                name_text(text, Span { start, len })
+            }
+        },
     }
-    Ok(listed)
 }

@@ -34,6 +34,8 @@ impl World {
     /// All that the push holds has to be the world's: `knows_res` tests it. Answers whether a namespace was written, or
     /// the name went among the unresolved ones. Other scopes and all tables stay. Where an allocation fails, nothing
     /// changes.
+    // Not inlined, so that what is inside this call can be counted.
+    #[inline(never)]
     pub fn push_res(
         &mut self,
         glob_imports: &mut PerNsGlobImports,

@@ -1,0 +1,52 @@
+//! The module of a crate that is the standard prelude of an edition.
+ghost use Rattle.std.specs.Prelude.{◌≡◌};
+ghost use Rattle.std.specs.Option.{option_copied};
+ghost use Rattle.crate_modules.specs.PreludeModules as spec;
+
+use crate::declared_module::{Declaration, DeclaredModule};
+use dm_ids::source::Edition;
+
+/// Whether something is declared in the module of a number, under a name.
+fn is_declared_in(declaration: Option<&Declaration>, parent: usize, name: &[u8]) -> bool
+    ensures { result ≡ spec.is_declared_in parent name.now (option_copied declaration.entry) }
+{
+    match declaration {
+        None => false,
+        Some(declaration) => {
+            declaration.parent == parent && declaration.name.as_str().as_bytes() == name
+        }
+    }
+}
+
+/// The number of the first module of a name in the one of a number. One pass over the list.
+pub fn child_named(modules: &[DeclaredModule], parent: usize, name: &[u8]) -> Option<usize>
+    ensures { result ≡ spec.child_named modules.now parent name.now }
+{
+    modules.iter().position(|module| is_declared_in(module.declaration(), parent, name))
+}
+
+/// What an edition calls its prelude.
+fn prelude_name(edition: Edition) -> &'static [u8]
+    ensures { result.now ≡ spec.prelude_name edition }
+{
+    match edition {
+        Edition::Edition2015 => b"rust_2015",
+        Edition::Edition2018 => b"rust_2018",
+        Edition::Edition2021 => b"rust_2021",
+        Edition::Edition2024 => b"rust_2024",
+    }
+}
+
+/// The number of the module that is the standard prelude of an edition, in the list of a crate that has preludes: in
+/// `prelude` of its root the one that the edition names, or `v1` where that is all there is.
+pub fn prelude_module(modules: &[DeclaredModule], edition: Edition) -> Option<usize>
+    ensures { result ≡ spec.prelude_module modules.now edition }
+{
+    match child_named(modules, 0, b"prelude") {
+        None => None,
+        Some(preludes) => match child_named(modules, preludes, prelude_name(edition)) {
+            Some(module) => Some(module),
+            None => child_named(modules, preludes, b"v1"),
+        },
+    }
+}
