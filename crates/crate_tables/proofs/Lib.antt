@@ -5,3 +5,4 @@ pub mod RootLemmas
 pub mod StepLemmas
 pub mod VariantLemmas
 pub mod DefLemmas
+pub mod ExternLemmas

@@ -4,3 +4,4 @@ pub mod NewModules
 pub mod CrateMaps
 pub mod CrateRoots
 pub mod CrateDefs
+pub mod ExternCrates

@@ -51,7 +51,7 @@ fn written_in(source: &Source, number: usize) -> RawVisibility
 }
 
 /// The visibility that is written before an item.
-fn written_of(list: &CrateModules, item: &DeclaredItem) -> RawVisibility
+pub(crate) fn written_of(list: &CrateModules, item: &DeclaredItem) -> RawVisibility
     ensures { result ≡ spec.written_of list.now item.now }
 {
     match list.sources().get(item.file) {

@@ -6,6 +6,7 @@ pub mod crate_maps;
 pub mod crate_roots;
 pub mod crate_table;
 pub mod declared_name;
+pub mod extern_crates;
 pub mod new_module;
 pub mod use_leaf;
 pub mod visibilities;
