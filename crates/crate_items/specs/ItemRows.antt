@@ -93,7 +93,13 @@ NoPaths =
 
 abbrev pub tree_of : UseTreeKind → Option ℕ → ℕ → ℕ → Option ℕ → UseTree
 tree_of kind parent first behind alias =
-    record { kind = kind; parent = parent; path = record { first = first; behind = behind }; alias = alias; behind = behind }
+    record {
+      kind = kind;
+      parent = parent;
+      path = record { first = first; behind = behind };
+      alias = alias;
+      behind = behind;
+    }
 
 -- `c::{self, d, *}`
 abbrev pub trees : List UseTree

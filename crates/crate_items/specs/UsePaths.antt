@@ -29,8 +29,8 @@ plain = record { kind = path.Plain; len = 0 }
 abbrev pub marked : ℕ → Start
 marked b = if b == 58 then record { kind = path.Abs; len = 1 } else plain
 
--- a path begins with colons, with `crate`, or with `self` and so many `super`, of which each is a step outwards, or with
--- a first `super` and so many others; or else with its first name
+-- a path begins with colons, with `crate`, or with `self` and so many `super`, of which each is a step outwards, or
+-- with a first `super` and so many others; or else with its first name
 abbrev pub start_with : LexemeKind → ℕ → Option Start
 start_with (Mark b) supers = Some (marked b)
 start_with (Word word.Crate) supers = Some (record { kind = path.Crate; len = 1 })

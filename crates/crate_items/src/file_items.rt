@@ -1,5 +1,5 @@
 //! The items of a file that a crate has, by the modules that they stand in.
-ghost use Rattle.std.specs.Prelude.{◌≡◌, ◌+◌, ◌-◌, ◌<◌, ◌≤◌, ◌++◌, ℕ, ◌^◌, IfOk, OnOk, Option, filter, length, nat_le, slice_get, true, false};
+ghost use Rattle.std.specs.Prelude.{◌≡◌, ◌≤◌, ◌++◌, IfOk, OnOk, filter, length, nat_le, slice_get, true, false};
 ghost use Rattle.std.specs.List.Sorted.{IsNonDecreasingBy, IsPartitionPoint};
 ghost use Rattle.crate_items.specs.FileItems as spec;
 ghost use Rattle.crate_items.specs.declared.file_items.Homed.{Homed};
