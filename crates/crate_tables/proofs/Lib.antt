@@ -6,3 +6,4 @@ pub mod StepLemmas
 pub mod VariantLemmas
 pub mod DefLemmas
 pub mod ExternLemmas
+pub mod PreludeLemmas

@@ -5,3 +5,4 @@ pub mod CrateMaps
 pub mod CrateRoots
 pub mod CrateDefs
 pub mod ExternCrates
+pub mod StandardPreludes

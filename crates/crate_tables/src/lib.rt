@@ -8,5 +8,6 @@ pub mod crate_table;
 pub mod declared_name;
 pub mod extern_crates;
 pub mod new_module;
+pub mod standard_prelude;
 pub mod use_leaf;
 pub mod visibilities;
