@@ -6,3 +6,4 @@ pub mod CrateRoots
 pub mod CrateDefs
 pub mod ExternCrates
 pub mod StandardPreludes
+pub mod CrateMacros
