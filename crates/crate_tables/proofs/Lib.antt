@@ -6,3 +6,5 @@ pub mod StepLemmas
 pub mod VariantLemmas
 pub mod DefLemmas
 pub mod ExternLemmas
+pub mod PreludeLemmas
+pub mod MacroLemmas

@@ -5,3 +5,5 @@ pub mod CrateMaps
 pub mod CrateRoots
 pub mod CrateDefs
 pub mod ExternCrates
+pub mod StandardPreludes
+pub mod CrateMacros

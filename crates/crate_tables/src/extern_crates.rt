@@ -13,6 +13,7 @@ use crate::crate_defs::written_of;
 use crate::crate_maps::parent_id;
 use crate::crate_roots::root_id;
 use crate::crate_table::CrateTable;
+use crate::item_names::name_of;
 use crate::new_module::CrateView;
 use crate::visibilities::known_visibility;
 use crate_items::declared_item::{DeclaredItem, LinkedCrate, linked_crate};
@@ -86,19 +87,6 @@ fn known_root(
 {
     let _world = builder;
     linked_root(krate, dependencies, linked)
-}
-
-/// A copy of the name that an item is bound under.
-fn name_of(alloc: Global, item: &DeclaredItem) -> Result<Option<Name>, AllocError>
-    ensures { IfOk result (λ name. name ≡ item.now.name) }
-{
-    match &item.name {
-        None => Ok(None),
-        Some(name) => {
-            let copy = name.copy(alloc)?;
-            Ok(Some(copy))
-        }
-    }
 }
 
 /// The number of the next extern crate of the world.

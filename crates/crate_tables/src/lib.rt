@@ -2,11 +2,14 @@
 #![tactic(auto)]
 
 pub mod crate_defs;
+pub mod crate_macros;
 pub mod crate_maps;
 pub mod crate_roots;
 pub mod crate_table;
 pub mod declared_name;
 pub mod extern_crates;
+mod item_names;
 pub mod new_module;
+pub mod standard_prelude;
 pub mod use_leaf;
 pub mod visibilities;
