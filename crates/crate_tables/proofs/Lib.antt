@@ -5,3 +5,5 @@ pub mod RootLemmas
 pub mod StepLemmas
 pub mod VariantLemmas
 pub mod DefLemmas
+pub mod FillingLemmas
+pub mod DeclaredLemmas

@@ -4,3 +4,5 @@ pub mod NewModules
 pub mod CrateMaps
 pub mod CrateRoots
 pub mod CrateDefs
+pub mod CrateFillings
+pub mod DeclaredWorlds

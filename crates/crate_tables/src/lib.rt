@@ -2,10 +2,14 @@
 #![tactic(auto)]
 
 pub mod crate_defs;
+pub mod crate_filling;
 pub mod crate_maps;
 pub mod crate_roots;
 pub mod crate_table;
 pub mod declared_name;
+pub mod declared_world;
+pub mod fill_fault;
 pub mod new_module;
+pub mod table_parts;
 pub mod use_leaf;
 pub mod visibilities;
