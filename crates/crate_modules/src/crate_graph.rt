@@ -50,6 +50,15 @@ impl CrateGraph {
         self.crates.as_slice()
     }
 
+    /// The crate of a number.
+    pub fn crate_at(&self, number: usize) -> Crate
+        requires { number < length self.now }
+        ensures { result.0 ≡ number }
+    {
+        let _crates = &self.crates;
+        Crate(number as u32)
+    }
+
     /// Whether there is no crate.
     pub fn is_empty(&self) -> bool
         ensures { IsTrue result ↔ (self.now ≡ []) }

@@ -71,7 +71,7 @@ pub table-defined : (v w : World) (k : Crate) (t : Table) (m : ModuleId) (n : Op
 table-defined v w k t m None d vis shape grown km kd is kv = table-on v w k t grown is
 table-defined v w k t m (Some n) d vis shape grown km kd is kv =
     table-named w k t (record { home = m; name = n; items = of_def d vis (constructor_vis shape vis) None }) (table-on v w k t grown is)
-    (grown.known (held.Module m) km, def-known w d vis shape kd (grown.all (vis_holds vis) kv))
+    (record { known = (grown.known (held.Module m) km, def-known w d vis shape kd (grown.all (vis_holds vis) kv)) })
 
 all-leaves : (w : World) (m : ModuleId) (vis : Visibility) (u : UseId) (xs : List DeclaredImport)
     → IsTrue (knows w (held.Module m)) → IsTrue (knows w (held.Use u)) → KnowsAll w (vis_holds vis) → All (IsLeafOf w) (map (leaf_in m vis u) xs)

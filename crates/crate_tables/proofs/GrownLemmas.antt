@@ -1,5 +1,5 @@
 -- Builders that grow step by step, and ids of their modules.
-use Rattle.std.proofs.Common.{◌≡◌, ◌++◌, ◌∙◌, zero, suc, [], ◌∷◌, Option, Some, None, refl, subst}
+use Rattle.std.proofs.Common.{◌≡◌, ◌++◌, ◌∙◌, zero, suc, [], ◌∷◌, Option, Some, None, List, refl, subst, sym}
 use Rattle.std.specs.Prelude.{IfSome, IsTrue}
 use Rattle.dm_ids.specs.declared.ids.ModuleId.{ModuleId}
 use Rattle.dm_check.specs.declared.held.HeldId.TheVariants as held
@@ -7,6 +7,14 @@ use Rattle.dm_maps.specs.Added.{IsGrown}
 use Rattle.dm_maps.specs.Known.{knows}
 use Rattle.dm_maps.specs.World.{World}
 use Rattle.crate_tables.specs.Visibilities.{AreIdsOf, Ids}
+use Rattle.dm_check.specs.declared.held.HeldId.{HeldId}
+use Rattle.dm_def_map.specs.Locals.{with_extern}
+use Rattle.dm_def_map.specs.Maps.{LocalMap}
+use Rattle.dm_ids.specs.Names.{Name}
+use Rattle.dm_ids.specs.declared.ids.Crate.{Crate}
+use Rattle.dm_ids.specs.declared.ids.ExternCrateId.{ExternCrateId}
+use Rattle.dm_maps.specs.BuildMaps.{locals_with, with_extern_of}
+use Rattle.dm_maps.specs.Known.{KnowsAll}
 
 pub grown-same : (w : World) → IsGrown w w
 grown-same w = record {
@@ -37,3 +45,28 @@ ids-more w [] (Some x) are k zero m at = let same : x ≡ m = cc in subst (λ y.
 ids-more w [] o are k (suc n) m at = cc
 ids-more w (x ∷ xs) o are k zero m at = are zero m at
 ids-more w (x ∷ xs) o are k (suc n) m at = ids-more w xs o (λ i y e. are (suc i) y e) k n m at
+
+known-beside : (w : World) (ls : List LocalMap) (h : HeldId) → IsTrue (knows w h) → IsTrue (knows (record w { local_maps = ls }) h)
+known-beside w ls (held.Module m) k = k
+known-beside w ls (held.Crate c) k = k
+known-beside w ls (held.Use u) k = k
+known-beside w ls (held.Item i n) k = k
+known-beside w ls (held.Variant v) k = k
+known-beside w ls (held.Macro m) k = k
+
+all-beside : (w : World) (ls : List LocalMap) (hs : List HeldId) → KnowsAll w hs → KnowsAll (record w { local_maps = ls }) hs
+all-beside w ls [] k = tt
+all-beside w ls (h ∷ hs) k = (known-beside w ls h k.0, all-beside w ls hs k.1)
+
+-- extern preludes alone are changed
+grown-beside : (w : World) (ls : List LocalMap) → IsGrown w (record w { local_maps = ls })
+grown-beside w ls = record {
+  known = known-beside w ls;
+  all = all-beside w ls;
+  scopes = λ k. refl;
+  shown = λ g k ps s. s;
+  places = λ k h. refl;
+}
+
+pub grown-extern : (w v : World) (k : Crate) (n : Name) (m : ModuleId) (x : Option ExternCrateId) → v ≡ with_extern_of w k n m x → IsGrown w v
+grown-extern w v k n m x same = subst (IsGrown w) (sym same) (grown-beside w (locals_with w.local_maps k.0 (λ L. with_extern L n m x)))

@@ -8,3 +8,5 @@ pub mod DefLemmas
 pub mod ExternLemmas
 pub mod PreludeLemmas
 pub mod MacroLemmas
+pub mod FillingLemmas
+pub mod DeclaredLemmas

@@ -25,7 +25,7 @@ pub table-on : (v w : World) (k : Crate) (t : Table) → IsGrown v w → IsTable
 table-on v w k t grown is = record {
   krate = grown.known (held.Crate k) is.krate;
   ids = ids-on v w t.ids grown is.ids;
-  names = All-weaker (IsNameOf v) (IsNameOf w) (λ d known. grown.all (push_holds d.home d.items None) known) t.names is.names;
+  names = All-weaker (IsNameOf v) (IsNameOf w) (λ d k. record { known = grown.all (push_holds d.home d.items None) k.known }) t.names is.names;
   leaves = All-weaker (IsLeafOf v) (IsLeafOf w) (λ x known. grown.all ((held.Module x.home ∷ held.Use x.use_ ∷ []) ++ vis_holds x.visibility) known) t.leaves is.leaves;
 }
 
@@ -53,6 +53,6 @@ table-child v w k t p n vis (Some m) grown kp km is kv =
       krate = on.krate;
       ids = ids-more w t.ids (Some m) on.ids km;
       names = All-push (IsNameOf w) t.names (module_name p n vis m) on.names
-          (grown.known (held.Module p) kp, type-known w (def.ModuleId m) vis (km, tt) (grown.all (vis_holds vis) kv));
+          (record { known = (grown.known (held.Module p) kp, type-known w (def.ModuleId m) vis (km, tt) (grown.all (vis_holds vis) kv)) });
       leaves = on.leaves;
     }

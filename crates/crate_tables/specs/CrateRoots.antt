@@ -3,6 +3,7 @@ use Rattle.std.specs.Prelude.{◌≡◌, ◌<◌, ◌+◌, ◌&&◌, ℕ, Bool, 
 use Rattle.std.specs.List.{list_any}
 use Rattle.crate_modules.specs.CrateGraphs.{Graph}
 use Rattle.crate_modules.specs.declared.dependency.Dependency.{Dependency}
+use Rattle.dm_check.specs.declared.held.HeldId.{HeldId}
 use Rattle.dm_check.specs.declared.held.HeldId.TheVariants as held
 use Rattle.crate_tables.specs.NewModules.{in_edition}
 use Rattle.dm_ids.specs.Names.{Name, same_name}
@@ -10,7 +11,7 @@ use Rattle.dm_ids.specs.declared.ids.Crate.{Crate}
 use Rattle.dm_ids.specs.declared.ids.ModuleId.{ModuleId}
 use Rattle.dm_maps.specs.Build.{with_crate}
 use Rattle.dm_maps.specs.BuildMaps.{with_extern_of}
-use Rattle.dm_maps.specs.Known.{knows}
+use Rattle.dm_maps.specs.Known.{knows, KnowsAll}
 use Rattle.dm_maps.specs.Readings.{root_of}
 use Rattle.dm_maps.specs.World.{World}
 
@@ -32,6 +33,14 @@ pub record HasRoot (w : World) (k : Crate) : Type 0 where
 -- each crate of so many is there with its root
 abbrev pub HasRoots : World → ℕ → Type 0
 HasRoots w count = (k : Crate) → k.0 < count → HasRoot w k
+
+-- what is known of a crate that is there: its number, and its root
+abbrev pub root_holds : Crate → List HeldId
+root_holds k = held.Crate k ∷ held.Module (root_id k) ∷ []
+
+-- each crate of so many is known, and its root
+abbrev pub KnowsRoots : World → ℕ → Type 0
+KnowsRoots w count = (k : Crate) → k.0 < count → KnowsAll w (root_holds k)
 
 -- ---- Extern preludes
 

@@ -57,8 +57,8 @@ with_id t p n v None = left_out t
 with_id t p n v (Some m) = record t { ids = t.ids ++ Some m ∷ []; names = t.names ++ module_name p n v m ∷ [] }
 
 -- a name whose module is the builder's, and all that the name holds there
-abbrev pub IsNameOf : World → DeclaredName → Type 0
-IsNameOf w d = KnowsAll w (push_holds d.home d.items None)
+pub record IsNameOf (w : World) (d : DeclaredName) : Type 0 where
+  pub known : KnowsAll w (push_holds d.home d.items None)
 
 -- an import whose module is the builder's, and its use, and what its visibility names
 abbrev pub IsLeafOf : World → UseLeaf → Type 0

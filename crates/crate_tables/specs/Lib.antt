@@ -7,3 +7,5 @@ pub mod CrateDefs
 pub mod ExternCrates
 pub mod StandardPreludes
 pub mod CrateMacros
+pub mod CrateFillings
+pub mod DeclaredWorlds

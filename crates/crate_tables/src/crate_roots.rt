@@ -78,6 +78,7 @@ fn push_extern(
     requires { IsTrue (knows builder.old (held.Crate krate)) }
     ensures world { OnOk result (builder.new ≡ spec.with_extern builder.old krate before.now dependency.now) }
     ensures kept { OnOk result (IsTrue (knows builder.new (held.Crate krate))) }
+    ensures grown { IsGrown builder.old builder.new }
     ensures fault { IfErr result (λ fault. is_shortage fault ≡ true) }
 {
     if !dependency.prelude || is_taken(before, &dependency.name) {
@@ -110,6 +111,7 @@ pub fn add_externs(
 ) -> Result<(), BuildFault>
     requires { IsTrue (knows builder.old (held.Crate krate)) }
     ensures world { OnOk result (builder.new ≡ spec.with_externs builder.old krate dependencies.now) }
+    ensures grown { IsGrown builder.old builder.new }
     ensures fault { IfErr result (λ fault. is_shortage fault ≡ true) }
 {
     for (place, dependency) in dependencies.iter().enumerate() {

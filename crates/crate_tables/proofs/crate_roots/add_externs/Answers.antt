@@ -1,4 +1,5 @@
 use Rattle.std.proofs.Common.{◌≡◌, ◌∙◌, ◌+◌, ap, drop, sym, take}
+use Rattle.crate_tables.proofs.GrownLemmas.{grown-further}
 use Rattle.crate_tables.proofs.StepLemmas.{next-of}
 use Rattle.crate_tables.specs.CrateRoots.{with_extern, with_externs_from}
 use Rattle.crate_modules.specs.declared.dependency.Dependency.{Dependency}
@@ -19,4 +20,8 @@ loop-place-preserved c =
           ∙ sym (ap (with_externs_from c.loop-place.builder k all n) (next-of all n d c.loop-place-test.true c.index-dependencies-place.is))
           ∙ c.loop-place.invariant.world;
       known = c.in_ok-push_extern.ensures.kept;
+      grown = grown-further _ _ _ c.loop-place.invariant.grown c.in_ok-push_extern.ensures.grown;
     }
+
+pub returns-in_err-push_extern-clause-grown : goal.returns-in_err-push_extern-clause-grown
+returns-in_err-push_extern-clause-grown c = grown-further _ _ _ c.loop-place.invariant.grown c.in_err-push_extern.ensures.grown
