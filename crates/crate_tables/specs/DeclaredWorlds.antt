@@ -5,15 +5,36 @@ use Rattle.crate_tables.specs.declared.declared_name.DeclaredName.{DeclaredName}
 use Rattle.crate_tables.specs.declared.declared_world.NotDeclared.{NotDeclared}
 use Rattle.crate_tables.specs.declared.declared_world.NotDeclared.TheVariants.{Dangling, OutOfMemory}
 use Rattle.dm_base.specs.Tree.{same_module}
+use Rattle.dm_base.specs.declared.per_ns.Item.{Item}
+use Rattle.dm_base.specs.declared.per_ns.PerNs.{PerNs}
+use Rattle.dm_ids.specs.declared.imports.ImportOrExternCrate.{ImportOrExternCrate}
+use Rattle.dm_ids.specs.declared.imports.ImportOrExternCrate.TheVariants as wide
+use Rattle.dm_ids.specs.declared.item_ids.ModuleDefId.{ModuleDefId}
 use Rattle.dm_ids.specs.declared.ids.ModuleId.{ModuleId}
 use Rattle.dm_scope.specs.Flags.{Globs}
 use Rattle.dm_scope.specs.Shows.{ScopePush, Shows, push_of}
 use Rattle.dm_maps.specs.First.{IsFirstFault, holders}
 use Rattle.dm_maps.specs.World.{World, scope_of}
 
+-- an extern crate is declared by a push that has it as its import, anything else by a push without one
+abbrev pub extern_crate_in : Option ImportOrExternCrate → Option ImportOrExternCrate
+extern_crate_in None = None
+extern_crate_in (Some (wide.ExternCrate k)) = Some (wide.ExternCrate k)
+extern_crate_in (Some _) = None
+
+abbrev pub extern_crate_by : Option (Item ModuleDefId ImportOrExternCrate) → Option ImportOrExternCrate
+extern_crate_by None = None
+extern_crate_by (Some i) = extern_crate_in i.import
+
+abbrev pub extern_crate_of : PerNs → Option ImportOrExternCrate
+extern_crate_of x = extern_crate_by x.types
+
+abbrev pub declared_push : DeclaredName → ScopePush
+declared_push d = push_of d.name d.items (extern_crate_of d.items)
+
 -- the push of a name, where its module is k
 abbrev pub push_to : ModuleId → DeclaredName → Option ScopePush
-push_to k d = if same_module d.home k then Some (push_of d.name d.items None) else None
+push_to k d = if same_module d.home k then Some (declared_push d) else None
 
 -- the pushes of some names that go to module k, in order
 abbrev pub pushes_to : ModuleId → List DeclaredName → List ScopePush

@@ -1,18 +1,22 @@
 //! Names of modules, declared in a world.
+ghost use Rattle.std.specs.Option.{option_map_or};
 ghost use Rattle.std.specs.Prelude.{◌≡◌, ◌++◌, ◌∷◌, [], false, All, IfErr, IfOk, List, None, OnOk};
 ghost use Rattle.crate_tables.specs.CrateTables.{IsNameOf};
 ghost use Rattle.crate_tables.specs.DeclaredWorlds as spec;
 ghost use Rattle.crate_tables.specs.declared.declared_world.NotDeclared.TheVariants.{OutOfMemory};
 ghost use Rattle.dm_base.specs.Tree.{same_module};
+ghost use Rattle.dm_check.specs.Holding.{import_holds};
 ghost use Rattle.dm_check.specs.declared.held.HeldId.{HeldId};
 ghost use Rattle.dm_ids.specs.declared.ids.ModuleId.{ModuleId};
 ghost use Rattle.dm_maps.specs.Known.{KnowsAll};
 ghost use Rattle.dm_maps.specs.PushRes.{StaysShown};
 ghost use Rattle.dm_maps.specs.World.{scope_of};
 ghost use Rattle.dm_scope.specs.Scope.{no_scope};
-ghost use Rattle.dm_scope.specs.Shows.{ScopePush, Shows, push_of};
+ghost use Rattle.dm_scope.specs.Shows.{ScopePush, Shows};
 
 use crate::declared_name::DeclaredName;
+use dm_base::imports::ImportOrExternCrate;
+use dm_base::per_ns::PerNs;
 use dm_maps::builder::WorldBuilder;
 use dm_maps::fault::WorldFault;
 use dm_maps::world::World;
@@ -35,6 +39,22 @@ impl From<AllocError> for NotDeclared {
     }
 }
 
+/// The extern crate that a type came by, if it did.
+fn extern_crate_of(items: &PerNs) -> Option<ImportOrExternCrate>
+    ensures exact { result ≡ spec.extern_crate_of items.now }
+    ensures free { option_map_or import_holds result [] ≡ [] }
+{
+    match items.types {
+        None => None,
+        Some(item) => match item.import {
+            Some(ImportOrExternCrate::ExternCrate(id)) => {
+                Some(ImportOrExternCrate::ExternCrate(id))
+            }
+            _ => None,
+        },
+    }
+}
+
 /// Declares a name in its module.
 fn declare(
     world: &mut World,
@@ -45,13 +65,14 @@ fn declare(
     requires { IsNameOf world.old declared.now }
     ensures shown { OnOk result ((ps : List ScopePush) → Shows (scope_of world.old declared.now.home) globs.old declared.now.home ps
         → Shows (scope_of world.new declared.now.home) globs.new declared.now.home
-        (ps ++ push_of declared.now.name declared.now.items None ∷ [])) }
+        (ps ++ spec.declared_push declared.now ∷ [])) }
     ensures elsewhere { (k : ModuleId) → same_module declared.now.home k ≡ false
         → StaysShown world.old globs.old world.new globs.new k }
     ensures stays { (hs : List HeldId) → KnowsAll world.old hs → KnowsAll world.new hs }
 {
     let lookup = (declared.home, declared.name.copy(alloc)?);
-    world.push_res(globs, lookup, declared.items, None)?;
+    let import = extern_crate_of(&declared.items);
+    world.push_res(globs, lookup, declared.items, import)?;
     Ok(())
 }
 
