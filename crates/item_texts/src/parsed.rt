@@ -1,0 +1,41 @@
+//! A text that is read, and pieces of it.
+use dm_ids::source::Edition;
+use item_tree::delimiters::partners;
+use item_tree::ids::TextRange;
+use item_tree::items::{ItemTree, item_tree};
+use item_tree::lexeme::{Lexeme, read_lexemes};
+use std::alloc::{AllocError, Global};
+
+/// A text's lexemes, their partners and its items.
+#[derive(Drop)]
+pub(crate) struct Parsed {
+    pub(crate) lexemes: Vec<Lexeme>,
+    pub(crate) partners: Vec<usize>,
+    pub(crate) tree: ItemTree,
+}
+
+pub(crate) fn read_text(alloc: Global, edition: Edition, text: &str) -> Result<Parsed, AllocError> {
+    let lexemes = read_lexemes(alloc, text.as_bytes(), edition)?;
+    let partners = partners(alloc, lexemes.as_slice())?;
+    let tree = item_tree(alloc, lexemes.as_slice(), partners.as_slice())?;
+    Ok(Parsed {
+        lexemes,
+        partners,
+        tree,
+    })
+}
+
+/// The text of some bytes.
+pub(crate) fn text_in(text: &str, range: TextRange) -> &str {
+    text.get(range.start..range.end).unwrap_or("?")
+}
+
+/// The text of a lexeme.
+pub(crate) fn lexeme_text<'a>(text: &'a str, lexemes: &[Lexeme], place: usize) -> &'a str {
+    match lexemes.get(place) {
+        Some(lexeme) => text
+            .get(lexeme.start..lexeme.start.saturating_add(lexeme.len))
+            .unwrap_or("?"),
+        None => "?",
+    }
+}
