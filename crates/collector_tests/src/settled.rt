@@ -1,6 +1,4 @@
 //! A world that settles: globs of modules and of an enum, a name that shadows, who sees what, and an unnamed trait.
-use dm_collector::settle::settle;
-use dm_collector::sources::GlobImport;
 use dm_base::fields_shape::FieldsShape;
 use dm_base::ids::{
     EnumId, EnumVariantId, FileAstId, FileId, ModuleId, StructId, TraitId, UseId, UseTreeIdx,
@@ -12,6 +10,8 @@ use dm_base::name::Name;
 use dm_base::per_ns::{Item, PerNs};
 use dm_base::source::{Edition, EditionedFileId, HirFileId, TreeId};
 use dm_base::visibility::{Visibility, VisibilityExplicitness};
+use dm_collector::settle::settle;
+use dm_collector::sources::GlobImport;
 use dm_maps::build_fault::BuildFault;
 use dm_maps::builder::WorldBuilder;
 use dm_maps::fault::WorldFault;

@@ -1,20 +1,38 @@
 -- The items of the modules from a number on.
-use Rattle.std.proofs.Common.{◌≡◌, ◌+◌, ◌++◌, ◌∙◌, ◌<◌, ◌≤◌, ℕ, zero, suc, List, [], ◌∷◌, length, drop, get_or, map, refl, ap, sym, subst, arith}
-use Rattle.std.specs.Prelude.{All, Option}
+use Rattle.std.proofs.Common.{◌≡◌, ◌+◌, ◌-◌, ◌++◌, ◌∙◌, ◌<◌, ◌≤◌, ℕ, List, [], ◌∷◌, length, drop, get_or, map, refl, ap, sym, subst, arith}
+use Rattle.std.specs.Prelude.{◌&&◌, All, None, Option, Some, nat_le, nat_lt, not}
+use Rattle.std.specs.Ordering.{is_lt, nat_cmp}
 use Rattle.std.proofs.lemmas.List.{drop_all, drop_more}
 use Rattle.std.proofs.lemmas.List.Elements.{All-append, All-cons, All-map, All-nil}
-use Rattle.crate_items.specs.ModuleItems.{AreItemsFrom, IsBelow, IsInTextOrder, items_in, row_of}
+use Rattle.crate_items.specs.FileItems.{rank_of}
+use Rattle.crate_items.specs.ModuleItems.{AreItemsFrom, AreItemsOf, IsBelow, row_of}
 use Rattle.crate_items.specs.declared.module_items.ModuleItem.{ModuleItem}
-use Rattle.crate_items.specs.declared.module_items.Placed.{Placed}
+use Rattle.crate_items.specs.declared.file_items.Homed.{Homed}
 use Rattle.crate_modules.specs.DeclaredModules.{Module}
-use Rattle.crate_modules.specs.Sources.{Source, source_at}
+use Rattle.crate_modules.specs.Modules.{is_same}
+use Rattle.crate_modules.specs.Sources.{Source}
+
+-- the ranks up to that of a module, without those of modules before it
+pub same_rank : (home : Option ℕ) (x : Option ℕ) → (nat_lt (rank_of home - 1) (rank_of x) && nat_le (rank_of x) (rank_of home)) ≡ is_same x home
+same_rank None None = grind arith
+same_rank None (Some n) = grind arith
+same_rank (Some m) None = grind arith
+same_rank (Some m) (Some n) = grind arith
+
+-- who has the rank of a module stands in it
+pub same_ties : (home : Option ℕ) (x : Option ℕ)
+    → (not (is_lt (nat_cmp (rank_of home) (rank_of x))) && not (is_lt (nat_cmp (rank_of x) (rank_of home)))) ≡ is_same x home
+same_ties None None = grind arith
+same_ties None (Some n) = grind arith
+same_ties (Some m) None = grind arith
+same_ties (Some m) (Some n) = grind arith
 
 pub none_left : (table : List (Option Source)) (n : ℕ) (ms : List Module) → length ms ≤ n → AreItemsFrom table n (drop n ms) []
 none_left table n ms h = subst (λ (left : List Module). AreItemsFrom table n left []) (sym (drop_all n ms h)) refl
 
-pub one_before : (table : List (Option Source)) (n : ℕ) (ms : List Module) (m : Module) (own : List Placed) (rest : List ModuleItem)
+pub one_before : (table : List (Option Source)) (n : ℕ) (ms : List Module) (m : Module) (own : List Homed) (rest : List ModuleItem)
     → n < length ms → m ≡ get_or ms n m
-    → IsInTextOrder (items_in (source_at table m.file) m.item) own
+    → AreItemsOf table m own
     → AreItemsFrom table (n + 1) (drop (n + 1) ms) rest
     → AreItemsFrom table n (drop n ms) (map (row_of n m) own ++ rest)
 one_before table n ms m own rest h is order more =
@@ -22,9 +40,9 @@ one_before table n ms m own rest h is order more =
     subst (λ (left : List Module). AreItemsFrom table n left (map (row_of n m) own ++ rest)) (sym next)
     (own, rest, order, more, refl)
 
-each_below : (k n : ℕ) (m : Module) (own : List Placed) → n < k → All (λ (x : Placed). IsBelow k (row_of n m x)) own
-each_below k n m [] h = All-nil (λ (x : Placed). IsBelow k (row_of n m x))
-each_below k n m (x ∷ xs) h = All-cons (λ (y : Placed). IsBelow k (row_of n m y)) x xs h (each_below k n m xs h)
+each_below : (k n : ℕ) (m : Module) (own : List Homed) → n < k → All (λ (x : Homed). IsBelow k (row_of n m x)) own
+each_below k n m [] h = All-nil (λ (x : Homed). IsBelow k (row_of n m x))
+each_below k n m (x ∷ xs) h = All-cons (λ (y : Homed). IsBelow k (row_of n m y)) x xs h (each_below k n m xs h)
 
 pub all_below : (table : List (Option Source)) (k n : ℕ) (ms : List Module) (rows : List ModuleItem)
     → n + length ms ≡ k → AreItemsFrom table n ms rows → All (IsBelow k) rows

@@ -1,1 +1,3 @@
 pub mod ItemLemmas
+pub mod NumberLemmas
+pub mod TableLemmas

@@ -1,5 +1,5 @@
 -- What `use` items import.
-use Rattle.std.specs.Prelude.{◌+◌, ◌-◌, ◌++◌, ℕ, Bool, true, false, List, [], ◌∷◌, Option, Some, None, length, slice_get}
+use Rattle.std.specs.Prelude.{◌+◌, ◌-◌, ◌++◌, ℕ, true, false, List, [], ◌∷◌, Option, Some, None, length, slice_get}
 use Rattle.crate_items.specs.LexemeNames.{kind_at, name_at}
 use Rattle.crate_items.specs.UsePaths.{path_of}
 use Rattle.crate_items.specs.declared.declared_import.Binding.{Binding}

@@ -1,5 +1,5 @@
 -- What lexemes name.
-use Rattle.std.specs.Prelude.{ℕ, Bool, true, false, not, List, Option, Some, None, slice_get, if◌then◌else◌}
+use Rattle.std.specs.Prelude.{ℕ, Bool, true, false, not, List, [], ◌∷◌, Option, Some, None, slice_get, if◌then◌else◌}
 use Rattle.crate_modules.specs.Modules.{as_name}
 use Rattle.dm_ids.specs.Names.{Name}
 use Rattle.item_tree.specs.Spans.{name_text}
@@ -32,14 +32,18 @@ abbrev pub name_of : List ℕ → Option Lexeme → Option Name
 name_of text None = None
 name_of text (Some l) = lexeme_name text l
 
--- what the lexeme at a place names, if there is one
+-- what the lexeme at a place names
 abbrev pub name_at : List ℕ → List Lexeme → ℕ → Option Name
 name_at text ls i = name_of text (slice_get ls i)
-
-abbrev pub name_if : List ℕ → List Lexeme → Option ℕ → Option Name
-name_if text ls None = None
-name_if text ls (Some i) = name_at text ls i
 
 -- the kind of the lexeme at a place; an error past the last
 abbrev pub kind_at : List Lexeme → ℕ → LexemeKind
 kind_at ls i = lexeme_at ls i
+
+abbrev pub listed : Option Name → List Name
+listed None = []
+listed (Some name) = name ∷ []
+
+-- the name that a lexeme is, if it is one
+abbrev pub lexeme_names : List ℕ → Lexeme → List Name
+lexeme_names text l = listed (lexeme_name text l)

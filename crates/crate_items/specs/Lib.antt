@@ -1,3 +1,4 @@
+pub mod FileItems
 pub mod ModuleItems
 pub mod LexemeNames
 pub mod Shapes
@@ -5,3 +6,9 @@ pub mod DeclaredItems
 pub mod DeclaredVariants
 pub mod UsePaths
 pub mod DeclaredImports
+pub mod ItemAttributes
+pub mod DeclaredMacros
+pub mod MacroCalls
+pub mod CrateAttributes
+pub mod ChildModules
+pub mod ItemRows

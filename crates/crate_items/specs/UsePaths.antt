@@ -1,7 +1,7 @@
 -- The paths of use trees.
 use Rattle.std.specs.Prelude.{◌==◌, ◌+◌, ℕ, Bool, true, false, List, [], ◌∷◌, Option, Some, None, drop, length, nat_lt, if◌then◌else◌}
 use Rattle.std.specs.List.{flat_map, prefix_len}
-use Rattle.crate_items.specs.LexemeNames.{kind_at, name_at}
+use Rattle.crate_items.specs.LexemeNames.{kind_at, listed, name_at}
 use Rattle.crate_items.specs.declared.use_paths.Start.{Start}
 use Rattle.dm_base.specs.Path.{Path}
 use Rattle.dm_base.specs.declared.mod_path.PathKind.{PathKind}
@@ -29,8 +29,8 @@ plain = record { kind = path.Plain; len = 0 }
 abbrev pub marked : ℕ → Start
 marked b = if b == 58 then record { kind = path.Abs; len = 1 } else plain
 
--- a path begins with colons, with `crate`, or with `self` and so many `super`, of which each is a step outwards, or with
--- a first `super` and so many others; or else with its first name
+-- a path begins with colons, with `crate`, or with `self` and so many `super`, of which each is a step outwards, or
+-- with a first `super` and so many others; or else with its first name
 abbrev pub start_with : LexemeKind → ℕ → Option Start
 start_with (Mark b) supers = Some (marked b)
 start_with (Word word.Crate) supers = Some (record { kind = path.Crate; len = 1 })
@@ -41,10 +41,6 @@ start_with _ supers = Some plain
 abbrev pub start_of : List Lexeme → List ℕ → Option Start
 start_of ls [] = Some plain
 start_of ls (p ∷ ps) = start_with (kind_at ls p) (prefix_len (is_super_at ls) ps)
-
-abbrev pub listed : Option Name → List Name
-listed None = []
-listed (Some name) = name ∷ []
 
 abbrev pub name_list : List ℕ → List Lexeme → ℕ → List Name
 name_list text ls i = listed (name_at text ls i)

@@ -280,9 +280,9 @@ fn imports_of_item(
     }
 }
 
-/// What a `use` item imports: each leaf of its use trees, in order, with its whole path and the name that it binds. Where
-/// a path has anything but names behind its beginning, or more than 255 `super`, or nothing to bind, there is no import.
-/// What is no `use` imports nothing.
+/// What a `use` item imports: each leaf of its use trees, in order, with its whole path and the name that it binds.
+/// Where a path has anything but names behind its beginning, or more than 255 `super`, or nothing to bind, there is no
+/// import. What is no `use` imports nothing.
 ///
 /// # Errors
 ///

@@ -35,8 +35,8 @@ pub struct DeclaredItem {
     /// The number of the item in the tree of that file.
     pub item: usize,
     pub kind: ItemKind,
-    /// The name that it is bound under, without the `r#` of a raw one; that of an `extern crate` is the one behind `as`,
-    /// if there is one. None where it has none, and where that is `_`.
+    /// The name that it is bound under, without the `r#` of a raw one; that of an `extern crate` is the one behind
+    /// `as`, if there is one. None where it has none, and where that is `_`.
     pub name: Option<Name>,
     /// Whom it is shown to; none where its visibility leads to no module around, which is an error.
     pub visibility: Option<DeclaredVisibility>,
@@ -182,8 +182,8 @@ fn push_row(
     Ok(())
 }
 
-/// The items of some rows, as `module_items` gives them, each with its name, visibility and shape. A row whose module or
-/// item is not there gives none.
+/// The items of some rows, as `module_items` gives them, each with its name, visibility and shape. A row whose module
+/// or item is not there gives none.
 ///
 /// # Errors
 ///

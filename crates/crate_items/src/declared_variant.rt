@@ -138,8 +138,8 @@ fn variants_of_item(
     }
 }
 
-/// The variants of an enum that the crate has, by its options, in order: each with its name and the shape of its fields.
-/// What is no enum has none.
+/// The variants of an enum that the crate has, by its options, in order: each with its name and the shape of its
+/// fields. What is no enum has none.
 ///
 /// # Errors
 ///

@@ -1,5 +1,6 @@
 //! What lexemes name.
-ghost use Rattle.std.specs.Prelude.{◌≡◌, IfOk};
+ghost use Rattle.std.specs.Prelude.{◌≡◌, ◌++◌, IfOk, OnOk};
+ghost use Rattle.std.specs.List.{flat_map};
 ghost use Rattle.crate_items.specs.LexemeNames as spec;
 ghost use Rattle.crate_modules.specs.Modules.{as_name};
 
@@ -68,21 +69,6 @@ pub(crate) fn name_at(
     }
 }
 
-/// What the lexeme at a place names, if there is one.
-pub(crate) fn name_if(
-    alloc: Global,
-    text: &[u8],
-    lexemes: &[Lexeme],
-    place: Option<usize>,
-) -> Result<Option<Name>, AllocError>
-    ensures { IfOk result (λ name. name ≡ spec.name_if text.now lexemes.now place) }
-{
-    match place {
-        None => Ok(None),
-        Some(place) => name_at(alloc, text, lexemes, place),
-    }
-}
-
 /// The kind of the lexeme at a place; `Error` past the last.
 pub(crate) fn kind_at(lexemes: &[Lexeme], place: usize) -> LexemeKind
     ensures { result ≡ spec.kind_at lexemes.now place }
@@ -91,4 +77,34 @@ pub(crate) fn kind_at(lexemes: &[Lexeme], place: usize) -> LexemeKind
         None => LexemeKind::Error,
         Some(lexeme) => lexeme.kind,
     }
+}
+
+/// Adds a name, if it is one.
+pub(crate) fn push_name(names: &mut Vec<Name>, name: Option<Name>) -> Result<(), AllocError>
+    ensures { OnOk result (names.new.items ≡ names.old.items ++ spec.listed name) }
+{
+    match name {
+        None => Ok(()),
+        Some(name) => {
+            names.push(name)?;
+            Ok(())
+        }
+    }
+}
+
+/// The names among some lexemes.
+pub(crate) fn names_among(
+    alloc: Global,
+    text: &[u8],
+    lexemes: &[Lexeme],
+) -> Result<Vec<Name>, AllocError>
+    ensures { IfOk result
+        (λ names. names.items ≡ flat_map (spec.lexeme_names text.now) lexemes.now) }
+{
+    let mut names = Vec::new(alloc);
+    for lexeme in lexemes {
+        let name = lexeme_name(alloc, text, *lexeme)?;
+        push_name(&mut names, name)?;
+    }
+    Ok(names)
 }

@@ -2,11 +2,18 @@
 //! variants and imports. No def map is needed for that.
 #![tactic(auto)]
 
+pub mod child_module;
+pub mod crate_attributes;
 pub mod declared_import;
 pub mod declared_item;
+pub mod declared_macro;
 pub mod declared_variant;
+mod file_items;
+pub mod item_attributes;
+pub mod item_rows;
 mod lexeme_names;
 mod lookups;
+pub mod macro_call;
 pub mod module_items;
 mod shapes;
 mod use_paths;

@@ -1,9 +1,9 @@
 //! The paths of use trees.
-ghost use Rattle.std.specs.Prelude.{◌≡◌, ◌++◌, ◌<◌, ◌≤◌, ◌^◌, IfOk, OnOk, drop, length};
+ghost use Rattle.std.specs.Prelude.{◌≡◌, ◌<◌, ◌≤◌, ◌^◌, IfOk, drop, length};
 ghost use Rattle.std.specs.List.{flat_map, prefix_len};
 ghost use Rattle.crate_items.specs.UsePaths as spec;
 
-use crate::lexeme_names::{kind_at, name_at};
+use crate::lexeme_names::{kind_at, name_at, push_name};
 use dm_base::mod_path::{ModPath, PathKind};
 use dm_ids::name::Name;
 use item_tree::lexeme::{Lexeme, LexemeKind};
@@ -105,19 +105,6 @@ fn start_of(lexemes: &[Lexeme], places: &[usize]) -> Option<Start>
     match places.first() {
         None => Some(plain()),
         Some(first) => start_with(kind_at(lexemes, *first), supers(lexemes, behind(places, 1))),
-    }
-}
-
-/// Adds a name, if it is one.
-fn push_name(names: &mut Vec<Name>, name: Option<Name>) -> Result<(), AllocError>
-    ensures { OnOk result (names.new.items ≡ names.old.items ++ spec.listed name) }
-{
-    match name {
-        None => Ok(()),
-        Some(name) => {
-            names.push(name)?;
-            Ok(())
-        }
     }
 }
 

@@ -43,6 +43,22 @@ impl CrateGraph {
         self.crates.len()
     }
 
+    /// The crates, each at its number.
+    pub fn crates(&self) -> &[CrateData]
+        ensures { result.now ≡ self.now }
+    {
+        self.crates.as_slice()
+    }
+
+    /// The crate of a number.
+    pub fn crate_at(&self, number: usize) -> Crate
+        requires { number < length self.now }
+        ensures { result.0 ≡ number }
+    {
+        let _crates = &self.crates;
+        Crate(number as u32)
+    }
+
     /// Whether there is no crate.
     pub fn is_empty(&self) -> bool
         ensures { IsTrue result ↔ (self.now ≡ []) }

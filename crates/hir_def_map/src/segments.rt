@@ -84,13 +84,7 @@ fn seen_type_in<'a>(
 
 /// Into a module: one of another crate is entered at the nearest module that is no block's root.
 #[inline(always)]
-fn entry(
-    world: &World,
-    differing: bool,
-    origin: ModuleId,
-    krate: Crate,
-    m: ModuleId,
-) -> Entered
+fn entry(world: &World, differing: bool, origin: ModuleId, krate: Crate, m: ModuleId) -> Entered
     requires origin { IsKnown (tree_of world.now) origin }
     requires krate { krate ≡ crate_of (tree_of world.now) origin }
     requires module_known { IsKnown (tree_of world.now) m }

@@ -1,12 +1,16 @@
-//! The items of a small crate, with the variants of its enums and what its `use` items import.
+//! The items of a small crate, with the variants of its enums, what its `use` items import, and its macros.
+use crate_items::crate_attributes::{CrateAttribute, crate_attributes};
 use crate_items::declared_import::{DeclaredImport, declared_imports};
 use crate_items::declared_item::{DeclaredItem, LinkedCrate, declared_items, linked_crate};
+use crate_items::declared_macro::{is_macro_exported, macro_use};
 use crate_items::declared_variant::declared_variants;
+use crate_items::macro_call::macro_call_path;
 use crate_items::module_items::module_items;
 use crate_modules::crate_data::CrateData;
 use crate_modules::file_table::FileTable;
 use crate_modules::module_visibility::DeclaredVisibility;
 use crate_modules::modules::{CrateModules, declared_modules};
+use dm_base::mod_path::ModPath;
 use dm_ids::ids::FileId;
 use dm_ids::name::Name;
 use dm_ids::source::Edition;
@@ -14,11 +18,13 @@ use item_tree::cfg::CfgOptions;
 use std::alloc::Global;
 use std::test::Fail;
 
-const LIB: &str = "extern crate alloc as heap;
+const LIB: &str =
+    "#![no_std] #![cfg_attr(no, no_core)] #![recursion_limit = \"7\"] #![feature(a, r#b)]
+extern crate alloc as heap;
 extern crate self as me;
-extern crate core as _;
+#[macro_use(x, y)] extern crate core as _;
 pub mod m;
-mod inner {
+#[macro_use] mod inner {
     pub(super) struct Tuple(u8);
     struct Unit;
     pub(crate) struct Record { a: u8 }
@@ -28,8 +34,8 @@ mod inner {
 }
 cfg_if::cfg_if! { if #[cfg(no)] { fn first() {} } else { const _: u8 = 0; union Second { a: u8 } } }
 pub(in other) trait Wrong { fn f(); }
-macro_rules! mac { () => {} }
-mac! {}
+#[cfg_attr(all(), macro_export)] macro_rules! mac { () => {} }
+::core::mac! {}
 pub use crate::inner::Record;
 #[cfg(no)] fn absent() {}
 type r#Alias = u8;
@@ -44,6 +50,8 @@ use super;
 use *;
 use crate::{self as this, crate::d, super::e};";
 
+const CRATE: &str = "no_std limit 7 feature a feature b ";
+
 /// The items: the number of the module, the kind, the name, to whom it is shown, and the shape; and what is in them.
 const ITEMS: &str = "0 ExternCrate heap 0 Record
   alloc
@@ -51,13 +59,17 @@ const ITEMS: &str = "0 ExternCrate heap 0 Record
   itself
 0 ExternCrate - 0 Record
   core
+  uses x y
 0 Mod m all Record
 0 Mod inner 0 Record
+  uses all
 0 Const - 0 Record
 0 Union Second 0 Record
 0 Trait Wrong error Record
 0 MacroRules mac 0 Record
+  exported
 0 MacroCall - 0 Record
+  Abs core mac
 0 Use - all Record
   0 Plain Crate inner Record as Record
 0 TypeAlias Alias 0 Record
@@ -125,13 +137,20 @@ fn item_line(alloc: Global, item: &DeclaredItem) -> Result<String, Fail> {
     Ok(format!(in alloc; "{number} {kind:?} {name} {shown} {shape:?}\n")?)
 }
 
-fn import_line(alloc: Global, import: &DeclaredImport) -> Result<String, Fail> {
-    let (number, kind, start) = (import.tree.0, import.kind, import.path.kind());
-    let mut line = format!(in alloc; "  {number} {kind:?} {start:?}")?;
-    for segment in import.path.segments() {
-        line.push_str(" ")?;
-        line.push_str(segment.as_str())?;
+fn path_text(alloc: Global, path: &ModPath) -> Result<String, Fail> {
+    let start = path.kind();
+    let mut text = format!(in alloc; "{start:?}")?;
+    for segment in path.segments() {
+        text.push_str(" ")?;
+        text.push_str(segment.as_str())?;
     }
+    Ok(text)
+}
+
+fn import_line(alloc: Global, import: &DeclaredImport) -> Result<String, Fail> {
+    let (number, kind) = (import.tree.0, import.kind);
+    let path = path_text(alloc, &import.path)?;
+    let mut line = format!(in alloc; "  {number} {kind:?} {path}")?;
     if import.is_unnamed {
         line.push_str(" as _")?;
     }
@@ -141,6 +160,50 @@ fn import_line(alloc: Global, import: &DeclaredImport) -> Result<String, Fail> {
     }
     line.push_str("\n")?;
     Ok(line)
+}
+
+fn push_macros(
+    text: &mut String,
+    alloc: Global,
+    list: &CrateModules,
+    files: &FileTable,
+    item: &DeclaredItem,
+) -> Result<(), Fail> {
+    if is_macro_exported(alloc, list, item)? {
+        text.push_str("  exported\n")?;
+    }
+    if let Some(path) = macro_call_path(alloc, list, files, item)? {
+        let path = path_text(alloc, &path)?;
+        text.push_str(format!(in alloc; "  {path}\n")?.as_str())?;
+    }
+    let used = macro_use(alloc, list, files, item)?;
+    if used.is_whole() || !used.names().is_empty() {
+        text.push_str("  uses")?;
+        text.push_str(if used.is_whole() { " all" } else { "" })?;
+        for name in used.names() {
+            text.push_str(format!(in alloc; " {name}")?.as_str())?;
+        }
+        text.push_str("\n")?;
+    }
+    Ok(())
+}
+
+fn crate_text(alloc: Global, list: &CrateModules, files: &FileTable) -> Result<String, Fail> {
+    let mut text = String::new(alloc);
+    for set in &crate_attributes(alloc, list, files, FileId(0))? {
+        let word = match set {
+            CrateAttribute::NoStd => String::from_str(alloc, "no_std ")?,
+            CrateAttribute::NoCore => String::from_str(alloc, "no_core ")?,
+            CrateAttribute::CoherenceIsCore => String::from_str(alloc, "coherence ")?,
+            CrateAttribute::RecursionLimit(limit) => format!(in alloc; "limit {limit} ")?,
+            CrateAttribute::Feature(feature) => {
+                let feature = feature.as_str();
+                format!(in alloc; "feature {feature} ")?
+            }
+        };
+        text.push_str(word.as_str())?;
+    }
+    Ok(text)
 }
 
 fn push_parts(
@@ -175,6 +238,7 @@ fn items_text(alloc: Global, list: &CrateModules, files: &FileTable) -> Result<S
     for item in &items {
         text.push_str(item_line(alloc, item)?.as_str())?;
         push_parts(&mut text, alloc, list, files, item)?;
+        push_macros(&mut text, alloc, list, files, item)?;
     }
     Ok(text)
 }
@@ -188,6 +252,7 @@ fn items_of_a_crate(rt: HostRuntime) -> Result<(), Fail> {
     if files.contains(root.root_file_id()) {
         let list = declared_modules(alloc, &root, &options, &files, 9)?;
         assert_eq!(rt; items_text(alloc, &list, &files)?.as_str(), ITEMS);
+        assert_eq!(rt; crate_text(alloc, &list, &files)?.as_str(), CRATE);
     }
     Ok(())
 }

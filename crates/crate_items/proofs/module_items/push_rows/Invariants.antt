@@ -3,6 +3,6 @@ use Rattle.std.specs.Prelude.{map}
 use Rattle.crate_items.specs.ModuleItems.{row_of}
 use Rattle.crate_items.proofs.module_items.push_rows.Given as goal
 
-abbrev pub invariant-loop-placed : goal.invariant-loop-placed
-invariant-loop-placed l =
-    l.rows.items ++ map (row_of l.number l.outer) (drop l.placed-index l.items) ≡ l.fn.rows.items ++ map (row_of l.number l.outer) l.items
+abbrev pub invariant-loop-homed : goal.invariant-loop-homed
+invariant-loop-homed l =
+    l.rows.items ++ map (row_of l.number l.outer) (drop l.homed-index l.items) ≡ l.fn.rows.items ++ map (row_of l.number l.outer) l.items

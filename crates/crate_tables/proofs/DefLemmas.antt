@@ -1,0 +1,101 @@
+-- Definitions and uses that a table gets hold what is the builder's; and one item more.
+use Rattle.std.proofs.Common.{◌≡◌, ◌++◌, ◌∷◌, [], Bool, true, false, cond, List, Option, Some, None, refl}
+use Rattle.std.specs.Prelude.{All, IsTrue, map}
+use Rattle.std.proofs.lemmas.List.Elements.{All-append, All-cons, All-nil}
+use Rattle.crate_items.specs.declared.declared_import.DeclaredImport.{DeclaredImport}
+use Rattle.crate_items.specs.declared.declared_item.DeclaredItem.{DeclaredItem}
+use Rattle.crate_items.specs.declared.declared_variant.DeclaredVariant.{DeclaredVariant}
+use Rattle.crate_tables.proofs.TableLemmas.{table-named, table-on, type-known}
+use Rattle.crate_tables.specs.CrateDefs.{constructor_vis, with_declared, with_items, with_variant_of, with_variants}
+use Rattle.crate_tables.specs.CrateMaps.{Filled}
+use Rattle.crate_tables.specs.CrateTables.{IsLeafOf, IsTableOf, Table, leaf_in, with_leaves, with_named}
+use Rattle.crate_tables.specs.NewModules.{CrateView}
+use Rattle.dm_base.specs.PerNs.{constructed, macro_alone, of_def, type_and_value, value_alone}
+use Rattle.dm_base.specs.declared.visibility.Visibility.{Visibility}
+use Rattle.dm_check.specs.Holding.{def_holds, res_holds, vis_holds}
+use Rattle.dm_check.specs.declared.held.HeldId.TheVariants as held
+use Rattle.dm_ids.specs.Kinds.{has_constructor}
+use Rattle.dm_ids.specs.Names.{Name}
+use Rattle.dm_ids.specs.declared.fields_shape.FieldsShape.{FieldsShape}
+use Rattle.dm_ids.specs.declared.ids.Crate.{Crate}
+use Rattle.dm_ids.specs.declared.ids.EnumId.{EnumId}
+use Rattle.dm_ids.specs.declared.ids.ModuleId.{ModuleId}
+use Rattle.dm_ids.specs.declared.ids.UseId.{UseId}
+use Rattle.dm_ids.specs.declared.item_ids.AdtId.TheVariants as adt
+use Rattle.dm_ids.specs.declared.item_ids.MacroId.{MacroId}
+use Rattle.dm_ids.specs.declared.item_ids.ModuleDefId.{ModuleDefId}
+use Rattle.dm_ids.specs.declared.item_ids.ModuleDefId.TheVariants as def
+use Rattle.dm_maps.specs.Added.{IsGrown}
+use Rattle.dm_maps.specs.Known.{knows, KnowsAll}
+use Rattle.dm_maps.specs.KnownLaws.{knows-append}
+use Rattle.dm_maps.specs.World.{World}
+
+value-known : (w : World) (d : ModuleDefId) (v : Visibility) → KnowsAll w (def_holds d) → KnowsAll w (vis_holds v) → KnowsAll w (res_holds (value_alone d v None))
+value-known w d v kd kv =
+    knows-append w _ [] (knows-append w (def_holds d ++ vis_holds v) [] (knows-append w (def_holds d) (vis_holds v) kd kv) tt) tt
+
+both-known : (w : World) (d : ModuleDefId) (v : Visibility) → KnowsAll w (def_holds d) → KnowsAll w (vis_holds v) → KnowsAll w (res_holds (type_and_value d v d v None))
+both-known w d v kd kv =
+    let one = knows-append w (def_holds d ++ vis_holds v) [] (knows-append w (def_holds d) (vis_holds v) kd kv) tt in
+    knows-append w _ [] (knows-append w _ _ one one) tt
+
+macro-known : (w : World) (m : MacroId) (v : Visibility) → IsTrue (knows w (held.Macro m)) → KnowsAll w (vis_holds v) → KnowsAll w (res_holds (macro_alone m v None))
+macro-known w m v km kv = knows-append w ((held.Macro m ∷ []) ++ vis_holds v) [] (km, kv) tt
+
+constructed-known : (w : World) (d : ModuleDefId) (v : Visibility) (shape : FieldsShape) → KnowsAll w (def_holds d) → KnowsAll w (vis_holds v) → KnowsAll w (res_holds (constructed d v (constructor_vis shape v) None))
+constructed-known w d v shape kd kv = by (has_constructor shape)
+  where
+    by : (b : Bool) → KnowsAll w (res_holds (constructed d v (cond b (Some v) None) None))
+    by true = both-known w d v kd kv
+    by false = type-known w d v kd kv
+
+-- what a known definition is, seen by what is known, is known
+pub def-known : (w : World) (d : ModuleDefId) (v : Visibility) (shape : FieldsShape) → KnowsAll w (def_holds d) → KnowsAll w (vis_holds v) → KnowsAll w (res_holds (of_def d v (constructor_vis shape v) None))
+def-known w (def.ModuleId m) v s kd kv = type-known w (def.ModuleId m) v kd kv
+def-known w (def.FunctionId n) v s kd kv = value-known w (def.FunctionId n) v kd kv
+def-known w (def.AdtId (adt.StructId n)) v s kd kv = constructed-known w (def.AdtId (adt.StructId n)) v s kd kv
+def-known w (def.AdtId (adt.UnionId n)) v s kd kv = type-known w (def.AdtId (adt.UnionId n)) v kd kv
+def-known w (def.AdtId (adt.EnumId n)) v s kd kv = type-known w (def.AdtId (adt.EnumId n)) v kd kv
+def-known w (def.EnumVariantId e) v s kd kv = constructed-known w (def.EnumVariantId e) v s kd kv
+def-known w (def.ConstId n) v s kd kv = value-known w (def.ConstId n) v kd kv
+def-known w (def.StaticId n) v s kd kv = value-known w (def.StaticId n) v kd kv
+def-known w (def.TraitId n) v s kd kv = type-known w (def.TraitId n) v kd kv
+def-known w (def.TypeAliasId n) v s kd kv = type-known w (def.TypeAliasId n) v kd kv
+def-known w (def.BuiltinType b) v s kd kv = type-known w (def.BuiltinType b) v kd kv
+def-known w (def.MacroId m) v s kd kv = macro-known w m v kd.0 kv
+
+-- a table with a definition more, under its name if it has one
+pub table-defined : (v w : World) (k : Crate) (t : Table) (m : ModuleId) (n : Option Name) (d : ModuleDefId) (vis : Visibility) (shape : FieldsShape)
+    → IsGrown v w → IsTrue (knows v (held.Module m)) → KnowsAll w (def_holds d) → IsTableOf v k t → KnowsAll v (vis_holds vis)
+    → IsTableOf w k (with_named t m n (of_def d vis (constructor_vis shape vis) None))
+table-defined v w k t m None d vis shape grown km kd is kv = table-on v w k t grown is
+table-defined v w k t m (Some n) d vis shape grown km kd is kv =
+    table-named w k t (record { home = m; name = n; items = of_def d vis (constructor_vis shape vis) None }) (table-on v w k t grown is)
+    (record { known = (grown.known (held.Module m) km, def-known w d vis shape kd (grown.all (vis_holds vis) kv)) })
+
+all-leaves : (w : World) (m : ModuleId) (vis : Visibility) (u : UseId) (xs : List DeclaredImport)
+    → IsTrue (knows w (held.Module m)) → IsTrue (knows w (held.Use u)) → KnowsAll w (vis_holds vis) → All (IsLeafOf w) (map (leaf_in m vis u) xs)
+all-leaves w m vis u [] km ku kv = All-nil (IsLeafOf w)
+all-leaves w m vis u (x ∷ xs) km ku kv = All-cons (IsLeafOf w) (leaf_in m vis u x) (map (leaf_in m vis u) xs) (km, (ku, kv)) (all-leaves w m vis u xs km ku kv)
+
+-- a table with the leaves of a use more
+pub table-used : (v w : World) (k : Crate) (t : Table) (m : ModuleId) (vis : Visibility) (u : UseId) (xs : List DeclaredImport)
+    → IsGrown v w → IsTrue (knows v (held.Module m)) → IsTrue (knows w (held.Use u)) → IsTableOf v k t → KnowsAll v (vis_holds vis)
+    → IsTableOf w k (with_leaves t m vis u xs)
+table-used v w k t m vis u xs grown km ku is kv =
+    let on = table-on v w k t grown is in
+    record {
+      krate = on.krate;
+      ids = on.ids;
+      names = on.names;
+      leaves = All-append (IsLeafOf w) t.leaves (map (leaf_in m vis u) xs) on.leaves (all-leaves w m vis u xs (grown.known (held.Module m) km) ku (grown.all (vis_holds vis) kv));
+    }
+
+-- one variant more, and one item more
+pub variants-more : (w : World) (e : EnumId) (xs : List DeclaredVariant) (x : DeclaredVariant) → with_variants w e (xs ++ x ∷ []) ≡ with_variant_of (with_variants w e xs) e x
+variants-more w e [] x = refl
+variants-more w e (y ∷ ys) x = variants-more (with_variant_of w e y) e ys x
+
+pub items-more : (c : CrateView) (s : Filled) (xs : List DeclaredItem) (x : DeclaredItem) → with_items c s (xs ++ x ∷ []) ≡ with_declared c (with_items c s xs) x
+items-more c s [] x = refl
+items-more c s (y ∷ ys) x = items-more c (with_declared c s y) ys x

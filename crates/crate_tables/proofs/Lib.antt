@@ -1,0 +1,12 @@
+pub mod ChildLemmas
+pub mod GrownLemmas
+pub mod TableLemmas
+pub mod RootLemmas
+pub mod StepLemmas
+pub mod VariantLemmas
+pub mod DefLemmas
+pub mod ExternLemmas
+pub mod PreludeLemmas
+pub mod MacroLemmas
+pub mod FillingLemmas
+pub mod DeclaredLemmas

@@ -1,0 +1,54 @@
+-- What the answer of adding a variant tells of its enum.
+use Rattle.std.proofs.Common.{◌≡◌, Bool, true, false, cond, not, Option, Some, None, ap, refl}
+use Rattle.std.specs.Prelude.{Ok, Err, IsTrue}
+use Rattle.dm_check.specs.declared.held.HeldId.TheVariants as held
+use Rattle.dm_ids.specs.Names.{Name}
+use Rattle.dm_ids.specs.declared.ids.EnumId.{EnumId}
+use Rattle.dm_ids.specs.declared.item_ids.ItemKind.TheVariants as kinds
+use Rattle.dm_maps.specs.Faults.{Answers, is_full}
+use Rattle.dm_maps.specs.ItemFaults.{has_variant, lacks_enum, variant_fault}
+use Rattle.dm_maps.specs.Known.{knows}
+use Rattle.dm_maps.specs.World.{World}
+use Rattle.dm_maps.specs.declared.build_fault.BuildFault.{BuildFault}
+use Rattle.dm_maps.specs.declared.build_fault.BuildFault.TheVariants.{NoSuchEnum, TakenVariant, OutOfNumbers}
+use Rattle.crate_tables.specs.CrateMaps.{is_shortage}
+
+by-tests : (w : World) (e : EnumId) (n : Name) → variant_fault w e n ≡ cond (lacks_enum w e) (Some NoSuchEnum) (cond (has_variant w e n) (Some TakenVariant) (cond (is_full w.variants) (Some OutOfNumbers) None))
+unfolding variant_fault
+by-tests w e n = refl
+
+-- a variant was added: its name was free
+pub variant-free : (w : World) (e : EnumId) (n : Name) {A : Type 0} (x : A) → Answers (variant_fault w e n) (Ok x) → has_variant w e n ≡ false
+variant-free w e n {A} x h = by (lacks_enum w e) (has_variant w e n) (is_full w.variants) (variant_fault w e n) (by-tests w e n) h
+  where
+    by : (a b c : Bool) (o : Option BuildFault) → o ≡ cond a (Some NoSuchEnum) (cond b (Some TakenVariant) (cond c (Some OutOfNumbers) None)) → Answers {A = A} o (Ok x) → b ≡ false
+    by a false c o e h = refl
+    by a true c (Some f) e h = cc
+    by true true c None e h = cc
+    by false true c None e h = cc
+
+-- its name was refused: it was taken
+pub variant-taken : (A : Type 0) (w : World) (e : EnumId) (n : Name) → Answers {A = A} (variant_fault w e n) (Err TakenVariant) → has_variant w e n ≡ true
+variant-taken A w e n h = by (lacks_enum w e) (has_variant w e n) (is_full w.variants) (variant_fault w e n) (by-tests w e n) h
+  where
+    by : (a b c : Bool) (o : Option BuildFault) → o ≡ cond a (Some NoSuchEnum) (cond b (Some TakenVariant) (cond c (Some OutOfNumbers) None)) → Answers {A = A} o (Err TakenVariant) → b ≡ true
+    by a true c o e h = refl
+    by a false c None e h = cc
+    by true false c (Some f) e h = cc
+    by false false true (Some f) e h = cc
+    by false false false (Some f) e h = cc
+
+-- another refusal, of an enum that is there: memory or numbers ran out
+pub variant-short : (A : Type 0) (w : World) (e : EnumId) (n : Name) (f : BuildFault) → IsTrue (knows w (held.Item kinds.Enum e.0)) → Answers {A = A} (variant_fault w e n) (Err f) → (f ≡ TakenVariant → ⊥) → is_shortage f ≡ true
+variant-short A w e n f k h other = by (lacks_enum w e) (has_variant w e n) (is_full w.variants) (variant_fault w e n) (lacking (knows w (held.Item kinds.Enum e.0)) k) (by-tests w e n) h
+  where
+    lacking : (b : Bool) → IsTrue b → not b ≡ false
+    lacking true k = refl
+    lacking false k = cc
+
+    by : (a b c : Bool) (o : Option BuildFault) → a ≡ false → o ≡ cond a (Some NoSuchEnum) (cond b (Some TakenVariant) (cond c (Some OutOfNumbers) None)) → Answers {A = A} o (Err f) → is_shortage f ≡ true
+    by true b c o l e h = cc
+    by false b c None l e h = ap is_shortage h
+    by false true c (Some g) l e h = absurd (other (let same : f ≡ TakenVariant = cc in same))
+    by false false true (Some g) l e h = let same : f ≡ OutOfNumbers = cc in ap is_shortage same
+    by false false false (Some g) l e h = cc

@@ -1,0 +1,124 @@
+-- The items of a crate in a builder: definitions, variants, and uses.
+use Rattle.std.specs.Prelude.{ℕ, Bool, true, false, List, [], ◌∷◌, Option, None, Some, length, slice_get, if◌then◌else◌}
+use Rattle.crate_items.specs.DeclaredImports.{declared_imports}
+use Rattle.crate_items.specs.DeclaredItems.{written}
+use Rattle.crate_items.specs.DeclaredVariants.{declared_variants}
+use Rattle.crate_items.specs.declared.declared_import.DeclaredImport.{DeclaredImport}
+use Rattle.crate_items.specs.declared.declared_item.DeclaredItem.{DeclaredItem}
+use Rattle.crate_items.specs.declared.declared_variant.DeclaredVariant.{DeclaredVariant}
+use Rattle.crate_modules.specs.Modules.{Listing}
+use Rattle.crate_modules.specs.Sources.{Source, source_at}
+use Rattle.crate_tables.specs.CrateMaps.{Filled}
+use Rattle.crate_tables.specs.CrateTables.{with_leaves, with_named}
+use Rattle.crate_tables.specs.NewModules.{CrateView}
+use Rattle.crate_tables.specs.Visibilities.{id_at, visibility_of}
+use Rattle.dm_base.specs.PerNs.{of_def}
+use Rattle.dm_base.specs.declared.visibility.Visibility.{Visibility}
+use Rattle.dm_ids.specs.Kinds.{has_constructor}
+use Rattle.dm_ids.specs.declared.fields_shape.FieldsShape.{FieldsShape}
+use Rattle.dm_ids.specs.declared.ids.EnumId.{EnumId}
+use Rattle.dm_ids.specs.declared.ids.ModuleId.{ModuleId}
+use Rattle.dm_ids.specs.declared.item_ids.AdtId.TheVariants as adt
+use Rattle.dm_ids.specs.declared.item_ids.ItemKind.{ItemKind as Kind}
+use Rattle.dm_ids.specs.declared.item_ids.ItemKind.TheVariants as kind
+use Rattle.dm_ids.specs.declared.item_ids.ModuleDefId.{ModuleDefId}
+use Rattle.dm_ids.specs.declared.item_ids.ModuleDefId.TheVariants as def
+use Rattle.dm_maps.specs.Build.{item_def, with_item}
+use Rattle.dm_maps.specs.BuildItems.{next_use, with_use, with_variant}
+use Rattle.dm_maps.specs.ItemFaults.{has_variant}
+use Rattle.dm_maps.specs.World.{World}
+use Rattle.item_tree.specs.declared.item_kind.ItemKind.{ItemKind}
+use Rattle.item_tree.specs.declared.item_kind.ItemKind.TheVariants as item
+use Rattle.item_tree.specs.declared.items.Item.{Item}
+use Rattle.item_tree.specs.declared.visibility.RawVisibility.{RawVisibility}
+use Rattle.item_tree.specs.declared.visibility.RawVisibility.TheVariants as raw
+
+-- ---- What is written before an item
+
+abbrev pub written_in : Source → Option Item → RawVisibility
+written_in s None = raw.Inherited
+written_in s (Some x) = written s.lexemes x
+
+abbrev pub written_by : Option Source → ℕ → RawVisibility
+written_by None n = raw.Inherited
+written_by (Some s) n = written_in s (slice_get s.items n)
+
+-- the visibility that is written before an item of a crate; none, where there is no such item
+abbrev pub written_of : Listing → DeclaredItem → RawVisibility
+written_of l x = written_by (source_at l.sources x.file) x.item
+
+-- ---- Definitions
+
+-- the items that a builder numbers
+abbrev pub def_kind : ItemKind → Option Kind
+def_kind item.Function = Some kind.Function
+def_kind item.Struct = Some kind.Struct
+def_kind item.Union = Some kind.Union
+def_kind item.Enum = Some kind.Enum
+def_kind item.Const = Some kind.Const
+def_kind item.Static = Some kind.Static
+def_kind item.Trait = Some kind.Trait
+def_kind item.TypeAlias = Some kind.TypeAlias
+def_kind _ = None
+
+-- an enum gets its variants, of each name the first
+abbrev pub with_variant_of : World → EnumId → DeclaredVariant → World
+with_variant_of w e v = if has_variant w e v.name then w else with_variant w e v.name v.shape
+
+abbrev pub with_variants : World → EnumId → List DeclaredVariant → World
+with_variants w e [] = w
+with_variants w e (v ∷ vs) = with_variants (with_variant_of w e v) e vs
+
+abbrev pub with_variants_of : World → ModuleDefId → List DeclaredVariant → World
+with_variants_of w (def.AdtId (adt.EnumId e)) vs = with_variants w e vs
+with_variants_of w _ vs = w
+
+-- the constructor of a struct that has one is seen as the struct
+abbrev pub constructor_vis : FieldsShape → Visibility → Option Visibility
+constructor_vis shape v = if has_constructor shape then Some v else None
+
+-- a definition d of that kind, seen by v, is added in the module m, with these variants, and declared under its name: a type,
+-- a value, or a struct with a constructor as both
+abbrev pub defined_as : Filled → DeclaredItem → ModuleId → Visibility → Kind → ModuleDefId → List DeclaredVariant → Filled
+defined_as s x m v k d vs = record {
+  world = with_variants_of (with_item s.world k m) d vs;
+  table = with_named s.table m x.name (of_def d v (constructor_vis x.shape v) None);
+}
+
+abbrev pub defined : Filled → DeclaredItem → ModuleId → Visibility → Kind → List DeclaredVariant → Filled
+defined s x m v k vs = defined_as s x m v k (item_def k (length s.world.items)) vs
+
+-- what has no kind there is passed over
+abbrev pub defined_if : Filled → DeclaredItem → ModuleId → Visibility → Option Kind → List DeclaredVariant → Filled
+defined_if s x m v None vs = s
+defined_if s x m v (Some k) vs = defined s x m v k vs
+
+-- ---- Uses
+
+abbrev pub is_use : ItemKind → Bool
+is_use item.Use = true
+is_use _ = false
+
+-- a use of the module m, seen by v, is added with its leaves
+abbrev pub used : Filled → ModuleId → Visibility → List DeclaredImport → Filled
+used s m v xs = record { world = with_use s.world m; table = with_leaves s.table m v (next_use s.world) xs }
+
+-- ---- Items
+
+abbrev pub added_in : CrateView → Filled → DeclaredItem → ModuleId → Visibility → Filled
+added_in c s x m v =
+    if is_use x.kind then used s m v (declared_imports c.list c.files x)
+    else defined_if s x m v (def_kind x.kind) (declared_variants c.options c.list c.files x)
+
+-- an item of a module that was left out is, too
+abbrev pub added_if : CrateView → Filled → DeclaredItem → Option ModuleId → Filled
+added_if c s x None = s
+added_if c s x (Some m) = added_in c s x m (visibility_of c.krate s.table.ids m (written_of c.list x) x.visibility)
+
+abbrev pub with_declared : CrateView → Filled → DeclaredItem → Filled
+with_declared c s x = added_if c s x (id_at s.table.ids x.«module»)
+
+-- Each item is added, in order, in its module: definitions with their variants and names, uses with their leaves.
+abbrev pub with_items : CrateView → Filled → List DeclaredItem → Filled
+with_items c s [] = s
+with_items c s (x ∷ xs) = with_items c (with_declared c s x) xs

@@ -1,0 +1,80 @@
+-- The macros of a crate in a builder, and which names they get.
+use Rattle.std.specs.Prelude.{◌++◌, List, [], ◌∷◌, Option, None, Some, length, if◌then◌else◌}
+use Rattle.crate_items.specs.DeclaredMacros.{is_macro_exported}
+use Rattle.crate_items.specs.declared.declared_item.DeclaredItem.{DeclaredItem}
+use Rattle.crate_tables.specs.CrateRoots.{root_id}
+use Rattle.crate_tables.specs.CrateTables.{Table, with_named}
+use Rattle.crate_tables.specs.ExternCrates.{visibility_in}
+use Rattle.crate_tables.specs.NewModules.{CrateView}
+use Rattle.crate_tables.specs.Visibilities.{id_at}
+use Rattle.dm_base.specs.PerNs.{macro_alone}
+use Rattle.dm_base.specs.declared.visibility.Visibility.TheVariants.{Public}
+use Rattle.dm_ids.specs.declared.ids.ModuleId.{ModuleId}
+use Rattle.dm_ids.specs.declared.item_ids.MacroId.{MacroId}
+use Rattle.dm_ids.specs.declared.macros.MacroExpander.{MacroExpander}
+use Rattle.dm_ids.specs.declared.macros.MacroExpander.TheVariants as expander
+use Rattle.dm_ids.specs.declared.macros.MacroLoc.{MacroLoc}
+use Rattle.dm_ids.specs.declared.macros.MacroLoc.TheVariants as loc
+use Rattle.dm_maps.specs.BuildItems.{macro_id, with_macro}
+use Rattle.dm_maps.specs.World.{World}
+use Rattle.item_tree.specs.declared.item_kind.ItemKind.{ItemKind}
+use Rattle.item_tree.specs.declared.item_kind.ItemKind.TheVariants as item
+
+-- a builder, what a crate has there so far, and for each item so far the macro that it is
+pub record WithMacros : Type 0 where
+  pub world : World
+  pub table : Table
+  pub ids : List (Option MacroId)
+
+-- each is read by its rules, and is called as a function: no macro is expanded, so which are builtin is not known
+abbrev pub by_rules : MacroExpander
+by_rules = expander.Declarative (record { 0 = 1 })
+
+-- the items that are macros
+abbrev pub macro_loc : ItemKind → Option MacroLoc
+macro_loc item.MacroRules = Some (loc.MacroRules by_rules)
+macro_loc item.Macro2 = Some (loc.Macro2 by_rules)
+macro_loc _ = None
+
+-- one by `macro_rules!` that is exported is declared in the root of its crate, for all; others of that kind nowhere
+abbrev pub exported : CrateView → Table → DeclaredItem → MacroId → Table
+exported c t x id = if is_macro_exported c.list x then with_named t (root_id c.krate) x.name (macro_alone id Public None) else t
+
+-- one by `macro` is declared in its module, seen as it is written
+abbrev pub declared_in : CrateView → Table → DeclaredItem → ModuleId → MacroId → Table
+declared_in c t x m id = with_named t m x.name (macro_alone id (visibility_in c t x m) None)
+
+abbrev pub declared_as : CrateView → Table → DeclaredItem → ModuleId → MacroId → ItemKind → Table
+declared_as c t x m id item.MacroRules = exported c t x id
+declared_as c t x m id _ = declared_in c t x m id
+
+abbrev pub next_macro : World → MacroLoc → MacroId
+next_macro w l = macro_id l (length w.macros)
+
+-- a macro of the module m is added, and declared
+abbrev pub added_as : CrateView → WithMacros → DeclaredItem → ModuleId → MacroLoc → WithMacros
+added_as c s x m l = record {
+  world = with_macro s.world m l;
+  table = declared_as c s.table x m (next_macro s.world l) x.kind;
+  ids = s.ids ++ Some (next_macro s.world l) ∷ [];
+}
+
+-- what is no macro is passed over, and so is one of a module that was left out
+abbrev pub passed : WithMacros → WithMacros
+passed s = record s { ids = s.ids ++ None ∷ [] }
+
+abbrev pub added_in : CrateView → WithMacros → DeclaredItem → Option ModuleId → MacroLoc → WithMacros
+added_in c s x None l = passed s
+added_in c s x (Some m) l = added_as c s x m l
+
+abbrev pub added_by : CrateView → WithMacros → DeclaredItem → Option MacroLoc → WithMacros
+added_by c s x None = passed s
+added_by c s x (Some l) = added_in c s x (id_at s.table.ids x.«module») l
+
+abbrev pub with_macro_item : CrateView → WithMacros → DeclaredItem → WithMacros
+with_macro_item c s x = added_by c s x (macro_loc x.kind)
+
+-- Each macro among the items, in order.
+abbrev pub with_macros : CrateView → WithMacros → List DeclaredItem → WithMacros
+with_macros c s [] = s
+with_macros c s (x ∷ xs) = with_macros c (with_macro_item c s x) xs

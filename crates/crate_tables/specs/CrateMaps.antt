@@ -1,0 +1,66 @@
+-- The modules of a crate in a builder.
+use Rattle.std.specs.Prelude.{Bool, true, false, List, [], ◌∷◌, Option, None, Some, drop, if◌then◌else◌}
+use Rattle.crate_modules.specs.DeclaredModules.{Module}
+use Rattle.crate_tables.specs.CrateTables.{Table, left_out, no_table, with_id}
+use Rattle.crate_tables.specs.NewModules.{CrateView, new_module, origin_of}
+use Rattle.crate_tables.specs.Visibilities.{id_at, visibility_of}
+use Rattle.crate_tables.specs.declared.new_module.NewModule.{NewModule}
+use Rattle.dm_base.specs.declared.visibility.Visibility.{Visibility}
+use Rattle.dm_def_map.specs.declared.modules.module_origin.ModuleOrigin.{ModuleOrigin}
+use Rattle.dm_ids.specs.Names.{Name}
+use Rattle.dm_ids.specs.declared.ids.Crate.{Crate}
+use Rattle.dm_ids.specs.declared.ids.ModuleId.{ModuleId}
+use Rattle.dm_ids.specs.declared.source.Edition.{Edition}
+use Rattle.dm_maps.specs.Build.{next_module, with_module}
+use Rattle.dm_maps.specs.Faults.{has_child}
+use Rattle.dm_maps.specs.World.{World}
+use Rattle.dm_maps.specs.declared.build_fault.BuildFault.{BuildFault}
+use Rattle.dm_maps.specs.declared.build_fault.BuildFault.TheVariants as fault
+
+-- a builder, and what a crate has there so far
+pub record Filled : Type 0 where
+  pub world : World
+  pub table : Table
+
+-- a module is added below another, unless that has a child of its name; and its id then
+abbrev pub child_world : World → ModuleId → Name → ModuleOrigin → Visibility → World
+child_world w p n o v = if has_child w p n then w else with_module w p n o v
+
+abbrev pub child_id : World → ModuleId → Name → Option ModuleId
+child_id w p n = if has_child w p n then None else Some (next_module w)
+
+-- with the module, seen by v, below the module p
+abbrev pub with_child : Edition → Filled → NewModule → ModuleId → Visibility → Filled
+with_child e s m p v = record {
+  world = child_world s.world p m.name (origin_of e m) v;
+  table = with_id s.table p m.name v (child_id s.world p m.name);
+}
+
+-- where the module was left out that it stands in, so is it
+abbrev pub below : Crate → Edition → Filled → NewModule → Option ModuleId → Filled
+below k e s m None = record s { table = left_out s.table }
+below k e s m (Some p) = with_child e s m p (visibility_of k s.table.ids p m.written m.shown)
+
+abbrev pub with_one : Crate → Edition → Filled → Option NewModule → Filled
+with_one k e s None = record s { table = left_out s.table }
+with_one k e s (Some m) = below k e s m (id_at s.table.ids m.parent)
+
+-- Each module of a list that is no duplicate is added, in order, with its parent, name, origin and visibility.
+abbrev pub with_modules : CrateView → Filled → List Module → Filled
+with_modules v s [] = s
+with_modules v s (m ∷ ms) = with_modules v (with_one v.krate v.edition s (new_module v m)) ms
+
+-- the table of a crate that has its root alone
+abbrev pub root_alone : ModuleId → Table
+root_alone root = record no_table { ids = Some root ∷ [] }
+
+-- those of a crate, whose root is there
+abbrev pub with_crate_modules : CrateView → World → ModuleId → Filled
+with_crate_modules v w root =
+    with_modules v (record { world = w; table = root_alone root }) (drop 1 v.list.modules)
+
+-- memory or numbers ran out
+abbrev pub is_shortage : BuildFault → Bool
+is_shortage fault.OutOfNumbers = true
+is_shortage fault.OutOfMemory = true
+is_shortage _ = false

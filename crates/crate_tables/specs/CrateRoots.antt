@@ -1,0 +1,64 @@
+-- The crates of a graph in a builder, each with its root alone, and their extern preludes.
+use Rattle.std.specs.Prelude.{◌≡◌, ◌<◌, ◌+◌, ◌&&◌, ℕ, Bool, not, IsTrue, List, [], ◌∷◌, None, Some, take, if◌then◌else◌}
+use Rattle.std.specs.List.{list_any}
+use Rattle.crate_modules.specs.CrateGraphs.{Graph}
+use Rattle.crate_modules.specs.declared.dependency.Dependency.{Dependency}
+use Rattle.dm_check.specs.declared.held.HeldId.{HeldId}
+use Rattle.dm_check.specs.declared.held.HeldId.TheVariants as held
+use Rattle.crate_tables.specs.NewModules.{in_edition}
+use Rattle.dm_ids.specs.Names.{Name, same_name}
+use Rattle.dm_ids.specs.declared.ids.Crate.{Crate}
+use Rattle.dm_ids.specs.declared.ids.ModuleId.{ModuleId}
+use Rattle.dm_maps.specs.Build.{with_crate}
+use Rattle.dm_maps.specs.BuildMaps.{with_extern_of}
+use Rattle.dm_maps.specs.Known.{knows, KnowsAll}
+use Rattle.dm_maps.specs.Readings.{root_of}
+use Rattle.dm_maps.specs.World.{World}
+
+-- Each crate is added with its root, in order.
+abbrev pub with_roots : World → Graph → World
+with_roots w [] = w
+with_roots w (c ∷ cs) = with_roots (with_crate w c.edition (in_edition c.edition c.root_file_id)) cs
+
+-- so the roots are the first modules: that of a crate has the crate's number
+abbrev pub root_id : Crate → ModuleId
+root_id k = record { 0 = k.0 }
+
+-- the crate is the builder's, and so is its root
+pub record HasRoot (w : World) (k : Crate) : Type 0 where
+  pub krate : IsTrue (knows w (held.Crate k))
+  pub root : IsTrue (knows w (held.Module (root_id k)))
+  pub is_root : root_of w k ≡ Some (root_id k)
+
+-- each crate of so many is there with its root
+abbrev pub HasRoots : World → ℕ → Type 0
+HasRoots w count = (k : Crate) → k.0 < count → HasRoot w k
+
+-- what is known of a crate that is there: its number, and its root
+abbrev pub root_holds : Crate → List HeldId
+root_holds k = held.Crate k ∷ held.Module (root_id k) ∷ []
+
+-- each crate of so many is known, and its root
+abbrev pub KnowsRoots : World → ℕ → Type 0
+KnowsRoots w count = (k : Crate) → k.0 < count → KnowsAll w (root_holds k)
+
+-- ---- Extern preludes
+
+-- a name that a dependency among some has in the extern prelude
+abbrev pub is_taken : List Dependency → Name → Bool
+is_taken ds n = list_any (λ (d : Dependency). d.prelude && same_name d.name n) ds
+
+-- a dependency is in the extern prelude of a crate where it says so, and none before it has its name there
+abbrev pub is_extern : List Dependency → Dependency → Bool
+is_extern before d = d.prelude && not (is_taken before d.name)
+
+abbrev pub with_extern : World → Crate → List Dependency → Dependency → World
+with_extern w k before d = if is_extern before d then with_extern_of w k d.name (root_id d.crate_id) None else w
+
+-- Each of these, the first of which has this number among all, is added behind those before it, with the root of its crate.
+abbrev pub with_externs_from : World → Crate → List Dependency → ℕ → List Dependency → World
+with_externs_from w k all n [] = w
+with_externs_from w k all n (d ∷ ds) = with_externs_from (with_extern w k (take n all) d) k all (n + 1) ds
+
+abbrev pub with_externs : World → Crate → List Dependency → World
+with_externs w k all = with_externs_from w k all 0 all

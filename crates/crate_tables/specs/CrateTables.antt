@@ -1,0 +1,72 @@
+-- What a crate has in a builder: the ids of its modules, the names that they declare, and what they import.
+use Rattle.std.specs.Prelude.{◌++◌, All, IsTrue, List, [], ◌∷◌, Option, None, Some, map}
+use Rattle.crate_tables.specs.Visibilities.{AreIdsOf, Ids}
+use Rattle.crate_items.specs.declared.declared_import.DeclaredImport.{DeclaredImport}
+use Rattle.crate_tables.specs.declared.declared_name.DeclaredName.{DeclaredName}
+use Rattle.crate_tables.specs.declared.use_leaf.UseLeaf.{UseLeaf}
+use Rattle.dm_base.specs.PerNs.{type_alone}
+use Rattle.dm_base.specs.declared.per_ns.PerNs.{PerNs}
+use Rattle.dm_base.specs.declared.visibility.Visibility.{Visibility}
+use Rattle.dm_check.specs.Holding.{vis_holds}
+use Rattle.dm_check.specs.Pushes.{push_holds}
+use Rattle.dm_check.specs.declared.held.HeldId.TheVariants as held
+use Rattle.dm_ids.specs.Names.{Name}
+use Rattle.dm_ids.specs.declared.ids.Crate.{Crate}
+use Rattle.dm_ids.specs.declared.ids.ModuleId.{ModuleId}
+use Rattle.dm_ids.specs.declared.ids.UseId.{UseId}
+use Rattle.dm_ids.specs.declared.item_ids.ModuleDefId.TheVariants as def
+use Rattle.dm_maps.specs.Known.{knows, KnowsAll}
+use Rattle.dm_maps.specs.World.{World}
+
+-- for each module of the crate's list its id, unless it was left out; names with what they are; and imports
+pub record Table : Type 0 where
+  pub ids : Ids
+  pub names : List DeclaredName
+  pub leaves : List UseLeaf
+
+abbrev pub no_table : Table
+no_table = record { ids = []; names = []; leaves = [] }
+
+-- with a name more
+abbrev pub with_name : Table → DeclaredName → Table
+with_name t d = record t { names = t.names ++ d ∷ [] }
+
+-- with a module more that is left out
+abbrev pub left_out : Table → Table
+left_out t = record t { ids = t.ids ++ None ∷ [] }
+
+-- with a name more, where there is one
+abbrev pub with_named : Table → ModuleId → Option Name → PerNs → Table
+with_named t m None items = t
+with_named t m (Some n) items = with_name t (record { home = m; name = n; items = items })
+
+-- with the leaves of a use more, which are seen by v
+abbrev pub leaf_in : ModuleId → Visibility → UseId → DeclaredImport → UseLeaf
+leaf_in m v u x = record { home = m; visibility = v; use_ = u; import = x }
+
+abbrev pub with_leaves : Table → ModuleId → Visibility → UseId → List DeclaredImport → Table
+with_leaves t m v u xs = record t { leaves = t.leaves ++ map (leaf_in m v u) xs }
+
+-- a module as its parent declares it: a type
+abbrev pub module_name : ModuleId → Name → Visibility → ModuleId → DeclaredName
+module_name p n v m = record { home = p; name = n; items = type_alone (def.ModuleId m) v None }
+
+-- with a module more, of that name below p
+abbrev pub with_id : Table → ModuleId → Name → Visibility → Option ModuleId → Table
+with_id t p n v None = left_out t
+with_id t p n v (Some m) = record t { ids = t.ids ++ Some m ∷ []; names = t.names ++ module_name p n v m ∷ [] }
+
+-- a name whose module is the builder's, and all that the name holds there
+pub record IsNameOf (w : World) (d : DeclaredName) : Type 0 where
+  pub known : KnowsAll w (push_holds d.home d.items None)
+
+-- an import whose module is the builder's, and its use, and what its visibility names
+abbrev pub IsLeafOf : World → UseLeaf → Type 0
+IsLeafOf w x = KnowsAll w ((held.Module x.home ∷ held.Use x.use_ ∷ []) ++ vis_holds x.visibility)
+
+-- the table is of a crate of the builder, and holds nothing but what is the builder's
+pub record IsTableOf (w : World) (k : Crate) (t : Table) : Type 0 where
+  pub krate : IsTrue (knows w (held.Crate k))
+  pub ids : AreIdsOf w t.ids
+  pub names : All (IsNameOf w) t.names
+  pub leaves : All (IsLeafOf w) t.leaves

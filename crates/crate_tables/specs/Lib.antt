@@ -1,0 +1,11 @@
+pub mod Visibilities
+pub mod CrateTables
+pub mod NewModules
+pub mod CrateMaps
+pub mod CrateRoots
+pub mod CrateDefs
+pub mod ExternCrates
+pub mod StandardPreludes
+pub mod CrateMacros
+pub mod CrateFillings
+pub mod DeclaredWorlds

@@ -1,0 +1,328 @@
+//! The items of a crate, added to a builder: definitions, variants and uses.
+ghost use Rattle.std.specs.Prelude.{◌≡◌, ◌↔◌, true, IfErr, IfOk, IfSome, IsTrue, OnOk, length, slice_get};
+ghost use Rattle.crate_items.specs.DeclaredImports.{declared_imports};
+ghost use Rattle.crate_items.specs.DeclaredVariants.{declared_variants};
+ghost use Rattle.crate_tables.specs.CrateDefs as spec;
+ghost use Rattle.crate_tables.specs.CrateMaps.{is_shortage};
+ghost use Rattle.crate_tables.specs.CrateTables.{IsTableOf};
+ghost use Rattle.dm_check.specs.Holding.{def_holds, vis_holds};
+ghost use Rattle.dm_check.specs.declared.held.HeldId.TheVariants as held;
+ghost use Rattle.dm_ids.specs.declared.ids.Crate.{Crate};
+ghost use Rattle.dm_ids.specs.declared.item_ids.ItemKind.TheVariants as kinds;
+ghost use Rattle.dm_maps.specs.Added.{IsGrown};
+ghost use Rattle.dm_maps.specs.Known.{knows, KnowsAll};
+ghost use Rattle.dm_maps.specs.declared.build_fault.BuildFault.TheVariants.{TakenVariant};
+
+use crate::crate_maps::parent_id;
+use crate::crate_table::CrateTable;
+use crate::new_module::CrateView;
+use crate::visibilities::known_visibility;
+use crate_items::declared_import::declared_imports;
+use crate_items::declared_item::DeclaredItem;
+use crate_items::declared_variant::{DeclaredVariant, declared_variants};
+use crate_modules::modules::CrateModules;
+use crate_modules::source::Source;
+use dm_base::fields_shape::FieldsShape;
+use dm_base::ids::{EnumId, ModuleId};
+use dm_base::item_ids::{AdtId, ItemKind, ModuleDefId};
+use dm_base::per_ns::PerNs;
+use dm_base::visibility::Visibility;
+use dm_maps::build_fault::BuildFault;
+use dm_maps::builder::WorldBuilder;
+use item_tree::item_kind;
+use item_tree::items::Range;
+use item_tree::visibility::{RawVisibility, raw_visibility};
+use std::alloc::Global;
+
+/// The visibility that is written before the item of a number.
+fn written_in(source: &Source, number: usize) -> RawVisibility
+    ensures { result ≡ spec.written_in source.now (slice_get source.now.items number) }
+{
+    match source.items().get(number) {
+        None => RawVisibility::Inherited,
+        Some(item) => {
+            let range = Range {
+                first: item.visibility,
+                behind: item.qualifiers,
+            };
+            raw_visibility(source.lexemes(), range)
+        }
+    }
+}
+
+/// The visibility that is written before an item.
+pub(crate) fn written_of(list: &CrateModules, item: &DeclaredItem) -> RawVisibility
+    ensures { result ≡ spec.written_of list.now item.now }
+{
+    match list.sources().get(item.file) {
+        None => RawVisibility::Inherited,
+        Some(source) => written_in(source, item.item),
+    }
+}
+
+/// The kind of the items that a builder numbers.
+fn def_kind(kind: item_kind::ItemKind) -> Option<ItemKind>
+    ensures { result ≡ spec.def_kind kind }
+{
+    match kind {
+        item_kind::ItemKind::Function => Some(ItemKind::Function),
+        item_kind::ItemKind::Struct => Some(ItemKind::Struct),
+        item_kind::ItemKind::Union => Some(ItemKind::Union),
+        item_kind::ItemKind::Enum => Some(ItemKind::Enum),
+        item_kind::ItemKind::Const => Some(ItemKind::Const),
+        item_kind::ItemKind::Static => Some(ItemKind::Static),
+        item_kind::ItemKind::Trait => Some(ItemKind::Trait),
+        item_kind::ItemKind::TypeAlias => Some(ItemKind::TypeAlias),
+        _ => None,
+    }
+}
+
+fn is_use(kind: item_kind::ItemKind) -> bool
+    ensures { result ≡ spec.is_use kind }
+{
+    matches!(kind, item_kind::ItemKind::Use)
+}
+
+/// Whether a name is taken.
+fn is_taken(fault: BuildFault) -> bool
+    ensures { IsTrue result ↔ (fault ≡ TakenVariant) }
+{
+    match fault {
+        BuildFault::TakenVariant => true,
+        _ => false,
+    }
+}
+
+/// Adds a variant to an enum, unless that has one of its name.
+fn add_variant(
+    builder: &mut WorldBuilder,
+    e: EnumId,
+    variant: DeclaredVariant,
+) -> Result<(), BuildFault>
+    requires { IsTrue (knows builder.old (held.Item kinds.Enum e.0)) }
+    ensures world { OnOk result (builder.new ≡ spec.with_variant_of builder.old e variant) }
+    ensures kept { IsTrue (knows builder.new (held.Item kinds.Enum e.0)) }
+    ensures grown { IsGrown builder.old builder.new }
+    ensures fault { IfErr result (λ fault. is_shortage fault ≡ true) }
+{
+    match builder.add_variant(e, variant.name, variant.shape) {
+        Ok(_id) => Ok(()),
+        Err(fault) => { if is_taken(fault) { Ok(()) } else { Err(fault) } }
+    }
+}
+
+/// Adds the variants of an enum.
+fn add_variants(
+    builder: &mut WorldBuilder,
+    e: EnumId,
+    variants: Vec<DeclaredVariant>,
+) -> Result<(), BuildFault>
+    requires { IsTrue (knows builder.old (held.Item kinds.Enum e.0)) }
+    ensures world { OnOk result (builder.new ≡ spec.with_variants builder.old e variants.items) }
+    ensures grown { IsGrown builder.old builder.new }
+    ensures fault { IfErr result (λ fault. is_shortage fault ≡ true) }
+{
+    for variant in variants {
+        add_variant(builder, e, variant)?;
+    }
+    Ok(())
+}
+
+/// Adds the variants of a definition, if it is an enum.
+fn add_variants_of(
+    builder: &mut WorldBuilder,
+    def: ModuleDefId,
+    variants: Vec<DeclaredVariant>,
+) -> Result<(), BuildFault>
+    requires { KnowsAll builder.old (def_holds def) }
+    ensures world { OnOk result (builder.new ≡ spec.with_variants_of builder.old def variants.items) }
+    ensures grown { IsGrown builder.old builder.new }
+    ensures fault { IfErr result (λ fault. is_shortage fault ≡ true) }
+{
+    match def {
+        ModuleDefId::AdtId(AdtId::EnumId(e)) => add_variants(builder, e, variants),
+        _ => Ok(()),
+    }
+}
+
+/// Who sees the constructor of a struct, if it has one.
+fn constructor_vis(shape: FieldsShape, visibility: Visibility) -> Option<Visibility>
+    ensures { result ≡ spec.constructor_vis shape visibility }
+{
+    if shape.has_value_ns_ctor() {
+        Some(visibility)
+    } else {
+        None
+    }
+}
+
+/// Adds a definition in a module, with its variants, and declares it there.
+fn define(
+    builder: &mut WorldBuilder,
+    table: &mut CrateTable,
+    item: DeclaredItem,
+    m: ModuleId,
+    visibility: Visibility,
+    kind: ItemKind,
+    variants: Vec<DeclaredVariant>,
+) -> Result<(), BuildFault>
+    requires { IsTrue (knows builder.old (held.Module m)) }
+    ensures world { OnOk result (builder.new ≡ (spec.defined
+        (record { world = builder.old; table = table.old }) item m visibility kind variants.items).world) }
+    ensures table { OnOk result (table.new ≡ (spec.defined
+        (record { world = builder.old; table = table.old }) item m visibility kind variants.items).table) }
+    ensures kept { (k : Crate) → IsTableOf builder.old k table.old → KnowsAll builder.old (vis_holds visibility)
+        → OnOk result (IsTableOf builder.new k table.new) }
+    ensures grown { IsGrown builder.old builder.new }
+    ensures fault { IfErr result (λ fault. is_shortage fault ≡ true) }
+{
+    let def = builder.add_item(kind, m)?;
+    add_variants_of(builder, def, variants)?;
+    let seen = constructor_vis(item.shape, visibility);
+    table.push_named(m, item.name, PerNs::from_def(def, visibility, seen, None))?;
+    Ok(())
+}
+
+/// Adds a definition in a module, if it is one that a builder numbers.
+fn define_if(
+    builder: &mut WorldBuilder,
+    table: &mut CrateTable,
+    alloc: Global,
+    view: &CrateView<'_>,
+    item: DeclaredItem,
+    m: ModuleId,
+    visibility: Visibility,
+) -> Result<(), BuildFault>
+    requires { IsTrue (knows builder.old (held.Module m)) }
+    ensures world { OnOk result (builder.new ≡ (spec.defined_if
+        (record { world = builder.old; table = table.old }) item m visibility (spec.def_kind item.kind)
+        (declared_variants view.now.options view.now.list view.now.files item)).world) }
+    ensures table { OnOk result (table.new ≡ (spec.defined_if
+        (record { world = builder.old; table = table.old }) item m visibility (spec.def_kind item.kind)
+        (declared_variants view.now.options view.now.list view.now.files item)).table) }
+    ensures kept { (k : Crate) → IsTableOf builder.old k table.old → KnowsAll builder.old (vis_holds visibility)
+        → OnOk result (IsTableOf builder.new k table.new) }
+    ensures grown { IsGrown builder.old builder.new }
+    ensures fault { IfErr result (λ fault. is_shortage fault ≡ true) }
+{
+    match def_kind(item.kind) {
+        None => Ok(()),
+        Some(kind) => {
+            let variants = declared_variants(alloc, view.options, view.list, view.files, &item)?;
+            define(builder, table, item, m, visibility, kind, variants)
+        }
+    }
+}
+
+/// Adds a use of a module, with its leaves.
+fn add_use(
+    builder: &mut WorldBuilder,
+    table: &mut CrateTable,
+    alloc: Global,
+    view: &CrateView<'_>,
+    item: &DeclaredItem,
+    m: ModuleId,
+    visibility: Visibility,
+) -> Result<(), BuildFault>
+    requires { IsTrue (knows builder.old (held.Module m)) }
+    ensures world { OnOk result (builder.new ≡ (spec.used (record { world = builder.old; table = table.old })
+        m visibility (declared_imports view.now.list view.now.files item.now)).world) }
+    ensures table { OnOk result (table.new ≡ (spec.used (record { world = builder.old; table = table.old })
+        m visibility (declared_imports view.now.list view.now.files item.now)).table) }
+    ensures kept { (k : Crate) → IsTableOf builder.old k table.old → KnowsAll builder.old (vis_holds visibility)
+        → OnOk result (IsTableOf builder.new k table.new) }
+    ensures grown { IsGrown builder.old builder.new }
+    ensures fault { IfErr result (λ fault. is_shortage fault ≡ true) }
+{
+    let imports = declared_imports(alloc, view.list, view.files, item)?;
+    let use_ = builder.add_use(m)?;
+    table.push_leaves(m, visibility, use_, imports)?;
+    Ok(())
+}
+
+/// Adds an item in a module.
+fn add_in(
+    builder: &mut WorldBuilder,
+    table: &mut CrateTable,
+    alloc: Global,
+    view: &CrateView<'_>,
+    item: DeclaredItem,
+    m: ModuleId,
+    visibility: Visibility,
+) -> Result<(), BuildFault>
+    requires { IsTrue (knows builder.old (held.Module m)) }
+    ensures world { OnOk result (builder.new ≡ (spec.added_in view.now
+        (record { world = builder.old; table = table.old }) item m visibility).world) }
+    ensures table { OnOk result (table.new ≡ (spec.added_in view.now
+        (record { world = builder.old; table = table.old }) item m visibility).table) }
+    ensures kept { (k : Crate) → IsTableOf builder.old k table.old → KnowsAll builder.old (vis_holds visibility)
+        → OnOk result (IsTableOf builder.new k table.new) }
+    ensures grown { IsGrown builder.old builder.new }
+    ensures fault { IfErr result (λ fault. is_shortage fault ≡ true) }
+{
+    if is_use(item.kind) {
+        add_use(builder, table, alloc, view, &item, m, visibility)
+    } else {
+        define_if(builder, table, alloc, view, item, m, visibility)
+    }
+}
+
+/// Adds an item of a crate, unless its module was left out.
+fn add_item(
+    builder: &mut WorldBuilder,
+    table: &mut CrateTable,
+    alloc: Global,
+    view: &CrateView<'_>,
+    item: DeclaredItem,
+) -> Result<(), BuildFault>
+    requires { IsTableOf builder.old view.now.krate table.old }
+    ensures filled { OnOk result ((record { world = builder.new; table = table.new }) ≡
+        spec.with_declared view.now (record { world = builder.old; table = table.old }) item) }
+    ensures kept { OnOk result (IsTableOf builder.new view.now.krate table.new) }
+    ensures grown { IsGrown builder.old builder.new }
+    ensures fault { IfErr result (λ fault. is_shortage fault ≡ true) }
+{
+    match parent_id(builder, view.krate, table, item.module) {
+        None => Ok(()),
+        Some(m) => {
+            let written = written_of(view.list, &item);
+            let visibility = known_visibility(
+                builder,
+                view.krate,
+                table,
+                m,
+                written,
+                item.visibility,
+            );
+            add_in(builder, table, alloc, view, item, m, visibility)
+        }
+    }
+}
+
+/// Adds the items of a crate, as `declared_items` gives them, each in its module: functions, structs, unions, enums with
+/// their variants, constants, statics, traits and type aliases, which are declared there under their names, and uses with
+/// their leaves. What stands in a module that was left out is left out.
+///
+/// # Errors
+///
+/// Fails where memory or numbers run out: `OutOfNumbers` where there are 4,294,967,295 items, variants or uses. What was
+/// added before stays.
+pub fn add_items(
+    builder: &mut WorldBuilder,
+    table: &mut CrateTable,
+    alloc: Global,
+    view: &CrateView<'_>,
+    items: Vec<DeclaredItem>,
+) -> Result<(), BuildFault>
+    requires { IsTableOf builder.old view.now.krate table.old }
+    ensures filled { OnOk result ((record { world = builder.new; table = table.new }) ≡
+        spec.with_items view.now (record { world = builder.old; table = table.old }) items.items) }
+    ensures kept { OnOk result (IsTableOf builder.new view.now.krate table.new) }
+    ensures grown { IsGrown builder.old builder.new }
+    ensures fault { IfErr result (λ fault. is_shortage fault ≡ true) }
+{
+    for item in items {
+        add_item(builder, table, alloc, view, item)?;
+    }
+    Ok(())
+}

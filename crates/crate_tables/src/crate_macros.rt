@@ -1,0 +1,248 @@
+//! The macros of a crate, added to a builder.
+ghost use Rattle.std.specs.Prelude.{◌≡◌, ◌++◌, ◌∷◌, [], None, Some, true, IfErr, IfOk, IsTrue, OnOk, length};
+ghost use Rattle.crate_tables.specs.CrateMacros as spec;
+ghost use Rattle.crate_tables.specs.CrateMaps.{is_shortage};
+ghost use Rattle.crate_tables.specs.CrateRoots as roots;
+ghost use Rattle.crate_tables.specs.CrateTables.{IsTableOf};
+ghost use Rattle.dm_check.specs.declared.held.HeldId.TheVariants as held;
+ghost use Rattle.dm_maps.specs.Added.{IsGrown};
+ghost use Rattle.dm_maps.specs.BuildItems.{with_macro};
+ghost use Rattle.dm_maps.specs.Known.{knows};
+
+use crate::crate_defs::written_of;
+use crate::crate_maps::parent_id;
+use crate::crate_roots::root_id;
+use crate::crate_table::CrateTable;
+use crate::item_names::name_of;
+use crate::new_module::CrateView;
+use crate::visibilities::known_visibility;
+use crate_items::declared_item::DeclaredItem;
+use crate_items::declared_macro::is_macro_exported;
+use dm_base::ids::ModuleId;
+use dm_base::item_ids::MacroId;
+use dm_base::macros::{MacroCallStyles, MacroExpander, MacroLoc};
+use dm_base::per_ns::PerNs;
+use dm_base::visibility::Visibility;
+use dm_maps::build_fault::BuildFault;
+use dm_maps::builder::WorldBuilder;
+use item_tree::item_kind::ItemKind;
+use std::alloc::{AllocError, Global};
+
+/// The expander of a macro that is read by its rules, and is called as a function.
+fn by_rules() -> MacroExpander
+    ensures { result ≡ spec.by_rules }
+{
+    MacroExpander::Declarative {
+        styles: MacroCallStyles::FN_LIKE,
+    }
+}
+
+/// What a macro is, by the kind of its item.
+fn macro_loc(kind: ItemKind) -> Option<MacroLoc>
+    ensures { result ≡ spec.macro_loc kind }
+{
+    match kind {
+        ItemKind::MacroRules => Some(MacroLoc::MacroRules(by_rules())),
+        ItemKind::Macro2 => Some(MacroLoc::Macro2(by_rules())),
+        _ => None,
+    }
+}
+
+/// Lists what an item is.
+fn push_id(ids: &mut Vec<Option<MacroId>>, id: Option<MacroId>) -> Result<(), AllocError>
+    ensures { OnOk result (ids.new.items ≡ ids.old.items ++ id ∷ []) }
+{
+    ids.push(id)?;
+    Ok(())
+}
+
+/// Declares a macro in the root of its crate, if it is exported.
+fn export(
+    builder: &WorldBuilder,
+    table: &mut CrateTable,
+    alloc: Global,
+    view: &CrateView<'_>,
+    item: &DeclaredItem,
+    id: MacroId,
+) -> Result<(), BuildFault>
+    requires table { IsTableOf builder.now view.now.krate table.old }
+    requires root { IsTrue (knows builder.now (held.Module (roots.root_id view.now.krate))) }
+    requires id { IsTrue (knows builder.now (held.Macro id)) }
+    ensures table { OnOk result (table.new ≡ spec.exported view.now table.old item.now id) }
+    ensures kept { OnOk result (IsTableOf builder.now view.now.krate table.new) }
+    ensures fault { IfErr result (λ fault. is_shortage fault ≡ true) }
+{
+    let _world = builder;
+    if is_macro_exported(alloc, view.list, item)? {
+        let name = name_of(alloc, item)?;
+        let items = PerNs::macros(id, Visibility::Public, None);
+        table.push_named(root_id(view.krate), name, items)?;
+        Ok(())
+    } else {
+        Ok(())
+    }
+}
+
+/// Declares a macro in its module.
+fn declare_in(
+    builder: &WorldBuilder,
+    table: &mut CrateTable,
+    alloc: Global,
+    view: &CrateView<'_>,
+    item: &DeclaredItem,
+    m: ModuleId,
+    id: MacroId,
+) -> Result<(), BuildFault>
+    requires table { IsTableOf builder.now view.now.krate table.old }
+    requires home { IsTrue (knows builder.now (held.Module m)) }
+    requires id { IsTrue (knows builder.now (held.Macro id)) }
+    ensures table { OnOk result (table.new ≡ spec.declared_in view.now table.old item.now m id) }
+    ensures kept { OnOk result (IsTableOf builder.now view.now.krate table.new) }
+    ensures fault { IfErr result (λ fault. is_shortage fault ≡ true) }
+{
+    let written = written_of(view.list, item);
+    let visibility = known_visibility(builder, view.krate, table, m, written, item.visibility);
+    let name = name_of(alloc, item)?;
+    table.push_named(m, name, PerNs::macros(id, visibility, None))?;
+    Ok(())
+}
+
+/// Declares a macro where its kind is declared.
+fn declare(
+    builder: &WorldBuilder,
+    table: &mut CrateTable,
+    alloc: Global,
+    view: &CrateView<'_>,
+    item: &DeclaredItem,
+    m: ModuleId,
+    id: MacroId,
+) -> Result<(), BuildFault>
+    requires table { IsTableOf builder.now view.now.krate table.old }
+    requires root { IsTrue (knows builder.now (held.Module (roots.root_id view.now.krate))) }
+    requires home { IsTrue (knows builder.now (held.Module m)) }
+    requires id { IsTrue (knows builder.now (held.Macro id)) }
+    ensures table { OnOk result
+        (table.new ≡ spec.declared_as view.now table.old item.now m id item.now.kind) }
+    ensures kept { OnOk result (IsTableOf builder.now view.now.krate table.new) }
+    ensures fault { IfErr result (λ fault. is_shortage fault ≡ true) }
+{
+    match item.kind {
+        ItemKind::MacroRules => export(builder, table, alloc, view, item, id),
+        _ => declare_in(builder, table, alloc, view, item, m, id),
+    }
+}
+
+/// Adds a macro of a module, and declares it.
+fn add_as(
+    builder: &mut WorldBuilder,
+    table: &mut CrateTable,
+    alloc: Global,
+    view: &CrateView<'_>,
+    item: &DeclaredItem,
+    m: ModuleId,
+    loc: MacroLoc,
+) -> Result<MacroId, BuildFault>
+    requires table { IsTableOf builder.old view.now.krate table.old }
+    requires root { IsTrue (knows builder.old (held.Module (roots.root_id view.now.krate))) }
+    requires home { IsTrue (knows builder.old (held.Module m)) }
+    ensures world { OnOk result (builder.new ≡ with_macro builder.old m loc) }
+    ensures table { OnOk result (table.new ≡
+        spec.declared_as view.now table.old item.now m (spec.next_macro builder.old loc) item.now.kind) }
+    ensures id { IfOk result (λ id. id ≡ spec.next_macro builder.old loc) }
+    ensures kept { OnOk result (IsTableOf builder.new view.now.krate table.new) }
+    ensures grown { IsGrown builder.old builder.new }
+    ensures fault { IfErr result (λ fault. is_shortage fault ≡ true) }
+{
+    let id = builder.add_macro(m, loc)?;
+    declare(builder, table, alloc, view, item, m, id)?;
+    Ok(id)
+}
+
+/// Adds a macro, unless its module was left out.
+fn add_in(
+    builder: &mut WorldBuilder,
+    table: &mut CrateTable,
+    ids: &mut Vec<Option<MacroId>>,
+    alloc: Global,
+    view: &CrateView<'_>,
+    item: &DeclaredItem,
+    loc: MacroLoc,
+) -> Result<(), BuildFault>
+    requires table { IsTableOf builder.old view.now.krate table.old }
+    requires root { IsTrue (knows builder.old (held.Module (roots.root_id view.now.krate))) }
+    ensures added { OnOk result ((record { world = builder.new; table = table.new; ids = ids.new.items }) ≡
+        spec.added_by view.now (record { world = builder.old; table = table.old; ids = ids.old.items })
+        item.now (Some loc)) }
+    ensures kept { OnOk result (IsTableOf builder.new view.now.krate table.new) }
+    ensures grown { IsGrown builder.old builder.new }
+    ensures fault { IfErr result (λ fault. is_shortage fault ≡ true) }
+{
+    match parent_id(builder, view.krate, table, item.module) {
+        None => {
+            push_id(ids, None)?;
+            Ok(())
+        }
+        Some(m) => {
+            let id = add_as(builder, table, alloc, view, item, m, loc)?;
+            push_id(ids, Some(id))?;
+            Ok(())
+        }
+    }
+}
+
+/// Adds an item, if it is a macro.
+fn add_one(
+    builder: &mut WorldBuilder,
+    table: &mut CrateTable,
+    ids: &mut Vec<Option<MacroId>>,
+    alloc: Global,
+    view: &CrateView<'_>,
+    item: &DeclaredItem,
+) -> Result<(), BuildFault>
+    requires table { IsTableOf builder.old view.now.krate table.old }
+    requires root { IsTrue (knows builder.old (held.Module (roots.root_id view.now.krate))) }
+    ensures added { OnOk result ((record { world = builder.new; table = table.new; ids = ids.new.items }) ≡
+        spec.with_macro_item view.now (record { world = builder.old; table = table.old; ids = ids.old.items })
+        item.now) }
+    ensures kept { OnOk result (IsTableOf builder.new view.now.krate table.new) }
+    ensures grown { IsGrown builder.old builder.new }
+    ensures fault { IfErr result (λ fault. is_shortage fault ≡ true) }
+{
+    match macro_loc(item.kind) {
+        None => {
+            push_id(ids, None)?;
+            Ok(())
+        }
+        Some(loc) => add_in(builder, table, ids, alloc, view, item, loc),
+    }
+}
+
+/// Adds the macros among the items of a crate, as `declared_items` gives them, each in its module. One by `macro` is
+/// declared there under its name; one by `macro_rules!` only where it is exported, and then in the root of the crate, for
+/// all. Answers for each item the macro that it is.
+///
+/// # Errors
+///
+/// Fails where memory or numbers run out: `OutOfNumbers` where there are 4,294,967,295 macros. What was added before stays.
+pub fn add_macros(
+    builder: &mut WorldBuilder,
+    table: &mut CrateTable,
+    alloc: Global,
+    view: &CrateView<'_>,
+    items: &[DeclaredItem],
+) -> Result<Vec<Option<MacroId>>, BuildFault>
+    requires table { IsTableOf builder.old view.now.krate table.old }
+    requires root { IsTrue (knows builder.old (held.Module (roots.root_id view.now.krate))) }
+    ensures added { IfOk result (λ ids.
+        (record { world = builder.new; table = table.new; ids = ids.items }) ≡
+        spec.with_macros view.now (record { world = builder.old; table = table.old; ids = [] }) items.now) }
+    ensures kept { OnOk result (IsTableOf builder.new view.now.krate table.new) }
+    ensures grown { IsGrown builder.old builder.new }
+    ensures fault { IfErr result (λ fault. is_shortage fault ≡ true) }
+{
+    let mut ids = Vec::new(alloc);
+    for item in items {
+        add_one(builder, table, &mut ids, alloc, view, item)?;
+    }
+    Ok(ids)
+}

@@ -1,0 +1,127 @@
+//! The crates of a graph, added to a builder: each with its root alone, and their extern preludes.
+ghost use Rattle.std.specs.Prelude.{◌≡◌, ◌<◌, [], true, IfErr, IfOk, IsTrue, OnErr, OnOk, length, take};
+ghost use Rattle.crate_modules.specs.declared.dependency.Dependency.{Dependency as Dep};
+ghost use Rattle.dm_check.specs.declared.held.HeldId.TheVariants as held;
+ghost use Rattle.crate_tables.specs.CrateMaps.{is_shortage};
+ghost use Rattle.crate_tables.specs.CrateRoots as spec;
+ghost use Rattle.crate_tables.specs.NewModules.{in_edition};
+ghost use Rattle.dm_ids.specs.declared.ids.ModuleId.{ModuleId};
+ghost use Rattle.dm_maps.specs.Added.{IsAddedCrate, IsGrown};
+ghost use Rattle.dm_maps.specs.Build.{next_crate, no_world, with_crate};
+ghost use Rattle.dm_maps.specs.Known.{knows};
+ghost use Rattle.dm_maps.specs.World.{scope_of};
+ghost use Rattle.dm_scope.specs.Scope.{no_scope};
+
+use crate::new_module::in_edition;
+use crate_modules::crate_data::CrateData;
+use crate_modules::crate_graph::CrateGraph;
+use crate_modules::dependency::Dependency;
+use dm_base::ids::{Crate, ModuleId};
+use dm_base::name::Name;
+use dm_maps::build_fault::BuildFault;
+use dm_maps::builder::WorldBuilder;
+use std::alloc::Global;
+
+/// Adds a crate with its root.
+fn add_root(builder: &mut WorldBuilder, krate: &CrateData) -> Result<(), BuildFault>
+    ensures world { OnOk result (builder.new ≡ with_crate builder.old krate.now.edition
+        (in_edition krate.now.edition krate.now.root_file_id)) }
+    ensures added { OnOk result (IsAddedCrate builder.old builder.new (next_crate builder.old)) }
+    ensures fault { IfErr result (λ fault. is_shortage fault ≡ true) }
+{
+    let file = in_edition(krate.edition(), krate.root_file_id());
+    builder.add_crate(krate.edition(), file)?;
+    Ok(())
+}
+
+/// A builder of the crates of a graph, each with its root alone. Crates have the numbers that they have in the graph,
+/// and the root of each is the module of the same number. No module binds anything.
+///
+/// # Errors
+///
+/// Fails where memory or numbers run out.
+pub fn crate_roots(alloc: Global, graph: &CrateGraph) -> Result<WorldBuilder, BuildFault>
+    ensures world { IfOk result (λ builder. builder ≡ spec.with_roots no_world graph.now) }
+    ensures roots { IfOk result (λ builder. spec.HasRoots builder (length graph.now)) }
+    ensures empty { IfOk result (λ builder. (m : ModuleId) → scope_of builder m ≡ no_scope) }
+    ensures fault { IfErr result (λ fault. is_shortage fault ≡ true) }
+{
+    let mut builder = WorldBuilder::new(alloc);
+    for krate in graph.crates() {
+        add_root(&mut builder, krate)?;
+    }
+    Ok(builder)
+}
+
+/// The root of a crate.
+pub fn root_id(krate: Crate) -> ModuleId
+    ensures { result ≡ spec.root_id krate }
+{
+    ModuleId(krate.0)
+}
+
+/// Whether some dependencies have a name in the extern prelude.
+fn is_taken(dependencies: &[Dependency], name: &Name) -> bool
+    ensures { result ≡ spec.is_taken dependencies.now name.now }
+{
+    dependencies.iter().any(|dependency| dependency.prelude && dependency.name == *name)
+}
+
+/// Adds a dependency to the extern prelude of a crate, behind some others, if it is there.
+fn push_extern(
+    builder: &mut WorldBuilder,
+    alloc: Global,
+    krate: Crate,
+    before: &[Dependency],
+    dependency: &Dependency,
+) -> Result<(), BuildFault>
+    requires { IsTrue (knows builder.old (held.Crate krate)) }
+    ensures world { OnOk result (builder.new ≡ spec.with_extern builder.old krate before.now dependency.now) }
+    ensures kept { OnOk result (IsTrue (knows builder.new (held.Crate krate))) }
+    ensures grown { IsGrown builder.old builder.new }
+    ensures fault { IfErr result (λ fault. is_shortage fault ≡ true) }
+{
+    if !dependency.prelude || is_taken(before, &dependency.name) {
+        return Ok(());
+    }
+    let name = dependency.name.copy(alloc)?;
+    builder.add_extern(krate, name, root_id(dependency.crate_id), None)?;
+    Ok(())
+}
+
+/// The dependencies before a place.
+fn before(dependencies: &[Dependency], place: usize) -> &[Dependency]
+    requires { place < length dependencies.now }
+    ensures { result.now ≡ take place dependencies.now }
+{
+    &dependencies[..place]
+}
+
+/// Fills the extern prelude of a crate: each of these dependencies that is there gives its name to the root of its
+/// crate. Of two of the same name the first counts.
+///
+/// # Errors
+///
+/// Fails only where memory runs out. What was added before stays.
+pub fn add_externs(
+    builder: &mut WorldBuilder,
+    alloc: Global,
+    krate: Crate,
+    dependencies: &[Dependency],
+) -> Result<(), BuildFault>
+    requires { IsTrue (knows builder.old (held.Crate krate)) }
+    ensures world { OnOk result (builder.new ≡ spec.with_externs builder.old krate dependencies.now) }
+    ensures grown { IsGrown builder.old builder.new }
+    ensures fault { IfErr result (λ fault. is_shortage fault ≡ true) }
+{
+    for (place, dependency) in dependencies.iter().enumerate() {
+        push_extern(
+            builder,
+            alloc,
+            krate,
+            before(dependencies, place),
+            dependency,
+        )?;
+    }
+    Ok(())
+}

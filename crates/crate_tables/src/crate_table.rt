@@ -1,0 +1,169 @@
+//! What a crate has in a builder.
+ghost use Rattle.std.specs.Prelude.{◌≡◌, ◌++◌, ◌∷◌, [], OnOk, map};
+ghost use Rattle.crate_tables.specs.CrateTables as spec;
+
+use crate::declared_name::DeclaredName;
+use crate::use_leaf::UseLeaf;
+use crate_items::declared_import::DeclaredImport;
+use dm_base::ids::{ModuleId, UseId};
+use dm_base::item_ids::ModuleDefId;
+use dm_base::name::Name;
+use dm_base::per_ns::PerNs;
+use dm_base::visibility::Visibility;
+use std::alloc::{AllocError, Global};
+use std::marker::Model;
+
+/// What a crate has in a builder: for each module of its list the id, unless it was left out, the names that its modules
+/// declare, and what they import.
+#[derive(Drop)]
+pub struct CrateTable {
+    ids: Vec<Option<ModuleId>>,
+    names: Vec<DeclaredName>,
+    leaves: Vec<UseLeaf>,
+}
+
+impl Model for CrateTable {
+    ghost use Rattle.crate_tables.specs.CrateTables.{Table};
+
+    ghost Value = { Table };
+
+    ghost view = { λ t. record { ids = t.ids.items; names = t.names.items; leaves = t.leaves.items } };
+}
+
+impl CrateTable {
+    /// A table of nothing. Allocates nothing.
+    pub(crate) fn new(alloc: Global) -> CrateTable
+        ensures { result ≡ spec.no_table }
+    {
+        CrateTable {
+            ids: Vec::new(alloc),
+            names: Vec::new(alloc),
+            leaves: Vec::new(alloc),
+        }
+    }
+
+    /// The ids of the modules of the list, by their numbers there.
+    pub fn ids(&self) -> &[Option<ModuleId>]
+        ensures { result.now ≡ self.now.ids }
+    {
+        self.ids.as_slice()
+    }
+
+    /// The names, in the order in which they were declared: those of modules, and behind them those of items.
+    pub fn names(&self) -> &[DeclaredName]
+        ensures { result.now ≡ self.now.names }
+    {
+        self.names.as_slice()
+    }
+
+    /// The imports, in order: the leaves of each use together.
+    pub fn leaves(&self) -> &[UseLeaf]
+        ensures { result.now ≡ self.now.leaves }
+    {
+        self.leaves.as_slice()
+    }
+
+    /// The names and the imports alone.
+    pub fn into_parts(self) -> (Vec<DeclaredName>, Vec<UseLeaf>)
+        ensures names { result.0.items ≡ self.names }
+        ensures leaves { result.1.items ≡ self.leaves }
+    {
+        (self.names, self.leaves)
+    }
+
+    /// Lists the id of a module.
+    pub(crate) fn push_id(&mut self, id: Option<ModuleId>) -> Result<(), AllocError>
+        ensures { OnOk result (self.new ≡ record self.old { ids = self.old.ids ++ id ∷ [] }) }
+    {
+        self.ids.push(id)?;
+        Ok(())
+    }
+
+    /// Adds a name.
+    pub(crate) fn push_name(&mut self, name: DeclaredName) -> Result<(), AllocError>
+        ensures { OnOk result (self.new ≡ spec.with_name self.old name) }
+    {
+        self.names.push(name)?;
+        Ok(())
+    }
+
+    /// Lists a module of a name below another, unless it is left out, and declares it there.
+    pub(crate) fn push_module(
+        &mut self,
+        parent: ModuleId,
+        name: Name,
+        visibility: Visibility,
+        id: Option<ModuleId>,
+    ) -> Result<(), AllocError>
+        ensures { OnOk result (self.new ≡ spec.with_id self.old parent name visibility id) }
+    {
+        self.push_id(id)?;
+        match id {
+            None => Ok(()),
+            Some(m) => {
+                let items = PerNs::types(ModuleDefId::ModuleId(m), visibility, None);
+                let declared = DeclaredName {
+                    home: parent,
+                    name,
+                    items,
+                };
+                self.push_name(declared)?;
+                Ok(())
+            }
+        }
+    }
+
+    /// Declares a definition under its name, if it has one.
+    pub(crate) fn push_named(
+        &mut self,
+        home: ModuleId,
+        name: Option<Name>,
+        items: PerNs,
+    ) -> Result<(), AllocError>
+        ensures { OnOk result (self.new ≡ spec.with_named self.old home name items) }
+    {
+        match name {
+            None => Ok(()),
+            Some(name) => {
+                self.push_name(DeclaredName { home, name, items })?;
+                Ok(())
+            }
+        }
+    }
+
+    /// Adds the leaves of a use.
+    pub(crate) fn push_leaves(
+        &mut self,
+        home: ModuleId,
+        visibility: Visibility,
+        use_: UseId,
+        imports: Vec<DeclaredImport>,
+    ) -> Result<(), AllocError>
+        ensures { OnOk result (self.new ≡ spec.with_leaves self.old home visibility use_ imports.items) }
+    {
+        let added = add_leaves(&mut self.leaves, home, visibility, use_, imports)?;
+        Ok(added)
+    }
+}
+
+/// Adds the leaves of a use to some others.
+fn add_leaves(
+    leaves: &mut Vec<UseLeaf>,
+    home: ModuleId,
+    visibility: Visibility,
+    use_: UseId,
+    imports: Vec<DeclaredImport>,
+) -> Result<(), AllocError>
+    ensures { OnOk result
+        (leaves.new.items ≡ leaves.old.items ++ map (spec.leaf_in home visibility use_) imports.items) }
+{
+    for import in imports {
+        leaves.push(UseLeaf {
+            home,
+            visibility,
+            use_,
+            import,
+        })?;
+    }
+    Ok(())
+}

@@ -1,0 +1,107 @@
+//! Names of modules, declared in a world.
+ghost use Rattle.std.specs.Prelude.{◌≡◌, ◌++◌, ◌∷◌, [], false, All, IfErr, IfOk, List, None, OnOk};
+ghost use Rattle.crate_tables.specs.CrateTables.{IsNameOf};
+ghost use Rattle.crate_tables.specs.DeclaredWorlds as spec;
+ghost use Rattle.crate_tables.specs.declared.declared_world.NotDeclared.TheVariants.{OutOfMemory};
+ghost use Rattle.dm_base.specs.Tree.{same_module};
+ghost use Rattle.dm_check.specs.declared.held.HeldId.{HeldId};
+ghost use Rattle.dm_ids.specs.declared.ids.ModuleId.{ModuleId};
+ghost use Rattle.dm_maps.specs.Known.{KnowsAll};
+ghost use Rattle.dm_maps.specs.PushRes.{StaysShown};
+ghost use Rattle.dm_maps.specs.World.{scope_of};
+ghost use Rattle.dm_scope.specs.Scope.{no_scope};
+ghost use Rattle.dm_scope.specs.Shows.{ScopePush, Shows, push_of};
+
+use crate::declared_name::DeclaredName;
+use dm_maps::builder::WorldBuilder;
+use dm_maps::fault::WorldFault;
+use dm_maps::world::World;
+use dm_scope::glob_imports::PerNsGlobImports;
+use std::alloc::{AllocError, Global};
+
+/// Why names were not declared.
+#[derive(Drop, Debug)]
+pub enum NotDeclared {
+    /// The tables hold an id that is none of theirs.
+    Dangling(WorldFault),
+    OutOfMemory,
+}
+
+impl From<AllocError> for NotDeclared {
+    ghost from_gives = { λ _ fault. fault ≡ OutOfMemory };
+
+    fn from(_refused: AllocError) -> NotDeclared {
+        NotDeclared::OutOfMemory
+    }
+}
+
+/// Declares a name in its module.
+fn declare(
+    world: &mut World,
+    globs: &mut PerNsGlobImports,
+    alloc: Global,
+    declared: &DeclaredName,
+) -> Result<(), AllocError>
+    requires { IsNameOf world.old declared.now }
+    ensures shown { OnOk result ((ps : List ScopePush) → Shows (scope_of world.old declared.now.home) globs.old declared.now.home ps
+        → Shows (scope_of world.new declared.now.home) globs.new declared.now.home
+        (ps ++ push_of declared.now.name declared.now.items None ∷ [])) }
+    ensures elsewhere { (k : ModuleId) → same_module declared.now.home k ≡ false
+        → StaysShown world.old globs.old world.new globs.new k }
+    ensures stays { (hs : List HeldId) → KnowsAll world.old hs → KnowsAll world.new hs }
+{
+    let lookup = (declared.home, declared.name.copy(alloc)?);
+    world.push_res(globs, lookup, declared.items, None)?;
+    Ok(())
+}
+
+/// Declares names in their modules, in order.
+fn declare_all(
+    world: &mut World,
+    globs: &mut PerNsGlobImports,
+    alloc: Global,
+    names: &[DeclaredName],
+) -> Result<(), AllocError>
+    requires known { All (IsNameOf world.old) names.now }
+    requires empty { spec.AreShown world.old globs.old [] }
+    ensures shown { OnOk result (spec.AreShown world.new globs.new names.now) }
+    ensures stays { (hs : List HeldId) → KnowsAll world.old hs → KnowsAll world.new hs }
+{
+    for declared in names {
+        declare(world, globs, alloc, declared)?;
+    }
+    Ok(())
+}
+
+fn world_of(tables: WorldBuilder) -> Result<World, NotDeclared>
+    ensures same { IfOk result (λ world. world ≡ tables) }
+    ensures refused { IfErr result (spec.IsRefusal tables) }
+{
+    match tables.check() {
+        Ok(world) => Ok(world),
+        Err((_tables, fault)) => Err(NotDeclared::Dangling(fault)),
+    }
+}
+
+/// The world of tables whose modules bind nothing, with names declared in it: each module shows what is declared there,
+/// as one push after another.
+///
+/// # Errors
+///
+/// Fails where the tables hold an id that is none of theirs, and where memory runs out.
+pub fn declared_world(
+    alloc: Global,
+    tables: WorldBuilder,
+    names: &[DeclaredName],
+) -> Result<(World, PerNsGlobImports), NotDeclared>
+    requires known { All (IsNameOf tables) names.now }
+    requires empty { (m : ModuleId) → scope_of tables m ≡ no_scope }
+    ensures shown { IfOk result (λ made. spec.AreShown made.0 made.1 names.now) }
+    ensures stays { IfOk result (λ made. (hs : List HeldId) → KnowsAll tables hs → KnowsAll made.0 hs) }
+    ensures refused { IfErr result (spec.IsRefusal tables) }
+{
+    let mut world = world_of(tables)?;
+    let mut globs = PerNsGlobImports::new(alloc);
+    declare_all(&mut world, &mut globs, alloc, names)?;
+    Ok((world, globs))
+}

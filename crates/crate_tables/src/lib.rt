@@ -1,0 +1,19 @@
+//! The tables of a world, filled from crates: their roots, modules and extern preludes.
+#![tactic(auto)]
+
+pub mod crate_defs;
+pub mod crate_filling;
+pub mod crate_macros;
+pub mod crate_maps;
+pub mod crate_roots;
+pub mod crate_table;
+pub mod declared_name;
+pub mod declared_world;
+pub mod extern_crates;
+pub mod fill_fault;
+mod item_names;
+pub mod new_module;
+pub mod standard_prelude;
+pub mod table_parts;
+pub mod use_leaf;
+pub mod visibilities;

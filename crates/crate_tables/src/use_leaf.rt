@@ -1,0 +1,15 @@
+//! Imports of the modules of a builder.
+use crate_items::declared_import::DeclaredImport;
+use dm_base::ids::{ModuleId, UseId};
+use dm_base::visibility::Visibility;
+
+/// A leaf of the use trees of a `use` item.
+#[derive(Drop)]
+pub struct UseLeaf {
+    /// The module that it imports into.
+    pub home: ModuleId,
+    /// Who sees what it imports, at most.
+    pub visibility: Visibility,
+    pub use_: UseId,
+    pub import: DeclaredImport,
+}
