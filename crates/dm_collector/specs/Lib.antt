@@ -3,3 +3,4 @@ pub mod Widening
 pub mod UnnamedTraits
 pub mod Steps
 pub mod GlobRows
+pub mod UnresolvedNames

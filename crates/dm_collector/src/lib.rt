@@ -6,4 +6,5 @@ pub mod globs;
 pub mod settle;
 pub mod sources;
 pub mod unnamed_traits;
+pub mod unresolved_names;
 pub mod widening;

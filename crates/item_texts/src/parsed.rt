@@ -1,4 +1,4 @@
-//! What tests share: a text that is read, and pieces of it.
+//! A text that is read, and pieces of it.
 use dm_ids::source::Edition;
 use item_tree::delimiters::partners;
 use item_tree::ids::TextRange;
@@ -9,13 +9,13 @@ use std::alloc::{AllocError, Global};
 /// A text's lexemes, their partners and its items.
 #[derive(Drop)]
 pub(crate) struct Parsed {
-    pub lexemes: Vec<Lexeme>,
-    pub partners: Vec<usize>,
-    pub tree: ItemTree,
+    pub(crate) lexemes: Vec<Lexeme>,
+    pub(crate) partners: Vec<usize>,
+    pub(crate) tree: ItemTree,
 }
 
-pub(crate) fn read_text(alloc: Global, text: &str) -> Result<Parsed, AllocError> {
-    let lexemes = read_lexemes(alloc, text.as_bytes(), Edition::Edition2021)?;
+pub(crate) fn read_text(alloc: Global, edition: Edition, text: &str) -> Result<Parsed, AllocError> {
+    let lexemes = read_lexemes(alloc, text.as_bytes(), edition)?;
     let partners = partners(alloc, lexemes.as_slice())?;
     let tree = item_tree(alloc, lexemes.as_slice(), partners.as_slice())?;
     Ok(Parsed {

@@ -1,0 +1,61 @@
+//! Items of texts.
+use crate::parsed::{lexeme_text, read_text, text_in};
+use dm_ids::source::Edition;
+use item_tree::ids::item_range;
+use item_tree::items::{Item, Range};
+use item_tree::lexeme::Lexeme;
+use item_tree::visibility::raw_visibility;
+use std::alloc::{AllocError, Global};
+
+fn print_item(
+    alloc: Global,
+    out: &mut String,
+    text: &str,
+    lexemes: &[Lexeme],
+    item: Item,
+) -> Result<(), AllocError> {
+    let kind = format!(in alloc; "{:?} ", item.kind)?;
+    out.push_str(kind.as_str())?;
+    if let Some(place) = item.name {
+        out.push_str(lexeme_text(text, lexemes, place))?;
+    }
+    if let Some(parent) = item.parent {
+        let shown = format!(in alloc; " in {parent}")?;
+        out.push_str(shown.as_str())?;
+    }
+    out.push_str(": ")?;
+    out.push_str(text_in(text, item_range(lexemes, item)))?;
+    out.push_str("\n")
+}
+
+pub(crate) fn print_items(
+    alloc: Global,
+    out: &mut String,
+    edition: Edition,
+    text: &str,
+) -> Result<(), AllocError> {
+    let read = read_text(alloc, edition, text)?;
+    for item in &read.tree.items {
+        print_item(alloc, out, text, read.lexemes.as_slice(), *item)?;
+    }
+    Ok(())
+}
+
+pub(crate) fn print_visibilities(
+    alloc: Global,
+    out: &mut String,
+    edition: Edition,
+    text: &str,
+) -> Result<(), AllocError> {
+    let read = read_text(alloc, edition, text)?;
+    for item in &read.tree.items {
+        let range = Range {
+            first: item.visibility,
+            behind: item.qualifiers,
+        };
+        let visibility = raw_visibility(read.lexemes.as_slice(), range);
+        let shown = format!(in alloc; "{visibility:?}\n")?;
+        out.push_str(shown.as_str())?;
+    }
+    Ok(())
+}

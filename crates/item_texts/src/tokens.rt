@@ -1,0 +1,60 @@
+//! Tokens and lexemes of texts.
+use dm_ids::source::Edition;
+use item_tree::lexeme::read_lexemes;
+use item_tree::lexer::lex;
+use std::alloc::{AllocError, Global};
+
+pub(crate) fn print_tokens(
+    alloc: Global,
+    out: &mut String,
+    edition: Edition,
+    text: &str,
+) -> Result<(), AllocError> {
+    for token in &lex(alloc, text.as_bytes(), edition)? {
+        let shown = format!(in alloc; "{:?} {}\n", token.kind, token.len)?;
+        out.push_str(shown.as_str())?;
+    }
+    Ok(())
+}
+
+pub(crate) fn print_lexemes(
+    alloc: Global,
+    out: &mut String,
+    edition: Edition,
+    text: &str,
+) -> Result<(), AllocError> {
+    for lexeme in &read_lexemes(alloc, text.as_bytes(), edition)? {
+        let (kind, start, len) = (lexeme.kind, lexeme.start, lexeme.len);
+        let shown = format!(in alloc; "{kind:?} {start} {len}\n")?;
+        out.push_str(shown.as_str())?;
+    }
+    Ok(())
+}
+
+/// Whether a text is as long as its tokens together.
+fn is_covered(alloc: Global, edition: Edition, text: &[u8]) -> Result<bool, AllocError> {
+    let mut len: usize = 0;
+    for token in &lex(alloc, text, edition)? {
+        len = len.wrapping_add(token.len);
+    }
+    Ok(len == text.len())
+}
+
+pub(crate) fn print_cuts(
+    alloc: Global,
+    out: &mut String,
+    edition: Edition,
+    text: &str,
+) -> Result<(), AllocError> {
+    let mut covered: usize = 0;
+    for end in 0..text.len() {
+        if is_covered(alloc, edition, &text.as_bytes()[..end])? {
+            covered = covered.wrapping_add(1);
+        }
+    }
+    let shown = format!(in alloc;
+        "{covered} of {} beginnings are as long as their tokens\n",
+        text.len()
+    )?;
+    out.push_str(shown.as_str())
+}

@@ -1,0 +1,59 @@
+//! Use trees of `use` items: each with the number of the list that it stands in, its text, and what it imports.
+use crate::parsed::{lexeme_text, read_text, text_in};
+use dm_ids::source::Edition;
+use item_tree::ids::use_tree_range;
+use item_tree::imports::{import_kind, import_path};
+use item_tree::items::Range;
+use item_tree::lexeme::Lexeme;
+use item_tree::use_tree::{UseTree, use_trees};
+use std::alloc::{AllocError, Global};
+
+/// What a use tree imports.
+fn imported(
+    alloc: Global,
+    text: &str,
+    lexemes: &[Lexeme],
+    trees: &[UseTree],
+    number: usize,
+    tree: UseTree,
+) -> Result<String, AllocError> {
+    let mut out = String::new(alloc);
+    let Some(kind) = import_kind(lexemes, tree) else {
+        return Ok(out);
+    };
+    let shown = format!(in alloc; " = {kind:?}")?;
+    out.push_str(shown.as_str())?;
+    for place in &import_path(alloc, lexemes, trees, number)? {
+        out.push_str(" ")?;
+        out.push_str(lexeme_text(text, lexemes, *place))?;
+    }
+    if let Some(place) = tree.alias {
+        out.push_str(" as ")?;
+        out.push_str(lexeme_text(text, lexemes, place))?;
+    }
+    Ok(out)
+}
+
+pub(crate) fn print_uses(
+    alloc: Global,
+    out: &mut String,
+    edition: Edition,
+    text: &str,
+) -> Result<(), AllocError> {
+    let read = read_text(alloc, edition, text)?;
+    let lexemes = read.lexemes.as_slice();
+    let whole = Range {
+        first: 1,
+        behind: lexemes.len(),
+    };
+    let trees = use_trees(alloc, lexemes, whole)?;
+    for (number, tree) in trees.iter().enumerate() {
+        let range = use_tree_range(lexemes, read.partners.as_slice(), *tree);
+        let own = text_in(text, range);
+        let (kind, parent) = (tree.kind, tree.parent);
+        let import = imported(alloc, text, lexemes, trees.as_slice(), number, *tree)?;
+        let shown = format!(in alloc; "{kind:?} {parent:?} {own}{import}\n")?;
+        out.push_str(shown.as_str())?;
+    }
+    Ok(())
+}
