@@ -9,3 +9,4 @@ pub mod ItemAttributes
 pub mod DeclaredMacros
 pub mod MacroCalls
 pub mod CrateAttributes
+pub mod TextualOrders

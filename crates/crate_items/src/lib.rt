@@ -13,4 +13,5 @@ mod lookups;
 pub mod macro_call;
 pub mod module_items;
 mod shapes;
+pub mod textual_order;
 mod use_paths;

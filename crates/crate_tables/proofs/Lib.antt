@@ -7,4 +7,3 @@ pub mod VariantLemmas
 pub mod DefLemmas
 pub mod ExternLemmas
 pub mod PreludeLemmas
-pub mod MacroLemmas
