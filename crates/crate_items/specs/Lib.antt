@@ -10,3 +10,4 @@ pub mod DeclaredMacros
 pub mod MacroCalls
 pub mod CrateAttributes
 pub mod TextualOrders
+pub mod TextualScopes

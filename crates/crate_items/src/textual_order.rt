@@ -93,7 +93,7 @@ fn push_events(events: &mut Vec<TextEvent>, more: &[TextEvent]) -> Result<(), Al
 }
 
 /// Whether an item is what declares a module.
-fn is_declared_by(declaration: &Declaration, item: &DeclaredItem) -> bool
+pub(crate) fn is_declared_by(declaration: &Declaration, item: &DeclaredItem) -> bool
     ensures { result ≡ spec.is_declared_by declaration.now item.now }
 {
     item.module == declaration.parent
