@@ -12,3 +12,5 @@ pub mod MacroCalls
 pub mod CrateAttributes
 pub mod ChildModules
 pub mod ItemRows
+pub mod TextualOrders
+pub mod TextualScopes

@@ -16,4 +16,6 @@ mod lookups;
 pub mod macro_call;
 pub mod module_items;
 mod shapes;
+pub mod textual_order;
+pub mod textual_scopes;
 mod use_paths;

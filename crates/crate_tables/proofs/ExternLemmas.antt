@@ -1,4 +1,4 @@
--- Extern crates of a crate: roots that a builder knows, and tables and extern preludes with one name more.
+-- Roots that extern crates link are the builder's.
 use Rattle.std.proofs.Common.{◌≡◌, ◌++◌, ◌∷◌, [], Bool, true, false, cond, List, Option, Some, None, refl, subst, sym}
 use Rattle.std.specs.List.{find}
 use Rattle.std.specs.Option.{option_map}
@@ -38,15 +38,3 @@ pub linked-known : (w : World) (k : Crate) (ds : List Dependency) (l : Option Li
 linked-known w k ds None known = tt
 linked-known w k ds (Some Itself) known = known.0
 linked-known w k ds (Some (Named n)) known = named-known w ds n known.1
-
--- an extern prelude alone has changed
-pub grown-extern : (w v : World) (k : Crate) (n : Name) (m : ModuleId) (x : Option ExternCrateId) → v ≡ with_extern_of w k n m x → IsGrown w v
-grown-extern w v k n m x same = subst (IsGrown w) (sym same) (set-externs w (locals_with w.local_maps k.0 (λ L. with_extern L n m x)))
-
--- a table with the root of an extern crate more
-pub table-linked : (w : World) (k : Crate) (t : Table) (m : ModuleId) (n : Option Name) (root : ModuleId) (vis : Visibility) (x : ExternCrateId)
-    → IsTableOf w k t → IsTrue (knows w (held.Module m)) → IsTrue (knows w (held.Module root)) → KnowsAll w (vis_holds vis)
-    → IsTableOf w k (with_named t m n (root_name root vis x))
-table-linked w k t m None root vis x is km kr kv = is
-table-linked w k t m (Some n) root vis x is km kr kv =
-    table-named w k t (record { home = m; name = n; items = root_name root vis x }) is (record { known = (km, type-known w (def.ModuleId root) vis (kr, tt) kv) })

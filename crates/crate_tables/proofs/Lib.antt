@@ -7,6 +7,5 @@ pub mod VariantLemmas
 pub mod DefLemmas
 pub mod ExternLemmas
 pub mod PreludeLemmas
-pub mod MacroLemmas
 pub mod FillingLemmas
 pub mod DeclaredLemmas

@@ -1,0 +1,59 @@
+-- The modules and textual macros of a crate in the order of its text, in which a module stands behind its `mod` item.
+use Rattle.std.specs.Prelude.{◌==◌, ◌&&◌, ◌+◌, ◌++◌, ℕ, Bool, true, false, List, [], ◌∷◌, Option, Some, None, drop, take, if◌then◌else◌}
+use Rattle.std.specs.List.{position}
+use Rattle.crate_items.specs.declared.declared_item.DeclaredItem.{DeclaredItem}
+use Rattle.crate_items.specs.declared.textual_order.TextEvent.{TextEvent}
+use Rattle.crate_items.specs.declared.textual_order.TextEvent.TheVariants.{Begins, Ends, Item}
+use Rattle.crate_modules.specs.DeclaredModules.{Module}
+use Rattle.crate_modules.specs.declared.declared_module.Declaration.{Declaration}
+use Rattle.item_tree.specs.declared.item_kind.ItemKind.{ItemKind}
+use Rattle.item_tree.specs.declared.item_kind.ItemKind.TheVariants as item
+
+-- textual scope knows modules and macros by `macro_rules!`
+abbrev pub is_textual : ItemKind → Bool
+is_textual item.Mod = true
+is_textual item.MacroRules = true
+is_textual _ = false
+
+-- the item of a number, if it is of the module m
+abbrev pub event_of : ℕ → ℕ → DeclaredItem → List TextEvent
+event_of m n x = if (x.«module» == m) && is_textual x.kind then Item n ∷ [] else []
+
+abbrev pub events_from : ℕ → ℕ → List DeclaredItem → List TextEvent
+events_from m n [] = []
+events_from m n (x ∷ xs) = event_of m n x ++ events_from m (n + 1) xs
+
+-- what stands in the module m: it begins, has its items in order, and ends
+abbrev pub block : List DeclaredItem → ℕ → List TextEvent
+block xs m = Begins m ∷ events_from m 0 xs ++ Ends m ∷ []
+
+-- the item is what declares a module
+abbrev pub is_declared_by : Declaration → DeclaredItem → Bool
+is_declared_by d x = (x.«module» == d.parent) && ((x.file.0 == d.file.0) && (x.item == d.item))
+
+abbrev pub is_item : ℕ → TextEvent → Bool
+is_item n (Item i) = i == n
+is_item n _ = false
+
+-- these events, behind the one at a place
+abbrev pub put_behind : List TextEvent → List TextEvent → Option ℕ → List TextEvent
+put_behind events more None = events
+put_behind events more (Some i) = take (i + 1) events ++ more ++ drop (i + 1) events
+
+-- what stands in the module m, behind the item of a number
+abbrev pub put_in : List DeclaredItem → List TextEvent → ℕ → Option ℕ → List TextEvent
+put_in xs events m None = events
+put_in xs events m (Some n) = put_behind events (block xs m) (position (is_item n) events)
+
+-- the root is declared nowhere, and stands there already
+abbrev pub with_module : List DeclaredItem → List TextEvent → ℕ → Option Declaration → List TextEvent
+with_module xs events m None = events
+with_module xs events m (Some d) = put_in xs events m (position (is_declared_by d) xs)
+
+abbrev pub ordered_from : List DeclaredItem → List TextEvent → ℕ → List Module → List TextEvent
+ordered_from xs events m [] = events
+ordered_from xs events m (x ∷ ms) = ordered_from xs (with_module xs events m x.declaration) (m + 1) ms
+
+-- First stands what is in the root. What is in each other module is put behind the item that declares it.
+abbrev pub textual_order : List Module → List DeclaredItem → List TextEvent
+textual_order ms xs = ordered_from xs (block xs 0) 0 ms

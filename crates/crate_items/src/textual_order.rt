@@ -1,0 +1,236 @@
+//! The modules and textual macros of a crate in the order of its text.
+ghost use Rattle.std.specs.Prelude.{◌≡◌, ◌<◌, ◌+◌, ◌++◌, ◌∷◌, [], IfOk, OnOk, drop, length, take};
+ghost use Rattle.std.specs.List.{position};
+ghost use Rattle.crate_items.specs.TextualOrders as spec;
+
+use crate::declared_item::DeclaredItem;
+use crate_modules::declared_module::{Declaration, DeclaredModule};
+use item_tree::item_kind::ItemKind;
+use std::alloc::{AllocError, Global};
+
+/// What textual scope meets in the text of a crate.
+#[derive(Clone, Copy, PartialEq, Eq, Debug)]
+pub enum TextEvent {
+    /// A module of a number begins, behind the item that declares it.
+    Begins(usize),
+    /// An item of a number: a module's, or a macro by `macro_rules!`.
+    Item(usize),
+    /// A module ends.
+    Ends(usize),
+}
+
+fn is_textual(kind: ItemKind) -> bool
+    ensures { result ≡ spec.is_textual kind }
+{
+    match kind {
+        ItemKind::Mod => true,
+        ItemKind::MacroRules => true,
+        _ => false,
+    }
+}
+
+fn push_event(events: &mut Vec<TextEvent>, event: TextEvent) -> Result<(), AllocError>
+    ensures { OnOk result (events.new.items ≡ events.old.items ++ event ∷ []) }
+{
+    events.push(event)?;
+    Ok(())
+}
+
+/// Adds the item of a number, if it is one of a module.
+fn push_item(
+    events: &mut Vec<TextEvent>,
+    home: usize,
+    number: usize,
+    item: &DeclaredItem,
+) -> Result<(), AllocError>
+    ensures { OnOk result
+        (events.new.items ≡ events.old.items ++ spec.event_of home number item.now) }
+{
+    if item.module == home && is_textual(item.kind) {
+        push_event(events, TextEvent::Item(number))?;
+    }
+    Ok(())
+}
+
+/// Adds the items of a module.
+fn push_items(
+    events: &mut Vec<TextEvent>,
+    home: usize,
+    items: &[DeclaredItem],
+) -> Result<(), AllocError>
+    ensures { OnOk result
+        (events.new.items ≡ events.old.items ++ spec.events_from home 0 items.now) }
+{
+    for (number, item) in items.iter().enumerate() {
+        push_item(events, home, number, item)?;
+    }
+    Ok(())
+}
+
+/// Adds what stands in a module.
+fn push_block(
+    events: &mut Vec<TextEvent>,
+    home: usize,
+    items: &[DeclaredItem],
+) -> Result<(), AllocError>
+    ensures { OnOk result
+        (events.new.items ≡ events.old.items ++ spec.block items.now home) }
+{
+    push_event(events, TextEvent::Begins(home))?;
+    push_items(events, home, items)?;
+    push_event(events, TextEvent::Ends(home))?;
+    Ok(())
+}
+
+/// Adds some events.
+fn push_events(events: &mut Vec<TextEvent>, more: &[TextEvent]) -> Result<(), AllocError>
+    ensures { OnOk result (events.new.items ≡ events.old.items ++ more.now) }
+{
+    for event in more {
+        events.push(*event)?;
+    }
+    Ok(())
+}
+
+/// Whether an item is what declares a module.
+pub(crate) fn is_declared_by(declaration: &Declaration, item: &DeclaredItem) -> bool
+    ensures { result ≡ spec.is_declared_by declaration.now item.now }
+{
+    item.module == declaration.parent
+        && item.file.0 == declaration.file.0
+        && item.item == declaration.item
+}
+
+/// Whether an event is the item of a number.
+fn is_item(number: usize, event: TextEvent) -> bool
+    ensures { result ≡ spec.is_item number event }
+{
+    match event {
+        TextEvent::Item(item) => item == number,
+        _ => false,
+    }
+}
+
+/// The number of the item that declares a module.
+fn declaring(items: &[DeclaredItem], declaration: &Declaration) -> Option<usize>
+    ensures { result ≡ position (spec.is_declared_by declaration.now) items.now }
+{
+    items
+        .iter()
+        .position(|item| is_declared_by(declaration, item))
+}
+
+/// The place of the item of a number.
+fn place_of(events: &[TextEvent], number: usize) -> Option<usize>
+    ensures { result ≡ position (spec.is_item number) events.now }
+{
+    events.iter().position(|event| is_item(number, *event))
+}
+
+/// The events through the one at a place.
+fn through(events: &[TextEvent], place: usize) -> &[TextEvent]
+    requires { place < length events.now }
+    ensures { result.now ≡ take (place + 1) events.now }
+{
+    &events[..place + 1]
+}
+
+/// The events behind the one at a place.
+fn behind(events: &[TextEvent], place: usize) -> &[TextEvent]
+    requires { place < length events.now }
+    ensures { result.now ≡ drop (place + 1) events.now }
+{
+    &events[place + 1..]
+}
+
+/// The events, with what stands in a module behind the one at a place.
+fn spliced(
+    alloc: Global,
+    events: &[TextEvent],
+    items: &[DeclaredItem],
+    home: usize,
+    place: usize,
+) -> Result<Vec<TextEvent>, AllocError>
+    requires { place < length events.now }
+    ensures { IfOk result (λ more. more.items ≡
+        take (place + 1) events.now ++ spec.block items.now home ++ drop (place + 1) events.now) }
+{
+    let mut more = Vec::new(alloc);
+    push_events(&mut more, through(events, place))?;
+    push_block(&mut more, home, items)?;
+    push_events(&mut more, behind(events, place))?;
+    Ok(more)
+}
+
+/// The events, with what stands in a module behind the item of a number, if that is there.
+fn put_behind(
+    alloc: Global,
+    events: Vec<TextEvent>,
+    items: &[DeclaredItem],
+    home: usize,
+    number: usize,
+) -> Result<Vec<TextEvent>, AllocError>
+    ensures { IfOk result (λ more. more.items ≡ spec.put_behind events.items
+        (spec.block items.now home) (position (spec.is_item number) events.items)) }
+{
+    match place_of(events.as_slice(), number) {
+        None => Ok(events),
+        Some(place) => spliced(alloc, events.as_slice(), items, home, place),
+    }
+}
+
+/// The events, with what stands in a module behind the item that declares it.
+fn with_declared(
+    alloc: Global,
+    events: Vec<TextEvent>,
+    items: &[DeclaredItem],
+    home: usize,
+    declaration: &Declaration,
+) -> Result<Vec<TextEvent>, AllocError>
+    ensures { IfOk result (λ more. more.items ≡ spec.put_in items.now events.items home
+        (position (spec.is_declared_by declaration.now) items.now)) }
+{
+    match declaring(items, declaration) {
+        None => Ok(events),
+        Some(number) => put_behind(alloc, events, items, home, number),
+    }
+}
+
+/// The same, if it is declared.
+fn with_module(
+    alloc: Global,
+    events: Vec<TextEvent>,
+    items: &[DeclaredItem],
+    home: usize,
+    declared: &DeclaredModule,
+) -> Result<Vec<TextEvent>, AllocError>
+    ensures { IfOk result (λ more. more.items ≡
+        spec.with_module items.now events.items home declared.now.declaration) }
+{
+    match declared.declaration() {
+        None => Ok(events),
+        Some(declaration) => with_declared(alloc, events, items, home, declaration),
+    }
+}
+
+/// The modules and the macros by `macro_rules!` of a crate in the order of its text, by its modules and its items, as
+/// `declared_items` gives these. What stands in a module stands behind the item that declares it. Numbers are places in
+/// the two lists. The time is linear in the number of items for each module.
+///
+/// # Errors
+///
+/// Fails only where memory runs out.
+pub fn textual_order(
+    alloc: Global,
+    modules: &[DeclaredModule],
+    items: &[DeclaredItem],
+) -> Result<Vec<TextEvent>, AllocError>
+    ensures { IfOk result (λ events. events.items ≡ spec.textual_order modules.now items.now) }
+{
+    let mut events = Vec::new(alloc);
+    push_block(&mut events, 0, items)?;
+    for (home, declared) in modules.iter().enumerate() {
+        events = with_module(alloc, events, items, home, declared)?;
+    }
+    Ok(events)
+}
