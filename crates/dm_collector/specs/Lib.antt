@@ -3,3 +3,5 @@ pub mod Widening
 pub mod UnnamedTraits
 pub mod Steps
 pub mod GlobRows
+pub mod Leaves
+pub mod Collecting
