@@ -2,3 +2,4 @@ pub mod KnownLemmas
 pub mod ListLemmas
 pub mod ReachLemmas
 pub mod IdleLemmas
+pub mod TableLemmas

@@ -4,3 +4,5 @@ pub mod UnnamedTraits
 pub mod Steps
 pub mod GlobRows
 pub mod UnresolvedNames
+pub mod Leaves
+pub mod Collecting

@@ -1,8 +1,11 @@
 //! From item trees to def maps, without macro expansion: imports and globs settled to a fixed point.
 #![tactic(auto)]
 
+pub mod collect;
+pub mod collect_fault;
 pub mod glob_fault;
 pub mod globs;
+pub mod leaves;
 pub mod settle;
 pub mod sources;
 pub mod unnamed_traits;

@@ -1,0 +1,15 @@
+use Rattle.std.proofs.Common.{◌∙◌, List, subst, sym}
+use Rattle.std.specs.Prelude.{All}
+use Rattle.crate_tables.specs.CrateTables.{IsNameOf}
+use Rattle.crate_tables.specs.DeclaredWorlds.{AreShown}
+use Rattle.crate_tables.specs.declared.declared_name.DeclaredName.{DeclaredName}
+use Rattle.dm_collector.proofs.TableLemmas.{names-known}
+use Rattle.dm_collector.proofs.collect.begun.Goals as goal
+
+pub declared-requires-clause-known : goal.declared-requires-clause-known
+declared-requires-clause-known c =
+    subst (All (IsNameOf c.args.tables.builder)) (sym (c.as_slice.ensures.value ∙ c.in_ok-parts.ensures.names)) (names-known c.args.tables.builder c.args.tables.crates.items c.requires.known)
+
+pub returns-clause-declared : goal.returns-clause-declared
+returns-clause-declared c =
+    subst (λ (ds : List DeclaredName). AreShown c.in_ok-retry.retry.state.world c.in_ok-retry.retry.state.globs ds) (c.as_slice.ensures.value ∙ c.in_ok-parts.ensures.names) c.in_ok-retry.ensures.declared

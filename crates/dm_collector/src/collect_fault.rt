@@ -1,0 +1,71 @@
+//! Why crates are not collected.
+ghost use Rattle.std.specs.Prelude.{◌≡◌};
+ghost use Rattle.dm_collector.specs.declared.collect_fault.CollectFault.TheVariants as faults;
+
+use crate::glob_fault::GlobFault;
+use crate_modules::crate_order::OrderFault;
+use crate_tables::declared_world::NotDeclared;
+use crate_tables::fill_fault::FillFault;
+use dm_base::ids::Crate;
+use dm_maps::fault::WorldFault;
+use std::alloc::AllocError;
+
+/// Why crates were not collected.
+#[derive(Drop, Debug)]
+pub enum CollectFault {
+    /// Each of these crates depends on the next one, and the last on the first.
+    Cycle(Vec<Crate>),
+    /// The file of a crate's root is not there.
+    NoRootFile(Crate),
+    /// A crate has more modules than the caller asked for.
+    TooManyModules(Crate),
+    /// There is no number for another module, item, variant or use.
+    OutOfNumbers,
+    /// The tables of the crates hold an id that is none of theirs.
+    Dangling(WorldFault),
+    /// An import or a glob names what the world does not have.
+    Unknown,
+    OutOfMemory,
+}
+
+impl From<AllocError> for CollectFault {
+    ghost from_gives = { λ _ fault. fault ≡ faults.OutOfMemory };
+
+    fn from(_refused: AllocError) -> CollectFault {
+        CollectFault::OutOfMemory
+    }
+}
+
+/// The same of an order.
+pub(crate) fn of_order(fault: OrderFault) -> CollectFault {
+    match fault {
+        OrderFault::Cycle(crates) => CollectFault::Cycle(crates),
+        OrderFault::OutOfMemory => CollectFault::OutOfMemory,
+    }
+}
+
+/// The same of what crates declare.
+pub(crate) fn of_filling(fault: FillFault) -> CollectFault {
+    match fault {
+        FillFault::NoRootFile(krate) => CollectFault::NoRootFile(krate),
+        FillFault::TooManyModules(krate) => CollectFault::TooManyModules(krate),
+        FillFault::OutOfNumbers => CollectFault::OutOfNumbers,
+        FillFault::OutOfMemory => CollectFault::OutOfMemory,
+    }
+}
+
+/// The same of a world.
+pub(crate) fn of_declared(fault: NotDeclared) -> CollectFault {
+    match fault {
+        NotDeclared::Dangling(fault) => CollectFault::Dangling(fault),
+        NotDeclared::OutOfMemory => CollectFault::OutOfMemory,
+    }
+}
+
+/// The same of globs.
+pub(crate) fn of_glob(fault: GlobFault) -> CollectFault {
+    match fault {
+        GlobFault::Unknown => CollectFault::Unknown,
+        GlobFault::OutOfMemory => CollectFault::OutOfMemory,
+    }
+}
