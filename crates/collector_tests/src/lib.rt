@@ -1,5 +1,7 @@
-//! Tests of `dm_collector`: a small world whose imports and globs are settled.
+//! Tests of `dm_collector`: a small world whose imports and globs are settled, and two crates that are collected.
 #![tactic(auto)]
 
+#[cfg(test)]
+mod collected;
 #[cfg(test)]
 mod settled;
