@@ -7,3 +7,4 @@ pub mod VariantLemmas
 pub mod DefLemmas
 pub mod ExternLemmas
 pub mod PreludeLemmas
+pub mod TextualLemmas

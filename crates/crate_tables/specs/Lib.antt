@@ -7,3 +7,4 @@ pub mod CrateDefs
 pub mod ExternCrates
 pub mod StandardPreludes
 pub mod CrateMacros
+pub mod TextualMacros

@@ -11,5 +11,6 @@ pub mod extern_crates;
 mod item_names;
 pub mod new_module;
 pub mod standard_prelude;
+pub mod textual_macros;
 pub mod use_leaf;
 pub mod visibilities;
