@@ -1,16 +1,18 @@
 -- Which macros by `macro_rules!` are in textual scope where a module of a crate ends.
-use Rattle.std.specs.Prelude.{◌++◌, ℕ, Bool, true, false, List, [], ◌∷◌, Option, Some, None, map, slice_get, slice_set, if◌then◌else◌}
+use Rattle.std.specs.Prelude.{◌++◌, ◌||◌, ℕ, Bool, true, false, List, [], ◌∷◌, Option, Some, None, map, slice_get, slice_set, if◌then◌else◌}
 use Rattle.std.specs.List.{find, list_any}
 use Rattle.std.specs.Option.{option_map_or}
-use Rattle.crate_items.specs.ItemAttributes.{item_attributes}
+use Rattle.crate_items.specs.ItemAttributes.{file_attributes, item_attributes}
 use Rattle.crate_items.specs.TextualOrders.{is_declared_by, textual_order}
 use Rattle.crate_items.specs.declared.declared_item.DeclaredItem.{DeclaredItem}
 use Rattle.crate_items.specs.declared.textual_order.TextEvent.{TextEvent}
 use Rattle.crate_items.specs.declared.textual_order.TextEvent.TheVariants.{Begins, Ends, Item}
 use Rattle.crate_modules.specs.DeclaredModules.{Module}
 use Rattle.crate_modules.specs.Modules.{Listing}
+use Rattle.crate_modules.specs.Sources.{source_at}
 use Rattle.crate_modules.specs.declared.declared_module.Declaration.{Declaration}
 use Rattle.dm_ids.specs.Names.{Name, same_name}
+use Rattle.dm_ids.specs.declared.ids.FileId.{FileId}
 use Rattle.item_tree.specs.declared.attribute.AttributeKind.{AttributeKind}
 use Rattle.item_tree.specs.declared.attribute.AttributeKind.TheVariants as says
 use Rattle.item_tree.specs.declared.item_kind.ItemKind.{ItemKind}
@@ -31,9 +33,13 @@ abbrev pub leaves_if : Listing → List DeclaredItem → Option Declaration → 
 leaves_if l xs None = false
 leaves_if l xs (Some d) = leaves_by l (find (is_declared_by d) xs)
 
--- an active `macro_use` stands before the item that declares the module
+abbrev pub begins_so : Listing → FileId → Option ℕ → Bool
+begins_so l f (Some n) = false
+begins_so l f None = list_any is_macro_use (file_attributes (source_at l.sources f))
+
+-- an active `macro_use` stands before the item that declares the module, or its own file begins with one
 abbrev pub leaves : Listing → List DeclaredItem → Module → Bool
-leaves l xs m = leaves_if l xs m.declaration
+leaves l xs m = leaves_if l xs m.declaration || begins_so l m.file m.item
 
 -- ---- Scopes
 

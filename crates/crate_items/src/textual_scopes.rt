@@ -6,7 +6,7 @@ ghost use Rattle.crate_items.specs.TextualOrders.{is_declared_by};
 ghost use Rattle.crate_items.specs.TextualScopes as spec;
 
 use crate::declared_item::DeclaredItem;
-use crate::item_attributes::item_attributes;
+use crate::item_attributes::{file_attributes, item_attributes};
 use crate::textual_order::{TextEvent, is_declared_by, textual_order};
 use crate_modules::declared_module::{Declaration, DeclaredModule};
 use crate_modules::modules::CrateModules;
@@ -81,13 +81,13 @@ fn declaring<'a>(items: &'a [DeclaredItem], declaration: &Declaration) -> Option
 }
 
 /// Whether an active `macro_use` stands before the item that declares a module.
-fn leaves(
+fn is_under(
     alloc: Global,
     list: &CrateModules,
     items: &[DeclaredItem],
     declared: &DeclaredModule,
 ) -> Result<bool, AllocError>
-    ensures { IfOk result (λ leave. leave ≡ spec.leaves list.now items.now declared.now) }
+    ensures { IfOk result (λ under. under ≡ spec.leaves_if list.now items.now declared.now.declaration) }
 {
     match declared.declaration() {
         None => Ok(false),
@@ -99,6 +99,38 @@ fn leaves(
             }
         },
     }
+}
+
+/// Whether the file of a module begins with an active `macro_use`.
+fn begins_so(
+    alloc: Global,
+    list: &CrateModules,
+    declared: &DeclaredModule,
+) -> Result<bool, AllocError>
+    ensures { IfOk result (λ begins. begins ≡
+        spec.begins_so list.now declared.now.file declared.now.item) }
+{
+    match declared.item() {
+        Some(_item) => Ok(false),
+        None => {
+            let kinds = file_attributes(alloc, list, declared.file())?;
+            Ok(any_macro_use(kinds.as_slice()))
+        }
+    }
+}
+
+/// Whether a module leaves its macros.
+fn leaves(
+    alloc: Global,
+    list: &CrateModules,
+    items: &[DeclaredItem],
+    declared: &DeclaredModule,
+) -> Result<bool, AllocError>
+    ensures { IfOk result (λ leave. leave ≡ spec.leaves list.now items.now declared.now) }
+{
+    let under = is_under(alloc, list, items, declared)?;
+    let begins = begins_so(alloc, list, declared)?;
+    Ok(under || begins)
 }
 
 /// Which modules leave their macros.
@@ -358,7 +390,8 @@ fn meet_all(
 
 /// For each module of a crate's list the macros by `macro_rules!` that are in textual scope where it ends, by their items,
 /// as `declared_items` gives these. A module begins with what is in scope where it stands, a macro is in scope behind its
-/// item, and a module under an active `macro_use` leaves the last macro of each name behind it.
+/// item, and a module under an active `macro_use` leaves the last macro of each name behind it; so does one whose file
+/// begins with one.
 ///
 /// # Errors
 ///

@@ -1,26 +1,15 @@
 -- Roots that extern crates link are the builder's.
-use Rattle.std.proofs.Common.{◌≡◌, ◌++◌, ◌∷◌, [], Bool, true, false, cond, List, Option, Some, None, refl, subst, sym}
+use Rattle.std.proofs.Common.{◌∷◌, [], Bool, true, false, cond, List, Option, Some, None}
 use Rattle.std.specs.List.{find}
 use Rattle.std.specs.Option.{option_map}
 use Rattle.std.specs.Prelude.{IfSome, IsTrue, map}
 use Rattle.crate_items.specs.declared.declared_item.LinkedCrate.{LinkedCrate}
 use Rattle.crate_items.specs.declared.declared_item.LinkedCrate.TheVariants.{Itself, Named}
 use Rattle.crate_modules.specs.declared.dependency.Dependency.{Dependency}
-use Rattle.crate_tables.proofs.TableLemmas.{table-named, table-on, type-known}
-use Rattle.crate_tables.specs.CrateTables.{IsTableOf, Table, with_named}
-use Rattle.crate_tables.specs.ExternCrates.{held_root, linkable, linked_root, root_name, root_named, root_of_dep}
-use Rattle.dm_base.specs.declared.visibility.Visibility.{Visibility}
-use Rattle.dm_check.specs.Holding.{vis_holds}
+use Rattle.crate_tables.specs.ExternCrates.{held_root, linkable, linked_root, root_named, root_of_dep}
 use Rattle.dm_check.specs.declared.held.HeldId.TheVariants as held
-use Rattle.dm_def_map.specs.Locals.{with_extern}
 use Rattle.dm_ids.specs.Names.{Name, same_name}
 use Rattle.dm_ids.specs.declared.ids.Crate.{Crate}
-use Rattle.dm_ids.specs.declared.ids.ExternCrateId.{ExternCrateId}
-use Rattle.dm_ids.specs.declared.ids.ModuleId.{ModuleId}
-use Rattle.dm_ids.specs.declared.item_ids.ModuleDefId.TheVariants as def
-use Rattle.dm_maps.proofs.SetLemmas.{set-externs}
-use Rattle.dm_maps.specs.Added.{IsGrown}
-use Rattle.dm_maps.specs.BuildMaps.{locals_with, with_extern_of}
 use Rattle.dm_maps.specs.Known.{knows, KnowsAll}
 use Rattle.dm_maps.specs.World.{World}
 

@@ -9,3 +9,4 @@ pub mod ExternLemmas
 pub mod PreludeLemmas
 pub mod FillingLemmas
 pub mod DeclaredLemmas
+pub mod TextualLemmas

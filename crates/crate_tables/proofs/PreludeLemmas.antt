@@ -14,7 +14,7 @@ use Rattle.dm_ids.specs.declared.ids.ModuleId.{ModuleId}
 use Rattle.dm_ids.specs.declared.ids.UseId.{UseId}
 use Rattle.dm_maps.proofs.SetLemmas.{set-data, set-maps}
 use Rattle.dm_maps.specs.Added.{IsGrown}
-use Rattle.dm_maps.specs.BuildCrateData.{data_of, settings_fault, sharing, with_crate_setting, with_crate_settings}
+use Rattle.dm_maps.specs.BuildCrateData.{data_of, settings_fault, with_crate_setting, with_crate_settings}
 use Rattle.dm_maps.specs.BuildMaps.{crate_fault, with_prelude}
 use Rattle.dm_maps.specs.Faults.{Answers, first_fault, none_found}
 use Rattle.dm_maps.specs.Known.{knows}

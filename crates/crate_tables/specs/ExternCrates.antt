@@ -1,5 +1,5 @@
 -- The extern crates of a crate in a builder: which crate each is of, and what it binds.
-use Rattle.std.specs.Prelude.{◌++◌, ◌==◌, ℕ, Bool, true, false, List, [], ◌∷◌, Option, None, Some, length, map, if◌then◌else◌}
+use Rattle.std.specs.Prelude.{◌++◌, ◌==◌, Bool, true, false, List, [], ◌∷◌, Option, None, Some, length, map, if◌then◌else◌}
 use Rattle.std.specs.List.{find}
 use Rattle.std.specs.Option.{option_map}
 use Rattle.crate_items.specs.DeclaredItems.{linked_crate}

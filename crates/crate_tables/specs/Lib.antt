@@ -9,3 +9,4 @@ pub mod StandardPreludes
 pub mod CrateMacros
 pub mod CrateFillings
 pub mod DeclaredWorlds
+pub mod TextualMacros

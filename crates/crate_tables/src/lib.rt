@@ -15,5 +15,6 @@ mod item_names;
 pub mod new_module;
 pub mod standard_prelude;
 pub mod table_parts;
+pub mod textual_macros;
 pub mod use_leaf;
 pub mod visibilities;

@@ -1,8 +1,7 @@
 use Rattle.std.proofs.Common.{◌≡◌, drop}
 use Rattle.crate_tables.specs.CrateTables.{IsTableOf}
-use Rattle.crate_tables.specs.ExternCrates.{Linked, linkable, with_extern_crates}
+use Rattle.crate_tables.specs.ExternCrates.{with_extern_crates}
 use Rattle.dm_maps.specs.Added.{IsGrown}
-use Rattle.dm_maps.specs.Known.{KnowsAll}
 use Rattle.crate_tables.proofs.extern_crates.add_extern_crates.Given as goal
 
 abbrev pub invariant-loop-item : goal.invariant-loop-item
