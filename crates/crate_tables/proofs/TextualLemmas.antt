@@ -19,6 +19,6 @@ pub table-stays : (w v : World) (k : Crate) (t : Table) → StaysKnown w v → I
 table-stays w v k t stays is = record {
   krate = stays (held.Crate k) is.krate;
   ids = λ n m at. stays (held.Module m) (is.ids n m at);
-  names = All-weaker (IsNameOf w) (IsNameOf v) (λ d known. all-stay w v stays (push_holds d.home d.items None) known) t.names is.names;
+  names = All-weaker (IsNameOf w) (IsNameOf v) (λ d k. record { known = all-stay w v stays (push_holds d.home d.items None) k.known }) t.names is.names;
   leaves = All-weaker (IsLeafOf w) (IsLeafOf v) (λ x known. all-stay w v stays ((held.Module x.home ∷ held.Use x.use_ ∷ []) ++ vis_holds x.visibility) known) t.leaves is.leaves;
 }
