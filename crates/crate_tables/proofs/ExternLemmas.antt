@@ -49,4 +49,4 @@ pub table-linked : (w : World) (k : Crate) (t : Table) (m : ModuleId) (n : Optio
     → IsTableOf w k (with_named t m n (root_name root vis x))
 table-linked w k t m None root vis x is km kr kv = is
 table-linked w k t m (Some n) root vis x is km kr kv =
-    table-named w k t (record { home = m; name = n; items = root_name root vis x }) is (km, type-known w (def.ModuleId root) vis (kr, tt) kv)
+    table-named w k t (record { home = m; name = n; items = root_name root vis x }) is (record { known = (km, type-known w (def.ModuleId root) vis (kr, tt) kv) })
