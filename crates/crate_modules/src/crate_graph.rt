@@ -45,7 +45,10 @@ impl CrateGraph {
 
     /// The crates, each at its number.
     pub fn crates(&self) -> &[CrateData]
-        ensures { result.now ≡ self.now }
+        ensures all { result.now ≡ self.now }
+
+        // What a crate depends on is there.
+        ensures known { All (AreKnown (length self.now)) result.now }
     {
         self.crates.as_slice()
     }

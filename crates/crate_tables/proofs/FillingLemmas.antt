@@ -1,29 +1,31 @@
 -- Crates are filled one after another.
-use Rattle.std.proofs.Common.{◌≡◌, ◌≤◌, ◌++◌, ◌+◌, ◌∷◌, [], ℕ, zero, suc, List, append-nil, append_assoc, arith, drop, length, subst, sym, refl}
-use Rattle.std.specs.Prelude.{All, None, Some, slice_get}
-use Rattle.std.proofs.lemmas.List.Elements.{All-push, All-weaker}
-use Rattle.crate_modules.specs.CrateGraphs.{Data, Graph}
-use Rattle.crate_tables.specs.CrateFillings.{AreCratesFrom, IsCrateIn, IsFaultIn, IsFaultOf, IsKnownTable, IsShortageOr, Reading}
+use Rattle.std.proofs.Common.{◌≡◌, ◌≤◌, ◌<◌, ◌++◌, ◌+◌, ◌∷◌, [], ℕ, zero, suc, List, arith, drop, get_or, length, subst, sym, refl}
+use Rattle.std.specs.Prelude.{All, None, Some, map, slice_get}
+use Rattle.std.proofs.lemmas.List.Elements.{All-get_or, All-head, All-push, All-tail, All-weaker}
+use Rattle.crate_modules.specs.CrateGraphs.{AreKnown, Data, Graph}
+use Rattle.crate_modules.specs.declared.dependency.Dependency.{Dependency}
+use Rattle.crate_tables.specs.CrateFillings.{AreCratesFrom, Crates, IsCrateIn, IsFaultIn, IsFaultOf, IsKnownTable, IsShortageOr, Reading, with_crate}
 use Rattle.crate_tables.specs.CrateRoots.{HasRoots, KnowsRoots, root_holds}
 use Rattle.crate_tables.specs.declared.fill_fault.FillFault.{FillFault}
 use Rattle.crate_tables.specs.declared.fill_fault.FillFault.TheVariants.{NoRootFile, TooManyModules, OutOfNumbers, OutOfMemory}
 use Rattle.crate_tables.specs.CrateTables.{IsLeafOf, IsNameOf, IsTableOf, Table}
+use Rattle.crate_tables.specs.ExternCrates.{Linked, held_root, linkable}
 use Rattle.dm_check.specs.Holding.{vis_holds}
 use Rattle.dm_check.specs.Pushes.{push_holds}
 use Rattle.dm_check.specs.declared.held.HeldId.TheVariants as held
 use Rattle.dm_ids.specs.declared.ids.Crate.{Crate}
 use Rattle.dm_maps.specs.Added.{IsGrown}
+use Rattle.dm_maps.specs.Known.{KnowsAll}
 use Rattle.dm_maps.specs.World.{World}
 
 -- one crate more is filled
-pub next-crate : (r : Reading) (g : Graph) (w u v : World) (n : ℕ) (d : Data) (ds ds' : List Data) (t : Table) (ts ts' : List Table)
-    → ds ≡ d ∷ ds' → ts' ≡ ts ++ t ∷ [] → IsCrateIn r (record { 0 = n }) d u v t
-    → ((x : World) (us : List Table) → AreCratesFrom r n ds u x us → AreCratesFrom r 0 g w x (ts ++ us))
-    → (x : World) (us : List Table) → AreCratesFrom r (n + 1) ds' v x us → AreCratesFrom r 0 g w x (ts' ++ us)
-next-crate r g w u v n d ds ds' t ts ts' next listed one before x us rest =
-    subst (λ (l : List Table). AreCratesFrom r 0 g w x (l ++ us)) (sym listed)
-    (subst (λ (l : List Table). AreCratesFrom r 0 g w x l) (sym (append_assoc ts (t ∷ []) us))
-    (before x (t ∷ us) (subst (λ (l : List Data). AreCratesFrom r n l u x (t ∷ us)) (sym next) (v, t, us, one, rest, refl))))
+pub next-crate : (r : Reading) (g : Graph) (c now next : Crates) (n : ℕ) (d : Data) (ds ds' : List Data) (s : Linked)
+    → ds ≡ d ∷ ds' → next ≡ with_crate now s → IsCrateIn r (record { 0 = n }) d now.world now.rows s
+    → ((all : Crates) → AreCratesFrom r n ds now all → AreCratesFrom r 0 g c all)
+    → (all : Crates) → AreCratesFrom r (n + 1) ds' next all → AreCratesFrom r 0 g c all
+next-crate r g c now next n d ds ds' s first same one before all rest =
+    before all (subst (λ (l : List Data). AreCratesFrom r n l now all) (sym first)
+    (s, one, subst (λ (x : Crates). AreCratesFrom r (n + 1) ds' x all) same rest))
 
 -- what a table holds stays the builder's
 pub known-on : (v w : World) (t : Table) → IsGrown v w → IsKnownTable v t → IsKnownTable w t
@@ -44,6 +46,21 @@ roots-on v w n grown roots k less = grown.all (root_holds k) (roots k less)
 pub roots-known : (w : World) (n : ℕ) → HasRoots w n → KnowsRoots w n
 roots-known w n roots k less = ((roots k less).krate, ((roots k less).root, tt))
 
+-- so are those that a crate can link, where the crates are there that it depends on
+deps-known : (w : World) (n : ℕ) (ds : List Dependency) → KnowsRoots w n → All (λ (d : Dependency). d.crate_id.0 < n) ds → KnowsAll w (map held_root ds)
+deps-known w n [] roots less = tt
+deps-known w n (d ∷ ds) roots less = (
+  (roots d.crate_id (All-head (λ (x : Dependency). x.crate_id.0 < n) d ds less)).1.0,
+  deps-known w n ds roots (All-tail (λ (x : Dependency). x.crate_id.0 < n) d ds less),
+)
+
+pub linkable-known : (w : World) (n : ℕ) (k : Crate) (d : Data) → k.0 < n → KnowsRoots w n → AreKnown n d → KnowsAll w (linkable k d.dependencies)
+linkable-known w n k d less roots known = ((roots k less).1.0, deps-known w n d.dependencies roots known)
+
+-- what a crate depends on, where all crates of a graph do so
+pub needs-of : (g ds : Graph) (n : ℕ) (d : Data) → n < length ds → d ≡ get_or ds n d → All (AreKnown (length g)) ds → AreKnown (length g) d
+needs-of g ds n d less is known = subst (AreKnown (length g)) (sym is) (All-get_or (AreKnown (length g)) ds n d less known)
+
 -- why one crate is not filled is why some are not
 pub fault-in : (r : Reading) (g : Graph) (k : Crate) (d : Data) (f : FillFault) → slice_get g k.0 ≡ Some d → IsFaultOf r k d f → IsShortageOr (IsFaultIn r g) f
 fault-in r g k d (NoRootFile c) at h = (k, d, at, h)
@@ -58,9 +75,9 @@ past-end zero (x ∷ xs) l = absurd (let f : ⊥ = omega arith in f)
 past-end (suc n) (x ∷ xs) l = past-end n xs (omega arith)
 
 -- where there is no crate more, all are filled
-pub all-crates : (r : Reading) (g cs : Graph) (w u : World) (n : ℕ) (ts : List Table) → cs ≡ g → length cs ≤ n
-    → ((x : World) (us : List Table) → AreCratesFrom r n (drop n g) u x us → AreCratesFrom r 0 g w x (ts ++ us))
-    → AreCratesFrom r 0 g w u ts
-all-crates r g cs w u n ts same past later =
+pub all-crates : (r : Reading) (g cs : Graph) (c now : Crates) (n : ℕ) → cs ≡ g → length cs ≤ n
+    → ((all : Crates) → AreCratesFrom r n (drop n g) now all → AreCratesFrom r 0 g c all)
+    → AreCratesFrom r 0 g c now
+all-crates r g cs c now n same past later =
     let none : drop n g ≡ [] = subst (λ (l : List Data). drop n l ≡ []) same (past-end n cs past) in
-    subst (AreCratesFrom r 0 g w u) (append-nil ts) (later u [] (subst (λ (l : List Data). AreCratesFrom r n l u u []) (sym none) (refl, refl)))
+    later now (subst (λ (l : List Data). AreCratesFrom r n l now now) (sym none) refl)

@@ -1,25 +1,30 @@
 //! The crates of a graph, added to a builder with all that they declare.
 ghost use Rattle.std.specs.Prelude.{◌≡◌, ◌++◌, ◌∷◌, ◌<◌, [], All, IfErr, IfOk, OnOk, Some, length, slice_get};
+ghost use Rattle.crate_modules.specs.CrateGraphs.{AreKnown};
 ghost use Rattle.crate_tables.specs.CrateFillings as spec;
 ghost use Rattle.crate_tables.specs.CrateRoots.{KnowsRoots, root_holds, with_externs, with_roots};
-ghost use Rattle.crate_tables.specs.CrateTables.{IsTableOf, Table};
+ghost use Rattle.crate_tables.specs.CrateTables.{IsTableOf};
+ghost use Rattle.crate_tables.specs.ExternCrates.{Linked, linkable};
 ghost use Rattle.dm_maps.specs.Added.{IsGrown};
 ghost use Rattle.dm_ids.specs.declared.ids.ModuleId.{ModuleId};
 ghost use Rattle.dm_maps.specs.Build.{no_world};
 ghost use Rattle.dm_maps.specs.Known.{KnowsAll};
-ghost use Rattle.dm_maps.specs.World.{World, scope_of};
+ghost use Rattle.dm_maps.specs.World.{scope_of};
 ghost use Rattle.dm_scope.specs.Scope.{no_scope};
 
 use crate::crate_defs::add_items;
+use crate::crate_macros::add_macros;
 use crate::crate_maps::add_modules;
 use crate::crate_roots::{add_externs, crate_roots, root_id};
 use crate::crate_table::CrateTable;
+use crate::extern_crates::{ExternCrateRow, add_extern_crates};
 use crate::fill_fault::FillFault;
 use crate::new_module::CrateView;
-use crate_items::declared_item::declared_items;
+use crate_items::declared_item::{DeclaredItem, declared_items};
 use crate_items::module_items::module_items;
 use crate_modules::crate_data::CrateData;
 use crate_modules::crate_graph::CrateGraph;
+use crate_modules::dependency::Dependency;
 use crate_modules::file_table::FileTable;
 use crate_modules::modules::{CrateModules, ModulesError, declared_modules};
 use dm_base::ids::Crate;
@@ -83,44 +88,92 @@ fn listed(
     }
 }
 
+/// Adds the items of a crate: its extern crates first, then its macros, and then all others.
+fn add_all_items(
+    builder: &mut WorldBuilder,
+    table: &mut CrateTable,
+    externs: &mut Vec<ExternCrateRow>,
+    alloc: Global,
+    view: &CrateView<'_>,
+    dependencies: &[Dependency],
+    items: Vec<DeclaredItem>,
+) -> Result<(), BuildFault>
+    requires table { IsTableOf builder.old view.now.krate table.old }
+    requires roots { KnowsAll builder.old (linkable view.now.krate dependencies.now) }
+    ensures added { OnOk result ((record { world = builder.new; table = table.new; rows = externs.new.items }) ≡
+        spec.with_all_items view.now dependencies.now
+        (record { world = builder.old; table = table.old; rows = externs.old.items }) items.items) }
+    ensures kept { OnOk result (IsTableOf builder.new view.now.krate table.new) }
+    ensures grown { IsGrown builder.old builder.new }
+{
+    add_extern_crates(
+        builder,
+        table,
+        externs,
+        alloc,
+        view,
+        dependencies,
+        items.as_slice(),
+    )?;
+    let _macros = add_macros(builder, table, alloc, view, items.as_slice())?;
+    add_items(builder, table, alloc, view, items)?;
+    Ok(())
+}
+
 /// Adds the modules of a crate's list, and their items.
 fn fill_list(
     builder: &mut WorldBuilder,
+    externs: &mut Vec<ExternCrateRow>,
     alloc: Global,
     view: &CrateView<'_>,
+    dependencies: &[Dependency],
 ) -> Result<CrateTable, BuildFault>
-    requires { KnowsAll builder.old (root_holds view.now.krate) }
-    ensures items { IfOk result (spec.HasList view.now builder.old builder.new) }
+    requires root { KnowsAll builder.old (root_holds view.now.krate) }
+    requires roots { KnowsAll builder.old (linkable view.now.krate dependencies.now) }
+    ensures items { IfOk result (λ table. spec.HasList view.now dependencies.now builder.old externs.old.items
+        (record { world = builder.new; table = table; rows = externs.new.items })) }
     ensures kept { IfOk result (IsTableOf builder.new view.now.krate) }
     ensures grown { IsGrown builder.old builder.new }
 {
     let mut table = add_modules(builder, alloc, view, root_id(view.krate))?;
     let rows = module_items(alloc, view.list)?;
     let items = declared_items(alloc, view.edition, view.list, view.files, rows.as_slice())?;
-    add_items(builder, &mut table, alloc, view, items)?;
+    add_all_items(
+        builder,
+        &mut table,
+        externs,
+        alloc,
+        view,
+        dependencies,
+        items,
+    )?;
     Ok(table)
 }
 
-/// Fills a crate whose modules are listed.
+/// Fills a crate whose modules are listed. Its dependencies come into its extern prelude before its extern crates do,
+/// since those take the place of names that are there.
 fn fill_listed(
     builder: &mut WorldBuilder,
+    externs: &mut Vec<ExternCrateRow>,
     alloc: Global,
     view: &CrateView<'_>,
-    described: &CrateData,
+    dependencies: &[Dependency],
 ) -> Result<CrateTable, BuildFault>
-    requires { KnowsAll builder.old (root_holds view.now.krate) }
-    ensures filled { IfOk result (λ table. (before : World) ×
-        spec.HasList view.now builder.old before table
-        × (builder.new ≡ with_externs before view.now.krate described.now.dependencies)) }
+    requires root { KnowsAll builder.old (root_holds view.now.krate) }
+    requires roots { KnowsAll builder.old (linkable view.now.krate dependencies.now) }
+    ensures filled { IfOk result (λ table. spec.HasList view.now dependencies.now
+        (with_externs builder.old view.now.krate dependencies.now) externs.old.items
+        (record { world = builder.new; table = table; rows = externs.new.items })) }
     ensures kept { IfOk result (IsTableOf builder.new view.now.krate) }
     ensures grown { IsGrown builder.old builder.new }
 {
-    let table = fill_list(builder, alloc, view)?;
-    add_externs(builder, alloc, view.krate, described.dependencies())?;
+    add_externs(builder, alloc, view.krate, dependencies)?;
+    let table = fill_list(builder, externs, alloc, view, dependencies)?;
     Ok(table)
 }
 
-/// Fills a crate whose root is there: adds its modules with their items, and its extern prelude.
+/// Fills a crate whose root is there, and the roots of all that it depends on: adds its extern prelude, its modules, and
+/// their items. Its extern crates get rows behind those of other crates.
 ///
 /// # Errors
 ///
@@ -128,17 +181,19 @@ fn fill_listed(
 /// run out. What was added before stays.
 pub fn fill_crate(
     builder: &mut WorldBuilder,
+    externs: &mut Vec<ExternCrateRow>,
     alloc: Global,
     krate: Crate,
     described: &CrateData,
     reading: &Reading<'_>,
 ) -> Result<CrateTable, FillFault>
-    requires { KnowsAll builder.old (root_holds krate) }
-    ensures filled { IfOk result (spec.IsCrateIn reading.now krate described.now builder.old builder.new) }
+    requires root { KnowsAll builder.old (root_holds krate) }
+    requires roots { KnowsAll builder.old (linkable krate described.now.dependencies) }
+    ensures filled { IfOk result (λ table. spec.IsCrateIn reading.now krate described.now builder.old externs.old.items
+        (record { world = builder.new; table = table; rows = externs.new.items })) }
     ensures kept { IfOk result (IsTableOf builder.new krate) }
     ensures grown { IsGrown builder.old builder.new }
-    ensures fault { IfErr result
-        (spec.IsFaultOf reading.now krate described.now) }
+    ensures fault { IfErr result (spec.IsFaultOf reading.now krate described.now) }
 {
     let list = listed(alloc, krate, described, reading)?;
     let view = CrateView {
@@ -148,7 +203,7 @@ pub fn fill_crate(
         list: &list,
         files: reading.files,
     };
-    match fill_listed(builder, alloc, &view, described) {
+    match fill_listed(builder, externs, alloc, &view, described.dependencies()) {
         Ok(table) => Ok(table),
         Err(fault) => Err(of_builder(fault)),
     }
@@ -166,6 +221,7 @@ fn list(tables: &mut Vec<CrateTable>, table: CrateTable) -> Result<(), AllocErro
 fn fill_next(
     builder: &mut WorldBuilder,
     tables: &mut Vec<CrateTable>,
+    externs: &mut Vec<ExternCrateRow>,
     alloc: Global,
     graph: &CrateGraph,
     number: usize,
@@ -174,16 +230,19 @@ fn fill_next(
 ) -> Result<(), FillFault>
     requires at { slice_get graph.now number ≡ Some described.now }
     requires within { number < length graph.now }
+    requires needs { AreKnown (length graph.now) described.now }
     requires roots { KnowsRoots builder.old (length graph.now) }
     requires known { All (spec.IsKnownTable builder.old) tables.old.items }
-    ensures filled { OnOk result ((t : Table) × spec.IsCrateIn reading.now (record { 0 = number }) described.now
-        builder.old builder.new t × (tables.new.items ≡ tables.old.items ++ t ∷ [])) }
+    ensures filled { OnOk result ((s : Linked) × spec.IsCrateIn reading.now (record { 0 = number }) described.now
+        builder.old externs.old.items s
+        × ((record { world = builder.new; tables = tables.new.items; rows = externs.new.items }) ≡
+        spec.with_crate (record { world = builder.old; tables = tables.old.items; rows = externs.old.items }) s)) }
     ensures known { OnOk result (All (spec.IsKnownTable builder.new) tables.new.items) }
     ensures grown { IsGrown builder.old builder.new }
     ensures fault { IfErr result (spec.IsShortageOr (spec.IsFaultIn reading.now graph.now)) }
 {
     let krate = graph.crate_at(number);
-    match fill_crate(builder, alloc, krate, described, reading) {
+    match fill_crate(builder, externs, alloc, krate, described, reading) {
         Err(fault) => Err(fault),
         Ok(table) => {
             list(tables, table)?;
@@ -195,30 +254,35 @@ fn fill_next(
 /// Fills each crate of a graph, whose roots are there.
 fn fill_all(
     builder: &mut WorldBuilder,
+    tables: &mut Vec<CrateTable>,
+    externs: &mut Vec<ExternCrateRow>,
     alloc: Global,
     graph: &CrateGraph,
     reading: &Reading<'_>,
-) -> Result<Vec<CrateTable>, FillFault>
-    requires { KnowsRoots builder.old (length graph.now) }
-    ensures filled { IfOk result (λ tables. spec.AreCratesFrom reading.now 0 graph.now
-        builder.old builder.new tables.items) }
-    ensures known { IfOk result (λ tables. All (spec.IsKnownTable builder.new) tables.items) }
+) -> Result<(), FillFault>
+    requires roots { KnowsRoots builder.old (length graph.now) }
+    requires known { All (spec.IsKnownTable builder.old) tables.old.items }
+    ensures filled { OnOk result (spec.AreCratesFrom reading.now 0 graph.now
+        (record { world = builder.old; tables = tables.old.items; rows = externs.old.items })
+        (record { world = builder.new; tables = tables.new.items; rows = externs.new.items })) }
+    ensures known { OnOk result (All (spec.IsKnownTable builder.new) tables.new.items) }
     ensures grown { IsGrown builder.old builder.new }
     ensures fault { IfErr result (spec.IsShortageOr (spec.IsFaultIn reading.now graph.now)) }
 {
-    let mut tables = Vec::new(alloc);
     for (number, described) in graph.crates().iter().enumerate() {
         fill_next(
-            builder,
-            &mut tables,
-            alloc,
-            graph,
-            number,
-            described,
-            reading,
+            builder, tables, externs, alloc, graph, number, described, reading,
         )?;
     }
-    Ok(tables)
+    Ok(())
+}
+
+/// Crates in a builder: what each has there, by its number, and the extern crates of all, by their numbers.
+#[derive(Drop)]
+pub struct FilledCrates {
+    pub builder: WorldBuilder,
+    pub tables: Vec<CrateTable>,
+    pub externs: Vec<ExternCrateRow>,
 }
 
 /// The tables of a graph's crates, each filled with what it declares, and what each has there. Crates have the numbers
@@ -232,19 +296,33 @@ pub fn filled(
     alloc: Global,
     graph: &CrateGraph,
     reading: &Reading<'_>,
-) -> Result<(WorldBuilder, Vec<CrateTable>), FillFault>
+) -> Result<FilledCrates, FillFault>
     ensures filled { IfOk result (λ made. spec.AreCratesFrom reading.now 0 graph.now
-        (with_roots no_world graph.now) made.0 made.1.items) }
-    ensures known { IfOk result (λ made. All (spec.IsKnownTable made.0) made.1.items) }
-    ensures empty { IfOk result (λ made. (m : ModuleId) → scope_of made.0 m ≡ no_scope) }
+        (spec.no_crates (with_roots no_world graph.now))
+        (record { world = made.builder; tables = made.tables.items; rows = made.externs.items })) }
+    ensures known { IfOk result (λ made. All (spec.IsKnownTable made.builder) made.tables.items) }
+    ensures empty { IfOk result (λ made. (m : ModuleId) → scope_of made.builder m ≡ no_scope) }
     ensures fault { IfErr result (spec.IsShortageOr (spec.IsFaultIn reading.now graph.now)) }
 {
     match crate_roots(alloc, graph) {
         Err(fault) => Err(of_builder(fault)),
         Ok(roots) => {
             let mut builder = roots;
-            let tables = fill_all(&mut builder, alloc, graph, reading)?;
-            Ok((builder, tables))
+            let mut tables = Vec::new(alloc);
+            let mut externs = Vec::new(alloc);
+            fill_all(
+                &mut builder,
+                &mut tables,
+                &mut externs,
+                alloc,
+                graph,
+                reading,
+            )?;
+            Ok(FilledCrates {
+                builder,
+                tables,
+                externs,
+            })
         }
     }
 }

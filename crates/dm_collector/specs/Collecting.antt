@@ -2,10 +2,11 @@
 use Rattle.std.specs.Prelude.{◌≡◌, List, map, true}
 use Rattle.std.specs.List.{flat_map}
 use Rattle.crate_modules.specs.CrateGraphs.{Graph}
-use Rattle.crate_tables.specs.CrateFillings.{AreCratesFrom, Reading}
+use Rattle.crate_tables.specs.CrateFillings.{AreCratesFrom, Reading, no_crates}
 use Rattle.crate_tables.specs.CrateRoots.{with_roots}
 use Rattle.crate_tables.specs.CrateTables.{Table}
 use Rattle.crate_tables.specs.DeclaredWorlds.{AreShown}
+use Rattle.crate_tables.specs.declared.extern_crates.ExternCrateRow.{ExternCrateRow}
 use Rattle.dm_collector.specs.Leaves.{globs_of, pendings_of}
 use Rattle.dm_collector.specs.Steps.{IsReached}
 use Rattle.dm_collector.specs.declared.sources.GlobImport.{GlobImport}
@@ -18,7 +19,8 @@ use Rattle.dm_retry.specs.Rounds.{State, marked}
 pub record IsBegun (r : Reading) (g : Graph) (gs : List GlobImport) (s : State) : Type 0 where
   pub tables : World
   pub crates : List Table
-  pub filled : AreCratesFrom r 0 g (with_roots no_world g) tables crates
+  pub rows : List ExternCrateRow
+  pub filled : AreCratesFrom r 0 g (no_crates (with_roots no_world g)) (record { world = tables; tables = crates; rows = rows })
   pub declared : AreShown s.world s.globs (flat_map (λ (t : Table). t.names) crates)
   pub pending : s.pending ≡ map (marked true) (flat_map pendings_of (flat_map (λ (t : Table). t.leaves) crates))
   pub globs : gs ≡ flat_map globs_of (flat_map (λ (t : Table). t.leaves) crates)

@@ -2,7 +2,7 @@
 ghost use Rattle.std.specs.Prelude.{◌≡◌, ℕ, true, All, IfOk, List, OnOk, map};
 ghost use Rattle.std.specs.List.{flat_map};
 ghost use Rattle.crate_modules.specs.CrateGraphs.{IsOrder, rows};
-ghost use Rattle.crate_tables.specs.CrateFillings.{AreCratesFrom, IsKnownTable};
+ghost use Rattle.crate_tables.specs.CrateFillings.{AreCratesFrom, no_crates, IsKnownTable};
 ghost use Rattle.crate_tables.specs.CrateRoots.{with_roots};
 ghost use Rattle.crate_tables.specs.CrateTables.{IsNameOf, Table};
 ghost use Rattle.crate_tables.specs.DeclaredWorlds.{AreShown};
@@ -26,6 +26,7 @@ use crate::sources::GlobImport;
 use crate_modules::crate_graph::CrateGraph;
 use crate_tables::crate_filling::{Reading, filled};
 use crate_tables::crate_table::CrateTable;
+use crate_tables::extern_crates::ExternCrateRow;
 use crate_tables::declared_name::DeclaredName;
 use crate_tables::declared_world::declared_world;
 use crate_tables::table_parts::table_parts;
@@ -59,6 +60,7 @@ struct Beginning {
 struct Tables {
     builder: WorldBuilder,
     crates: Vec<CrateTable>,
+    externs: Vec<ExternCrateRow>,
 }
 
 /// Imports of a world in which names are declared, all of them due.
@@ -125,13 +127,18 @@ fn tables_of(
     reading: &Reading<'_>,
 ) -> Result<Tables, CollectFault>
     ensures filled { IfOk result (λ made. AreCratesFrom reading.now 0 graph.now
-        (with_roots no_world graph.now) made.builder made.crates.items) }
+        (no_crates (with_roots no_world graph.now))
+        (record { world = made.builder; tables = made.crates.items; rows = made.externs.items })) }
     ensures known { IfOk result (λ made. All (IsKnownTable made.builder) made.crates.items) }
     ensures empty { IfOk result (λ made. (m : ModuleId) → scope_of made.builder m ≡ no_scope) }
 {
     match filled(alloc, graph, reading) {
         Err(fault) => Err(of_filling(fault)),
-        Ok((builder, crates)) => Ok(Tables { builder, crates }),
+        Ok(filled) => Ok(Tables {
+            builder: filled.builder,
+            crates: filled.tables,
+            externs: filled.externs,
+        }),
     }
 }
 

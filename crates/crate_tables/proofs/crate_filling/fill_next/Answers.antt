@@ -1,11 +1,15 @@
 use Rattle.std.proofs.Common.{◌∙◌, ap, arith, subst, sym}
 use Rattle.std.specs.Prelude.{All, slice_get}
-use Rattle.crate_tables.proofs.FillingLemmas.{fault-in, tables-more}
+use Rattle.crate_tables.proofs.FillingLemmas.{fault-in, linkable-known, tables-more}
 use Rattle.crate_tables.specs.CrateFillings.{IsKnownTable}
 use Rattle.crate_tables.proofs.crate_filling.fill_next.Goals as goal
 
-pub fill_crate-requires : goal.fill_crate-requires
-fill_crate-requires c = c.requires.roots c.crate_at-krate.result (omega (arith, c.crate_at-krate.ensures, c.requires.within))
+pub fill_crate-requires-clause-root : goal.fill_crate-requires-clause-root
+fill_crate-requires-clause-root c = c.requires.roots c.crate_at-krate.result (omega (arith, c.crate_at-krate.ensures, c.requires.within))
+
+pub fill_crate-requires-clause-roots : goal.fill_crate-requires-clause-roots
+fill_crate-requires-clause-roots c =
+    linkable-known c.args.builder.now _ c.crate_at-krate.result c.args.described.now (omega (arith, c.crate_at-krate.ensures, c.requires.within)) c.requires.roots c.requires.needs
 
 pub returns-in-Err-clause-fault : goal.returns-in-Err-clause-fault
 returns-in-Err-clause-fault c =

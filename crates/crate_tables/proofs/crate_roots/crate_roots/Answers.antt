@@ -15,7 +15,7 @@ loop-krate-preserved c =
     record {
       world =
           ap (λ u. with_roots u (drop (n + 1) c.args.graph.now)) made
-          ∙ sym (ap (with_roots w) (next-in c.args.graph.now c.crates-krate-items.result.now n c.krate-item.result c.crates-krate-items.ensures c.loop-krate-test.true c.krate-item.is))
+          ∙ sym (ap (with_roots w) (next-in c.args.graph.now c.crates-krate-items.result.now n c.krate-item.result c.crates-krate-items.ensures.all c.loop-krate-test.true c.krate-item.is))
           ∙ c.loop-krate.invariant.world;
       crates = ap (λ (u : World). length u.crate_maps) made ∙ one-more w.crate_maps _ n c.loop-krate.invariant.crates;
       places = ap (λ (u : World). length u.places) made ∙ one-more w.places _ n c.loop-krate.invariant.places;
