@@ -10,6 +10,7 @@ use crate_tables::crate_filling::Reading;
 use dm_base::ids::{Crate, UseId, UseTreeIdx};
 use dm_collector::collect::{Collected, collect};
 use dm_collector::settle::settle;
+use dm_collector::sources::GlobImport;
 use dm_collector::unresolved_names::list_unresolved;
 use dm_maps::world::World;
 use dm_maps::world::maps_of::{AskWorld, crate_def_map};
@@ -87,11 +88,15 @@ fn settled_by(alloc: Global, fixture: &Fixture<'_>) -> Result<Option<Settled>, A
     }))
 }
 
-impl Settled {
-    fn world(&self) -> &World {
-        self.collected.retry.world()
+/// Whether the path of a glob means no module and no enum.
+fn is_unresolved(world: &World, glob: &GlobImport) -> bool {
+    if !glob.is_known(world) {
+        return false;
     }
+    glob.resolved(world).is_none()
+}
 
+impl Settled {
     /// Adds what is told of an import that leads nowhere.
     fn add_import(
         &self,
@@ -131,7 +136,7 @@ impl Settled {
     /// Adds what is told of globs.
     fn add_globs(&self, told: &mut Vec<Told>, alloc: Global) -> Result<(), AllocError> {
         for glob in &self.collected.globs {
-            if glob.is_known(self.world()) && glob.resolved(self.world()).is_none() {
+            if is_unresolved(self.collected.retry.world(), glob) {
                 self.add_import(told, alloc, glob.import.use_, glob.import.idx)?;
             }
         }
@@ -148,15 +153,16 @@ impl Settled {
         self.add_globs(&mut told, alloc)?;
         lines(alloc, &self.files, told)
     }
+}
 
-    /// The def map of a crate.
-    fn dump(&self, alloc: Global, number: usize) -> Result<String, AllocError> {
-        let krate = Crate(u32::try_from(number).unwrap_or(u32::MAX));
-        if self.world().has_crate(krate) {
-            crate_def_map(self.world(), krate).dump(self.world())
-        } else {
-            Ok(String::new(alloc))
-        }
+/// The def map of the crate of a number.
+fn dump_of(alloc: Global, world: &World, number: usize) -> Result<String, AllocError> {
+    let krate = Crate(u32::try_from(number).unwrap_or(u32::MAX));
+    if world.has_crate(krate) {
+        let map = crate_def_map(world, krate);
+        map.dump(world)
+    } else {
+        Ok(String::new(alloc))
     }
 }
 
@@ -168,7 +174,7 @@ pub(crate) fn left_by(alloc: Global, fixture: &Fixture<'_>) -> Result<String, Al
         return Ok(out);
     };
     for (number, krate) in fixture.crates.iter().enumerate() {
-        let dump = settled.dump(alloc, number)?;
+        let dump = dump_of(alloc, settled.collected.retry.world(), number)?;
         let shown = format!(in alloc; "# {}\n{dump}", krate.name)?;
         out.push_str(shown.as_str())?;
     }
