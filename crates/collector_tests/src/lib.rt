@@ -1,7 +1,5 @@
-//! Tests of `dm_collector`: a small world whose imports and globs are settled, and two crates that are collected.
+//! Tests of `dm_collector`: a small world whose imports and globs are settled.
 #![tactic(auto)]
 
-#[cfg(test)]
-mod collected;
 #[cfg(test)]
 mod settled;
