@@ -11,3 +11,4 @@ pub mod Offsets
 pub mod Texts
 pub mod Lines
 pub mod Declarations
+pub mod TakenLaws

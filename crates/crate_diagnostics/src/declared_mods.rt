@@ -35,11 +35,11 @@ fn add(items: &mut IndexSet<(usize, usize)>, item: (usize, usize)) -> Result<(),
 /// Adds the item that declares a module.
 fn add_module(
     items: &mut IndexSet<(usize, usize)>,
-    module: &DeclaredModule,
+    outer: &DeclaredModule,
 ) -> Result<(), AllocError>
-    ensures { OnOk result (items.new.keys ≡ spec.with_module items.old.keys module.now) }
+    ensures { OnOk result (items.new.keys ≡ spec.with_module items.old.keys outer.now) }
 {
-    match module.declaration() {
+    match outer.declaration() {
         None => Ok(()),
         Some(declaration) => add(items, (declaration.parent, declaration.item)),
     }
@@ -52,8 +52,8 @@ fn add_modules(
 ) -> Result<(), AllocError>
     ensures { OnOk result (items.new.keys ≡ fold spec.with_module items.old.keys modules.now) }
 {
-    for module in modules {
-        add_module(items, module)?;
+    for outer in modules {
+        add_module(items, outer)?;
     }
     Ok(())
 }

@@ -12,6 +12,7 @@ pub mod lines;
 pub mod message;
 pub mod module_faults;
 pub mod offsets;
+pub mod taken_laws;
 mod taken_names;
 pub mod texts;
 pub mod unconfigured;

@@ -91,13 +91,13 @@ fn push_items(found: &mut Vec<Diagnostic>, file: FileId, source: &Source) -> Res
 fn push_file(
     found: &mut Vec<Diagnostic>,
     list: &CrateModules,
-    module: &DeclaredModule,
+    outer: &DeclaredModule,
 ) -> Result<(), AllocError>
     ensures { OnOk result (found.new.items ≡ found.old.items ++
-        spec.of_file list.now module.now.file module.now.item) }
+        spec.of_file list.now outer.now.file outer.now.item) }
 {
-    match (module.item(), list.sources().get(module.file())) {
-        (None, Some(source)) => push_items(found, module.file(), source),
+    match (outer.item(), list.sources().get(outer.file())) {
+        (None, Some(source)) => push_items(found, outer.file(), source),
         _ => Ok(()),
     }
 }
@@ -107,8 +107,8 @@ fn of_files(alloc: Global, list: &CrateModules) -> Result<Vec<Diagnostic>, Alloc
     ensures { IfOk result (λ found. found.items ≡ flat_map (spec.of_module list.now) list.now.modules) }
 {
     let mut found = Vec::new(alloc);
-    for module in list.modules() {
-        push_file(&mut found, list, module)?;
+    for outer in list.modules() {
+        push_file(&mut found, list, outer)?;
     }
     Ok(found)
 }
