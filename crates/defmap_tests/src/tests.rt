@@ -14,7 +14,6 @@ macro_rules! again {
 
 mod base;
 mod scopes;
-mod scripts;
 mod worlds;
 
 use std::fmt::Debug;
