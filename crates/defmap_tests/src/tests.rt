@@ -12,8 +12,6 @@ macro_rules! again {
     };
 }
 
-mod base;
-mod scopes;
 mod worlds;
 
 use dm_base::name::Name;
