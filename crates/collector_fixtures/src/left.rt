@@ -1,8 +1,12 @@
 //! What a fixture leaves: the def map of each of its crates, and what is told of them.
 use crate::fixture::Fixture;
 use crate::graph::{files_of, graph_of, options_of};
-use crate::told::{Told, add_module_faults, leaf_offset, lines};
-use crate::use_places::{UsePlace, use_places};
+use crate::use_places::{UsePlace, items_of, use_places};
+use crate_diagnostics::declarations::declaration_faults;
+use crate_diagnostics::diagnostic::{Diagnostic, DiagnosticKind, Place};
+use crate_diagnostics::lines::lines;
+use crate_diagnostics::message::{Message, message_of, push_messages};
+use crate_diagnostics::unconfigured::unconfigured;
 use crate_modules::crate_graph::CrateGraph;
 use crate_modules::file_table::FileTable;
 use crate_modules::modules::{CrateModules, declared_modules};
@@ -24,6 +28,7 @@ const LIMIT: u32 = 8_192;
 #[derive(Drop)]
 struct Settled {
     files: FileTable,
+    graph: CrateGraph,
     lists: Vec<CrateModules>,
     uses: Vec<UsePlace>,
     collected: Collected,
@@ -82,6 +87,7 @@ fn settled_by(alloc: Global, fixture: &Fixture<'_>) -> Result<Option<Settled>, A
     }
     Ok(Some(Settled {
         files,
+        graph,
         lists,
         uses,
         collected,
@@ -100,7 +106,7 @@ impl Settled {
     /// Adds what is told of an import that leads nowhere.
     fn add_import(
         &self,
-        told: &mut Vec<Told>,
+        messages: &mut Vec<Message>,
         alloc: Global,
         use_: UseId,
         idx: UseTreeIdx,
@@ -111,47 +117,69 @@ impl Settled {
         let Some(list) = self.lists.get(place.krate) else {
             return Ok(());
         };
-        let Some(source) = list.sources().get(place.file) else {
-            return Ok(());
-        };
-        told.push(Told {
+        let diagnostic = Diagnostic {
             file: place.file,
-            offset: leaf_offset(alloc, source, place.item, idx)?,
-            message: String::from_str(alloc, "unresolved import")?,
-        })?;
+            place: Place::UseTree(place.item, idx),
+            kind: DiagnosticKind::UnresolvedImport,
+        };
+        messages.push(message_of(alloc, list, &diagnostic)?)?;
         Ok(())
     }
 
     /// Adds what is told of named imports.
-    fn add_imports(&self, told: &mut Vec<Told>, alloc: Global) -> Result<(), AllocError> {
+    fn add_imports(&self, messages: &mut Vec<Message>, alloc: Global) -> Result<(), AllocError> {
         for place in self.collected.retry.unresolved()? {
             if let Some(pending) = self.collected.retry.get(place) {
                 let import = pending.import();
-                self.add_import(told, alloc, import.use_, import.idx)?;
+                self.add_import(messages, alloc, import.use_, import.idx)?;
             }
         }
         Ok(())
     }
 
     /// Adds what is told of globs.
-    fn add_globs(&self, told: &mut Vec<Told>, alloc: Global) -> Result<(), AllocError> {
+    fn add_globs(&self, messages: &mut Vec<Message>, alloc: Global) -> Result<(), AllocError> {
         for glob in &self.collected.globs {
             if is_unresolved(self.collected.retry.world(), glob) {
-                self.add_import(told, alloc, glob.import.use_, glob.import.idx)?;
+                self.add_import(messages, alloc, glob.import.use_, glob.import.idx)?;
             }
         }
         Ok(())
     }
 
+    /// Adds what is told of the declarations of the crate of a number.
+    fn add_declarations(
+        &self,
+        messages: &mut Vec<Message>,
+        alloc: Global,
+        number: usize,
+        list: &CrateModules,
+    ) -> Result<(), AllocError> {
+        let Some(krate) = self.graph.crates().get(number) else {
+            return Ok(());
+        };
+        let items = items_of(alloc, &self.graph, number, list, &self.files)?;
+        let faults = declaration_faults(
+            alloc,
+            list,
+            &self.files,
+            krate.dependencies(),
+            items.as_slice(),
+        )?;
+        push_messages(messages, alloc, list, faults.as_slice())?;
+        let inactive = unconfigured(alloc, list, items.as_slice())?;
+        push_messages(messages, alloc, list, inactive.as_slice())
+    }
+
     /// What is told of the crates.
     fn told(&self, alloc: Global) -> Result<String, AllocError> {
-        let mut told = Vec::new(alloc);
-        for list in &self.lists {
-            add_module_faults(&mut told, alloc, list)?;
+        let mut messages = Vec::new(alloc);
+        for (number, list) in self.lists.iter().enumerate() {
+            self.add_declarations(&mut messages, alloc, number, list)?;
         }
-        self.add_imports(&mut told, alloc)?;
-        self.add_globs(&mut told, alloc)?;
-        lines(alloc, &self.files, told)
+        self.add_imports(&mut messages, alloc)?;
+        self.add_globs(&mut messages, alloc)?;
+        lines(alloc, &self.files, messages)
     }
 }
 

@@ -4,7 +4,6 @@
 mod fixture;
 mod graph;
 mod left;
-mod told;
 mod use_places;
 
 use crate::fixture::fixtures;

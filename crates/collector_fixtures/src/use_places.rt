@@ -48,7 +48,7 @@ fn kept_modules(alloc: Global, modules: &[DeclaredModule]) -> Result<Vec<bool>, 
 }
 
 /// The items of a crate.
-fn items_of(
+pub(crate) fn items_of(
     alloc: Global,
     graph: &CrateGraph,
     krate: usize,

@@ -1,0 +1,9 @@
+use Rattle.std.proofs.Common.{◌≡◌, ◌++◌, drop}
+use Rattle.std.specs.List.{flat_map}
+use Rattle.std.specs.Prelude.{string_bytes}
+use Rattle.crate_diagnostics.specs.Lines.{line_of}
+use Rattle.crate_diagnostics.proofs.lines.lines_of.Given as goal
+
+abbrev pub invariant-loop-message : goal.invariant-loop-message
+invariant-loop-message l =
+    string_bytes l.out ++ flat_map (line_of l.files) (drop l.message-index l.messages) ≡ flat_map (line_of l.files) l.messages

@@ -1,0 +1,13 @@
+pub mod CandidatePaths
+pub mod Diagnostics
+pub mod Visibilities
+pub mod ExternCrates
+pub mod DeclaredMods
+pub mod TakenNames
+pub mod Duplicates
+pub mod ModuleFaults
+pub mod Unconfigured
+pub mod Offsets
+pub mod Texts
+pub mod Lines
+pub mod Declarations

@@ -1,0 +1,92 @@
+//! The `mod` items that declare a module.
+ghost use Rattle.std.specs.Prelude.{◌≡◌, IfOk, OnOk, [], fold};
+ghost use Rattle.crate_diagnostics.specs.DeclaredMods as spec;
+
+use crate_items::declared_item::DeclaredItem;
+use crate_modules::declared_module::{DeclaredModule, ModuleFault};
+use crate_modules::modules::CrateModules;
+use indexmap::IndexSet;
+use std::alloc::{AllocError, Global};
+use std::marker::Model;
+
+/// The `mod` items of a crate that declare a module, there or not, each by the numbers of the module that it stands in
+/// and of the item.
+#[derive(Drop)]
+pub(crate) struct DeclaredMods {
+    items: IndexSet<(usize, usize)>,
+}
+
+impl Model for DeclaredMods {
+    ghost use Rattle.std.specs.Prelude.{ℕ, List};
+
+    ghost Value = { List (ℕ × ℕ) };
+
+    ghost view = { λ d. d.items.keys };
+}
+
+/// Adds an item.
+fn add(items: &mut IndexSet<(usize, usize)>, item: (usize, usize)) -> Result<(), AllocError>
+    ensures { OnOk result (items.new.keys ≡ spec.with_item items.old.keys item) }
+{
+    items.insert(item)?;
+    Ok(())
+}
+
+/// Adds the item that declares a module.
+fn add_module(
+    items: &mut IndexSet<(usize, usize)>,
+    module: &DeclaredModule,
+) -> Result<(), AllocError>
+    ensures { OnOk result (items.new.keys ≡ spec.with_module items.old.keys module.now) }
+{
+    match module.declaration() {
+        None => Ok(()),
+        Some(declaration) => add(items, (declaration.parent, declaration.item)),
+    }
+}
+
+/// Adds the items that declare modules.
+fn add_modules(
+    items: &mut IndexSet<(usize, usize)>,
+    modules: &[DeclaredModule],
+) -> Result<(), AllocError>
+    ensures { OnOk result (items.new.keys ≡ fold spec.with_module items.old.keys modules.now) }
+{
+    for module in modules {
+        add_module(items, module)?;
+    }
+    Ok(())
+}
+
+/// Adds the items that declare modules which are not there.
+fn add_faults(
+    items: &mut IndexSet<(usize, usize)>,
+    faults: &[ModuleFault],
+) -> Result<(), AllocError>
+    ensures { OnOk result (items.new.keys ≡ fold spec.with_fault items.old.keys faults.now) }
+{
+    for fault in faults {
+        let declaration = fault.declaration();
+        add(items, (declaration.parent, declaration.item))?;
+    }
+    Ok(())
+}
+
+impl DeclaredMods {
+    /// Those of a crate.
+    pub(crate) fn of(alloc: Global, list: &CrateModules) -> Result<DeclaredMods, AllocError>
+        ensures { IfOk result (λ mods. mods ≡ spec.declared_mods list.now) }
+    {
+        let mut items = IndexSet::new(alloc);
+        add_modules(&mut items, list.modules())?;
+        add_faults(&mut items, list.faults())?;
+        Ok(DeclaredMods { items })
+    }
+
+    /// Whether an item is one of them.
+    pub(crate) fn has(&self, item: &DeclaredItem) -> bool
+        ensures { result ≡ spec.has self.now item.now }
+    {
+        self.items.contains(&(item.module, item.item))
+    }
+}
