@@ -1,56 +1,109 @@
-"""Reads the transcripts out of the tests of crates/defmap_tests. A test reads no file, so they are texts in its source."""
-import os
+"""Reads the transcripts: the scripts that crates/defmap_transcripts is given, and what it has to print of each.
+
+Its `stdin` has the scripts, and its `stdout` each of them with what it prints, in the form that the head of its main.rt
+tells. What is read here is what `rt ci` compares.
+"""
 import re
+from dataclasses import dataclass
 
 from judging import ROOT, Wrong, read_text
 
-FOLDER = f"{ROOT}/crates/defmap_tests/src/tests/scripts"
+FOLDER = f"{ROOT}/crates/defmap_transcripts"
+HEADING = "=== "
+COMMENT = "#"
+ENDS = "ends: "
+NUMBER = re.compile(rb"%\{(-|[0-9a-f]+)\}(\n?)")
 
-CONSTANT = re.compile(r'const (\w+): &str =\s*"((?:[^"\\]|\\.)*)";', re.S)
-ANY_TEXT = re.compile(r"\bconst (\w+):\s*&(?:'static )?str\b")
-ESCAPES = {"n": "\n", '"': '"', "\\": "\\"}
+
+@dataclass
+class Script:
+    """Lines for the tool, what they print without fault injection, and with how many of its lines others begin too."""
+
+    title: str
+    lines: bytes
+    printed: bytes
+    begun: int = 0
 
 
-def unescaped(literal):
-    return re.sub(r"\\(.)", lambda it: ESCAPES[it[1]], literal)
+def bytes_of(lines):
+    """What a text is: its lines, each with its line feed, and bytes in place of their numbers."""
+    return NUMBER.sub(lambda it: b"" if it[1] == b"-" else bytes([int(it[1], 16)]) + it[2], f"{lines}\n".encode())
+
+
+def split_lines(script):
+    """The lines of a script, each with its line feed; the last may lack it."""
+    return re.findall(rb"[^\n]*\n|[^\n]+\Z", script)
+
+
+def pieces(name):
+    """The headings of a file, each with what stands behind it."""
+    text = read_text(f"{FOLDER}/{name}").removesuffix("\n")
+    if not text.startswith(HEADING):
+        raise Wrong(f"{name} begins without a heading")
+    for piece in text.removeprefix(HEADING).split(f"\n{HEADING}"):
+        heading, _, lines = piece.partition("\n")
+        yield heading, lines
+
+
+def paired(where, given, told):
+    """What stands in stdin, each with what stands in stdout in its place."""
+    given, told = list(given), list(told)
+    if len(given) != len(told):
+        raise Wrong(f"of {where} stdin has {len(given)}, and stdout {len(told)}")
+    return zip(given, told)
+
+
+def printed_by(where, answers):
+    """What the lines behind a script say that it prints."""
+    printed = []
+    for line in filter(None, answers.split("\n")):
+        if line == "=>" or line.startswith("=> "):
+            printed.append(line[len("=> ") :] + "\n")
+        elif not line.startswith(ENDS):
+            raise Wrong(f"{where} has a line of another form: {line}")
+    whole = "".join(printed)
+    if (f"{ENDS}refused" in answers.split("\n")) != ("refused " in whole):
+        raise Wrong(f"{where} says otherwise how it ends")
+    return whole.encode()
 
 
 class Transcripts:
-    """The texts of these tests, and which of them were asked for."""
+    """The scripts with what they print, all of them and by their headings; the texts, and which of them some script has."""
 
     def __init__(self):
-        self.constants, self.used = {}, set()
-        for name in sorted(os.listdir(FOLDER)):
-            text, file = read_text(f"{FOLDER}/{name}"), os.path.splitext(name)[0]
-            self.constants.update({(file, found[1]): unescaped(found[2]) for found in CONSTANT.finditer(text)})
-            unread = [it for it in ANY_TEXT.findall(text) if (file, it) not in self.constants]
-            if unread:
-                raise Wrong(f"{name} has texts of another form: {', '.join(unread)}")
+        self.texts, self.used, self.scripts, self.beginnings, self.rows = {}, set(), [], {}, {}
+        for (heading, own), (told, printed) in paired("the headings", pieces("stdin"), pieces("stdout")):
+            if heading != told:
+                raise Wrong(f"stdin has the heading '{heading}', and stdout '{told}'")
+            name, *words = heading.split(" ")
+            if name == COMMENT:
+                continue
+            self.texts[name] = own or self.texts[name]
+            if words:
+                self.used.update((name, *words[1:]))
+                self._add(heading, words[1:], self.texts[name].split("\n\n"), f"\n{printed}".split("\n\n"))
+            elif printed != own:
+                raise Wrong(f"stdout has the text {name} otherwise")
 
-    def constant(self, file, name):
-        """The text of a constant of a file."""
-        if (file, name) not in self.constants:
-            raise Wrong(f"there is no text {name} in {file}.rt")
-        self.used.add((file, name))
-        return self.constants[file, name]
+    def _add(self, heading, names, rows, blocks):
+        """Adds the scripts behind a heading."""
+        beginning = b"".join(bytes_of(self.texts[it]) for it in names)
+        begun = printed_by(heading, blocks[0])
+        self.beginnings[tuple(names)] = beginning, begun
+        self.rows[heading] = []
+        for number, (row, block) in enumerate(paired(heading, rows, blocks[1:]), 1):
+            title = f"{heading}, {number}"
+            if not block.startswith(f"{row}\n") and block != row:
+                raise Wrong(f"stdout has another script {title}")
+            answers = block[len(row) + 1 :]
+            printed = begun + printed_by(title, answers)
+            self.rows[heading].append((row, answers))
+            self.scripts.append(Script(title, beginning + bytes_of(row), printed, len(split_lines(beginning))))
 
-    def lines(self, *places):
-        """The lines of constants, each given by its file and its name, or a line that is given as it is."""
-        return [line for it in places for line in ([it] if isinstance(it, str) else self.constant(*it).splitlines())]
+    def beginning(self, *names):
+        """The lines of texts behind which scripts are run, and what they print."""
+        return self.beginnings[names]
 
     def unused(self):
-        """The texts that were not asked for."""
-        return [f"{file}.rt's {name}" for file, name in self.constants if (file, name) not in self.used]
-
-
-def parted(transcript):
-    """The lines of a transcript that are a script's, and those that it says are printed."""
-    script, printed = [], []
-    for line in transcript:
-        if line == "=>":
-            printed.append("\n")
-        elif line.startswith("=> "):
-            printed.append(line[len("=> ") :] + "\n")
-        else:
-            script.append(line + "\n")
-    return "".join(script), "".join(printed)
+        """The texts that no script has."""
+        return [it for it in self.texts if it not in self.used]

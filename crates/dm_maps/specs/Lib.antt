@@ -5,6 +5,7 @@ pub mod ItemHomes
 pub mod BuildCrateData
 pub mod BuildTables
 pub mod Build
+pub mod CountGrowth
 pub mod Cut
 pub mod CutLaws
 pub mod BuildItems

@@ -155,30 +155,30 @@ impl<D: Definition, I: ImportSource> Bindings<D, I> {
             → has_flag flags.new k n ≡ has_flag flags.old k n }
     {
         let (m, name) = lookup;
-        let effective = self.push_named(flags, m, name, item, import)?;
+        let effective = self.push_named(flags, m, name, &item, import)?;
         Ok(effective)
     }
 
     /// The push, with a fast path: a vacant name is moved into the table, not copied, where the import is no glob and
     /// no flag stands.
-    fn push_named(
+    pub(crate) fn push_named(
         &mut self,
         flags: &mut GlobFlags,
         m: ModuleId,
         name: Name,
-        item: Item<D, I>,
+        item: &Item<D, I>,
         import: Option<ImportOrExternCrate>,
     ) -> Result<bool, AllocError>
-        ensures { PushGivesIn ⟦<D as Reads<I>>⟧.reading self.old flags.old self.new flags.new m name item
+        ensures { PushGivesIn ⟦<D as Reads<I>>⟧.reading self.old flags.old self.new flags.new m name item.now
             import result }
     {
         let narrow = narrowed(import);
         if self.is_first(flags, m, &name, narrow) {
-            self.bind_first(name, &item, narrow)?;
+            self.bind_first(name, item, narrow)?;
             return Ok(true);
         }
-        let new = self.grow(flags, m, &name, Some(item), import)?;
-        self.finish(flags, new, m, &name, Some(item), import);
+        let new = self.grow(flags, m, &name, Some(*item), import)?;
+        self.finish(flags, new, m, &name, Some(*item), import);
         Ok(new.writes)
     }
 

@@ -7,11 +7,11 @@ use Rattle.std.proofs.lemmas.List.Sorted.{IsNonDecreasingBy-short, IsNonDecreasi
 use Rattle.std.proofs.Math.ListN.{get_or-map}
 use Rattle.item_tree.specs.AttributeReading as reads
 use Rattle.item_tree.specs.AttributeReading.{Reading, is_in_group, found, finished, finished_from, closed, closed_from, opened, conditioned, to, outside, behind_hash, started, opened_behind, ended_input, closed_input, in_input, behind_name, in_predicate, behind, step, step_from, run, reading}
-use Rattle.item_tree.specs.Attributes.{Table, with_kind, with_attribute, with_conditions, with_attributes, attributes_of, empty}
+use Rattle.item_tree.specs.Attributes.{Table, cfg_list, with_kind, with_attribute, with_conditions, with_attributes, attributes_of, empty}
 use Rattle.item_tree.specs.AttributeKinds.{input_of}
 use Rattle.item_tree.specs.ItemAttributes.{InOrder}
 use Rattle.item_tree.specs.declared.attribute.AttributeInput.{AttributeInput}
-use Rattle.item_tree.specs.declared.attribute.AttributeInput.TheVariants.{List as InList}
+use Rattle.item_tree.specs.declared.items.Range.{Range}
 use Rattle.item_tree.specs.declared.attribute_reader.AttributePlace.{AttributePlace}
 use Rattle.item_tree.specs.declared.attribute_reader.ConditionPlace.{ConditionPlace}
 use Rattle.item_tree.specs.declared.attribute_reader.AttributeLevel.{AttributeLevel}
@@ -227,15 +227,15 @@ module _ (text : List ℕ) (ls : List Lexeme) where
   conditions_alone [] t = refl
   conditions_alone (p ∷ ps) t = conditions_alone ps _
 
-  one_told : (p : AttributePlace) (t : Table) (w : Word) (i : AttributeInput) → map told (with_kind text ls p w i t).attributes ≡ map told t.attributes ++ place p ∷ []
-  one_told p t word.Cfg (InList r) = map-append told t.attributes _
-  one_told p t w i = map-append told t.attributes _
+  one_told : (p : AttributePlace) (t : Table) (o : Option Range) (i : AttributeInput) → map told (with_kind text ls p o i t).attributes ≡ map told t.attributes ++ place p ∷ []
+  one_told p t (Some r) i = map-append told t.attributes _
+  one_told p t None i = map-append told t.attributes _
 
   all_told : (ps : List AttributePlace) (t : Table) → map told (with_attributes text ls ps t).attributes ≡ map told t.attributes ++ map place ps
   all_told [] t = sym (append-nil (map told t.attributes))
   all_told (p ∷ ps) t =
       all_told ps (with_attribute text ls p t)
-      ∙ ap (λ xs. xs ++ map place ps) (one_told p t p.name (input_of text ls p.input)) ∙ append_assoc (map told t.attributes) (place p ∷ []) (map place ps)
+      ∙ ap (λ xs. xs ++ map place ps) (one_told p t (cfg_list p.name (input_of text ls p.input)) (input_of text ls p.input)) ∙ append_assoc (map told t.attributes) (place p ∷ []) (map place ps)
 
   at_place : (xs : List Attribute) (ps : List AttributePlace) (i : ℕ) (d : Attribute) → map told xs ≡ map place ps
       → told (get_or xs i d) ≡ place (get_or ps i (record { name = word.Other; inner = d.inner; condition = d.condition; input = d.input }))

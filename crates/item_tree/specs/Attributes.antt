@@ -69,13 +69,21 @@ pushed k p t = record t {
   errors = t.errors ++ faults_of k p.input.first;
 }
 
+-- the predicate of a `cfg`
+abbrev pub cfg_list : Word → AttributeInput → Option Range
+cfg_list word.Cfg (InList r) = Some r
+cfg_list _ _ = None
+
 -- an attribute says what its name and its input tell; that of `cfg` is a predicate
-abbrev pub with_kind : List ℕ → List Lexeme → AttributePlace → Word → AttributeInput → Table → Table
-with_kind text ls p word.Cfg (InList r) t = pushed (says.Cfg (predicate_range text ls r t)) p (with_predicate text ls r t)
-with_kind text ls p name input t = pushed (kind_of name input) p t
+abbrev pub with_kind : List ℕ → List Lexeme → AttributePlace → Option Range → AttributeInput → Table → Table
+with_kind text ls p (Some r) input t = pushed (says.Cfg (predicate_range text ls r t)) p (with_predicate text ls r t)
+with_kind text ls p None input t = pushed (kind_of p.name input) p t
+
+abbrev pub with_input : List ℕ → List Lexeme → AttributePlace → AttributeInput → Table → Table
+with_input text ls p input t = with_kind text ls p (cfg_list p.name input) input t
 
 abbrev pub with_attribute : List ℕ → List Lexeme → AttributePlace → Table → Table
-with_attribute text ls p t = with_kind text ls p p.name (input_of text ls p.input) t
+with_attribute text ls p t = with_input text ls p (input_of text ls p.input) t
 
 abbrev pub with_conditions : List ℕ → List Lexeme → List ConditionPlace → Table → Table
 with_conditions text ls [] t = t

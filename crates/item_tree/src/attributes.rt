@@ -36,6 +36,16 @@ pub struct Condition {
     pub predicate: NodeRange,
 }
 
+/// The predicate of a `cfg`.
+fn cfg_list(name: Word, input: AttributeInput) -> Option<Range>
+    ensures { result ≡ spec.cfg_list name input }
+{
+    match (name, input) {
+        (Word::Cfg, AttributeInput::List(list)) => Some(list),
+        _ => None,
+    }
+}
+
 /// The attributes of a file, so far as they are read.
 #[derive(Drop)]
 struct AttributeTable {
@@ -138,12 +148,13 @@ impl AttributeTable {
     ) -> Result<(), AllocError>
         ensures { OnOk result (self.new ≡ spec.with_attribute text.now lexemes.now place self.old) }
     {
-        match (place.name, input_of(text, lexemes, place.input)) {
-            (Word::Cfg, AttributeInput::List(list)) => {
+        let input = input_of(text, lexemes, place.input);
+        match cfg_list(place.name, input) {
+            Some(list) => {
                 let predicate = self.add_predicate(alloc, text, lexemes, list)?;
                 self.push(AttributeKind::Cfg(predicate), place)
             }
-            (name, input) => self.push(kind_of(name, input), place),
+            None => self.push(kind_of(place.name, input), place),
         }
     }
 

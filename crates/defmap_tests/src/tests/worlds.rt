@@ -9,12 +9,11 @@ mod outwards;
 mod reading;
 mod refused;
 mod reported;
-mod rounds;
 mod visibilities;
 
 use dm_base::fields_shape::FieldsShape;
 use dm_base::ids::{
-    BlockId, Crate, EnumId, EnumVariantId, FileAstId, FileId, FunctionId, ImplId, MacroCallId,
+    BlockId, Crate, EnumId, FileAstId, FileId, FunctionId, ImplId, MacroCallId,
     MacroRulesId, MapId, ModuleId, ProcMacroId, StructId, TraitId, UseId, UseTreeIdx,
 };
 use dm_base::imports::{ImportId, ImportOrExternCrate};
@@ -224,6 +223,29 @@ struct Checked {
 impl Drop for Checked {
     fn drop(self) {
         let Checked { world: _world } = self;
+    }
+}
+
+impl Checked {
+    fn into_world(self) -> World {
+        let Checked { world } = self;
+        world
+    }
+}
+
+/// A checked world, and the flags of globs.
+struct Bound {
+    world: World,
+    globs: PerNsGlobImports,
+}
+
+/// A hand-written `Drop`, as for a builder.
+impl Drop for Bound {
+    fn drop(self) {
+        let Bound {
+            world: _world,
+            globs: _globs,
+        } = self;
     }
 }
 
@@ -457,6 +479,18 @@ impl Building {
     fn world(self) -> Option<Checked> {
         match self.checked() {
             Ok(checked) => Some(checked),
+            Err(_fault) => None,
+        }
+    }
+
+    /// The world, if there is one, and the flags.
+    fn bound(self) -> Option<Bound> {
+        let Building { builder, globs } = self;
+        match outcome(builder.check()) {
+            Ok(checked) => Some(Bound {
+                world: checked.into_world(),
+                globs,
+            }),
             Err(_fault) => None,
         }
     }

@@ -13,6 +13,7 @@ ghost use Rattle.dm_maps.specs.Cut.{among, cut};
 ghost use Rattle.dm_maps.specs.First.{IsChecked};
 ghost use Rattle.dm_maps.specs.Known.{KnowsAll};
 ghost use Rattle.dm_maps.specs.Built.{IsBuilt};
+ghost use Rattle.dm_maps.specs.CountGrowth.{HaveGrown};
 ghost use Rattle.dm_maps.specs.Stays.{StaysKnown};
 ghost use Rattle.dm_maps.specs.World.{scope_if_known, scope_of};
 
@@ -84,20 +85,19 @@ impl World {
             (PushLaw scope_of self.old glob_imports.old self.new glob_imports.new lookup.0
             (push_of lookup.1 res import)) }
     {
-        let m = lookup.0;
-        let before = RecordCounts::of_scope(&self.tables, m);
-        let answer = self.tables.push_res(glob_imports, lookup, res, import)?;
+        let answer = self
+            .tables
+            .push_res(&mut self.records, glob_imports, lookup, res, import)?;
         self.tables.lawful();
-        let after = RecordCounts::of_scope(&self.tables, m);
-        self.records.grow(before, after);
         Ok(answer)
     }
 }
 
 impl WorldBuilder {
-    /// Pushes into the scope of a module of the builder's.
+    /// Pushes into the scope of a module of the builder's, and counts the records that it then has more.
     fn push_res(
         &mut self,
+        records: &mut RecordCounts,
         glob_imports: &mut PerNsGlobImports,
         lookup: (ModuleId, Name),
         res: PerNs,
@@ -109,6 +109,10 @@ impl WorldBuilder {
         ensures world { OnOk result
             (self.new ≡ with_push self.old glob_imports.old lookup.0 lookup.1 res import) }
         ensures err { OnErr result (self.new ≡ self.old) }
+        ensures counts { OnOk result
+            (HaveGrown records.old records.new (scope_of self.old lookup.0)
+            (scope_of self.new lookup.0)) }
+        ensures err_counts { OnErr result (records.new ≡ records.old) }
         ensures shown { PushShows (scope_of self.old lookup.0) glob_imports.old
             (scope_after (scope_of self.old lookup.0) glob_imports.old lookup.0 lookup.1 res
             import)
@@ -123,7 +127,10 @@ impl WorldBuilder {
             glob_imports.new lookup.0 (push_of lookup.1 res import)) }
     {
         let scope = self.scope_mut(lookup.0).unwrap();
+        let before = RecordCounts::of_scope(scope);
         let answer = scope.push_res_with_import(glob_imports, lookup, res, import)?;
+        let after = RecordCounts::of_scope(scope);
+        records.grow(before, after);
         Ok(answer)
     }
 

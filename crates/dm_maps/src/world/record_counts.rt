@@ -3,14 +3,13 @@ ghost use Rattle.std.specs.Prelude.{◌≡◌, ◌+◌, ◌-◌, ◌^◌, length
 ghost use Rattle.std.specs.List.{flat_map};
 ghost use Rattle.dm_maps.specs.RecordCounts.{IsCounted, count_of};
 ghost use Rattle.dm_maps.specs.ScopeTables.{scope_at_place, scope_tables};
-ghost use Rattle.dm_maps.specs.World.{scope_of};
 ghost use Rattle.dm_scope.specs.ChainSteps.{record_count};
 ghost use Rattle.dm_scope.specs.Records.{records_in};
 
 use crate::builder::WorldBuilder;
 use crate::place::Place;
-use dm_base::ids::ModuleId;
 use dm_base::per_ns::Namespace;
+use dm_scope::item_scope::ItemScope;
 
 /// How many records each namespace has in all scopes; the greatest `usize` where it is more.
 #[derive(Clone, Copy)]
@@ -44,22 +43,15 @@ impl RecordCounts {
     }
 
     /// Those of one scope.
-    pub(crate) fn of_scope(world: &WorldBuilder, m: ModuleId) -> RecordCounts
-        ensures types { result.types ≡ length (records_in Namespace.Types (scope_of world.now m)) }
-        ensures values { result.values ≡ length (records_in Namespace.Values (scope_of world.now m)) }
-        ensures macros { result.macros ≡ length (records_in Namespace.Macros (scope_of world.now m)) }
+    pub(crate) fn of_scope(scope: &ItemScope) -> RecordCounts
+        ensures types { result.types ≡ length (records_in Namespace.Types scope.now) }
+        ensures values { result.values ≡ length (records_in Namespace.Values scope.now) }
+        ensures macros { result.macros ≡ length (records_in Namespace.Macros scope.now) }
     {
-        match world.scope_of(m) {
-            None => RecordCounts {
-                types: 0,
-                values: 0,
-                macros: 0,
-            },
-            Some(scope) => RecordCounts {
-                types: scope.record_count(Namespace::Types),
-                values: scope.record_count(Namespace::Values),
-                macros: scope.record_count(Namespace::Macros),
-            },
+        RecordCounts {
+            types: scope.record_count(Namespace::Types),
+            values: scope.record_count(Namespace::Values),
+            macros: scope.record_count(Namespace::Macros),
         }
     }
 

@@ -74,15 +74,16 @@ impl ItemScope {
     {
         match (&def.types, &def.values, &def.macros) {
             (Some(item), None, None) => {
-                self.types.push(&mut globs.types, (m, name), *item, import)
+                self.types
+                    .push_named(&mut globs.types, m, name, item, import)
             }
             (None, Some(item), None) => {
                 self.values
-                    .push(&mut globs.values, (m, name), *item, import)
+                    .push_named(&mut globs.values, m, name, item, import)
             }
             (None, None, Some(item)) => {
                 self.macros
-                    .push(&mut globs.macros, (m, name), *item, import)
+                    .push_named(&mut globs.macros, m, name, item, import)
             }
             _ => self.push_from_types(globs, m, &name, def, import),
         }

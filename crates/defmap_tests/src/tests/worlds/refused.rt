@@ -6,9 +6,10 @@
 pub(super) mod builders;
 mod crate_data;
 mod local_maps;
+mod questions;
 
+use self::questions::{ANSWERS, ATTRIBUTE};
 use super::{Building, STRUCT};
-use crate::tests::scripts::scoping::{ANSWERS, ATTRIBUTE};
 use crate::tests::{gives, same};
 use defmap_script::print::answer_text;
 use dm_base::ids::{Crate, ModuleId};

@@ -1,4 +1,4 @@
-use Rattle.std.proofs.Common.{◌≡◌, ◌∙◌, ◌++◌, ◌∷◌, [], rules, ap, subst, sym, Bool, Option, Some, None, Result, Ok, Err}
+use Rattle.std.proofs.Common.{◌≡◌, ◌∙◌, ◌+◌, ◌-◌, ◌^◌, ◌++◌, ◌∷◌, [], ℕ, length, min, rules, ap, subst, sym, Bool, Option, Some, None, Result, Ok, Err}
 use Rattle.std.specs.Result.{IsErr}
 use Rattle.std.specs.declared.alloc.AllocError.{AllocError}
 use Rattle.dm_maps.proofs.Ids.{ModuleId}
@@ -10,6 +10,10 @@ use Rattle.dm_scope.specs.Push.{push_answer, scope_after, globs_after}
 use Rattle.dm_scope.specs.PushLaw.{PushLaw, itself}
 use Rattle.dm_scope.specs.Scope.{Scope, no_scope}
 use Rattle.dm_scope.specs.Shows.{ScopePush, Shows}
+use Rattle.dm_base.specs.declared.per_ns.Namespace.{Namespace}
+use Rattle.dm_base.specs.declared.per_ns.Namespace.TheVariants.{Types, Values, Macros}
+use Rattle.dm_scope.specs.Records.{records_in}
+use Rattle.dm_maps.specs.CountGrowth.{grown}
 use Rattle.dm_maps.specs.World.{module_of, scope_of, with_scope}
 use Rattle.dm_scope.specs.Outcomes.{on-err}
 use Rattle.dm_maps.proofs.ScopeWrites.{scope_of-own, with_scope-own}
@@ -38,7 +42,7 @@ returns-in_err-answer-clause-gives c =
     let lent = read c.unwrap-scope.result.now (module_of a.self.now a.lookup.0) (sym c.scope_mut.ensures.value ∙ ap option_copied_mut c.unwrap-scope.ensures) in
     refused (scope_of a.self.now a.lookup.0) _ a.glob_imports.now _ a.lookup.0 _ c.from_residual.result c.from_residual.ensures.0 (own ∙ e.err ∙ lent) e.err_globs
 
-lent : (c : goal.In_ok-answer) → c.unwrap-scope.result.now ≡ scope_of c.args.self.now c.args.lookup.0
+lent : (c : goal.After-grow) → c.unwrap-scope.result.now ≡ scope_of c.args.self.now c.args.lookup.0
 lent c = read c.unwrap-scope.result.now (module_of c.args.self.now c.args.lookup.0) (sym c.scope_mut.ensures.value ∙ ap option_copied_mut c.unwrap-scope.ensures)
 
 pub returns-clause-world : goal.returns-clause-world
@@ -79,3 +83,17 @@ returns-clause-shown c ps shows =
 pub returns-clause-shown_answer : goal.returns-clause-shown_answer
 returns-clause-shown_answer c ps shows =
     c.in_ok-answer.ensures.shown_answer ps (subst (λ s. Shows s c.args.glob_imports.now c.args.lookup.0 ps) (sym (lent c)) shows)
+
+-- the count of a namespace, by the scope that was lent
+counted : (ns : Namespace) (o n b a : ℕ) (s t u v : Scope) → n ≡ min (o + (a - b)) (2 ^ 64 - 1) → b ≡ length (records_in ns u) → u ≡ s → a ≡ length (records_in ns v) → t ≡ v → n ≡ grown o ns s t
+counted ns o n b a s t u v is before was after left =
+    is ∙ (λ i. min (o + ((after ∙ ap (λ x. length (records_in ns x)) (sym left)) i - (before ∙ ap (λ x. length (records_in ns x)) was) i)) (2 ^ 64 - 1))
+
+pub returns-clause-counts : goal.returns-clause-counts
+returns-clause-counts c =
+    let own = scope_of-own c.push_res_with_import.new.self c.args.self.now c.args.lookup.0 c.requires.there in
+    record {
+      types = counted Types _ _ _ _ _ _ _ _ c.grow.ensures.types c.of_scope-before.ensures.types (lent c) c.of_scope-after.ensures.types own;
+      values = counted Values _ _ _ _ _ _ _ _ c.grow.ensures.values c.of_scope-before.ensures.values (lent c) c.of_scope-after.ensures.values own;
+      macros = counted Macros _ _ _ _ _ _ _ _ c.grow.ensures.macros c.of_scope-before.ensures.macros (lent c) c.of_scope-after.ensures.macros own;
+    }

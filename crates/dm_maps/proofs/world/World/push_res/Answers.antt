@@ -1,4 +1,4 @@
-use Rattle.std.proofs.Common.{◌≡◌, ◌∙◌, ◌++◌, ◌∷◌, [], ap, sym, subst, false, IsTrue}
+use Rattle.std.proofs.Common.{◌≡◌, refl, ◌∙◌, ◌++◌, ◌∷◌, [], ap, sym, subst, false, IsTrue}
 use Rattle.dm_maps.proofs.Ids.{ModuleId}
 use Rattle.dm_base.specs.Tree.{same_module}
 use Rattle.dm_scope.specs.Push.{push_answer, scope_after, globs_after}
@@ -22,7 +22,7 @@ use Rattle.dm_maps.proofs.ScopeWrites.{scope_of-own, scope_of-other, scope-known
 use Rattle.dm_maps.proofs.StayLemmas.{push-known}
 use Rattle.dm_maps.proofs.WorldFacts.{scope-there}
 use Rattle.dm_maps.proofs.world.World.push_res.Goals as goal
-use Rattle.dm_maps.proofs.world.World.push_res.Goals.{After-grow}
+use Rattle.dm_maps.proofs.world.World.push_res.Goals.{After-lawful}
 
 pub push_res-requires : goal.push_res-requires
 push_res-requires c = record {
@@ -30,40 +30,40 @@ push_res-requires c = record {
 }
 
 -- the scope that the push leaves, and the world with it
-abbrev left : After-grow → Scope
+abbrev left : After-lawful → Scope
 left c = scope_after (scope_of c.args.self.now c.args.lookup.0) c.args.glob_imports.now c.args.lookup.0 c.args.lookup.1 c.args.res c.args.import
 
-world_is : (c : After-grow) → c.push_res.new.self ≡ with_scope c.args.self.now c.args.lookup.0 (left c)
+world_is : (c : After-lawful) → c.push_res.new.self ≡ with_scope c.args.self.now c.args.lookup.0 (left c)
 world_is c = c.in_ok-answer.ensures.world ∙ ap (λ w. with_push w c.args.glob_imports.now c.args.lookup.0 c.args.lookup.1 c.args.res c.args.import) c.self.view_is
 
-was_checked : (c : After-grow) → IsCheckedWorld c.args.self.now
+was_checked : (c : After-lawful) → IsCheckedWorld c.args.self.now
 was_checked c = subst IsCheckedWorld c.self.view_is c.self.invariant.0
 
-scope_is : (c : After-grow) → scope_of c.push_res.new.self c.args.lookup.0 ≡ left c
+scope_is : (c : After-lawful) → scope_of c.push_res.new.self c.args.lookup.0 ≡ left c
 scope_is c =
     ap (λ w. scope_of w c.args.lookup.0) (world_is c)
     ∙ scope_of-own (left c) c.args.self.now c.args.lookup.0 (scope-there c.args.self.now (was_checked c).lawful c.args.lookup.0 c.requires.known.0)
 
-other_is : (c : After-grow) (k : ModuleId) → same_module c.args.lookup.0 k ≡ false → scope_of c.push_res.new.self k ≡ scope_of c.args.self.now k
+other_is : (c : After-lawful) (k : ModuleId) → same_module c.args.lookup.0 k ≡ false → scope_of c.push_res.new.self k ≡ scope_of c.args.self.now k
 other_is c k other = ap (λ w. scope_of w k) (world_is c) ∙ scope_of-other (left c) c.args.self.now (was_checked c).lawful c.args.lookup.0 k other
 
-is_checked : (c : After-grow) → IsCheckedWorld c.push_res.new.self
+is_checked : (c : After-lawful) → IsCheckedWorld c.push_res.new.self
 is_checked c =
     let w = c.args.self.now in
     IsCheckedWorld-scoped w c.push_res.new.self c.args.lookup.0 (left c) (was_checked c) c.lawful.ensures (world_is c)
     (scope_after-holds (λ h. IsTrue (knows w h)) (scope_of w c.args.lookup.0) c.args.glob_imports.now c.args.lookup.0 c.args.lookup.1 c.args.res c.args.import (scope-known w c.args.lookup.0 (was_checked c)) c.requires.known)
 
 -- the counts go on with the records that the scope has more
-is_counted : (c : After-grow) → IsCounted c.push_res.new.self c.grow.new.self
+is_counted : (c : After-lawful) → IsCounted c.push_res.new.self c.push_res.new.records
 is_counted c =
     let w = c.self.inside.tables in
     let m = c.args.lookup.0 in
     let there = scope-there w c.self.invariant.0.lawful m (subst (λ (x : World). IsTrue (knows x (held.Module m))) (sym c.self.view_is) c.requires.known.0) in
     let after = counted-pushed w c.self.invariant.0.lawful m there c.args.glob_imports.now c.args.lookup.1 c.args.res c.args.import c.push_res.new.self c.in_ok-answer.ensures.world in
     record {
-      types = after Types _ _ _ _ c.self.invariant.1.types c.of_scope-before.ensures.types c.of_scope-after.ensures.types c.grow.ensures.types;
-      values = after Values _ _ _ _ c.self.invariant.1.values c.of_scope-before.ensures.values c.of_scope-after.ensures.values c.grow.ensures.values;
-      macros = after Macros _ _ _ _ c.self.invariant.1.macros c.of_scope-before.ensures.macros c.of_scope-after.ensures.macros c.grow.ensures.macros;
+      types = after Types _ _ _ _ c.self.invariant.1.types refl refl c.in_ok-answer.ensures.counts.types;
+      values = after Values _ _ _ _ c.self.invariant.1.values refl refl c.in_ok-answer.ensures.counts.values;
+      macros = after Macros _ _ _ _ c.self.invariant.1.macros refl refl c.in_ok-answer.ensures.counts.macros;
     }
 
 pub invariant_of-self-2 : goal.invariant_of-self-2

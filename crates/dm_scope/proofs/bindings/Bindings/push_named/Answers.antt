@@ -16,7 +16,7 @@ returns-then-is_first g c =
       answer = search rules;
       bindings = search rules;
       flags = sym (
-          ap (λ o. cond (writes r o (has_flag fs m name) c.args.item by) (flagged r fs m name by) fs) (c.is_first.ensures.vacant first)
+          ap (λ o. cond (writes r o (has_flag fs m name) c.args.item.now by) (flagged r fs m name by) fs) (c.is_first.ensures.vacant first)
           ∙ ap (λ b. with_flag fs m name b) (ap (is_glob_by g.I.ImportSource.globs) (sym c.narrowed-narrow.ensures) ∙ c.is_first.ensures.no_glob first)
           ∙ with_flag-same fs m name false (c.is_first.ensures.unset first)
           );
