@@ -1,0 +1,5 @@
+//! What is told of a collected world: macro calls that lead nowhere, and which modules a macro that is not expanded may
+//! give more names than are known.
+#![tactic(auto)]
+
+pub mod open_modules;
