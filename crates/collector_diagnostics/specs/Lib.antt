@@ -1,1 +1,6 @@
+pub mod MacroMeanings
+pub mod MacroCalls
+pub mod GlobEdges
 pub mod OpenModules
+pub mod Hidden
+pub mod HiddenCalls

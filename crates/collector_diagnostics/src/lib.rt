@@ -2,4 +2,9 @@
 //! give more names than are known.
 #![tactic(auto)]
 
+pub mod glob_edges;
+pub mod hidden;
+pub mod hidden_calls;
+pub mod macro_calls;
+pub mod macro_meaning;
 pub mod open_modules;
