@@ -14,33 +14,37 @@ use Rattle.dm_check.specs.Holding.{vis_holds}
 use Rattle.dm_check.specs.Pushes.{push_holds}
 use Rattle.dm_check.specs.declared.held.HeldId.TheVariants as held
 use Rattle.dm_ids.specs.declared.ids.Crate.{Crate}
-use Rattle.dm_maps.specs.Added.{IsGrown}
+use Rattle.crate_tables.specs.Kept.{IsKept}
+use Rattle.crate_modules.specs.Modules.{Listing}
 use Rattle.dm_maps.specs.Known.{KnowsAll}
 use Rattle.dm_maps.specs.World.{World}
 
 -- one crate more is filled
-pub next-crate : (r : Reading) (g : Graph) (c now next : Crates) (n : ℕ) (d : Data) (ds ds' : List Data) (s : Linked)
-    → ds ≡ d ∷ ds' → next ≡ with_crate now s → IsCrateIn r (record { 0 = n }) d now.world now.rows s
+pub next-crate : (r : Reading) (g : Graph) (c now next : Crates) (n : ℕ) (d : Data) (ds ds' : List Data) (l : Listing) (s : Linked)
+    → ds ≡ d ∷ ds' → next ≡ with_crate now l s → IsCrateIn r (record { 0 = n }) d now.world now.rows l s
     → ((all : Crates) → AreCratesFrom r n ds now all → AreCratesFrom r 0 g c all)
     → (all : Crates) → AreCratesFrom r (n + 1) ds' next all → AreCratesFrom r 0 g c all
-next-crate r g c now next n d ds ds' s first same one before all rest =
-    before all (subst (λ (l : List Data). AreCratesFrom r n l now all) (sym first)
-    (s, one, subst (λ (x : Crates). AreCratesFrom r (n + 1) ds' x all) same rest))
+next-crate r g c now next n d ds ds' l s first same one before all rest =
+    before all (subst (λ (xs : List Data). AreCratesFrom r n xs now all) (sym first)
+    (l, s, one, subst (λ (x : Crates). AreCratesFrom r (n + 1) ds' x all) same rest))
 
 -- what a table holds stays the builder's
-pub known-on : (v w : World) (t : Table) → IsGrown v w → IsKnownTable v t → IsKnownTable w t
+pub known-on : (v w : World) (t : Table) → IsKept v w → IsKnownTable v t → IsKnownTable w t
 known-on v w t grown known = record {
   names = All-weaker (IsNameOf v) (IsNameOf w) (λ d k. record { known = grown.all (push_holds d.home d.items None) k.known }) t.names known.names;
   leaves = All-weaker (IsLeafOf v) (IsLeafOf w) (λ x k. grown.all ((held.Module x.home ∷ held.Use x.use_ ∷ []) ++ vis_holds x.visibility) k) t.leaves known.leaves;
 }
 
-pub tables-more : (v w : World) (k : Crate) (ts : List Table) (t : Table) → IsGrown v w → All (IsKnownTable v) ts → IsTableOf w k t → All (IsKnownTable w) (ts ++ t ∷ [])
+pub tables-on : (v w : World) (ts : List Table) → IsKept v w → All (IsKnownTable v) ts → All (IsKnownTable w) ts
+tables-on v w ts kept known = All-weaker (IsKnownTable v) (IsKnownTable w) (λ x h. known-on v w x kept h) ts known
+
+pub tables-more : (v w : World) (k : Crate) (ts : List Table) (t : Table) → IsKept v w → All (IsKnownTable v) ts → IsTableOf w k t → All (IsKnownTable w) (ts ++ t ∷ [])
 tables-more v w k ts t grown known is =
     All-push (IsKnownTable w) ts t (All-weaker (IsKnownTable v) (IsKnownTable w) (λ x h. known-on v w x grown h) ts known)
     (record { names = is.names; leaves = is.leaves })
 
 -- roots that are known stay known
-pub roots-on : (v w : World) (n : ℕ) → IsGrown v w → KnowsRoots v n → KnowsRoots w n
+pub roots-on : (v w : World) (n : ℕ) → IsKept v w → KnowsRoots v n → KnowsRoots w n
 roots-on v w n grown roots k less = grown.all (root_holds k) (roots k less)
 
 pub roots-known : (w : World) (n : ℕ) → HasRoots w n → KnowsRoots w n

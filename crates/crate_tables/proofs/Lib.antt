@@ -10,3 +10,5 @@ pub mod PreludeLemmas
 pub mod FillingLemmas
 pub mod DeclaredLemmas
 pub mod TextualLemmas
+pub mod KeptLemmas
+pub mod PlaceLemmas

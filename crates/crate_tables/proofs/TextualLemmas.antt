@@ -11,7 +11,7 @@ use Rattle.dm_ids.specs.declared.ids.Crate.{Crate}
 use Rattle.dm_maps.specs.Known.{KnowsAll}
 use Rattle.dm_maps.specs.World.{World}
 
-all-stay : (w v : World) → StaysKnown w v → (hs : List HeldId) → KnowsAll w hs → KnowsAll v hs
+pub all-stay : (w v : World) → StaysKnown w v → (hs : List HeldId) → KnowsAll w hs → KnowsAll v hs
 all-stay w v stays [] k = tt
 all-stay w v stays (h ∷ hs) k = (stays h k.0, all-stay w v stays hs k.1)
 

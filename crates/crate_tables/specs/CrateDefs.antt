@@ -9,7 +9,7 @@ use Rattle.crate_items.specs.declared.declared_variant.DeclaredVariant.{Declared
 use Rattle.crate_modules.specs.Modules.{Listing}
 use Rattle.crate_modules.specs.Sources.{Source, source_at}
 use Rattle.crate_tables.specs.CrateMaps.{Filled}
-use Rattle.crate_tables.specs.CrateTables.{with_leaves, with_named}
+use Rattle.crate_tables.specs.CrateTables.{def_at, use_at, with_def_at, with_leaves, with_named, with_use_at}
 use Rattle.crate_tables.specs.NewModules.{CrateView}
 use Rattle.crate_tables.specs.Visibilities.{id_at, visibility_of}
 use Rattle.dm_base.specs.PerNs.{of_def}
@@ -82,7 +82,7 @@ constructor_vis shape v = if has_constructor shape then Some v else None
 abbrev pub defined_as : Filled → DeclaredItem → ModuleId → Visibility → Kind → ModuleDefId → List DeclaredVariant → Filled
 defined_as s x m v k d vs = record {
   world = with_variants_of (with_item s.world k m) d vs;
-  table = with_named s.table m x.name (of_def d v (constructor_vis x.shape v) None);
+  table = with_def_at (with_named s.table m x.name (of_def d v (constructor_vis x.shape v) None)) (def_at d x);
 }
 
 abbrev pub defined : Filled → DeclaredItem → ModuleId → Visibility → Kind → List DeclaredVariant → Filled
@@ -99,15 +99,18 @@ abbrev pub is_use : ItemKind → Bool
 is_use item.Use = true
 is_use _ = false
 
--- a use of the module m, seen by v, is added with its leaves
-abbrev pub used : Filled → ModuleId → Visibility → List DeclaredImport → Filled
-used s m v xs = record { world = with_use s.world m; table = with_leaves s.table m v (next_use s.world) xs }
+-- a use x of the module m, seen by v, is added with its leaves
+abbrev pub used : Filled → DeclaredItem → ModuleId → Visibility → List DeclaredImport → Filled
+used s x m v xs = record {
+  world = with_use s.world m;
+  table = with_use_at (with_leaves s.table m v (next_use s.world) xs) (use_at (next_use s.world) x);
+}
 
 -- ---- Items
 
 abbrev pub added_in : CrateView → Filled → DeclaredItem → ModuleId → Visibility → Filled
 added_in c s x m v =
-    if is_use x.kind then used s m v (declared_imports c.list c.files x)
+    if is_use x.kind then used s x m v (declared_imports c.list c.files x)
     else defined_if s x m v (def_kind x.kind) (declared_variants c.options c.list c.files x)
 
 -- an item of a module that was left out is, too

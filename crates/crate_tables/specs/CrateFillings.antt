@@ -1,8 +1,11 @@
 -- The crates of a graph in a builder, with all that they declare.
-use Rattle.std.specs.Prelude.{◌≡◌, ◌+◌, ◌++◌, ◌<◌, ℕ, All, List, [], ◌∷◌, Some, length, slice_get}
+use Rattle.std.specs.Prelude.{◌≡◌, ◌+◌, ◌++◌, ◌<◌, ℕ, All, List, [], ◌∷◌, Option, None, Some, length, slice_get}
 use Rattle.std.specs.List.{flat_map}
+use Rattle.crate_items.specs.CrateAttributes.{crate_attributes}
 use Rattle.crate_items.specs.DeclaredItems.{declared_of}
 use Rattle.crate_items.specs.ModuleItems.{AreItemsFrom}
+use Rattle.crate_items.specs.TextualScopes.{textual_scopes}
+use Rattle.crate_items.specs.declared.crate_attributes.CrateAttribute.{CrateAttribute}
 use Rattle.crate_items.specs.declared.declared_item.DeclaredItem.{DeclaredItem}
 use Rattle.crate_items.specs.declared.module_items.ModuleItem.{ModuleItem}
 use Rattle.crate_modules.specs.CrateGraphs.{Data, Graph}
@@ -11,16 +14,20 @@ use Rattle.crate_modules.specs.Modules.{AreMore, Listing, declared_in, root_modu
 use Rattle.crate_modules.specs.Sources.{AreSourcesOf}
 use Rattle.crate_modules.specs.declared.dependency.Dependency.{Dependency}
 use Rattle.crate_tables.specs.CrateDefs.{with_items}
-use Rattle.crate_tables.specs.CrateMacros.{with_macros}
+use Rattle.crate_tables.specs.CrateMacros.{WithMacros, with_macros}
 use Rattle.crate_tables.specs.CrateMaps.{Filled, with_crate_modules}
-use Rattle.crate_tables.specs.CrateRoots.{root_id, with_externs}
+use Rattle.crate_tables.specs.CrateRoots.{root_id, with_externs, with_roots}
 use Rattle.crate_tables.specs.CrateTables.{IsLeafOf, IsNameOf, Table}
 use Rattle.crate_tables.specs.ExternCrates.{Linked, with_extern_crates}
 use Rattle.crate_tables.specs.NewModules.{CrateView}
+use Rattle.crate_tables.specs.StandardPreludes.{standard_prelude, with_attributes, with_standard_prelude}
+use Rattle.crate_tables.specs.TextualMacros.{with_scopes}
 use Rattle.crate_tables.specs.declared.extern_crates.ExternCrateRow.{ExternCrateRow}
 use Rattle.crate_tables.specs.declared.fill_fault.FillFault.{FillFault}
 use Rattle.crate_tables.specs.declared.fill_fault.FillFault.TheVariants.{NoRootFile, TooManyModules, OutOfNumbers, OutOfMemory}
 use Rattle.dm_ids.specs.declared.ids.Crate.{Crate}
+use Rattle.dm_ids.specs.declared.ids.ModuleId.{ModuleId}
+use Rattle.dm_maps.specs.Build.{no_world}
 use Rattle.dm_maps.specs.World.{World}
 use Rattle.dm_maps.specs.declared.build_fault.BuildFault.{BuildFault}
 use Rattle.dm_maps.specs.declared.build_fault.BuildFault.TheVariants as fault
@@ -37,10 +44,20 @@ pub record IsListOf (r : Reading) (d : Data) (l : Listing) : Type 0 where
 
 -- ---- All items of a crate
 
+-- the macros among the items are added, and then each module gets those that are in its textual scope
+abbrev pub in_scope : CrateView → WithMacros → List DeclaredItem → Filled
+in_scope c made items = record {
+  world = with_scopes items made.ids made.table.ids made.world (textual_scopes c.list items);
+  table = made.table;
+}
+
+abbrev pub with_macros_in_scope : CrateView → Filled → List DeclaredItem → Filled
+with_macros_in_scope c s items = in_scope c (with_macros c (record { world = s.world; table = s.table; ids = [] }) items) items
+
 -- macros and other items leave the extern crates as they are
 abbrev pub macros_added : CrateView → Linked → List DeclaredItem → Linked
 macros_added c s items =
-    let made = with_macros c (record { world = s.world; table = s.table; ids = [] }) items in
+    let made = with_macros_in_scope c (record { world = s.world; table = s.table }) items in
     record { world = made.world; table = made.table; rows = s.rows }
 
 abbrev pub others_added : CrateView → Linked → List DeclaredItem → Linked
@@ -48,7 +65,7 @@ others_added c s items =
     let made = with_items c (record { world = s.world; table = s.table }) items in
     record { world = made.world; table = made.table; rows = s.rows }
 
--- The extern crates among the items are added first, then the macros, and then all others.
+-- The extern crates among the items are added first, then the macros and their scopes, and then all others.
 abbrev pub with_all_items : CrateView → List Dependency → Linked → List DeclaredItem → Linked
 with_all_items c ds s items = others_added c (macros_added c (with_extern_crates c ds s items) items) items
 
@@ -65,34 +82,76 @@ pub record HasList (c : CrateView) (ds : List Dependency) (w : World) (rows : Li
   pub filled : s ≡ with_all_items c ds (with_rows (with_crate_modules c w (root_id c.krate)) rows)
       (flat_map (declared_of c.edition c.list c.files) items)
 
-abbrev pub view_of : Reading → Crate → Data → Listing → CrateView
-view_of r k d l = record { krate = k; edition = d.edition; options = d.cfg_options; list = l; files = r.files }
+abbrev pub view_of : List SourceFile → Crate → Data → Listing → CrateView
+view_of files k d l = record { krate = k; edition = d.edition; options = d.cfg_options; list = l; files = files }
 
--- s is w with the crate k filled: with its dependencies in its extern prelude, and then with the modules and items that
--- it declares
-pub record IsCrateIn (r : Reading) (k : Crate) (d : Data) (w : World) (rows : List ExternCrateRow) (s : Linked) : Type 0 where
-  pub list : Listing
-  pub is : IsListOf r d list
-  pub items : HasList (view_of r k d list) d.dependencies (with_externs w k d.dependencies) rows s
+-- a crate with its attributes: its dependencies are in its extern prelude, and then its map has what they set
+abbrev pub prepared : World → Crate → List CrateAttribute → List Dependency → World
+prepared w k attrs ds = with_attributes (with_externs w k attrs ds) k attrs
 
--- a builder, what each crate so far has there, and the extern crates of all of them
+-- what the attributes of a crate set, by the list of its modules
+abbrev pub attributes_of : List SourceFile → Data → Listing → List CrateAttribute
+attributes_of files d l = crate_attributes l files d.root_file_id
+
+-- s is w with the crate k filled by the list of its modules: its attributes are set, its dependencies are in its extern
+-- prelude, and then it has the modules of the list, and their items
+abbrev pub IsFilledBy : List SourceFile → Crate → Data → World → List ExternCrateRow → Listing → Linked → Type 0
+IsFilledBy files k d w rows l s =
+    HasList (view_of files k d l) d.dependencies (prepared w k (attributes_of files d l) d.dependencies) rows s
+
+-- s is w with the crate k filled by the list of the modules that it declares
+pub record IsCrateIn (r : Reading) (k : Crate) (d : Data) (w : World) (rows : List ExternCrateRow) (l : Listing)
+    (s : Linked) : Type 0 where
+  pub is : IsListOf r d l
+  pub items : IsFilledBy r.files k d w rows l s
+
+-- a builder, the modules of each crate so far, what it has there, and the extern crates of all of them
 pub record Crates : Type 0 where
   pub world : World
+  pub lists : List Listing
   pub tables : List Table
   pub rows : List ExternCrateRow
 
 abbrev pub no_crates : World → Crates
-no_crates w = record { world = w; tables = []; rows = [] }
+no_crates w = record { world = w; lists = []; tables = []; rows = [] }
 
 -- with one crate more
-abbrev pub with_crate : Crates → Linked → Crates
-with_crate c s = record { world = s.world; tables = c.tables ++ s.table ∷ []; rows = s.rows }
+abbrev pub with_crate : Crates → Listing → Linked → Crates
+with_crate c l s = record {
+  world = s.world;
+  lists = c.lists ++ l ∷ [];
+  tables = c.tables ++ s.table ∷ [];
+  rows = s.rows;
+}
 
 -- all is c with crates filled, one after another from a number on
 abbrev pub AreCratesFrom : Reading → ℕ → Graph → Crates → Crates → Type 0
 AreCratesFrom r n [] c all = all ≡ c
 AreCratesFrom r n (d ∷ ds) c all =
-    (s : Linked) × IsCrateIn r (record { 0 = n }) d c.world c.rows s × AreCratesFrom r (n + 1) ds (with_crate c s) all
+    (l : Listing) × (s : Linked) × IsCrateIn r (record { 0 = n }) d c.world c.rows l s
+    × AreCratesFrom r (n + 1) ds (with_crate c l s) all
+
+-- ---- Preludes
+
+-- The standard prelude of a crate is a module of another one, so it is set where all crates are filled.
+abbrev pub prelude_of : List SourceFile → List Listing → List Table → Data → Option Listing → Option ModuleId
+prelude_of files ls ts d None = None
+prelude_of files ls ts d (Some l) = standard_prelude ls ts d.edition (attributes_of files d l) d.dependencies
+
+abbrev pub with_prelude_of : List SourceFile → List Listing → List Table → Crate → Data → World → World
+with_prelude_of files ls ts k d w = with_standard_prelude w k (prelude_of files ls ts d (slice_get ls k.0))
+
+-- each of some crates, the first of which has this number, gets its standard prelude
+abbrev pub with_preludes_from : List SourceFile → List Listing → List Table → ℕ → Graph → World → World
+with_preludes_from files ls ts n [] w = w
+with_preludes_from files ls ts n (d ∷ ds) w =
+    with_preludes_from files ls ts (n + 1) ds (with_prelude_of files ls ts (record { 0 = n }) d w)
+
+-- The tables of a graph's crates: each crate is filled, one after another, and then each gets its standard prelude.
+pub record AreFilled (r : Reading) (g : Graph) (made : Crates) : Type 0 where
+  pub world : World
+  pub crates : AreCratesFrom r 0 g (no_crates (with_roots no_world g)) (record made { world = world })
+  pub preludes : made.world ≡ with_preludes_from r.files made.lists made.tables 0 g world
 
 -- all that a table holds is the builder's
 pub record IsKnownTable (w : World) (t : Table) : Type 0 where

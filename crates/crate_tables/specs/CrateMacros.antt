@@ -3,7 +3,7 @@ use Rattle.std.specs.Prelude.{◌++◌, List, [], ◌∷◌, Option, None, Some,
 use Rattle.crate_items.specs.DeclaredMacros.{is_macro_exported}
 use Rattle.crate_items.specs.declared.declared_item.DeclaredItem.{DeclaredItem}
 use Rattle.crate_tables.specs.CrateRoots.{root_id}
-use Rattle.crate_tables.specs.CrateTables.{Table, with_named}
+use Rattle.crate_tables.specs.CrateTables.{Table, def_at, with_def_at, with_named}
 use Rattle.crate_tables.specs.ExternCrates.{visibility_in}
 use Rattle.crate_tables.specs.NewModules.{CrateView}
 use Rattle.crate_tables.specs.Visibilities.{id_at}
@@ -11,6 +11,7 @@ use Rattle.dm_base.specs.PerNs.{macro_alone}
 use Rattle.dm_base.specs.declared.visibility.Visibility.TheVariants.{Public}
 use Rattle.dm_ids.specs.declared.ids.ModuleId.{ModuleId}
 use Rattle.dm_ids.specs.declared.item_ids.MacroId.{MacroId}
+use Rattle.dm_ids.specs.declared.item_ids.ModuleDefId.TheVariants as def
 use Rattle.dm_ids.specs.declared.macros.MacroExpander.{MacroExpander}
 use Rattle.dm_ids.specs.declared.macros.MacroExpander.TheVariants as expander
 use Rattle.dm_ids.specs.declared.macros.MacroLoc.{MacroLoc}
@@ -48,6 +49,9 @@ abbrev pub declared_as : CrateView → Table → DeclaredItem → ModuleId → M
 declared_as c t x m id item.MacroRules = exported c t x id
 declared_as c t x m id _ = declared_in c t x m id
 
+abbrev pub placed_as : CrateView → Table → DeclaredItem → ModuleId → MacroId → Table
+placed_as c t x m id = with_def_at (declared_as c t x m id x.kind) (def_at (def.MacroId id) x)
+
 abbrev pub next_macro : World → MacroLoc → MacroId
 next_macro w l = macro_id l (length w.macros)
 
@@ -55,7 +59,7 @@ next_macro w l = macro_id l (length w.macros)
 abbrev pub added_as : CrateView → WithMacros → DeclaredItem → ModuleId → MacroLoc → WithMacros
 added_as c s x m l = record {
   world = with_macro s.world m l;
-  table = declared_as c s.table x m (next_macro s.world l) x.kind;
+  table = placed_as c s.table x m (next_macro s.world l);
   ids = s.ids ++ Some (next_macro s.world l) ∷ [];
 }
 

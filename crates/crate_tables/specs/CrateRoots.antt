@@ -1,6 +1,9 @@
 -- The crates of a graph in a builder, each with its root alone, and their extern preludes.
-use Rattle.std.specs.Prelude.{◌≡◌, ◌<◌, ◌+◌, ◌&&◌, ℕ, Bool, not, IsTrue, List, [], ◌∷◌, None, Some, take, if◌then◌else◌}
+use Rattle.std.specs.Prelude.{◌≡◌, ◌<◌, ◌+◌, ◌&&◌, ◌||◌, ℕ, Bool, true, false, not, IsTrue, List, [], ◌∷◌, None, Some, codes, take, if◌then◌else◌}
 use Rattle.std.specs.List.{list_any}
+use Rattle.std.specs.Str.{bytes_eq}
+use Rattle.crate_items.specs.declared.crate_attributes.CrateAttribute.{CrateAttribute}
+use Rattle.crate_items.specs.declared.crate_attributes.CrateAttribute.TheVariants as sets
 use Rattle.crate_modules.specs.CrateGraphs.{Graph}
 use Rattle.crate_modules.specs.declared.dependency.Dependency.{Dependency}
 use Rattle.dm_check.specs.declared.held.HeldId.{HeldId}
@@ -44,21 +47,39 @@ KnowsRoots w count = (k : Crate) → k.0 < count → KnowsAll w (root_holds k)
 
 -- ---- Extern preludes
 
+abbrev pub is_no_std : CrateAttribute → Bool
+is_no_std sets.NoStd = true
+is_no_std _ = false
+
+abbrev pub is_no_core : CrateAttribute → Bool
+is_no_core sets.NoCore = true
+is_no_core _ = false
+
+-- a name that the attributes of a crate take out of its extern prelude: `std` under `no_std`, and `core` under `no_core`
+abbrev pub is_without : List CrateAttribute → Name → Bool
+is_without attrs n =
+    (list_any is_no_std attrs && bytes_eq n (codes "std")) || (list_any is_no_core attrs && bytes_eq n (codes "core"))
+
+-- a dependency whose name is in the extern prelude: it says so, and no attribute takes it out
+abbrev pub is_named : List CrateAttribute → Dependency → Bool
+is_named attrs d = d.prelude && not (is_without attrs d.name)
+
 -- a name that a dependency among some has in the extern prelude
 abbrev pub is_taken : List Dependency → Name → Bool
 is_taken ds n = list_any (λ (d : Dependency). d.prelude && same_name d.name n) ds
 
--- a dependency is in the extern prelude of a crate where it says so, and none before it has its name there
-abbrev pub is_extern : List Dependency → Dependency → Bool
-is_extern before d = d.prelude && not (is_taken before d.name)
+-- a dependency is in the extern prelude of a crate where its name is, and none before it has that name there
+abbrev pub is_extern : List CrateAttribute → List Dependency → Dependency → Bool
+is_extern attrs before d = is_named attrs d && not (is_taken before d.name)
 
-abbrev pub with_extern : World → Crate → List Dependency → Dependency → World
-with_extern w k before d = if is_extern before d then with_extern_of w k d.name (root_id d.crate_id) None else w
+abbrev pub with_extern : World → Crate → List CrateAttribute → List Dependency → Dependency → World
+with_extern w k attrs before d = if is_extern attrs before d then with_extern_of w k d.name (root_id d.crate_id) None else w
 
 -- Each of these, the first of which has this number among all, is added behind those before it, with the root of its crate.
-abbrev pub with_externs_from : World → Crate → List Dependency → ℕ → List Dependency → World
-with_externs_from w k all n [] = w
-with_externs_from w k all n (d ∷ ds) = with_externs_from (with_extern w k (take n all) d) k all (n + 1) ds
+abbrev pub with_externs_from : World → Crate → List CrateAttribute → List Dependency → ℕ → List Dependency → World
+with_externs_from w k attrs all n [] = w
+with_externs_from w k attrs all n (d ∷ ds) =
+    with_externs_from (with_extern w k attrs (take n all) d) k attrs all (n + 1) ds
 
-abbrev pub with_externs : World → Crate → List Dependency → World
-with_externs w k all = with_externs_from w k all 0 all
+abbrev pub with_externs : World → Crate → List CrateAttribute → List Dependency → World
+with_externs w k attrs all = with_externs_from w k attrs all 0 all

@@ -1,8 +1,12 @@
--- What a crate has in a builder: the ids of its modules, the names that they declare, and what they import.
+-- What a crate has in a builder: the ids of its modules, the names that they declare, what they import, and where all that
+-- is written.
 use Rattle.std.specs.Prelude.{◌++◌, All, IsTrue, List, [], ◌∷◌, Option, None, Some, map}
 use Rattle.crate_tables.specs.Visibilities.{AreIdsOf, Ids}
 use Rattle.crate_items.specs.declared.declared_import.DeclaredImport.{DeclaredImport}
+use Rattle.crate_items.specs.declared.declared_item.DeclaredItem.{DeclaredItem}
 use Rattle.crate_tables.specs.declared.declared_name.DeclaredName.{DeclaredName}
+use Rattle.crate_tables.specs.declared.item_place.DefPlace.{DefPlace}
+use Rattle.crate_tables.specs.declared.item_place.UsePlace.{UsePlace}
 use Rattle.crate_tables.specs.declared.use_leaf.UseLeaf.{UseLeaf}
 use Rattle.dm_base.specs.PerNs.{type_alone}
 use Rattle.dm_base.specs.declared.per_ns.PerNs.{PerNs}
@@ -14,18 +18,22 @@ use Rattle.dm_ids.specs.Names.{Name}
 use Rattle.dm_ids.specs.declared.ids.Crate.{Crate}
 use Rattle.dm_ids.specs.declared.ids.ModuleId.{ModuleId}
 use Rattle.dm_ids.specs.declared.ids.UseId.{UseId}
+use Rattle.dm_ids.specs.declared.item_ids.ModuleDefId.{ModuleDefId}
 use Rattle.dm_ids.specs.declared.item_ids.ModuleDefId.TheVariants as def
 use Rattle.dm_maps.specs.Known.{knows, KnowsAll}
 use Rattle.dm_maps.specs.World.{World}
 
--- for each module of the crate's list its id, unless it was left out; names with what they are; and imports
+-- for each module of the crate's list its id, unless it was left out; names with what they are; imports; and where each use
+-- and each definition is written
 pub record Table : Type 0 where
   pub ids : Ids
   pub names : List DeclaredName
   pub leaves : List UseLeaf
+  pub uses : List UsePlace
+  pub defs : List DefPlace
 
 abbrev pub no_table : Table
-no_table = record { ids = []; names = []; leaves = [] }
+no_table = record { ids = []; names = []; leaves = []; uses = []; defs = [] }
 
 -- with a name more
 abbrev pub with_name : Table → DeclaredName → Table
@@ -46,6 +54,24 @@ leaf_in m v u x = record { home = m; visibility = v; use_ = u; import = x }
 
 abbrev pub with_leaves : Table → ModuleId → Visibility → UseId → List DeclaredImport → Table
 with_leaves t m v u xs = record t { leaves = t.leaves ++ map (leaf_in m v u) xs }
+
+-- with a use more, which the item x is
+abbrev pub use_at : UseId → DeclaredItem → UsePlace
+use_at u x = record { use_ = u; file = x.file; item = x.item }
+
+abbrev pub with_use_at : Table → UsePlace → Table
+with_use_at t p = record t { uses = t.uses ++ p ∷ [] }
+
+-- with a definition more, which the item x is
+abbrev pub def_at : ModuleDefId → DeclaredItem → DefPlace
+def_at d x = record { def = d; file = x.file; item = x.item }
+
+abbrev pub with_def_at : Table → DefPlace → Table
+with_def_at t p = record t { defs = t.defs ++ p ∷ [] }
+
+-- without names and imports: what is left where these were taken
+abbrev pub emptied : Table → Table
+emptied t = record t { names = []; leaves = [] }
 
 -- a module as its parent declares it: a type
 abbrev pub module_name : ModuleId → Name → Visibility → ModuleId → DeclaredName

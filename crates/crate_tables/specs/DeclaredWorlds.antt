@@ -1,5 +1,5 @@
 -- What declarations make the modules of a world bind.
-use Rattle.std.specs.Prelude.{List, Option, None, Some, if◌then◌else◌}
+use Rattle.std.specs.Prelude.{List, [], Option, None, Some, if◌then◌else◌}
 use Rattle.std.specs.List.{filter_map}
 use Rattle.crate_tables.specs.declared.declared_name.DeclaredName.{DeclaredName}
 use Rattle.crate_tables.specs.declared.declared_world.NotDeclared.{NotDeclared}
@@ -12,6 +12,7 @@ use Rattle.dm_ids.specs.declared.imports.ImportOrExternCrate.TheVariants as wide
 use Rattle.dm_ids.specs.declared.item_ids.ModuleDefId.{ModuleDefId}
 use Rattle.dm_ids.specs.declared.ids.ModuleId.{ModuleId}
 use Rattle.dm_scope.specs.Flags.{Globs}
+use Rattle.dm_scope.specs.Scope.{no_scope}
 use Rattle.dm_scope.specs.Shows.{ScopePush, Shows, push_of}
 use Rattle.dm_maps.specs.First.{IsFirstFault, holders}
 use Rattle.dm_maps.specs.World.{World, scope_of}
@@ -43,6 +44,10 @@ pushes_to k ds = filter_map (push_to k) ds
 -- each module shows what these names say that go to it
 abbrev pub AreShown : World → Globs → List DeclaredName → Type 0
 AreShown w g ds = (m : ModuleId) → Shows (scope_of w m) g m (pushes_to m ds)
+
+-- no module binds anything yet: each shows what a fresh scope does
+abbrev pub BindNothing : World → Type 0
+BindNothing w = (g : Globs) (m : ModuleId) → Shows no_scope g m [] → Shows (scope_of w m) g m []
 
 -- why names are not declared: the first holder of the tables has an id that is none of theirs, or memory ran out
 abbrev pub IsRefusal : World → NotDeclared → Type 0

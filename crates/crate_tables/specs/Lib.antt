@@ -10,3 +10,4 @@ pub mod CrateMacros
 pub mod CrateFillings
 pub mod DeclaredWorlds
 pub mod TextualMacros
+pub mod Kept

@@ -1,5 +1,5 @@
 -- The standard prelude of a crate in a builder, and what its attributes set there.
-use Rattle.std.specs.Prelude.{ℕ, Bool, true, false, List, Option, None, Some, codes, map, slice_get, if◌then◌else◌}
+use Rattle.std.specs.Prelude.{◌&&◌, ℕ, Bool, List, Option, None, Some, codes, map, slice_get, if◌then◌else◌}
 use Rattle.std.specs.List.{find, list_any}
 use Rattle.std.specs.Option.{option_map}
 use Rattle.std.specs.Str.{bytes_eq}
@@ -8,6 +8,7 @@ use Rattle.crate_items.specs.declared.crate_attributes.CrateAttribute.TheVariant
 use Rattle.crate_modules.specs.Modules.{Listing}
 use Rattle.crate_modules.specs.PreludeModules.{prelude_module}
 use Rattle.crate_modules.specs.declared.dependency.Dependency.{Dependency}
+use Rattle.crate_tables.specs.CrateRoots.{is_named, is_no_core}
 use Rattle.crate_tables.specs.CrateTables.{Table}
 use Rattle.crate_tables.specs.Visibilities.{id_at}
 use Rattle.dm_def_map.specs.declared.crate_data.crate_setting.CrateSetting.{CrateSetting}
@@ -37,21 +38,21 @@ with_attributes w k attrs = with_crate_settings w k (map setting_of attrs)
 
 -- ---- The prelude
 
-abbrev pub is_no_std : CrateAttribute → Bool
-is_no_std sets.NoStd = true
-is_no_std _ = false
+-- the crate of a name in the extern prelude: that of the first dependency which has it there
+abbrev pub is_named_so : List CrateAttribute → List ℕ → Dependency → Bool
+is_named_so attrs name d = is_named attrs d && bytes_eq d.name name
 
-abbrev pub is_no_core : CrateAttribute → Bool
-is_no_core sets.NoCore = true
-is_no_core _ = false
+abbrev pub crate_named : List CrateAttribute → List Dependency → List ℕ → Option Crate
+crate_named attrs ds name = option_map (λ d. d.crate_id) (find (is_named_so attrs name) ds)
 
--- the crate that has the preludes: `core` for a crate with `no_std`, `std` for any other
-abbrev pub library : List CrateAttribute → List ℕ
-library attrs = if list_any is_no_std attrs then codes "core" else codes "std"
+-- the first of two crates that is there
+abbrev pub first_of : Option Crate → Option Crate → Option Crate
+first_of None other = other
+first_of (Some k) other = Some k
 
--- the first dependency of that name
-abbrev pub crate_named : List Dependency → List ℕ → Option Crate
-crate_named ds name = option_map (λ d. d.crate_id) (find (λ (d : Dependency). bytes_eq d.name name) ds)
+-- The crate that has the preludes: `std`, if that is in the extern prelude, and else `core`. Under `no_std` it is `core`.
+abbrev pub library : List CrateAttribute → List Dependency → Option Crate
+library attrs ds = first_of (crate_named attrs ds (codes "std")) (crate_named attrs ds (codes "core"))
 
 -- the id of a module, by its number in the list of its crate
 abbrev pub id_of : Option Table → ℕ → Option ModuleId
@@ -75,7 +76,7 @@ prelude_in lists tables e (Some k) = prelude_of tables k e (slice_get lists k.0)
 -- are those of all crates, by their numbers.
 abbrev pub standard_prelude : List Listing → List Table → Edition → List CrateAttribute → List Dependency → Option ModuleId
 standard_prelude lists tables e attrs ds =
-    if list_any is_no_core attrs then None else prelude_in lists tables e (crate_named ds (library attrs))
+    if list_any is_no_core attrs then None else prelude_in lists tables e (library attrs ds)
 
 -- no use named it
 abbrev pub unnamed : ModuleId → ModuleId × Option UseId

@@ -9,7 +9,9 @@ use Rattle.dm_ids.specs.Names.{Name, same_name}
 use Rattle.dm_ids.specs.declared.ids.ModuleId.{ModuleId}
 use Rattle.dm_ids.specs.declared.item_ids.MacroId.{MacroId}
 use Rattle.dm_maps.specs.Known.{knows}
+use Rattle.dm_maps.specs.PushRes.{StaysShown}
 use Rattle.dm_maps.specs.World.{World, scope_if_known, with_scope}
+use Rattle.dm_scope.specs.Flags.{Globs}
 use Rattle.dm_scope.specs.Scope.{Scope}
 use Rattle.dm_scope.specs.TableLists.{add_to_list}
 
@@ -55,3 +57,7 @@ with_scopes xs ids modules w ss = with_scopes_from xs ids modules w 0 ss
 -- what was known is known
 abbrev pub StaysKnown : World → World → Type 0
 StaysKnown w v = (h : HeldId) → IsTrue (knows w h) → IsTrue (knows v h)
+
+-- textual macros are no part of what a scope shows: each scope shows what it showed
+abbrev pub AllStayShown : World → World → Type 0
+AllStayShown w v = (g : Globs) (k : ModuleId) → StaysShown w g v g k

@@ -15,6 +15,7 @@ ghost use Rattle.dm_maps.specs.declared.build_fault.BuildFault.TheVariants.{Take
 
 use crate::crate_maps::parent_id;
 use crate::crate_table::CrateTable;
+use crate::item_place::{DefPlace, UsePlace};
 use crate::new_module::CrateView;
 use crate::visibilities::known_visibility;
 use crate_items::declared_import::declared_imports;
@@ -179,7 +180,13 @@ fn define(
     let def = builder.add_item(kind, m)?;
     add_variants_of(builder, def, variants)?;
     let seen = constructor_vis(item.shape, visibility);
+    let place = DefPlace {
+        def,
+        file: item.file,
+        item: item.item,
+    };
     table.push_named(m, item.name, PerNs::from_def(def, visibility, seen, None))?;
+    table.push_def(place)?;
     Ok(())
 }
 
@@ -226,9 +233,9 @@ fn add_use(
 ) -> Result<(), BuildFault>
     requires { IsTrue (knows builder.old (held.Module m)) }
     ensures world { OnOk result (builder.new ≡ (spec.used (record { world = builder.old; table = table.old })
-        m visibility (declared_imports view.now.list view.now.files item.now)).world) }
+        item.now m visibility (declared_imports view.now.list view.now.files item.now)).world) }
     ensures table { OnOk result (table.new ≡ (spec.used (record { world = builder.old; table = table.old })
-        m visibility (declared_imports view.now.list view.now.files item.now)).table) }
+        item.now m visibility (declared_imports view.now.list view.now.files item.now)).table) }
     ensures kept { (k : Crate) → IsTableOf builder.old k table.old → KnowsAll builder.old (vis_holds visibility)
         → OnOk result (IsTableOf builder.new k table.new) }
     ensures grown { IsGrown builder.old builder.new }
@@ -237,6 +244,11 @@ fn add_use(
     let imports = declared_imports(alloc, view.list, view.files, item)?;
     let use_ = builder.add_use(m)?;
     table.push_leaves(m, visibility, use_, imports)?;
+    table.push_use(UsePlace {
+        use_,
+        file: item.file,
+        item: item.item,
+    })?;
     Ok(())
 }
 

@@ -1,16 +1,17 @@
 //! The crates of a graph, added to a builder with all that they declare.
-ghost use Rattle.std.specs.Prelude.{◌≡◌, ◌++◌, ◌∷◌, ◌<◌, [], All, IfErr, IfOk, OnOk, Some, length, slice_get};
+ghost use Rattle.std.specs.Prelude.{◌≡◌, ◌++◌, ◌∷◌, ◌<◌, [], All, IfErr, IfOk, IsTrue, OnOk, Some, length, slice_get};
 ghost use Rattle.crate_modules.specs.CrateGraphs.{AreKnown};
 ghost use Rattle.crate_tables.specs.CrateFillings as spec;
-ghost use Rattle.crate_tables.specs.CrateRoots.{KnowsRoots, root_holds, with_externs, with_roots};
+ghost use Rattle.crate_tables.specs.CrateRoots.{KnowsRoots, root_holds, root_id as root_of, with_roots};
 ghost use Rattle.crate_tables.specs.CrateTables.{IsTableOf};
 ghost use Rattle.crate_tables.specs.ExternCrates.{Linked, linkable};
+ghost use Rattle.crate_tables.specs.DeclaredWorlds.{BindNothing};
+ghost use Rattle.crate_tables.specs.Kept.{IsKept};
+ghost use Rattle.crate_modules.specs.Modules.{Listing};
+ghost use Rattle.dm_check.specs.declared.held.HeldId.TheVariants as held;
 ghost use Rattle.dm_maps.specs.Added.{IsGrown};
-ghost use Rattle.dm_ids.specs.declared.ids.ModuleId.{ModuleId};
 ghost use Rattle.dm_maps.specs.Build.{no_world};
-ghost use Rattle.dm_maps.specs.Known.{KnowsAll};
-ghost use Rattle.dm_maps.specs.World.{scope_of};
-ghost use Rattle.dm_scope.specs.Scope.{no_scope};
+ghost use Rattle.dm_maps.specs.Known.{knows, KnowsAll};
 
 use crate::crate_defs::add_items;
 use crate::crate_macros::add_macros;
@@ -20,8 +21,13 @@ use crate::crate_table::CrateTable;
 use crate::extern_crates::{ExternCrateRow, add_extern_crates};
 use crate::fill_fault::FillFault;
 use crate::new_module::CrateView;
+use crate::set_preludes::set_preludes;
+use crate::standard_prelude::set_attributes;
+use crate::textual_macros::add_textual_macros;
+use crate_items::crate_attributes::{CrateAttribute, crate_attributes};
 use crate_items::declared_item::{DeclaredItem, declared_items};
 use crate_items::module_items::module_items;
+use crate_items::textual_scopes::textual_scopes;
 use crate_modules::crate_data::CrateData;
 use crate_modules::crate_graph::CrateGraph;
 use crate_modules::dependency::Dependency;
@@ -80,6 +86,35 @@ fn listed(
     }
 }
 
+/// Adds the macros among the items of a crate, and gives each module those that are in its textual scope.
+fn add_macros_in_scope(
+    builder: &mut WorldBuilder,
+    table: &mut CrateTable,
+    alloc: Global,
+    view: &CrateView<'_>,
+    items: &[DeclaredItem],
+) -> Result<(), BuildFault>
+    requires table { IsTableOf builder.old view.now.krate table.old }
+    requires root { IsTrue (knows builder.old (held.Module (root_of view.now.krate))) }
+    ensures added { OnOk result ((record { world = builder.new; table = table.new }) ≡
+        spec.with_macros_in_scope view.now (record { world = builder.old; table = table.old }) items.now) }
+    ensures kept { OnOk result (IsTableOf builder.new view.now.krate table.new) }
+    ensures stays { IsKept builder.old builder.new }
+{
+    let macros = add_macros(builder, table, alloc, view, items)?;
+    let scopes = textual_scopes(alloc, view.list, items)?;
+    add_textual_macros(
+        builder,
+        alloc,
+        view.krate,
+        table,
+        items,
+        macros.as_slice(),
+        scopes.as_slice(),
+    )?;
+    Ok(())
+}
+
 /// Adds the items of a crate: its extern crates first, then its macros, and then all others.
 fn add_all_items(
     builder: &mut WorldBuilder,
@@ -96,7 +131,7 @@ fn add_all_items(
         spec.with_all_items view.now dependencies.now
         (record { world = builder.old; table = table.old; rows = externs.old.items }) items.items) }
     ensures kept { OnOk result (IsTableOf builder.new view.now.krate table.new) }
-    ensures grown { IsGrown builder.old builder.new }
+    ensures stays { IsKept builder.old builder.new }
 {
     add_extern_crates(
         builder,
@@ -107,7 +142,7 @@ fn add_all_items(
         dependencies,
         items.as_slice(),
     )?;
-    let _macros = add_macros(builder, table, alloc, view, items.as_slice())?;
+    add_macros_in_scope(builder, table, alloc, view, items.as_slice())?;
     add_items(builder, table, alloc, view, items)?;
     Ok(())
 }
@@ -125,7 +160,7 @@ fn fill_list(
     ensures items { IfOk result (λ table. spec.HasList view.now dependencies.now builder.old externs.old.items
         (record { world = builder.new; table = table; rows = externs.new.items })) }
     ensures kept { IfOk result (IsTableOf builder.new view.now.krate) }
-    ensures grown { IsGrown builder.old builder.new }
+    ensures stays { IsKept builder.old builder.new }
 {
     let mut table = add_modules(builder, alloc, view, root_id(view.krate))?;
     let rows = module_items(alloc, view.list)?;
@@ -142,6 +177,24 @@ fn fill_list(
     Ok(table)
 }
 
+/// Puts the dependencies of a crate into its extern prelude, and sets what its attributes say.
+fn prepare(
+    builder: &mut WorldBuilder,
+    alloc: Global,
+    krate: Crate,
+    attributes: Vec<CrateAttribute>,
+    dependencies: &[Dependency],
+) -> Result<(), BuildFault>
+    requires { IsTrue (knows builder.old (held.Crate krate)) }
+    ensures world { OnOk result
+        (builder.new ≡ spec.prepared builder.old krate attributes.items dependencies.now) }
+    ensures grown { IsGrown builder.old builder.new }
+{
+    add_externs(builder, alloc, krate, attributes.as_slice(), dependencies)?;
+    set_attributes(builder, alloc, krate, attributes)?;
+    Ok(())
+}
+
 /// Fills a crate whose modules are listed. Its dependencies come into its extern prelude before its extern crates do,
 /// since those take the place of names that are there.
 fn fill_listed(
@@ -149,23 +202,67 @@ fn fill_listed(
     externs: &mut Vec<ExternCrateRow>,
     alloc: Global,
     view: &CrateView<'_>,
+    attributes: Vec<CrateAttribute>,
     dependencies: &[Dependency],
 ) -> Result<CrateTable, BuildFault>
     requires root { KnowsAll builder.old (root_holds view.now.krate) }
     requires roots { KnowsAll builder.old (linkable view.now.krate dependencies.now) }
     ensures filled { IfOk result (λ table. spec.HasList view.now dependencies.now
-        (with_externs builder.old view.now.krate dependencies.now) externs.old.items
+        (spec.prepared builder.old view.now.krate attributes.items dependencies.now) externs.old.items
         (record { world = builder.new; table = table; rows = externs.new.items })) }
     ensures kept { IfOk result (IsTableOf builder.new view.now.krate) }
-    ensures grown { IsGrown builder.old builder.new }
+    ensures stays { IsKept builder.old builder.new }
 {
-    add_externs(builder, alloc, view.krate, dependencies)?;
+    prepare(builder, alloc, view.krate, attributes, dependencies)?;
     let table = fill_list(builder, externs, alloc, view, dependencies)?;
     Ok(table)
 }
 
-/// Fills a crate whose root is there, and the roots of all that it depends on: adds its extern prelude, its modules, and
-/// their items. Its extern crates get rows behind those of other crates.
+/// Fills a crate by the list of its modules.
+fn fill_by(
+    builder: &mut WorldBuilder,
+    externs: &mut Vec<ExternCrateRow>,
+    alloc: Global,
+    krate: Crate,
+    described: &CrateData,
+    list: &CrateModules,
+    files: &FileTable,
+) -> Result<CrateTable, BuildFault>
+    requires root { KnowsAll builder.old (root_holds krate) }
+    requires roots { KnowsAll builder.old (linkable krate described.now.dependencies) }
+    ensures filled { IfOk result (λ table. spec.IsFilledBy files.now krate described.now builder.old externs.old.items
+        list.now (record { world = builder.new; table = table; rows = externs.new.items })) }
+    ensures kept { IfOk result (IsTableOf builder.new krate) }
+    ensures stays { IsKept builder.old builder.new }
+{
+    let attributes = crate_attributes(alloc, list, files, described.root_file_id())?;
+    let view = CrateView {
+        krate,
+        edition: described.edition(),
+        options: described.cfg_options(),
+        list,
+        files,
+    };
+    let table = fill_listed(
+        builder,
+        externs,
+        alloc,
+        &view,
+        attributes,
+        described.dependencies(),
+    )?;
+    Ok(table)
+}
+
+/// What a crate declares, and what it has in a builder.
+#[derive(Drop)]
+pub struct FilledCrate {
+    pub list: CrateModules,
+    pub table: CrateTable,
+}
+
+/// Fills a crate whose root is there, and the roots of all that it depends on: sets its attributes, and adds its extern
+/// prelude, its modules, their items, and their textual macros. Its extern crates get rows behind those of other crates.
 ///
 /// # Errors
 ///
@@ -178,40 +275,48 @@ pub fn fill_crate(
     krate: Crate,
     described: &CrateData,
     reading: &Reading<'_>,
-) -> Result<CrateTable, FillFault>
+) -> Result<FilledCrate, FillFault>
     requires root { KnowsAll builder.old (root_holds krate) }
     requires roots { KnowsAll builder.old (linkable krate described.now.dependencies) }
-    ensures filled { IfOk result (λ table. spec.IsCrateIn reading.now krate described.now builder.old externs.old.items
-        (record { world = builder.new; table = table; rows = externs.new.items })) }
-    ensures kept { IfOk result (IsTableOf builder.new krate) }
-    ensures grown { IsGrown builder.old builder.new }
+    ensures filled { IfOk result (λ filled. spec.IsCrateIn reading.now krate described.now builder.old externs.old.items
+        filled.list (record { world = builder.new; table = filled.table; rows = externs.new.items })) }
+    ensures kept { IfOk result (λ filled. IsTableOf builder.new krate filled.table) }
+    ensures stays { IsKept builder.old builder.new }
     ensures fault { IfErr result (spec.IsFaultOf reading.now krate described.now) }
 {
     let list = listed(alloc, krate, described, reading)?;
-    let view = CrateView {
+    match fill_by(
+        builder,
+        externs,
+        alloc,
         krate,
-        edition: described.edition(),
-        options: described.cfg_options(),
-        list: &list,
-        files: reading.files,
-    };
-    match fill_listed(builder, externs, alloc, &view, described.dependencies()) {
-        Ok(table) => Ok(table),
+        described,
+        &list,
+        reading.files,
+    ) {
+        Ok(table) => Ok(FilledCrate { list, table }),
         Err(fault) => Err(of_builder(fault)),
     }
 }
 
-/// Lists the table of a crate.
-fn list(tables: &mut Vec<CrateTable>, table: CrateTable) -> Result<(), AllocError>
-    ensures { OnOk result (tables.new.items ≡ tables.old.items ++ table ∷ []) }
+/// Lists a crate that is filled.
+fn list(
+    lists: &mut Vec<CrateModules>,
+    tables: &mut Vec<CrateTable>,
+    filled: FilledCrate,
+) -> Result<(), AllocError>
+    ensures lists { OnOk result (lists.new.items ≡ lists.old.items ++ filled.list ∷ []) }
+    ensures tables { OnOk result (tables.new.items ≡ tables.old.items ++ filled.table ∷ []) }
 {
-    tables.push(table)?;
+    lists.push(filled.list)?;
+    tables.push(filled.table)?;
     Ok(())
 }
 
 /// Fills the crate of a number, and lists what it has.
 fn fill_next(
     builder: &mut WorldBuilder,
+    lists: &mut Vec<CrateModules>,
     tables: &mut Vec<CrateTable>,
     externs: &mut Vec<ExternCrateRow>,
     alloc: Global,
@@ -225,19 +330,24 @@ fn fill_next(
     requires needs { AreKnown (length graph.now) described.now }
     requires roots { KnowsRoots builder.old (length graph.now) }
     requires known { All (spec.IsKnownTable builder.old) tables.old.items }
-    ensures filled { OnOk result ((s : Linked) × spec.IsCrateIn reading.now (record { 0 = number }) described.now
-        builder.old externs.old.items s
-        × ((record { world = builder.new; tables = tables.new.items; rows = externs.new.items }) ≡
-        spec.with_crate (record { world = builder.old; tables = tables.old.items; rows = externs.old.items }) s)) }
+    ensures filled { OnOk result ((l : Listing) × (s : Linked) × spec.IsCrateIn reading.now (record { 0 = number }) described.now
+        builder.old externs.old.items l s
+        × ((record { world = builder.new; lists = lists.new.items; tables = tables.new.items; rows = externs.new.items }) ≡
+        spec.with_crate (record {
+          world = builder.old;
+          lists = lists.old.items;
+          tables = tables.old.items;
+          rows = externs.old.items;
+        }) l s)) }
     ensures known { OnOk result (All (spec.IsKnownTable builder.new) tables.new.items) }
-    ensures grown { IsGrown builder.old builder.new }
+    ensures stays { IsKept builder.old builder.new }
     ensures fault { IfErr result (spec.IsShortageOr (spec.IsFaultIn reading.now graph.now)) }
 {
     let krate = graph.crate_at(number);
     match fill_crate(builder, externs, alloc, krate, described, reading) {
         Err(fault) => Err(fault),
-        Ok(table) => {
-            list(tables, table)?;
+        Ok(filled) => {
+            list(lists, tables, filled)?;
             Ok(())
         }
     }
@@ -246,6 +356,7 @@ fn fill_next(
 /// Fills each crate of a graph, whose roots are there.
 fn fill_all(
     builder: &mut WorldBuilder,
+    lists: &mut Vec<CrateModules>,
     tables: &mut Vec<CrateTable>,
     externs: &mut Vec<ExternCrateRow>,
     alloc: Global,
@@ -255,30 +366,89 @@ fn fill_all(
     requires roots { KnowsRoots builder.old (length graph.now) }
     requires known { All (spec.IsKnownTable builder.old) tables.old.items }
     ensures filled { OnOk result (spec.AreCratesFrom reading.now 0 graph.now
-        (record { world = builder.old; tables = tables.old.items; rows = externs.old.items })
-        (record { world = builder.new; tables = tables.new.items; rows = externs.new.items })) }
+        (record { world = builder.old; lists = lists.old.items; tables = tables.old.items; rows = externs.old.items })
+        (record { world = builder.new; lists = lists.new.items; tables = tables.new.items; rows = externs.new.items })) }
     ensures known { OnOk result (All (spec.IsKnownTable builder.new) tables.new.items) }
-    ensures grown { IsGrown builder.old builder.new }
+    ensures stays { IsKept builder.old builder.new }
     ensures fault { IfErr result (spec.IsShortageOr (spec.IsFaultIn reading.now graph.now)) }
 {
     for (number, described) in graph.crates().iter().enumerate() {
         fill_next(
-            builder, tables, externs, alloc, graph, number, described, reading,
+            builder, lists, tables, externs, alloc, graph, number, described, reading,
         )?;
     }
     Ok(())
 }
 
-/// Crates in a builder: what each has there, by its number, and the extern crates of all, by their numbers.
+/// Crates in a builder: the modules that each declares and what it has there, by its number, and the extern crates of
+/// all, by their numbers.
 #[derive(Drop)]
 pub struct FilledCrates {
     pub builder: WorldBuilder,
+    pub lists: Vec<CrateModules>,
     pub tables: Vec<CrateTable>,
     pub externs: Vec<ExternCrateRow>,
 }
 
+/// The crates of a graph, each filled, whose roots are there.
+fn filled_from(
+    roots: WorldBuilder,
+    alloc: Global,
+    graph: &CrateGraph,
+    reading: &Reading<'_>,
+) -> Result<FilledCrates, FillFault>
+    requires roots { KnowsRoots roots (length graph.now) }
+    ensures filled { IfOk result (λ made. spec.AreCratesFrom reading.now 0 graph.now (spec.no_crates roots)
+        (record { world = made.builder; lists = made.lists.items; tables = made.tables.items; rows = made.externs.items })) }
+    ensures known { IfOk result (λ made. All (spec.IsKnownTable made.builder) made.tables.items) }
+    ensures stays { IfOk result (λ made. IsKept roots made.builder) }
+    ensures fault { IfErr result (spec.IsShortageOr (spec.IsFaultIn reading.now graph.now)) }
+{
+    let mut builder = roots;
+    let mut lists = Vec::new(alloc);
+    let mut tables = Vec::new(alloc);
+    let mut externs = Vec::new(alloc);
+    fill_all(
+        &mut builder,
+        &mut lists,
+        &mut tables,
+        &mut externs,
+        alloc,
+        graph,
+        reading,
+    )?;
+    Ok(FilledCrates {
+        builder,
+        lists,
+        tables,
+        externs,
+    })
+}
+
+/// The crates of a graph, each filled, with no standard preludes yet.
+fn filled_alone(
+    alloc: Global,
+    graph: &CrateGraph,
+    reading: &Reading<'_>,
+) -> Result<FilledCrates, FillFault>
+    ensures filled { IfOk result (λ made. spec.AreCratesFrom reading.now 0 graph.now
+        (spec.no_crates (with_roots no_world graph.now))
+        (record { world = made.builder; lists = made.lists.items; tables = made.tables.items; rows = made.externs.items })) }
+    ensures known { IfOk result (λ made. All (spec.IsKnownTable made.builder) made.tables.items) }
+    ensures empty { IfOk result (λ made. BindNothing made.builder) }
+    ensures fault { IfErr result (spec.IsShortageOr (spec.IsFaultIn reading.now graph.now)) }
+{
+    match crate_roots(alloc, graph) {
+        Err(fault) => Err(of_builder(fault)),
+        Ok(roots) => {
+            let made = filled_from(roots, alloc, graph, reading)?;
+            Ok(made)
+        }
+    }
+}
+
 /// The tables of a graph's crates, each filled with what it declares, and what each has there. Crates have the numbers
-/// that they have in the graph. No module binds anything.
+/// that they have in the graph. No module binds anything yet.
 ///
 /// # Errors
 ///
@@ -289,32 +459,34 @@ pub fn filled(
     graph: &CrateGraph,
     reading: &Reading<'_>,
 ) -> Result<FilledCrates, FillFault>
-    ensures filled { IfOk result (λ made. spec.AreCratesFrom reading.now 0 graph.now
-        (spec.no_crates (with_roots no_world graph.now))
-        (record { world = made.builder; tables = made.tables.items; rows = made.externs.items })) }
+    ensures filled { IfOk result (λ made. spec.AreFilled reading.now graph.now
+        (record { world = made.builder; lists = made.lists.items; tables = made.tables.items; rows = made.externs.items })) }
     ensures known { IfOk result (λ made. All (spec.IsKnownTable made.builder) made.tables.items) }
-    ensures empty { IfOk result (λ made. (m : ModuleId) → scope_of made.builder m ≡ no_scope) }
+    ensures empty { IfOk result (λ made. BindNothing made.builder) }
     ensures fault { IfErr result (spec.IsShortageOr (spec.IsFaultIn reading.now graph.now)) }
 {
-    match crate_roots(alloc, graph) {
+    let made = filled_alone(alloc, graph, reading)?;
+    let FilledCrates {
+        builder: alone,
+        lists,
+        tables,
+        externs,
+    } = made;
+    let mut builder = alone;
+    match set_preludes(
+        &mut builder,
+        alloc,
+        lists.as_slice(),
+        tables.as_slice(),
+        graph,
+        reading.files,
+    ) {
         Err(fault) => Err(of_builder(fault)),
-        Ok(roots) => {
-            let mut builder = roots;
-            let mut tables = Vec::new(alloc);
-            let mut externs = Vec::new(alloc);
-            fill_all(
-                &mut builder,
-                &mut tables,
-                &mut externs,
-                alloc,
-                graph,
-                reading,
-            )?;
-            Ok(FilledCrates {
-                builder,
-                tables,
-                externs,
-            })
-        }
+        Ok(()) => Ok(FilledCrates {
+            builder,
+            lists,
+            tables,
+            externs,
+        }),
     }
 }

@@ -14,12 +14,13 @@ use crate::crate_maps::parent_id;
 use crate::crate_roots::root_id;
 use crate::crate_table::CrateTable;
 use crate::item_names::name_of;
+use crate::item_place::DefPlace;
 use crate::new_module::CrateView;
 use crate::visibilities::known_visibility;
 use crate_items::declared_item::DeclaredItem;
 use crate_items::declared_macro::is_macro_exported;
 use dm_base::ids::ModuleId;
-use dm_base::item_ids::MacroId;
+use dm_base::item_ids::{MacroId, ModuleDefId};
 use dm_base::macros::{MacroCallStyles, MacroExpander, MacroLoc};
 use dm_base::per_ns::PerNs;
 use dm_base::visibility::Visibility;
@@ -132,7 +133,7 @@ fn declare(
     }
 }
 
-/// Adds a macro of a module, and declares it.
+/// Adds a macro of a module, declares it, and lists where it is written.
 fn add_as(
     builder: &mut WorldBuilder,
     table: &mut CrateTable,
@@ -147,7 +148,7 @@ fn add_as(
     requires home { IsTrue (knows builder.old (held.Module m)) }
     ensures world { OnOk result (builder.new ≡ with_macro builder.old m loc) }
     ensures table { OnOk result (table.new ≡
-        spec.declared_as view.now table.old item.now m (spec.next_macro builder.old loc) item.now.kind) }
+        spec.placed_as view.now table.old item.now m (spec.next_macro builder.old loc)) }
     ensures id { IfOk result (λ id. id ≡ spec.next_macro builder.old loc) }
     ensures kept { OnOk result (IsTableOf builder.new view.now.krate table.new) }
     ensures grown { IsGrown builder.old builder.new }
@@ -155,6 +156,11 @@ fn add_as(
 {
     let id = builder.add_macro(m, loc)?;
     declare(builder, table, alloc, view, item, m, id)?;
+    table.push_def(DefPlace {
+        def: ModuleDefId::MacroId(id),
+        file: item.file,
+        item: item.item,
+    })?;
     Ok(id)
 }
 

@@ -1,5 +1,6 @@
 //! The crates of a graph, added to a builder: each with its root alone, and their extern preludes.
 ghost use Rattle.std.specs.Prelude.{◌≡◌, ◌<◌, [], true, IfErr, IfOk, IsTrue, OnErr, OnOk, length, take};
+ghost use Rattle.std.specs.List.{list_any};
 ghost use Rattle.crate_modules.specs.declared.dependency.Dependency.{Dependency as Dep};
 ghost use Rattle.dm_check.specs.declared.held.HeldId.TheVariants as held;
 ghost use Rattle.crate_tables.specs.CrateMaps.{is_shortage};
@@ -13,6 +14,7 @@ ghost use Rattle.dm_maps.specs.World.{scope_of};
 ghost use Rattle.dm_scope.specs.Scope.{no_scope};
 
 use crate::new_module::in_edition;
+use crate_items::crate_attributes::CrateAttribute;
 use crate_modules::crate_data::CrateData;
 use crate_modules::crate_graph::CrateGraph;
 use crate_modules::dependency::Dependency;
@@ -60,6 +62,46 @@ pub fn root_id(krate: Crate) -> ModuleId
     ModuleId(krate.0)
 }
 
+fn is_no_std(attribute: &CrateAttribute) -> bool
+    ensures { result ≡ spec.is_no_std attribute.now }
+{
+    matches!(attribute, CrateAttribute::NoStd)
+}
+
+fn is_no_core(attribute: &CrateAttribute) -> bool
+    ensures { result ≡ spec.is_no_core attribute.now }
+{
+    matches!(attribute, CrateAttribute::NoCore)
+}
+
+pub(crate) fn any_no_std(attributes: &[CrateAttribute]) -> bool
+    ensures { result ≡ list_any spec.is_no_std attributes.now }
+{
+    attributes.iter().any(|attribute| is_no_std(attribute))
+}
+
+pub(crate) fn any_no_core(attributes: &[CrateAttribute]) -> bool
+    ensures { result ≡ list_any spec.is_no_core attributes.now }
+{
+    attributes.iter().any(|attribute| is_no_core(attribute))
+}
+
+/// Whether the attributes of a crate take a name out of its extern prelude: `std` under `no_std`, `core` under `no_core`.
+fn is_without(attributes: &[CrateAttribute], name: &Name) -> bool
+    ensures { result ≡ spec.is_without attributes.now name.now }
+{
+    let bytes = name.as_str().as_bytes();
+    (any_no_std(attributes) && bytes == b"std".as_slice())
+        || (any_no_core(attributes) && bytes == b"core".as_slice())
+}
+
+/// Whether the name of a dependency is in the extern prelude of a crate with these attributes.
+pub(crate) fn is_named(attributes: &[CrateAttribute], dependency: &Dependency) -> bool
+    ensures { result ≡ spec.is_named attributes.now dependency.now }
+{
+    dependency.prelude && !is_without(attributes, &dependency.name)
+}
+
 /// Whether some dependencies have a name in the extern prelude.
 fn is_taken(dependencies: &[Dependency], name: &Name) -> bool
     ensures { result ≡ spec.is_taken dependencies.now name.now }
@@ -72,16 +114,17 @@ fn push_extern(
     builder: &mut WorldBuilder,
     alloc: Global,
     krate: Crate,
+    attributes: &[CrateAttribute],
     before: &[Dependency],
     dependency: &Dependency,
 ) -> Result<(), BuildFault>
     requires { IsTrue (knows builder.old (held.Crate krate)) }
-    ensures world { OnOk result (builder.new ≡ spec.with_extern builder.old krate before.now dependency.now) }
+    ensures world { OnOk result (builder.new ≡ spec.with_extern builder.old krate attributes.now before.now dependency.now) }
     ensures kept { OnOk result (IsTrue (knows builder.new (held.Crate krate))) }
     ensures grown { IsGrown builder.old builder.new }
     ensures fault { IfErr result (λ fault. is_shortage fault ≡ true) }
 {
-    if !dependency.prelude || is_taken(before, &dependency.name) {
+    if !is_named(attributes, dependency) || is_taken(before, &dependency.name) {
         return Ok(());
     }
     let name = dependency.name.copy(alloc)?;
@@ -97,8 +140,9 @@ fn before(dependencies: &[Dependency], place: usize) -> &[Dependency]
     &dependencies[..place]
 }
 
-/// Fills the extern prelude of a crate: each of these dependencies that is there gives its name to the root of its
-/// crate. Of two of the same name the first counts.
+/// Fills the extern prelude of a crate with these attributes: each of these dependencies that is there gives its name to
+/// the root of its crate. Under `no_std` none of the name `std` is there, and under `no_core` none of the name `core`. Of
+/// two of the same name the first counts.
 ///
 /// # Errors
 ///
@@ -107,10 +151,11 @@ pub fn add_externs(
     builder: &mut WorldBuilder,
     alloc: Global,
     krate: Crate,
+    attributes: &[CrateAttribute],
     dependencies: &[Dependency],
 ) -> Result<(), BuildFault>
     requires { IsTrue (knows builder.old (held.Crate krate)) }
-    ensures world { OnOk result (builder.new ≡ spec.with_externs builder.old krate dependencies.now) }
+    ensures world { OnOk result (builder.new ≡ spec.with_externs builder.old krate attributes.now dependencies.now) }
     ensures grown { IsGrown builder.old builder.new }
     ensures fault { IfErr result (λ fault. is_shortage fault ≡ true) }
 {
@@ -119,6 +164,7 @@ pub fn add_externs(
             builder,
             alloc,
             krate,
+            attributes,
             before(dependencies, place),
             dependency,
         )?;

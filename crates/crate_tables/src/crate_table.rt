@@ -1,8 +1,11 @@
 //! What a crate has in a builder.
 ghost use Rattle.std.specs.Prelude.{◌≡◌, ◌++◌, ◌∷◌, [], OnOk, map};
+ghost use Rattle.dm_ids.specs.declared.ids.Crate.{Crate};
+ghost use Rattle.dm_maps.specs.World.{World};
 ghost use Rattle.crate_tables.specs.CrateTables as spec;
 
 use crate::declared_name::DeclaredName;
+use crate::item_place::{DefPlace, UsePlace};
 use crate::use_leaf::UseLeaf;
 use crate_items::declared_import::DeclaredImport;
 use dm_base::ids::{ModuleId, UseId};
@@ -14,12 +17,14 @@ use std::alloc::{AllocError, Global};
 use std::marker::Model;
 
 /// What a crate has in a builder: for each module of its list the id, unless it was left out, the names that its modules
-/// declare, and what they import.
+/// declare, what they import, and where each use and each definition is written.
 #[derive(Drop)]
 pub struct CrateTable {
     ids: Vec<Option<ModuleId>>,
     names: Vec<DeclaredName>,
     leaves: Vec<UseLeaf>,
+    uses: Vec<UsePlace>,
+    defs: Vec<DefPlace>,
 }
 
 impl Model for CrateTable {
@@ -27,7 +32,13 @@ impl Model for CrateTable {
 
     ghost Value = { Table };
 
-    ghost view = { λ t. record { ids = t.ids.items; names = t.names.items; leaves = t.leaves.items } };
+    ghost view = { λ t. record {
+      ids = t.ids.items;
+      names = t.names.items;
+      leaves = t.leaves.items;
+      uses = t.uses.items;
+      defs = t.defs.items;
+    } };
 }
 
 impl CrateTable {
@@ -39,6 +50,8 @@ impl CrateTable {
             ids: Vec::new(alloc),
             names: Vec::new(alloc),
             leaves: Vec::new(alloc),
+            uses: Vec::new(alloc),
+            defs: Vec::new(alloc),
         }
     }
 
@@ -63,12 +76,41 @@ impl CrateTable {
         self.leaves.as_slice()
     }
 
-    /// The names and the imports alone.
-    pub fn into_parts(self) -> (Vec<DeclaredName>, Vec<UseLeaf>)
+    /// Where its uses are written, in the order of their numbers.
+    pub fn uses(&self) -> &[UsePlace]
+        ensures { result.now ≡ self.now.uses }
+    {
+        self.uses.as_slice()
+    }
+
+    /// Where its macros and its other definitions are written, in the order of their numbers.
+    pub fn defs(&self) -> &[DefPlace]
+        ensures { result.now ≡ self.now.defs }
+    {
+        self.defs.as_slice()
+    }
+
+    /// The names and the imports, and the table without them.
+    pub fn into_parts(self, alloc: Global) -> (Vec<DeclaredName>, Vec<UseLeaf>, CrateTable)
         ensures names { result.0.items ≡ self.names }
         ensures leaves { result.1.items ≡ self.leaves }
+        ensures rest { result.2 ≡ spec.emptied self }
     {
-        (self.names, self.leaves)
+        let CrateTable {
+            ids,
+            names,
+            leaves,
+            uses,
+            defs,
+        } = self;
+        let rest = CrateTable {
+            ids,
+            names: Vec::new(alloc),
+            leaves: Vec::new(alloc),
+            uses,
+            defs,
+        };
+        (names, leaves, rest)
     }
 
     /// Lists the id of a module.
@@ -143,6 +185,24 @@ impl CrateTable {
     {
         let added = add_leaves(&mut self.leaves, home, visibility, use_, imports)?;
         Ok(added)
+    }
+
+    /// Lists where a use is written.
+    pub(crate) fn push_use(&mut self, place: UsePlace) -> Result<(), AllocError>
+        ensures exact { OnOk result (self.new ≡ spec.with_use_at self.old place) }
+        ensures kept { (w : World) (k : Crate) → spec.IsTableOf w k self.old → OnOk result (spec.IsTableOf w k self.new) }
+    {
+        self.uses.push(place)?;
+        Ok(())
+    }
+
+    /// Lists where a definition is written.
+    pub(crate) fn push_def(&mut self, place: DefPlace) -> Result<(), AllocError>
+        ensures exact { OnOk result (self.new ≡ spec.with_def_at self.old place) }
+        ensures kept { (w : World) (k : Crate) → spec.IsTableOf w k self.old → OnOk result (spec.IsTableOf w k self.new) }
+    {
+        self.defs.push(place)?;
+        Ok(())
     }
 }
 

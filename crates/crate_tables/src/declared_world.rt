@@ -11,7 +11,6 @@ ghost use Rattle.dm_ids.specs.declared.ids.ModuleId.{ModuleId};
 ghost use Rattle.dm_maps.specs.Known.{KnowsAll};
 ghost use Rattle.dm_maps.specs.PushRes.{StaysShown};
 ghost use Rattle.dm_maps.specs.World.{scope_of};
-ghost use Rattle.dm_scope.specs.Scope.{no_scope};
 ghost use Rattle.dm_scope.specs.Shows.{ScopePush, Shows};
 
 use crate::declared_name::DeclaredName;
@@ -104,7 +103,7 @@ fn world_of(tables: WorldBuilder) -> Result<World, NotDeclared>
     }
 }
 
-/// The world of tables whose modules bind nothing, with names declared in it: each module shows what is declared there,
+/// The world of tables whose modules bind nothing yet, with names declared in it: each module shows what is declared there,
 /// as one push after another.
 ///
 /// # Errors
@@ -116,7 +115,7 @@ pub fn declared_world(
     names: &[DeclaredName],
 ) -> Result<(World, PerNsGlobImports), NotDeclared>
     requires known { All (IsNameOf tables) names.now }
-    requires empty { (m : ModuleId) → scope_of tables m ≡ no_scope }
+    requires empty { spec.BindNothing tables }
     ensures shown { IfOk result (λ made. spec.AreShown made.0 made.1 names.now) }
     ensures stays { IfOk result (λ made. (hs : List HeldId) → KnowsAll tables hs → KnowsAll made.0 hs) }
     ensures refused { IfErr result (spec.IsRefusal tables) }

@@ -1,6 +1,5 @@
 //! The standard prelude of a crate in a builder, and what its attributes set there.
 ghost use Rattle.std.specs.Prelude.{◌≡◌, ◌++◌, ◌∷◌, [], true, IfErr, IfOk, IsTrue, OnOk, map, slice_get};
-ghost use Rattle.std.specs.List.{list_any};
 ghost use Rattle.std.specs.Option.{option_map};
 ghost use Rattle.crate_tables.specs.CrateMaps.{is_shortage};
 ghost use Rattle.crate_tables.specs.StandardPreludes as spec;
@@ -10,6 +9,7 @@ ghost use Rattle.dm_maps.specs.BuildCrateData.{with_crate_settings};
 ghost use Rattle.dm_maps.specs.BuildMaps.{AnswersFree, map_fault};
 ghost use Rattle.dm_maps.specs.Known.{knows};
 
+use crate::crate_roots::{any_no_core, is_named};
 use crate::crate_table::CrateTable;
 use crate::visibilities::id_at;
 use crate_items::crate_attributes::CrateAttribute;
@@ -85,51 +85,29 @@ pub fn set_attributes(
     set_all(builder, krate, settings)
 }
 
-fn is_no_std(attribute: &CrateAttribute) -> bool
-    ensures { result ≡ spec.is_no_std attribute.now }
+/// The crate of the first dependency that has a name in the extern prelude of a crate with these attributes.
+fn crate_named(
+    attributes: &[CrateAttribute],
+    dependencies: &[Dependency],
+    name: &[u8],
+) -> Option<Crate>
+    ensures { result ≡ spec.crate_named attributes.now dependencies.now name.now }
 {
-    matches!(attribute, CrateAttribute::NoStd)
-}
-
-fn is_no_core(attribute: &CrateAttribute) -> bool
-    ensures { result ≡ spec.is_no_core attribute.now }
-{
-    matches!(attribute, CrateAttribute::NoCore)
-}
-
-fn any_no_std(attributes: &[CrateAttribute]) -> bool
-    ensures { result ≡ list_any spec.is_no_std attributes.now }
-{
-    attributes.iter().any(|attribute| is_no_std(attribute))
-}
-
-fn any_no_core(attributes: &[CrateAttribute]) -> bool
-    ensures { result ≡ list_any spec.is_no_core attributes.now }
-{
-    attributes.iter().any(|attribute| is_no_core(attribute))
-}
-
-/// The name of the crate that has the preludes.
-fn library(attributes: &[CrateAttribute]) -> &'static [u8]
-    ensures { result.now ≡ spec.library attributes.now }
-{
-    if any_no_std(attributes) {
-        b"core"
-    } else {
-        b"std"
+    match dependencies.iter().find(|dependency| {
+        is_named(attributes, dependency) && dependency.name.as_str().as_bytes() == name
+    }) {
+        None => None,
+        Some(dependency) => Some(dependency.crate_id),
     }
 }
 
-/// The crate of the first dependency of a name.
-fn crate_named(dependencies: &[Dependency], name: &[u8]) -> Option<Crate>
-    ensures { result ≡ spec.crate_named dependencies.now name.now }
+/// The crate that has the preludes: `std`, if that is in the extern prelude, and else `core`.
+fn library(attributes: &[CrateAttribute], dependencies: &[Dependency]) -> Option<Crate>
+    ensures { result ≡ spec.library attributes.now dependencies.now }
 {
-    match dependencies
-        .iter()
-        .find(|dependency| dependency.name.as_str().as_bytes() == name)
-    {
-        None => None,
-        Some(dependency) => Some(dependency.crate_id),
+    match crate_named(attributes, dependencies, b"std") {
+        Some(krate) => Some(krate),
+        None => crate_named(attributes, dependencies, b"core"),
     }
 }
 
@@ -183,9 +161,9 @@ fn prelude_in(
     }
 }
 
-/// The module that is the standard prelude of a crate with these attributes, edition and dependencies. A crate with
-/// `no_core` has none. One with `no_std` takes that of its dependency `core`, and any other that of `std`: the module for
-/// its edition there. Without such a dependency or module there is none.
+/// The module that is the standard prelude of a crate with these attributes, edition and dependencies: the module for its
+/// edition in the crate that has the preludes. That is `std`, and where `std` is not in the extern prelude, as under
+/// `no_std`, it is `core`. A crate with `no_core` has no prelude. Without such a crate or module there is none.
 ///
 /// The lists and the tables are those of all crates, each at its number.
 pub fn standard_prelude(
@@ -201,8 +179,7 @@ pub fn standard_prelude(
     if any_no_core(attributes) {
         return None;
     }
-    let krate = crate_named(dependencies, library(attributes));
-    prelude_in(lists, tables, edition, krate)
+    prelude_in(lists, tables, edition, library(attributes, dependencies))
 }
 
 /// A prelude that no use named.

@@ -29,6 +29,7 @@ fn define(
     requires { IsTrue (knows builder.old (held.Module m)) }
     ensures world { OnOk result (builder.new ≡ spec.with_legacy builder.old m name id) }
     ensures stays { spec.StaysKnown builder.old builder.new }
+    ensures shown { spec.AllStayShown builder.old builder.new }
     ensures fault { IfErr result (λ fault. is_shortage fault ≡ true) }
 {
     builder.scope_facts_of(m);
@@ -75,6 +76,7 @@ fn define_item(
     ensures world { OnOk result
         (builder.new ≡ spec.with_item items.now macros.now builder.old m number) }
     ensures stays { spec.StaysKnown builder.old builder.new }
+    ensures shown { spec.AllStayShown builder.old builder.new }
     ensures fault { IfErr result (λ fault. is_shortage fault ≡ true) }
 {
     let name = name_of(alloc, items, number)?;
@@ -97,6 +99,7 @@ fn define_all(
     ensures world { OnOk result
         (builder.new ≡ spec.with_textual items.now macros.now builder.old m numbers.now) }
     ensures stays { spec.StaysKnown builder.old builder.new }
+    ensures shown { spec.AllStayShown builder.old builder.new }
     ensures fault { IfErr result (λ fault. is_shortage fault ≡ true) }
 {
     for number in numbers {
@@ -120,6 +123,7 @@ fn define_scope(
     ensures world { OnOk result (builder.new ≡ spec.with_scope_of items.now macros.now builder.old
         (id_at table.now.ids home) scope.now) }
     ensures stays { spec.StaysKnown builder.old builder.new }
+    ensures shown { spec.AllStayShown builder.old builder.new }
     ensures fault { IfErr result (λ fault. is_shortage fault ≡ true) }
 {
     match parent_id(builder, krate, table, home) {
@@ -147,6 +151,7 @@ pub fn add_textual_macros(
     ensures world { OnOk result (builder.new ≡
         spec.with_scopes items.now macros.now table.now.ids builder.old scopes.now) }
     ensures stays { spec.StaysKnown builder.old builder.new }
+    ensures shown { spec.AllStayShown builder.old builder.new }
     ensures kept { IsTableOf builder.new krate table.now }
     ensures fault { IfErr result (λ fault. is_shortage fault ≡ true) }
 {

@@ -15,6 +15,6 @@ returns-clause-kept c = λ k is seen.
     let items : c.from_def.result ≡ of_def d vis (constructor_vis c.args.item.shape vis) None =
     c.from_def.ensures ∙ ap (λ s. of_def d vis s None) c.constructor_vis-seen.ensures in
     let later = c.in_ok-add_variants_of.ensures.grown in
-    subst (IsTableOf c.add_variants_of.new.builder k) (sym (c.in_ok-push_named.ensures ∙ ap (λ (i : PerNs). with_named c.args.table.now c.args.m c.args.item.name i) items))
+    c.in_ok-push_def.ensures.kept c.add_variants_of.new.builder k (subst (IsTableOf c.add_variants_of.new.builder k) (sym (c.in_ok-push_named.ensures ∙ ap (λ (i : PerNs). with_named c.args.table.now c.args.m c.args.item.name i) items))
     (table-defined c.args.builder.now c.add_variants_of.new.builder k c.args.table.now c.args.m c.args.item.name d vis c.args.item.shape
-    (grown-further c.args.builder.now c.add_item.new.self c.add_variants_of.new.builder c.in_ok-def.ensures.added.grown later) c.requires (later.all (def_holds d) c.in_ok-def.ensures.added.known) is seen)
+    (grown-further c.args.builder.now c.add_item.new.self c.add_variants_of.new.builder c.in_ok-def.ensures.added.grown later) c.requires (later.all (def_holds d) c.in_ok-def.ensures.added.known) is seen))

@@ -1,13 +1,13 @@
 use Rattle.crate_tables.proofs.FillingLemmas.{all-crates, needs-of, next-crate, roots-on}
-use Rattle.crate_tables.proofs.GrownLemmas.{grown-further}
+use Rattle.crate_tables.proofs.KeptLemmas.{kept-further}
 use Rattle.crate_tables.proofs.StepLemmas.{next-in}
 use Rattle.crate_tables.proofs.crate_filling.fill_all.Goals as goal
 
-pub returns-in_err-fill_next-clause-grown : goal.returns-in_err-fill_next-clause-grown
-returns-in_err-fill_next-clause-grown c = grown-further _ _ _ c.loop-number.invariant.grown c.in_err-fill_next.ensures.grown
+pub returns-in_err-fill_next-clause-stays : goal.returns-in_err-fill_next-clause-stays
+returns-in_err-fill_next-clause-stays c = kept-further _ _ _ c.loop-number.invariant.stays c.in_err-fill_next.ensures.stays
 
 pub fill_next-requires-clause-roots : goal.fill_next-requires-clause-roots
-fill_next-requires-clause-roots c = roots-on c.args.builder.now c.loop-number.builder _ c.loop-number.invariant.grown c.requires.roots
+fill_next-requires-clause-roots c = roots-on c.args.builder.now c.loop-number.builder _ c.loop-number.invariant.stays c.requires.roots
 
 pub fill_next-requires-clause-needs : goal.fill_next-requires-clause-needs
 fill_next-requires-clause-needs c =
@@ -18,11 +18,11 @@ loop-number-preserved c =
     let made = c.in_ok-fill_next.ensures.filled in
     record {
       later =
-          next-crate c.args.reading.now c.args.graph.now _ _ _ c.loop-number.number c.described-item.result _ _ made.0
+          next-crate c.args.reading.now c.args.graph.now _ _ _ c.loop-number.number c.described-item.result _ _ made.0 made.1
           (next-in c.args.graph.now c.crates-described-items.result.now c.loop-number.number c.described-item.result c.crates-described-items.ensures.all c.loop-number-test.true c.described-item.is)
-          made.2 made.1 c.loop-number.invariant.later;
+          made.3 made.2 c.loop-number.invariant.later;
       known = c.in_ok-fill_next.ensures.known;
-      grown = grown-further _ _ _ c.loop-number.invariant.grown c.in_ok-fill_next.ensures.grown;
+      stays = kept-further _ _ _ c.loop-number.invariant.stays c.in_ok-fill_next.ensures.stays;
     }
 
 pub returns-clause-filled : goal.returns-clause-filled

@@ -20,5 +20,6 @@ loop-home-preserved c =
           ∙ sym (ap (with_scopes_from xs macros ids c.loop-home.builder n) (next-of c.args.scopes.now n c.index-scopes-home.result c.loop-home-test.true c.index-scopes-home.is))
           ∙ c.loop-home.invariant.world;
       stays = λ h known. c.in_ok-define_scope.ensures.stays h (c.loop-home.invariant.stays h known);
+      shown = λ g k ps s. c.in_ok-define_scope.ensures.shown g k ps (c.loop-home.invariant.shown g k ps s);
       kept = table-stays c.loop-home.builder c.define_scope.new.builder c.args.krate c.args.table.now c.in_ok-define_scope.ensures.stays c.loop-home.invariant.kept;
     }

@@ -1,0 +1,52 @@
+-- What a builder keeps: as it grows, and as its modules get textual macros.
+use Rattle.std.proofs.Common.{◌≡◌, Bool, true, false, List, [], sym, subst, refl}
+use Rattle.std.proofs.lemmas.Bool.{eqb-true}
+use Rattle.crate_tables.proofs.TextualLemmas.{all-stay}
+use Rattle.crate_tables.specs.DeclaredWorlds.{BindNothing}
+use Rattle.crate_tables.specs.Kept.{IsKept}
+use Rattle.crate_tables.specs.TextualMacros.{AllStayShown, StaysKnown}
+use Rattle.dm_base.specs.Tree.{same_module}
+use Rattle.dm_ids.specs.Names.{Name}
+use Rattle.dm_ids.specs.declared.ids.ModuleId.{ModuleId}
+use Rattle.dm_ids.specs.declared.item_ids.MacroId.{MacroId}
+use Rattle.dm_maps.specs.Added.{IsGrown, IsScoped}
+use Rattle.dm_maps.specs.World.{World, scope_of}
+use Rattle.dm_scope.specs.Flags.{Globs}
+use Rattle.dm_scope.specs.Scope.{Scope, no_scope}
+use Rattle.dm_scope.specs.Shows.{ScopePush, Shows}
+
+pub kept-grown : (w v : World) → IsGrown w v → IsKept w v
+kept-grown w v grown = record { known = grown.known; all = grown.all; shown = grown.shown }
+
+pub kept-further : (u v w : World) → IsKept u v → IsKept v w → IsKept u w
+kept-further u v w a b = record {
+  known = λ h k. b.known h (a.known h k);
+  all = λ hs k. b.all hs (a.all hs k);
+  shown = λ g k ps s. b.shown g k ps (a.shown g k ps s);
+}
+
+pub kept-textual : (w v : World) → StaysKnown w v → AllStayShown w v → IsKept w v
+kept-textual w v stays shown = record { known = stays; all = all-stay w v stays; shown = shown }
+
+-- where no module binds anything, none does later
+pub nothing-fresh : (w : World) → ((m : ModuleId) → scope_of w m ≡ no_scope) → BindNothing w
+nothing-fresh w empty g m s = subst (λ x. Shows x g m []) (sym (empty m)) s
+
+pub nothing-kept : (w v : World) → IsKept w v → BindNothing w → BindNothing v
+nothing-kept w v kept nothing g m s = kept.shown g m [] (nothing g m s)
+
+-- a scope with other textual macros shows the same
+shows-legacy : (s : Scope) (l : List (Name × List MacroId)) (g : Globs) (m : ModuleId) (ps : List ScopePush) → Shows s g m ps → Shows (record s { legacy_macros = l }) g m ps
+shows-legacy s l g m ps h = record { types = h.types; values = h.values; macros = h.macros; unresolved = h.unresolved }
+
+-- so where the scope of one module has other textual macros, each shows what it showed
+pub scoped-shown : (w v : World) (m : ModuleId) (l : List (Name × List MacroId)) → IsScoped w v m (record (scope_of w m) { legacy_macros = l }) → AllStayShown w v
+scoped-shown w v m l is g k ps h = by (same_module m k) refl
+  where
+    by : (b : Bool) → same_module m k ≡ b → Shows (scope_of v k) g k ps
+    by true t =
+        let e = eqb-true m.0 k.0 t in
+        let one : m ≡ k = λ i. record { 0 = e i } in
+        subst (λ (x : ModuleId). Shows (scope_of w x) g x ps → Shows (scope_of v x) g x ps) one
+        (λ own. subst (λ s. Shows s g m ps) (sym is.own) (shows-legacy (scope_of w m) l g m ps own)) h
+    by false t = subst (λ s. Shows s g k ps) (sym (is.others k t)) h
