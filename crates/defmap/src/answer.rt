@@ -1,0 +1,103 @@
+//! The answer to what is asked.
+use crate::arguments::{Arguments, Wish};
+use crate::complaints::Complaints;
+use crate::failure::{Failure, Status};
+use crate::inputs::read_inputs;
+use crate::places::Lines;
+use crate::settled::Settled;
+use crate::settling::settle_inputs;
+use crate::tree::tree_text;
+use crate::unresolved::{Unresolved, message_lines, nothing, unresolved};
+use std::alloc::{AllocError, Global};
+use std::rt::Files;
+
+/// What the program prints, and the status that it ends with.
+#[derive(Drop)]
+pub(crate) struct Answer {
+    pub(crate) out: String,
+    /// What goes to the standard error.
+    pub(crate) told: String,
+    pub(crate) status: Status,
+}
+
+/// Lines, each of which ends.
+fn ended(alloc: Global, complaints: &Complaints) -> Result<String, AllocError> {
+    let mut text = String::new(alloc);
+    for line in complaints.lines() {
+        text.push_str(line.as_str())?;
+        text.push_str("\n")?;
+    }
+    Ok(text)
+}
+
+/// What is not known of what leads nowhere.
+fn unknown_lines(alloc: Global, found: &Unresolved) -> Result<String, AllocError> {
+    if found.from_standard == 0 {
+        return Ok(String::new(alloc));
+    }
+    let count = found.from_standard;
+    format!(in alloc; "unknown: {count} imports from the standard library: give its folder by --sysroot\n")
+}
+
+/// The answer to `unresolved`.
+fn unresolved_answer(
+    alloc: Global,
+    settled: &Settled,
+    given: &Arguments<'_>,
+    complaints: &Complaints,
+) -> Result<Answer, AllocError> {
+    let lines = Lines::new(alloc, &settled.files)?;
+    let mut found = unresolved(alloc, settled, given.sysroot.is_some())?;
+    let out = message_lines(alloc, &lines, &mut found.told)?;
+    let mut told = ended(alloc, complaints)?;
+    told.push_str(unknown_lines(alloc, &found)?.as_str())?;
+    let status = if !complaints.is_empty() {
+        Status::Unreadable
+    } else if found.told.is_empty() {
+        Status::Fine
+    } else {
+        Status::Absent
+    };
+    Ok(Answer { out, told, status })
+}
+
+/// The answer to `tree`.
+fn tree_answer(
+    alloc: Global,
+    settled: &Settled,
+    complaints: &Complaints,
+) -> Result<Answer, AllocError> {
+    let lines = Lines::new(alloc, &settled.files)?;
+    let mut missing = nothing(alloc);
+    missing.add_modules(alloc, settled)?;
+    let is_whole = missing.told.is_empty() && complaints.is_empty();
+    let mut told = ended(alloc, complaints)?;
+    told.push_str(message_lines(alloc, &lines, &mut missing.told)?.as_str())?;
+    Ok(Answer {
+        out: tree_text(alloc, settled, &lines)?,
+        told,
+        status: if is_whole {
+            Status::Fine
+        } else {
+            Status::Unreadable
+        },
+    })
+}
+
+/// Reads what the command line names, and answers what it asks.
+pub(crate) fn answer<R: Files + Input + AllocGlobal>(
+    rt: &R,
+    given: &Arguments<'_>,
+) -> Result<Answer, Failure> {
+    let alloc = rt.alloc();
+    let inputs = read_inputs(rt, given)?;
+    let made = settle_inputs(alloc, inputs, given.limit)?;
+    let answered = match given.wish {
+        Wish::Tree => tree_answer(alloc, &made.settled, &made.complaints)?,
+        Wish::Unresolved => unresolved_answer(alloc, &made.settled, given, &made.complaints)?,
+        Wish::Resolve { path: _path, home: _home } => {
+            tree_answer(alloc, &made.settled, &made.complaints)?
+        }
+    };
+    Ok(answered)
+}
