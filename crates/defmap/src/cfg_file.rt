@@ -77,20 +77,14 @@ pub(crate) fn add_lines(
     Ok(())
 }
 
-/// The options of a text, with those features.
+/// The options of the lines of two texts.
 pub(crate) fn options_of(
     alloc: Global,
-    text: &str,
-    features: &[String],
+    shared: &str,
+    own: &str,
 ) -> Result<CfgOptions, AllocError> {
     let mut options = CfgOptions::new(alloc);
-    add_lines(&mut options, alloc, text)?;
-    for feature in features {
-        let option = CfgLine {
-            name: "feature",
-            value: Some(feature.as_str()),
-        };
-        add_option(&mut options, alloc, option)?;
-    }
+    add_lines(&mut options, alloc, shared)?;
+    add_lines(&mut options, alloc, own)?;
     Ok(options)
 }

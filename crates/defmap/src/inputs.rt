@@ -5,6 +5,7 @@ use crate::complaints::Complaints;
 use crate::extern_crates::planned;
 use crate::failure::{Failure, Status};
 use crate::loader::Loader;
+use crate::metadata::planned_by;
 use crate::plan::CratePlan;
 use crate::reading::{FileText, input_text, needed_text, unread_line};
 use crate::sysroot::add_sysroot;
@@ -39,22 +40,45 @@ fn file_cfgs<R: Files + AllocGlobal>(rt: &R, path: &str) -> Result<String, Failu
     }
 }
 
-/// The lines of all options that are given.
-fn all_cfgs<R: Files + AllocGlobal>(rt: &R, given: &Arguments<'_>) -> Result<String, Failure> {
-    let alloc = rt.alloc();
-    let mut lines = match given.cfg_file {
-        None => String::from_str(alloc, LINUX)?,
-        Some(path) => file_cfgs(rt, path)?,
-    };
+/// The lines of the options of all crates.
+fn shared_cfgs<R: Files + AllocGlobal>(rt: &R, given: &Arguments<'_>) -> Result<String, Failure> {
+    match given.cfg_file {
+        None => Ok(String::from_str(rt.alloc(), LINUX)?),
+        Some(path) => file_cfgs(rt, path),
+    }
+}
+
+/// Adds the options that are given to those of the crate that is asked about.
+fn add_cfgs(alloc: Global, own: &mut CratePlan, given: &Arguments<'_>) -> Result<(), Failure> {
     for word in &given.cfgs {
         if cfg_line(*word).is_none() {
             let told = format!(in alloc; "no option {word}: give --cfg NAME or --cfg NAME=\"VALUE\"")?;
             return Err(Failure::Told(Status::Misused, told));
         }
-        lines.push_str("\n")?;
-        lines.push_str(*word)?;
+        own.cfgs.push_str(*word)?;
+        own.cfgs.push_str("\n")?;
     }
-    Ok(lines)
+    Ok(())
+}
+
+/// The plans of all crates, that of the crate that is asked about first.
+fn plans_of<R: Files + AllocGlobal>(
+    rt: &R,
+    given: &Arguments<'_>,
+    cfgs: &str,
+) -> Result<Vec<CratePlan>, Failure> {
+    let alloc = rt.alloc();
+    let mut plans = match given.metadata {
+        None => planned(alloc, given)?,
+        Some(path) => planned_by(rt, given, path, cfgs)?,
+    };
+    if let Some(own) = plans.first_mut() {
+        add_cfgs(alloc, own, given)?;
+    }
+    if let Some(sysroot) = given.sysroot {
+        add_sysroot(rt, &mut plans, sysroot)?;
+    }
+    Ok(plans)
 }
 
 /// Reads the root of the crate that is asked about from the standard input.
@@ -88,7 +112,7 @@ fn read_plan<R: Files + Input + AllocGlobal>(
     let Some(root) = loader.read_root(rt, plan.root.as_str())? else {
         return Ok(None);
     };
-    let options = options_of(alloc, cfgs, plan.features.as_slice())?;
+    let options = options_of(alloc, cfgs, plan.cfgs.as_str())?;
     loader.read_modules(rt, root, plan.edition, &options, limit)?;
     Ok(Some(root))
 }
@@ -108,11 +132,8 @@ pub(crate) fn read_inputs<R: Files + Input + AllocGlobal>(
     given: &Arguments<'_>,
 ) -> Result<Inputs, Failure> {
     let alloc = rt.alloc();
-    let cfgs = all_cfgs(rt, given)?;
-    let mut plans = planned(alloc, given)?;
-    if let Some(sysroot) = given.sysroot {
-        add_sysroot(rt, &mut plans, sysroot)?;
-    }
+    let cfgs = shared_cfgs(rt, given)?;
+    let plans = plans_of(rt, given, cfgs.as_str())?;
     let mut loader = Loader::new(alloc);
     let mut roots = Vec::new(alloc);
     for plan in &plans {

@@ -3,6 +3,7 @@
 
 mod answer;
 mod arguments;
+mod cargo_target;
 mod cfg_file;
 mod complaints;
 mod extern_crates;
@@ -10,6 +11,7 @@ mod failure;
 mod graph;
 mod inputs;
 mod loader;
+mod metadata;
 mod offsets;
 mod places;
 mod plan;

@@ -1,4 +1,6 @@
 //! Where items stand, as FILE:LINE:COLUMN.
+ghost use Rattle.std.specs.Prelude.{◌≡◌, length};
+
 use crate::settled::Settled;
 use crate::offsets::{item_offset, leaf_offset};
 use crate_modules::file_table::FileTable;
@@ -8,23 +10,45 @@ use dm_base::ids::{FileId, UseId, UseTreeIdx};
 use dm_base::imports::ImportOrExternCrate;
 use std::alloc::{AllocError, Global};
 
-/// The lines of all files.
+/// The lines of a file.
+#[derive(Drop)]
+struct FileLines<'a> {
+    path: &'a str,
+    /// How long its text is.
+    len: usize,
+    index: LineIndex<'a>,
+    ghost whole: { len ≡ length index },
+}
+
+/// The lines of all files, by their numbers.
 #[derive(Drop)]
 pub(crate) struct Lines<'a> {
-    files: &'a FileTable,
-    indexes: Vec<LineIndex<'a>>,
+    files: Vec<FileLines<'a>>,
+}
+
+/// The lines of a text.
+fn file_lines<'a>(
+    alloc: Global,
+    path: &'a [u8],
+    text: &'a [u8],
+) -> Result<FileLines<'a>, AllocError> {
+    Ok(FileLines {
+        path: std::str::from_utf8(path).unwrap_or("?"),
+        len: text.len(),
+        index: LineIndex::new(alloc, text)?,
+    })
 }
 
 impl<'a> Lines<'a> {
     pub(crate) fn new(alloc: Global, files: &'a FileTable) -> Result<Lines<'a>, AllocError> {
-        let mut indexes = Vec::new(alloc);
+        let mut all = Vec::new(alloc);
         for number in 0..files.len() {
             let id = FileId(u32::try_from(number).unwrap_or(u32::MAX));
             if files.contains(id) {
-                indexes.push(LineIndex::new(alloc, files.text(id))?)?;
+                all.push(file_lines(alloc, files.path(id), files.text(id))?)?;
             }
         }
-        Ok(Lines { files, indexes })
+        Ok(Lines { files: all })
     }
 
     /// The path of a file, the line and the column of a byte of it.
@@ -34,17 +58,14 @@ impl<'a> Lines<'a> {
         file: FileId,
         offset: usize,
     ) -> Result<String, AllocError> {
-        if !self.files.contains(file) {
+        let Some(lines) = self.files.get(file.0 as usize) else {
             return String::from_str(alloc, "?");
-        }
-        let path = std::str::from_utf8(self.files.path(file)).unwrap_or("?");
-        let Some(index) = self.indexes.get(file.0 as usize) else {
-            return String::from_str(alloc, path);
         };
-        if offset > self.files.text(file).len() {
+        let path = lines.path;
+        if offset > lines.len {
             return String::from_str(alloc, path);
         }
-        let at = index.line_col(offset);
+        let at = lines.index.line_col(offset);
         format!(in alloc; "{path}:{}:{}", at.line, at.col)
     }
 }

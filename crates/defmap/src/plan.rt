@@ -17,7 +17,8 @@ pub(crate) struct CratePlan {
     pub(crate) name: String,
     pub(crate) root: String,
     pub(crate) edition: Edition,
-    pub(crate) features: Vec<String>,
+    /// Options of its own, as lines.
+    pub(crate) cfgs: String,
     pub(crate) is_proc_macro: bool,
     pub(crate) dependencies: Vec<DependencyPlan>,
 }
@@ -33,10 +34,18 @@ impl CratePlan {
             name: String::from_str(alloc, name)?,
             root: String::from_str(alloc, root)?,
             edition,
-            features: Vec::new(alloc),
+            cfgs: String::new(alloc),
             is_proc_macro: false,
             dependencies: Vec::new(alloc),
         })
+    }
+
+    /// Adds a feature to its options.
+    pub(crate) fn enable(&mut self, feature: &str) -> Result<(), AllocError> {
+        self.cfgs.push_str("feature=\"")?;
+        self.cfgs.push_str(feature)?;
+        self.cfgs.push_str("\"\n")?;
+        Ok(())
     }
 
     /// Adds a dependency, unless there is one of this name.

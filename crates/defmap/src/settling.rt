@@ -73,7 +73,11 @@ pub(crate) fn settle_inputs(
     let (files, mut complaints) = loader.into_parts();
     let made = ordered_graph(alloc, &mut plans, roots.as_slice(), &mut complaints)?;
     let names = names_of(alloc, plans.as_slice(), &made)?;
-    let options = options_of(alloc, cfgs.as_str(), &[])?;
+    let own = match plans.first() {
+        None => "",
+        Some(plan) => plan.cfgs.as_str(),
+    };
+    let options = options_of(alloc, cfgs.as_str(), own)?;
     let reading = Reading {
         options: &options,
         files: &files,

@@ -52,19 +52,20 @@ pub(crate) fn module_path(
 ) -> Result<String, AllocError> {
     let world = settled.world();
     let mut path = String::from_str(alloc, crate_word(settled, m))?;
-    let mut left = outwards(alloc, world, m)?;
-    let mut parent = left.pop();
-    while let Some(child) = left.pop() {
-        let name = match parent {
-            None => None,
-            Some(parent) => name_in_parent(world, parent, child),
+    let around = outwards(alloc, world, m)?;
+    let mut parent = None;
+    for child in around.iter().rev() {
+        let Some(home) = parent else {
+            parent = Some(*child);
+            continue;
         };
+        let name = name_in_parent(world, home, *child);
         path.push_str("::")?;
         path.push_str(match name {
             None => "?",
             Some(name) => name.as_str(),
         })?;
-        parent = Some(child);
+        parent = Some(*child);
     }
     Ok(path)
 }

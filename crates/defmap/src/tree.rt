@@ -117,9 +117,9 @@ impl<'a> Tree<'a> {
         data: &ModuleData,
     ) -> Result<(), AllocError> {
         let children = data.children();
-        let mut names = sorted_names(children.keys().as_slice().iter(), self.alloc)?;
-        while let Some(name) = names.pop() {
-            if let Some(module) = data.child(name) {
+        let names = sorted_names(children.keys().as_slice().iter(), self.alloc)?;
+        for name in names.iter().rev() {
+            if let Some(module) = data.child(*name) {
                 let path = format!(in self.alloc; "{path}::{}", name.as_str())?;
                 left.push(Branch { path, module })?;
             }
@@ -167,12 +167,11 @@ pub(crate) fn tree_text(
         path: String::from_str(alloc, "crate")?,
         module: root,
     })?;
-    let mut is_first = true;
-    while let Some(branch) = left.pop() {
-        if !is_first {
-            tree.out.push_str("\n")?;
-        }
-        is_first = false;
+    for number in 0..u64::MAX {
+        let Some(branch) = left.pop() else {
+            break;
+        };
+        tree.out.push_str(if number == 0 { "" } else { "\n" })?;
         tree.add_module(&mut left, branch)?;
     }
     Ok(tree.out)
