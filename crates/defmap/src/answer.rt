@@ -4,10 +4,12 @@ use crate::complaints::Complaints;
 use crate::failure::{Failure, Status};
 use crate::inputs::read_inputs;
 use crate::places::Lines;
+use crate::resolve::{Teller, module_at};
 use crate::settled::Settled;
 use crate::settling::settle_inputs;
 use crate::tree::tree_text;
 use crate::unresolved::{Unresolved, message_lines, nothing, unresolved};
+use crate::written_path::written_path;
 use std::alloc::{AllocError, Global};
 use std::rt::Files;
 
@@ -84,6 +86,37 @@ fn tree_answer(
     })
 }
 
+/// The answer to `resolve`.
+fn resolve_answer(
+    alloc: Global,
+    settled: &Settled,
+    written: &str,
+    home: &str,
+    complaints: &Complaints,
+) -> Result<Answer, Failure> {
+    let Some(path) = written_path(alloc, written)? else {
+        let told = format!(in alloc; "no path {written}: give names with two colons between")?;
+        return Err(Failure::Told(Status::Misused, told));
+    };
+    let m = module_at(alloc, settled, home)?;
+    let lines = Lines::new(alloc, &settled.files)?;
+    let mut teller = Teller::new(alloc, settled, &lines, m);
+    teller.add_path(&path)?;
+    let is_found = teller.is_found;
+    let out = teller.into_text();
+    Ok(Answer {
+        out,
+        told: ended(alloc, complaints)?,
+        status: if !complaints.is_empty() {
+            Status::Unreadable
+        } else if is_found {
+            Status::Fine
+        } else {
+            Status::Absent
+        },
+    })
+}
+
 /// Reads what the command line names, and answers what it asks.
 pub(crate) fn answer<R: Files + Input + AllocGlobal>(
     rt: &R,
@@ -95,8 +128,8 @@ pub(crate) fn answer<R: Files + Input + AllocGlobal>(
     let answered = match given.wish {
         Wish::Tree => tree_answer(alloc, &made.settled, &made.complaints)?,
         Wish::Unresolved => unresolved_answer(alloc, &made.settled, given, &made.complaints)?,
-        Wish::Resolve { path: _path, home: _home } => {
-            tree_answer(alloc, &made.settled, &made.complaints)?
+        Wish::Resolve { path, home } => {
+            resolve_answer(alloc, &made.settled, path, home, &made.complaints)?
         }
     };
     Ok(answered)

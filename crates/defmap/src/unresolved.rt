@@ -1,4 +1,5 @@
 //! What leads nowhere in a crate.
+use crate::path_text::path_text;
 use crate::places::{Lines, Spot, item_spot, use_spot};
 use crate::settled::Settled;
 use crate_modules::declared_module::ModuleFault;
@@ -25,36 +26,6 @@ pub(crate) struct Unresolved {
     pub(crate) told: Vec<Told>,
     /// Imports from crates of the standard library, which is not given.
     pub(crate) from_standard: usize,
-}
-
-/// A path, as it is written.
-pub(crate) fn path_text(alloc: Global, path: &ModPath) -> Result<String, AllocError> {
-    let mut text = String::new(alloc);
-    let mut is_first = true;
-    match path.kind() {
-        PathKind::Plain => {}
-        PathKind::Abs => text.push_str("::")?,
-        PathKind::Crate | PathKind::DollarCrate(_) => {
-            text.push_str("crate")?;
-            is_first = false;
-        }
-        PathKind::Super(0) => {
-            text.push_str("self")?;
-            is_first = false;
-        }
-        PathKind::Super(count) => {
-            for number in 0..count {
-                text.push_str(if number == 0 { "super" } else { "::super" })?;
-            }
-            is_first = false;
-        }
-    }
-    for name in path.segments() {
-        text.push_str(if is_first { "" } else { "::" })?;
-        text.push_str(name.as_str())?;
-        is_first = false;
-    }
-    Ok(text)
 }
 
 /// The paths that the file of a module was looked for at.
