@@ -20,7 +20,7 @@ pub(crate) struct FixtureCrate<'a> {
     pub(crate) edition: Edition,
     /// What it depends on, with commas between: names of crates, or `NAME=CRATE`.
     pub(crate) deps: &'a str,
-    /// Options that hold, in all crates, with commas between.
+    /// Options that hold in it, with commas between.
     pub(crate) cfgs: &'a str,
 }
 

@@ -38,12 +38,10 @@ fn add_options(
     Ok(())
 }
 
-/// The options of the crates of a fixture.
-pub(crate) fn options_of(alloc: Global, fixture: &Fixture<'_>) -> Result<CfgOptions, AllocError> {
+/// The options of a crate.
+fn options_of(alloc: Global, krate: FixtureCrate<'_>) -> Result<CfgOptions, AllocError> {
     let mut options = CfgOptions::new(alloc);
-    for krate in &fixture.crates {
-        add_options(&mut options, alloc, *krate)?;
-    }
+    add_options(&mut options, alloc, krate)?;
     Ok(options)
 }
 
@@ -102,7 +100,13 @@ pub(crate) fn graph_of(
         let Some(root) = files.file_at(krate.root.as_bytes()) else {
             continue;
         };
-        let added = CrateData::new(root, krate.edition, false, Vec::new(alloc));
+        let added = CrateData::new(
+            root,
+            krate.edition,
+            options_of(alloc, *krate)?,
+            false,
+            Vec::new(alloc),
+        );
         if graph.knows(&added) {
             graph.add_crate(added)?;
         }

@@ -1,6 +1,6 @@
 //! What a fixture leaves: the def map of each of its crates, and what is told of them.
 use crate::fixture::Fixture;
-use crate::graph::{files_of, graph_of, options_of};
+use crate::graph::{files_of, graph_of};
 use crate::told::{Told, add_module_faults, leaf_offset, lines};
 use crate::use_places::{UsePlace, use_places};
 use crate_modules::crate_graph::CrateGraph;
@@ -14,7 +14,6 @@ use dm_collector::sources::GlobImport;
 use dm_collector::unresolved_names::list_unresolved;
 use dm_maps::world::World;
 use dm_maps::world::maps_of::{AskWorld, crate_def_map};
-use item_tree::cfg::CfgOptions;
 use std::alloc::{AllocError, Global};
 
 /// How many modules a crate of a fixture may have, and how many rounds its imports may take.
@@ -33,7 +32,6 @@ struct Settled {
 fn lists_of(
     alloc: Global,
     graph: &CrateGraph,
-    options: &CfgOptions,
     files: &FileTable,
 ) -> Result<Vec<CrateModules>, AllocError> {
     let mut lists = Vec::new(alloc);
@@ -41,7 +39,7 @@ fn lists_of(
         if !files.contains(krate.root_file_id()) {
             continue;
         }
-        if let Ok(list) = declared_modules(alloc, krate, options, files, LIMIT) {
+        if let Ok(list) = declared_modules(alloc, krate, files, LIMIT) {
             lists.push(list)?;
         }
     }
@@ -66,11 +64,9 @@ fn list_names(alloc: Global, collected: &mut Collected) -> Result<bool, AllocErr
 fn settled_by(alloc: Global, fixture: &Fixture<'_>) -> Result<Option<Settled>, AllocError> {
     let files = files_of(alloc, fixture)?;
     let graph = graph_of(alloc, fixture, &files)?;
-    let options = options_of(alloc, fixture)?;
-    let lists = lists_of(alloc, &graph, &options, &files)?;
+    let lists = lists_of(alloc, &graph, &files)?;
     let uses = use_places(alloc, &graph, lists.as_slice(), &files)?;
     let reading = Reading {
-        options: &options,
         files: &files,
         limit: LIMIT,
     };

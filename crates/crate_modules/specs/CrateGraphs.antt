@@ -4,11 +4,13 @@ use Rattle.dm_ids.specs.declared.ids.Crate.{Crate}
 use Rattle.dm_ids.specs.declared.ids.FileId.{FileId}
 use Rattle.dm_ids.specs.declared.source.Edition.{Edition}
 use Rattle.crate_modules.specs.declared.dependency.Dependency.{Dependency}
+use Rattle.item_tree.specs.declared.cfg.CfgAtom.{CfgAtom}
 
 -- what a graph has of a crate
 pub record Data : Type 0 where
   pub root_file_id : FileId
   pub edition : Edition
+  pub cfg_options : List CfgAtom
   pub is_proc_macro : Bool
   pub dependencies : List Dependency
 

@@ -5,15 +5,17 @@ ghost use Rattle.crate_modules.specs.CrateGraphs.{with_dependency};
 use crate::dependency::Dependency;
 use dm_ids::ids::FileId;
 use dm_ids::source::Edition;
+use item_tree::cfg::CfgOptions;
 use std::alloc::AllocError;
 use std::marker::Model;
 
-/// What a graph has of a crate: the file of its root, its edition, whether it has procedural macros, and what it
-/// depends on.
+/// What a graph has of a crate: the file of its root, its edition, the options that it is built with, whether it has
+/// procedural macros, and what it depends on.
 #[derive(Drop)]
 pub struct CrateData {
     root_file_id: FileId,
     edition: Edition,
+    cfg_options: CfgOptions,
     is_proc_macro: bool,
     dependencies: Vec<Dependency>,
 }
@@ -23,7 +25,13 @@ impl Model for CrateData {
 
     ghost Value = { Data };
 
-    ghost view = { λ c. record { root_file_id = c.root_file_id; edition = c.edition; is_proc_macro = c.is_proc_macro; dependencies = c.dependencies.items } };
+    ghost view = { λ c. record {
+      root_file_id = c.root_file_id;
+      edition = c.edition;
+      cfg_options = c.cfg_options;
+      is_proc_macro = c.is_proc_macro;
+      dependencies = c.dependencies.items;
+    } };
 }
 
 impl CrateData {
@@ -31,14 +39,22 @@ impl CrateData {
     pub fn new(
         root_file_id: FileId,
         edition: Edition,
+        cfg_options: CfgOptions,
         is_proc_macro: bool,
         dependencies: Vec<Dependency>,
     ) -> CrateData
-        ensures { result ≡ record { root_file_id = root_file_id; edition = edition; is_proc_macro = is_proc_macro; dependencies = dependencies.items } }
+        ensures { result ≡ record {
+          root_file_id = root_file_id;
+          edition = edition;
+          cfg_options = cfg_options;
+          is_proc_macro = is_proc_macro;
+          dependencies = dependencies.items;
+        } }
     {
         CrateData {
             root_file_id,
             edition,
+            cfg_options,
             is_proc_macro,
             dependencies,
         }
@@ -56,6 +72,13 @@ impl CrateData {
         ensures { result ≡ self.now.edition }
     {
         self.edition
+    }
+
+    /// The options that it is built with.
+    pub fn cfg_options(&self) -> &CfgOptions
+        ensures { result.now ≡ self.now.cfg_options }
+    {
+        &self.cfg_options
     }
 
     /// Whether it has procedural macros.

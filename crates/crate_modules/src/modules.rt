@@ -244,13 +244,12 @@ fn root_alone(
 pub fn declared_modules(
     alloc: Global,
     krate: &CrateData,
-    options: &CfgOptions,
     files: &FileTable,
     limit: u32,
 ) -> Result<CrateModules, ModulesError>
     requires { krate.now.root_file_id.0 < length files.now }
     ensures sources { IfOk result
-        (λ list. AreSourcesOf krate.now.edition options.now files.now list.sources) }
+        (λ list. AreSourcesOf krate.now.edition krate.now.cfg_options files.now list.sources) }
     ensures read { IfOk result (λ list. All (spec.IsRead list.sources) list.modules) }
     ensures modules { IfOk result (λ list. list.modules ≡
         spec.root_module files.now krate.now.root_file_id
@@ -258,10 +257,11 @@ pub fn declared_modules(
     ensures faults { IfOk result
         (λ list. list.faults ≡ spec.faults_in list.sources files.now 0 list.modules) }
     ensures within { IfOk result (λ list. length list.modules ≤ limit) }
-    ensures refused { IfErr result (spec.IsRefusal krate.now.edition options.now files.now
+    ensures refused { IfErr result (spec.IsRefusal krate.now.edition krate.now.cfg_options files.now
         krate.now.root_file_id limit) }
 {
     let edition = krate.edition();
+    let options = krate.cfg_options();
     let mut list = root_alone(alloc, edition, options, files, krate.root_file_id())?;
     for number in 0..limit {
         let number = number as usize;

@@ -24,17 +24,15 @@ use Rattle.dm_ids.specs.declared.ids.Crate.{Crate}
 use Rattle.dm_maps.specs.World.{World}
 use Rattle.dm_maps.specs.declared.build_fault.BuildFault.{BuildFault}
 use Rattle.dm_maps.specs.declared.build_fault.BuildFault.TheVariants as fault
-use Rattle.item_tree.specs.declared.cfg.CfgAtom.{CfgAtom}
 
--- how crates are read: by their options, from these files, each with so many modules at most
+-- how crates are read: from these files, each with so many modules at most
 pub record Reading : Type 0 where
-  pub options : List CfgAtom
   pub files : List SourceFile
   pub limit : ℕ
 
 -- the modules that a crate declares, by the sources that it reads
 pub record IsListOf (r : Reading) (d : Data) (l : Listing) : Type 0 where
-  pub sources : AreSourcesOf d.edition r.options r.files l.sources
+  pub sources : AreSourcesOf d.edition d.cfg_options r.files l.sources
   pub modules : l.modules ≡ root_module r.files d.root_file_id ∷ declared_in l.sources r.files 0 l.modules
 
 -- ---- All items of a crate
@@ -68,7 +66,7 @@ pub record HasList (c : CrateView) (ds : List Dependency) (w : World) (rows : Li
       (flat_map (declared_of c.edition c.list c.files) items)
 
 abbrev pub view_of : Reading → Crate → Data → Listing → CrateView
-view_of r k d l = record { krate = k; edition = d.edition; options = r.options; list = l; files = r.files }
+view_of r k d l = record { krate = k; edition = d.edition; options = d.cfg_options; list = l; files = r.files }
 
 -- s is w with the crate k filled: with its dependencies in its extern prelude, and then with the modules and items that
 -- it declares
@@ -104,7 +102,7 @@ pub record IsKnownTable (w : World) (t : Table) : Type 0 where
 -- why a crate is not filled: the file of its root is not there, it has more modules than so many, or memory or numbers ran out
 abbrev pub IsFaultOf : Reading → Crate → Data → FillFault → Type 0
 IsFaultOf r k d (NoRootFile c) = (c ≡ k) × ¬ (d.root_file_id.0 < length r.files)
-IsFaultOf r k d (TooManyModules c) = (c ≡ k) × AreMore d.edition r.options r.files d.root_file_id r.limit
+IsFaultOf r k d (TooManyModules c) = (c ≡ k) × AreMore d.edition d.cfg_options r.files d.root_file_id r.limit
 IsFaultOf r k d OutOfNumbers = Unit {0}
 IsFaultOf r k d OutOfMemory = Unit {0}
 

@@ -30,14 +30,12 @@ use crate_modules::modules::{CrateModules, ModulesError, declared_modules};
 use dm_base::ids::Crate;
 use dm_maps::build_fault::BuildFault;
 use dm_maps::builder::WorldBuilder;
-use item_tree::cfg::CfgOptions;
 use std::alloc::{AllocError, Global};
 use std::marker::Model;
 
 /// How crates are read.
 #[derive(Drop)]
 pub struct Reading<'a> {
-    pub options: &'a CfgOptions,
     pub files: &'a FileTable,
     /// How many modules a crate may have.
     pub limit: u32,
@@ -48,7 +46,7 @@ impl<'a> Model for Reading<'a> {
 
     ghost Value = { Reading };
 
-    ghost view = { λ r. record { options = r.options.now; files = r.files.now; limit = r.limit } };
+    ghost view = { λ r. record { files = r.files.now; limit = r.limit } };
 }
 
 /// The same of the fault of a builder, which knows the root of the crate.
@@ -75,13 +73,7 @@ fn listed(
     if !reading.files.contains(described.root_file_id()) {
         return Err(FillFault::NoRootFile(krate));
     }
-    match declared_modules(
-        alloc,
-        described,
-        reading.options,
-        reading.files,
-        reading.limit,
-    ) {
+    match declared_modules(alloc, described, reading.files, reading.limit) {
         Ok(list) => Ok(list),
         Err(ModulesError::TooManyModules) => Err(FillFault::TooManyModules(krate)),
         Err(ModulesError::OutOfMemory) => Err(FillFault::OutOfMemory),
@@ -199,7 +191,7 @@ pub fn fill_crate(
     let view = CrateView {
         krate,
         edition: described.edition(),
-        options: reading.options,
+        options: described.cfg_options(),
         list: &list,
         files: reading.files,
     };

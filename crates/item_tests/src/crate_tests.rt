@@ -8,6 +8,7 @@ use crate_modules::mod_resolution::{Candidate, ModDir};
 use dm_ids::ids::{Crate, FileId};
 use dm_ids::name::Name;
 use dm_ids::source::Edition;
+use item_tree::cfg::CfgOptions;
 use std::alloc::Global;
 use std::test::Fail;
 
@@ -56,7 +57,13 @@ fn files_of_modules(rt: HostRuntime) -> Result<(), Fail> {
 fn graph_of(alloc: Global, count: u32, edges: &[(u32, u32)]) -> Result<CrateGraph, Fail> {
     let mut graph = CrateGraph::new(alloc);
     for number in 0..count {
-        let added = CrateData::new(FileId(number), Edition::Edition2021, false, Vec::new(alloc));
+        let added = CrateData::new(
+            FileId(number),
+            Edition::Edition2021,
+            CfgOptions::new(alloc),
+            false,
+            Vec::new(alloc),
+        );
         if graph.knows(&added) {
             graph.add_crate(added)?;
         }

@@ -248,9 +248,15 @@ fn items_of_a_crate(rt: HostRuntime) -> Result<(), Fail> {
     let alloc = rt.alloc();
     let files = table(alloc)?;
     let options = CfgOptions::new(alloc);
-    let root = CrateData::new(FileId(0), Edition::Edition2021, false, Vec::new(alloc));
+    let root = CrateData::new(
+        FileId(0),
+        Edition::Edition2021,
+        options,
+        false,
+        Vec::new(alloc),
+    );
     if files.contains(root.root_file_id()) {
-        let list = declared_modules(alloc, &root, &options, &files, 9)?;
+        let list = declared_modules(alloc, &root, &files, 9)?;
         assert_eq!(rt; items_text(alloc, &list, &files)?.as_str(), ITEMS);
         assert_eq!(rt; crate_text(alloc, &list, &files)?.as_str(), CRATE);
     }

@@ -139,27 +139,38 @@ fn faults_text(alloc: Global, files: &FileTable, list: &CrateModules) -> Result<
 fn listed(
     alloc: Global,
     files: &FileTable,
-    options: &CfgOptions,
+    options: CfgOptions,
     limit: u32,
 ) -> Result<CrateModules, ModulesError> {
-    let root = CrateData::new(FileId(0), Edition::Edition2021, false, Vec::new(alloc));
+    let root = CrateData::new(
+        FileId(0),
+        Edition::Edition2021,
+        options,
+        false,
+        Vec::new(alloc),
+    );
     if files.contains(root.root_file_id()) {
-        declared_modules(alloc, &root, options, files, limit)
+        declared_modules(alloc, &root, files, limit)
     } else {
         Err(ModulesError::OutOfMemory)
     }
+}
+
+/// The option `unix` alone.
+fn unix(alloc: Global) -> Result<CfgOptions, Fail> {
+    let mut options = CfgOptions::new(alloc);
+    options.insert_atom(Symbol::new(alloc, "unix")?)?;
+    Ok(options)
 }
 
 #[test]
 fn modules_of_a_crate(rt: HostRuntime) -> Result<(), Fail> {
     let alloc = rt.alloc();
     let files = table(alloc, FILES.as_slice())?;
-    let mut options = CfgOptions::new(alloc);
-    options.insert_atom(Symbol::new(alloc, "unix")?)?;
-    let list = listed(alloc, &files, &options, 12)?;
+    let list = listed(alloc, &files, unix(alloc)?, 12)?;
     assert_eq!(rt; modules_text(alloc, &files, &list)?.as_str(), MODULES);
     assert_eq!(rt; faults_text(alloc, &files, &list)?.as_str(), FAULTS);
-    let refused = listed(alloc, &files, &options, 11);
+    let refused = listed(alloc, &files, unix(alloc)?, 11);
     assert!(rt; matches!(refused, Err(ModulesError::TooManyModules)));
     Ok(())
 }
@@ -214,8 +225,7 @@ fn shown_text(alloc: Global, list: &CrateModules, number: usize) -> Result<Strin
 fn visibilities_along_modules(rt: HostRuntime) -> Result<(), Fail> {
     let alloc = rt.alloc();
     let files = table(alloc, [("src/lib.rs", NESTED)].as_slice())?;
-    let options = CfgOptions::new(alloc);
-    let list = listed(alloc, &files, &options, 4)?;
+    let list = listed(alloc, &files, CfgOptions::new(alloc), 4)?;
     let inner = shown_text(alloc, &list, 2)?;
     assert_eq!(rt; inner.as_str(), "1 1 error 1 0 all 2 0 ");
     let outer = shown_text(alloc, &list, 0)?;
