@@ -7,11 +7,12 @@ use crate::places::Lines;
 use crate::resolve::{Teller, module_at};
 use crate::settled::Settled;
 use crate::settling::settle_inputs;
+use crate::stats::{Stopwatch, count_lines};
 use crate::tree::tree_text;
 use crate::unresolved::{Unresolved, message_lines, nothing, unresolved};
 use crate::written_path::written_path;
 use std::alloc::{AllocError, Global};
-use std::rt::Files;
+use std::rt::{Clock, Files};
 
 /// What the program prints, and the status that it ends with.
 #[derive(Drop)]
@@ -117,20 +118,37 @@ fn resolve_answer(
     })
 }
 
+/// The answer to a wish.
+fn wished(
+    alloc: Global,
+    settled: &Settled,
+    given: &Arguments<'_>,
+    complaints: &Complaints,
+) -> Result<Answer, Failure> {
+    match given.wish {
+        Wish::Tree => Ok(tree_answer(alloc, settled, complaints)?),
+        Wish::Unresolved => Ok(unresolved_answer(alloc, settled, given, complaints)?),
+        Wish::Resolve { path, home } => resolve_answer(alloc, settled, path, home, complaints),
+    }
+}
+
 /// Reads what the command line names, and answers what it asks.
-pub(crate) fn answer<R: Files + Input + AllocGlobal>(
+pub(crate) fn answer<R: Files + Input + AllocGlobal + Clock>(
     rt: &R,
     given: &Arguments<'_>,
 ) -> Result<Answer, Failure> {
     let alloc = rt.alloc();
+    let mut watch = Stopwatch::start(rt);
     let inputs = read_inputs(rt, given)?;
+    watch.end(rt, "reading")?;
     let made = settle_inputs(alloc, inputs, given.limit)?;
-    let answered = match given.wish {
-        Wish::Tree => tree_answer(alloc, &made.settled, &made.complaints)?,
-        Wish::Unresolved => unresolved_answer(alloc, &made.settled, given, &made.complaints)?,
-        Wish::Resolve { path, home } => {
-            resolve_answer(alloc, &made.settled, path, home, &made.complaints)?
-        }
-    };
+    watch.end(rt, "settling")?;
+    let mut answered = wished(alloc, &made.settled, given, &made.complaints)?;
+    watch.end(rt, "answering")?;
+    if given.has_stats {
+        let counts = count_lines(alloc, &made.settled, made.effort)?;
+        answered.told.push_str(counts.as_str())?;
+        answered.told.push_str(watch.lines(alloc)?.as_str())?;
+    }
     Ok(answered)
 }

@@ -1,4 +1,5 @@
 //! The crate graph of some plans.
+use crate::cfg_file::options_of;
 use crate::complaints::Complaints;
 use crate::plan::{CratePlan, DependencyPlan};
 use crate_modules::crate_data::CrateData;
@@ -64,6 +65,7 @@ fn add_dependencies(
 fn add_crate(
     made: &mut PlannedGraph,
     alloc: Global,
+    cfgs: &str,
     plan: &CratePlan,
     number: usize,
     root: Option<FileId>,
@@ -72,7 +74,14 @@ fn add_crate(
         made.numbers.push(None)?;
         return Ok(());
     };
-    let added = CrateData::new(root, plan.edition, plan.is_proc_macro, Vec::new(alloc));
+    let options = options_of(alloc, cfgs, plan.cfgs.as_str())?;
+    let added = CrateData::new(
+        root,
+        plan.edition,
+        options,
+        plan.is_proc_macro,
+        Vec::new(alloc),
+    );
     if made.graph.knows(&added) {
         let id = made.graph.add_crate(added)?;
         made.numbers.push(Some(id))?;
@@ -84,6 +93,7 @@ fn add_crate(
 /// The graph of plans whose roots have these files.
 pub(crate) fn graph_of(
     alloc: Global,
+    cfgs: &str,
     plans: &[CratePlan],
     roots: &[Option<FileId>],
 ) -> Result<PlannedGraph, AllocError> {
@@ -94,7 +104,7 @@ pub(crate) fn graph_of(
     };
     for (number, plan) in plans.iter().enumerate() {
         let root = roots.get(number).copied().flatten();
-        add_crate(&mut made, alloc, plan, number, root)?;
+        add_crate(&mut made, alloc, cfgs, plan, number, root)?;
     }
     for (number, plan) in plans.iter().enumerate() {
         let numbers = made.numbers.as_slice();
@@ -156,12 +166,13 @@ fn dependency_count(plans: &[CratePlan]) -> usize {
 /// The graph of plans, without the dependencies that close circles, which are complained of.
 pub(crate) fn ordered_graph(
     alloc: Global,
+    cfgs: &str,
     plans: &mut Vec<CratePlan>,
     roots: &[Option<FileId>],
     complaints: &mut Complaints,
 ) -> Result<PlannedGraph, AllocError> {
     for _dependency in 0..dependency_count(plans.as_slice()) {
-        let made = graph_of(alloc, plans.as_slice(), roots)?;
+        let made = graph_of(alloc, cfgs, plans.as_slice(), roots)?;
         match made.graph.crates_in_topological_order(alloc) {
             Ok(_order) => return Ok(made),
             Err(OrderFault::OutOfMemory) => return Err(AllocError),
@@ -172,5 +183,5 @@ pub(crate) fn ordered_graph(
             }
         }
     }
-    graph_of(alloc, plans.as_slice(), roots)
+    graph_of(alloc, cfgs, plans.as_slice(), roots)
 }

@@ -113,7 +113,7 @@ fn read_plan<R: Files + Input + AllocGlobal>(
         return Ok(None);
     };
     let options = options_of(alloc, cfgs, plan.cfgs.as_str())?;
-    loader.read_modules(rt, root, plan.edition, &options, limit)?;
+    loader.read_modules(rt, root, plan.edition, options, limit)?;
     Ok(Some(root))
 }
 

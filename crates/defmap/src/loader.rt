@@ -124,16 +124,16 @@ impl Loader {
         rt: &R,
         root: FileId,
         edition: Edition,
-        options: &CfgOptions,
+        options: CfgOptions,
         limit: u32,
     ) -> Result<(), AllocError> {
         let alloc = rt.alloc();
-        let described = CrateData::new(root, edition, false, Vec::new(alloc));
+        let described = CrateData::new(root, edition, options, false, Vec::new(alloc));
         for _round in 0..limit {
             if !self.files.contains(root) {
                 return Ok(());
             }
-            let list = match declared_modules(alloc, &described, options, &self.files, limit) {
+            let list = match declared_modules(alloc, &described, &self.files, limit) {
                 Ok(list) => list,
                 Err(ModulesError::TooManyModules) => return Ok(()),
                 Err(ModulesError::OutOfMemory) => return Err(AllocError),

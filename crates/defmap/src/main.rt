@@ -23,6 +23,7 @@ mod resolve;
 mod settled;
 mod settling;
 mod shown;
+mod stats;
 mod steps;
 mod sysroot;
 mod tree;

@@ -79,7 +79,7 @@ pub(crate) struct Spot {
 
 /// The source of a file in a crate's list.
 pub(crate) fn source_of(settled: &Settled, krate: usize, file: FileId) -> Option<&Source> {
-    settled.lists.get(krate)?.sources().get(file)
+    settled.lists().get(krate)?.sources().get(file)
 }
 
 /// Where a leaf of a `use` begins.

@@ -1,5 +1,5 @@
 //! The crates that are asked about, collected and settled.
-use crate::plan::CratePlan;
+use crate::stats::Effort;
 use crate::use_places::{UsePlace, use_places};
 use crate_modules::crate_graph::CrateGraph;
 use crate_modules::file_table::FileTable;
@@ -11,7 +11,7 @@ use dm_collector::collect_fault::CollectFault;
 use dm_collector::settle::settle;
 use dm_collector::unresolved_names::list_unresolved;
 use dm_maps::world::World;
-use item_tree::cfg::CfgOptions;
+use dm_retry::retry::Retry;
 use std::alloc::{AllocError, Global};
 
 /// How many turns imports and globs may take at most.
@@ -21,7 +21,7 @@ const TURNS: u32 = 1_000_000;
 #[derive(Drop)]
 pub(crate) struct Settled {
     pub(crate) files: FileTable,
-    pub(crate) lists: Vec<CrateModules>,
+    lists: Vec<CrateModules>,
     pub(crate) uses: Vec<UsePlace>,
     pub(crate) collected: Collected,
     /// The name of each crate.
@@ -68,58 +68,98 @@ fn lists_of(
         if !reading.files.contains(krate.root_file_id()) {
             continue;
         }
-        let listed = declared_modules(alloc, krate, reading.options, reading.files, reading.limit);
-        if let Ok(list) = listed {
+        if let Ok(list) = declared_modules(alloc, krate, reading.files, reading.limit) {
             lists.push(list)?;
         }
     }
     Ok(lists)
 }
 
-/// Lists the names of imports that lead nowhere, and settles again.
-fn list_names(alloc: Global, collected: &mut Collected) -> Result<bool, NotSettled> {
-    list_unresolved(alloc, &mut collected.retry)?;
-    match settle(
-        &mut collected.retry,
-        collected.globs.as_slice(),
-        TURNS,
-        alloc,
-    ) {
-        Ok(is_settled) => Ok(is_settled),
-        Err(_fault) => Err(NotSettled::Unfit),
+impl Effort {
+    /// Tries imports until none changes anything.
+    fn spend(&mut self, retry: &mut Retry) -> Result<(), AllocError> {
+        for _round in 0..TURNS {
+            let is_changed = retry.round_changed()?;
+            self.rounds = self.rounds.saturating_add(1);
+            self.tries = self.tries.saturating_add(retry.last_tries());
+            if !is_changed {
+                return Ok(());
+            }
+        }
+        Ok(())
     }
 }
 
-/// The world of a graph.
+/// Settles what was collected.
+fn settle_all(
+    alloc: Global,
+    collected: &mut Collected,
+    effort: &mut Effort,
+) -> Result<(), NotSettled> {
+    for _turn in 0..TURNS {
+        effort.spend(&mut collected.retry)?;
+        let globs = collected.globs.as_slice();
+        match settle(&mut collected.retry, globs, 1, alloc) {
+            Ok(true) => return Ok(()),
+            Ok(false) => {}
+            Err(_fault) => return Err(NotSettled::Unfit),
+        }
+    }
+    Err(NotSettled::Unsettled)
+}
+
+/// The world of a graph, and what it took to settle it.
 pub(crate) fn world_of(
     alloc: Global,
     graph: &CrateGraph,
     reading: &Reading<'_>,
-) -> Result<Collected, NotSettled> {
-    let mut collected = match collect(alloc, graph, reading, TURNS) {
+) -> Result<(Collected, Effort), NotSettled> {
+    let mut effort = Effort {
+        rounds: 0,
+        tries: 0,
+    };
+    let mut collected = match collect(alloc, graph, reading, 0) {
         Ok(collected) => collected,
         Err(fault) => return Err(of_fault(fault)),
     };
-    if !collected.is_settled || !list_names(alloc, &mut collected)? {
-        return Err(NotSettled::Unsettled);
-    }
-    Ok(collected)
-}
-
-/// What tells where the items of a graph stand: the modules of each crate, and the places of uses.
-pub(crate) fn places_of(
-    alloc: Global,
-    graph: &CrateGraph,
-    reading: &Reading<'_>,
-) -> Result<(Vec<CrateModules>, Vec<UsePlace>), AllocError> {
-    let lists = lists_of(alloc, graph, reading)?;
-    let uses = use_places(alloc, graph, lists.as_slice(), reading.files)?;
-    Ok((lists, uses))
+    settle_all(alloc, &mut collected, &mut effort)?;
+    list_unresolved(alloc, &mut collected.retry)?;
+    settle_all(alloc, &mut collected, &mut effort)?;
+    Ok((collected, effort))
 }
 
 impl Settled {
+    /// The settled crates of a graph, with what tells where their items stand.
+    pub(crate) fn of_graph(
+        alloc: Global,
+        graph: &CrateGraph,
+        limit: u32,
+        files: FileTable,
+        names: Vec<String>,
+        collected: Collected,
+    ) -> Result<Settled, AllocError> {
+        let reading = Reading {
+            files: &files,
+            limit,
+        };
+        let lists = lists_of(alloc, graph, &reading)?;
+        let uses = use_places(alloc, graph, lists.as_slice(), &files)?;
+        Ok(Settled {
+            files,
+            lists,
+            uses,
+            collected,
+            names,
+        })
+    }
+
     pub(crate) fn world(&self) -> &World {
         self.collected.retry.world()
+    }
+
+    /// The modules of each crate.
+    pub(crate) fn lists(&self) -> &[CrateModules] {
+        self.lists.as_slice()
     }
 
     pub(crate) fn use_place(&self, use_: UseId) -> Option<&UsePlace> {

@@ -1,11 +1,11 @@
 //! From what was read to the settled world of the crates.
-use crate::cfg_file::options_of;
 use crate::complaints::Complaints;
 use crate::failure::{Failure, Status};
 use crate::graph::{PlannedGraph, ordered_graph};
 use crate::inputs::Inputs;
 use crate::plan::CratePlan;
-use crate::settled::{NotSettled, Settled, places_of, world_of};
+use crate::settled::{NotSettled, Settled, world_of};
+use crate::stats::Effort;
 use crate_tables::crate_filling::Reading;
 use std::alloc::{AllocError, Global};
 
@@ -13,6 +13,7 @@ use std::alloc::{AllocError, Global};
 #[derive(Drop)]
 pub(crate) struct SettledInputs {
     pub(crate) settled: Settled,
+    pub(crate) effort: Effort,
     pub(crate) complaints: Complaints,
 }
 
@@ -71,35 +72,23 @@ pub(crate) fn settle_inputs(
         roots,
     } = inputs;
     let (files, mut complaints) = loader.into_parts();
-    let made = ordered_graph(alloc, &mut plans, roots.as_slice(), &mut complaints)?;
+    let made = ordered_graph(alloc, cfgs.as_str(), &mut plans, roots.as_slice(), &mut complaints)?;
     let names = names_of(alloc, plans.as_slice(), &made)?;
-    let own = match plans.first() {
-        None => "",
-        Some(plan) => plan.cfgs.as_str(),
-    };
-    let options = options_of(alloc, cfgs.as_str(), own)?;
     let reading = Reading {
-        options: &options,
         files: &files,
         limit,
     };
-    let collected = match world_of(alloc, &made.graph, &reading) {
-        Ok(collected) => collected,
+    let (collected, effort) = match world_of(alloc, &made.graph, &reading) {
+        Ok(settled) => settled,
         Err(why) => {
             let line = line_of(alloc, names.as_slice(), limit, &why)?;
             return Err(Failure::Told(Status::Unreadable, line));
         }
     };
-    let (lists, uses) = places_of(alloc, &made.graph, &reading)?;
-    let settled = Settled {
-        files,
-        lists,
-        uses,
-        collected,
-        names,
-    };
+    let settled = Settled::of_graph(alloc, &made.graph, limit, files, names, collected)?;
     Ok(SettledInputs {
         settled,
+        effort,
         complaints,
     })
 }

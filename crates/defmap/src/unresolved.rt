@@ -128,7 +128,7 @@ impl Unresolved {
         alloc: Global,
         settled: &Settled,
     ) -> Result<(), AllocError> {
-        let Some(list) = settled.lists.first() else {
+        let Some(list) = settled.lists().first() else {
             return Ok(());
         };
         for fault in list.faults() {
