@@ -9,7 +9,7 @@ use crate::settled::Settled;
 use crate::settling::settle_inputs;
 use crate::stats::{Stopwatch, count_lines};
 use crate::tree::tree_text;
-use crate::unresolved::{Unresolved, message_lines, nothing, unresolved};
+use crate::unresolved::{Unresolved, UnknownCount, message_lines, nothing, unresolved};
 use crate::written_path::written_path;
 use std::alloc::{AllocError, Global};
 use std::rt::{Clock, Files};
@@ -33,13 +33,38 @@ fn ended(alloc: Global, complaints: &Complaints) -> Result<String, AllocError> {
     Ok(text)
 }
 
-/// What is not known of what leads nowhere.
-fn unknown_lines(alloc: Global, found: &Unresolved) -> Result<String, AllocError> {
-    if found.from_standard == 0 {
-        return Ok(String::new(alloc));
+/// A line for what is unknown of a crate.
+fn unknown_line(alloc: Global, name: &str, count: UnknownCount) -> Result<String, AllocError> {
+    let mut line = String::new(alloc);
+    let UnknownCount {
+        by_macros,
+        by_standard,
+    } = count;
+    if by_macros > 0 {
+        let told = format!(in alloc; "{name}: {by_macros} imports unknown, which macros may bring\n")?;
+        line.push_str(told.as_str())?;
     }
-    let count = found.from_standard;
-    format!(in alloc; "unknown: {count} imports from the standard library: give its folder by --sysroot\n")
+    if by_standard > 0 {
+        let told = format!(in alloc; "{name}: {by_standard} imports unknown, from the standard library: give its folder by --sysroot\n")?;
+        line.push_str(told.as_str())?;
+    }
+    Ok(line)
+}
+
+/// What is not known of what leads nowhere, by crate.
+fn unknown_lines(
+    alloc: Global,
+    settled: &Settled,
+    found: &Unresolved,
+) -> Result<String, AllocError> {
+    let mut lines = String::new(alloc);
+    for (krate, count) in found.unknown.iter().enumerate() {
+        if let Some(name) = settled.names.get(krate) {
+            let line = unknown_line(alloc, name.as_str(), *count)?;
+            lines.push_str(line.as_str())?;
+        }
+    }
+    Ok(lines)
 }
 
 /// The answer to `unresolved`.
@@ -53,7 +78,7 @@ fn unresolved_answer(
     let mut found = unresolved(alloc, settled, given.sysroot.is_some())?;
     let out = message_lines(alloc, &lines, &mut found.told)?;
     let mut told = ended(alloc, complaints)?;
-    told.push_str(unknown_lines(alloc, &found)?.as_str())?;
+    told.push_str(unknown_lines(alloc, settled, &found)?.as_str())?;
     let status = if !complaints.is_empty() {
         Status::Unreadable
     } else if found.told.is_empty() {
@@ -71,7 +96,7 @@ fn tree_answer(
     complaints: &Complaints,
 ) -> Result<Answer, AllocError> {
     let lines = Lines::new(alloc, &settled.files)?;
-    let mut missing = nothing(alloc);
+    let mut missing = nothing(alloc, 0)?;
     missing.add_modules(alloc, settled)?;
     let is_whole = missing.told.is_empty() && complaints.is_empty();
     let mut told = ended(alloc, complaints)?;

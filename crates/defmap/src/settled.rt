@@ -1,6 +1,7 @@
 //! The crates that are asked about, collected and settled.
 use crate::stats::Effort;
-use crate::use_places::{UsePlace, use_places};
+use crate::use_places::{UsePlace, all_items, use_places};
+use crate_items::declared_item::DeclaredItem;
 use crate_modules::crate_graph::CrateGraph;
 use crate_modules::file_table::FileTable;
 use crate_modules::modules::{CrateModules, declared_modules};
@@ -22,6 +23,7 @@ const TURNS: u32 = 1_000_000;
 pub(crate) struct Settled {
     pub(crate) files: FileTable,
     lists: Vec<CrateModules>,
+    items: Vec<Vec<DeclaredItem>>,
     pub(crate) uses: Vec<UsePlace>,
     pub(crate) collected: Collected,
     /// The name of each crate.
@@ -143,10 +145,12 @@ impl Settled {
             limit,
         };
         let lists = lists_of(alloc, graph, &reading)?;
-        let uses = use_places(alloc, graph, lists.as_slice(), &files)?;
+        let items = all_items(alloc, graph, lists.as_slice(), &files)?;
+        let uses = use_places(alloc, lists.as_slice(), items.as_slice())?;
         Ok(Settled {
             files,
             lists,
+            items,
             uses,
             collected,
             names,
@@ -160,6 +164,11 @@ impl Settled {
     /// The modules of each crate.
     pub(crate) fn lists(&self) -> &[CrateModules] {
         self.lists.as_slice()
+    }
+
+    /// The items of each crate.
+    pub(crate) fn items(&self) -> &[Vec<DeclaredItem>] {
+        self.items.as_slice()
     }
 
     pub(crate) fn use_place(&self, use_: UseId) -> Option<&UsePlace> {

@@ -1,11 +1,13 @@
 //! What leads nowhere in a crate.
+use crate::hidden::{Cause, Hidden};
+use crate::module_ids::macro_homes;
 use crate::path_text::path_text;
 use crate::places::{Lines, Spot, item_spot, use_spot};
 use crate::settled::Settled;
 use crate_modules::declared_module::ModuleFault;
 use dm_base::ids::{Crate, ModuleId, UseId, UseTreeIdx};
 use dm_base::item_in_ns::ItemModules;
-use dm_base::mod_path::{ModPath, PathKind};
+use dm_base::mod_path::ModPath;
 use dm_collector::sources::GlobImport;
 use dm_maps::world::World;
 use std::alloc::{AllocError, Global};
@@ -17,15 +19,27 @@ pub(crate) struct Told {
     message: String,
 }
 
-/// The crates of the standard library.
-const STANDARD: [&'static str; 5] = ["core", "alloc", "std", "test", "proc_macro"];
+/// How many imports of a crate are unknown.
+#[derive(Clone, Copy)]
+pub(crate) struct UnknownCount {
+    pub(crate) by_macros: usize,
+    pub(crate) by_standard: usize,
+}
 
-/// What leads nowhere, and how much of what leads nowhere may be there.
+/// What leads nowhere, and how much of what leads nowhere may be there, by crate.
 #[derive(Drop)]
 pub(crate) struct Unresolved {
     pub(crate) told: Vec<Told>,
-    /// Imports from crates of the standard library, which is not given.
-    pub(crate) from_standard: usize,
+    pub(crate) unknown: Vec<UnknownCount>,
+}
+
+impl UnknownCount {
+    fn add(&mut self, cause: Cause) {
+        match cause {
+            Cause::Macro => self.by_macros = self.by_macros.saturating_add(1),
+            Cause::Standard => self.by_standard = self.by_standard.saturating_add(1),
+        }
+    }
 }
 
 /// The paths that the file of a module was looked for at.
@@ -42,17 +56,6 @@ fn module_message(alloc: Global, fault: &ModuleFault) -> Result<String, AllocErr
     Ok(paths)
 }
 
-/// Whether a path begins with a crate of the standard library, which is not among the crates.
-fn is_standard(path: &ModPath, has_sysroot: bool) -> bool {
-    if has_sysroot || !matches!(path.kind(), PathKind::Plain | PathKind::Abs) {
-        return false;
-    }
-    match path.segments().first() {
-        None => false,
-        Some(name) => STANDARD.iter().any(|one| *one == name.as_str()),
-    }
-}
-
 /// Whether the path of a glob means no module and no enum.
 fn leads_nowhere(world: &World, glob: &GlobImport) -> bool {
     glob.is_known(world) && glob.resolved(world).is_none()
@@ -63,18 +66,14 @@ fn is_own(world: &World, home: ModuleId) -> bool {
 }
 
 impl Unresolved {
+    /// Adds an import that leads nowhere.
     fn add_import(
         &mut self,
         alloc: Global,
         settled: &Settled,
         path: &ModPath,
         leaf: (UseId, UseTreeIdx),
-        has_sysroot: bool,
     ) -> Result<(), AllocError> {
-        if is_standard(path, has_sysroot) {
-            self.from_standard = self.from_standard.saturating_add(1);
-            return Ok(());
-        }
         let (use_, idx) = leaf;
         let written = path_text(alloc, path)?;
         self.told.push(Told {
@@ -84,39 +83,48 @@ impl Unresolved {
         Ok(())
     }
 
-    /// Adds the named imports of the crate.
-    fn add_named(
-        &mut self,
-        alloc: Global,
-        settled: &Settled,
-        has_sysroot: bool,
-    ) -> Result<(), AllocError> {
+    /// Counts an unknown import of a module.
+    fn count(&mut self, world: &World, home: ModuleId, cause: Cause) {
+        let Some(krate) = world.module_krate(home) else {
+            return;
+        };
+        if let Some(count) = self.unknown.get_mut(krate.0 as usize) {
+            count.add(cause);
+        }
+    }
+
+    /// Adds the named imports of the crate, and counts the unknown ones of all crates.
+    fn add_named(&mut self, hidden: &Hidden<'_>) -> Result<(), AllocError> {
+        let settled = hidden.settled();
         let retry = &settled.collected.retry;
         for place in retry.unresolved()? {
             let Some(pending) = retry.get(place) else {
                 continue;
             };
-            if is_own(settled.world(), pending.origin()) {
+            if let Some(cause) = hidden.cause_of_named(place) {
+                self.count(settled.world(), pending.origin(), cause);
+            } else if is_own(settled.world(), pending.origin()) {
                 let import = pending.import();
                 let leaf = (import.use_, import.idx);
-                self.add_import(alloc, settled, pending.path(), leaf, has_sysroot)?;
+                self.add_import(hidden.alloc(), settled, pending.path(), leaf)?;
             }
         }
         Ok(())
     }
 
-    /// Adds the globs of the crate.
-    fn add_globs(
-        &mut self,
-        alloc: Global,
-        settled: &Settled,
-        has_sysroot: bool,
-    ) -> Result<(), AllocError> {
+    /// Adds the globs of the crate, and counts the unknown ones of all crates.
+    fn add_globs(&mut self, hidden: &Hidden<'_>) -> Result<(), AllocError> {
+        let settled = hidden.settled();
         let world = settled.world();
-        for glob in &settled.collected.globs {
-            if is_own(world, glob.into) && leads_nowhere(world, glob) {
+        for (place, glob) in settled.collected.globs.iter().enumerate() {
+            if !leads_nowhere(world, glob) {
+                continue;
+            }
+            if let Some(cause) = hidden.cause_of_glob(place) {
+                self.count(world, glob.into, cause);
+            } else if is_own(world, glob.into) {
                 let leaf = (glob.import.use_, glob.import.idx);
-                self.add_import(alloc, settled, &glob.path, leaf, has_sysroot)?;
+                self.add_import(hidden.alloc(), settled, &glob.path, leaf)?;
             }
         }
         Ok(())
@@ -142,12 +150,19 @@ impl Unresolved {
     }
 }
 
-/// Nothing that leads nowhere.
-pub(crate) fn nothing(alloc: Global) -> Unresolved {
-    Unresolved {
-        told: Vec::new(alloc),
-        from_standard: 0,
+/// Nothing that leads nowhere in some crates.
+pub(crate) fn nothing(alloc: Global, crates: usize) -> Result<Unresolved, AllocError> {
+    let mut unknown = Vec::new(alloc);
+    for _krate in 0..crates {
+        unknown.push(UnknownCount {
+            by_macros: 0,
+            by_standard: 0,
+        })?;
     }
+    Ok(Unresolved {
+        told: Vec::new(alloc),
+        unknown,
+    })
 }
 
 /// What leads nowhere in the crate that is asked about.
@@ -156,10 +171,12 @@ pub(crate) fn unresolved(
     settled: &Settled,
     has_sysroot: bool,
 ) -> Result<Unresolved, AllocError> {
-    let mut found = nothing(alloc);
+    let homes = macro_homes(alloc, settled)?;
+    let hidden = Hidden::of(alloc, settled, has_sysroot, homes.as_slice())?;
+    let mut found = nothing(alloc, settled.names.len())?;
     found.add_modules(alloc, settled)?;
-    found.add_named(alloc, settled, has_sysroot)?;
-    found.add_globs(alloc, settled, has_sysroot)?;
+    found.add_named(&hidden)?;
+    found.add_globs(&hidden)?;
     Ok(found)
 }
 

@@ -84,17 +84,31 @@ fn add_places(
     Ok(())
 }
 
-/// The places of the uses of crates, in the order of the crates and their items.
-pub(crate) fn use_places(
+/// The items of each crate.
+pub(crate) fn all_items(
     alloc: Global,
     graph: &CrateGraph,
     lists: &[CrateModules],
     files: &FileTable,
+) -> Result<Vec<Vec<DeclaredItem>>, AllocError> {
+    let mut items = Vec::new(alloc);
+    for (krate, list) in lists.iter().enumerate() {
+        items.push(items_of(alloc, graph, krate, list, files)?)?;
+    }
+    Ok(items)
+}
+
+/// The places of the uses of crates, in the order of the crates and their items.
+pub(crate) fn use_places(
+    alloc: Global,
+    lists: &[CrateModules],
+    items: &[Vec<DeclaredItem>],
 ) -> Result<Vec<UsePlace>, AllocError> {
     let mut places = Vec::new(alloc);
     for (krate, list) in lists.iter().enumerate() {
-        let items = items_of(alloc, graph, krate, list, files)?;
-        add_places(&mut places, alloc, krate, list, items.as_slice())?;
+        if let Some(items) = items.get(krate) {
+            add_places(&mut places, alloc, krate, list, items.as_slice())?;
+        }
     }
     Ok(places)
 }
