@@ -9,7 +9,7 @@ use crate::settled::Settled;
 use crate::settling::settle_inputs;
 use crate::stats::{Stopwatch, count_lines};
 use crate::tree::tree_text;
-use crate::unresolved::{Unresolved, UnknownCount, message_lines, nothing, unresolved};
+use crate::unresolved::{UnknownCount, Unresolved, find_unresolved, message_lines, nothing};
 use crate::written_path::written_path;
 use std::alloc::{AllocError, Global};
 use std::rt::{Clock, Files};
@@ -41,11 +41,15 @@ fn unknown_line(alloc: Global, name: &str, count: UnknownCount) -> Result<String
         by_standard,
     } = count;
     if by_macros > 0 {
-        let told = format!(in alloc; "{name}: {by_macros} imports unknown, which macros may bring\n")?;
+        let told = format!(in alloc;
+            "{name}: {by_macros} imports unknown, which macros may bring\n"
+        )?;
         line.push_str(told.as_str())?;
     }
     if by_standard > 0 {
-        let told = format!(in alloc; "{name}: {by_standard} imports unknown, from the standard library: give its folder by --sysroot\n")?;
+        let told = format!(in alloc;
+            "{name}: {by_standard} imports unknown, from the standard library: give its folder by --sysroot\n"
+        )?;
         line.push_str(told.as_str())?;
     }
     Ok(line)
@@ -75,7 +79,7 @@ fn unresolved_answer(
     complaints: &Complaints,
 ) -> Result<Answer, AllocError> {
     let lines = Lines::new(alloc, &settled.files)?;
-    let mut found = unresolved(alloc, settled, given.sysroot.is_some())?;
+    let mut found = find_unresolved(alloc, settled, given.sysroot.is_some())?;
     let out = message_lines(alloc, &lines, &mut found.told)?;
     let mut told = ended(alloc, complaints)?;
     told.push_str(unknown_lines(alloc, settled, &found)?.as_str())?;
@@ -158,7 +162,7 @@ fn wished(
 }
 
 /// Reads what the command line names, and answers what it asks.
-pub(crate) fn answer<R: Files + Input + AllocGlobal + Clock>(
+pub(crate) fn give_answer<R: Files + Input + AllocGlobal + Clock>(
     rt: &R,
     given: &Arguments<'_>,
 ) -> Result<Answer, Failure> {

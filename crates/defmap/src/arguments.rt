@@ -146,13 +146,15 @@ fn with_options<'a>(alloc: Global, command: Command<'a>) -> Result<Command<'a>, 
 }
 
 fn tree_command<'a>(alloc: Global) -> Result<Command<'a>, AllocError> {
-    let about = "Prints the modules of a crate, with what each binds, who sees it and by which import it came";
+    let about =
+        "Prints the modules of a crate, with what each binds, who sees it and by which import it came";
     let command = Command::new(alloc, "tree").about(about);
     with_options(alloc, with_root(alloc, command)?)
 }
 
 fn unresolved_command<'a>(alloc: Global) -> Result<Command<'a>, AllocError> {
-    let about = "Prints what leads nowhere, as FILE:LINE:COLUMN: message; status 1 if anything does";
+    let about =
+        "Prints what leads nowhere, as FILE:LINE:COLUMN: message; status 1 if anything does";
     let command = Command::new(alloc, "unresolved").about(about);
     with_options(alloc, with_root(alloc, command)?)
 }
@@ -201,9 +203,7 @@ fn misused<T>(line: String) -> Result<T, Failure> {
 fn known_edition(alloc: Global, word: &str) -> Result<Edition, Failure> {
     match edition_of(word) {
         Some(edition) => Ok(edition),
-        None => misused(
-            format!(in alloc; "no edition {word}: give 2015, 2018, 2021 or 2024")?,
-        ),
+        None => misused(format!(in alloc; "no edition {word}: give 2015, 2018, 2021 or 2024")?),
     }
 }
 
@@ -217,9 +217,9 @@ fn known_limit(alloc: Global, word: &str) -> Result<u32, Failure> {
 /// What a word of `--extern` says.
 fn extern_word<'a>(alloc: Global, word: &'a str) -> Result<ExternWord<'a>, Failure> {
     let Some((known, root)) = word.split_once('=') else {
-        return misused(
-            format!(in alloc; "--extern {word} names no file: give it as NAME=ROOT.rs")?,
-        );
+        return misused(format!(in alloc;
+            "--extern {word} names no file: give it as NAME=ROOT.rs"
+        )?);
     };
     let Some((name, edition)) = known.split_once('@') else {
         return Ok(ExternWord {
@@ -262,7 +262,7 @@ fn wish_of<'a>(name: &str, given: &ArgMatches<'a>) -> Wish<'a> {
 }
 
 /// What the words of a subcommand say.
-pub(crate) fn arguments<'a>(
+pub(crate) fn read_arguments<'a>(
     alloc: Global,
     name: &str,
     given: &ArgMatches<'a>,

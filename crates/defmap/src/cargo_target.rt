@@ -1,8 +1,8 @@
 //! The targets of Cargo's packages, and when a dependency counts for one.
 use crate::arguments::edition_of;
 use crate::cfg_file::options_of;
-use dm_ids::source::Edition;
 use crate_modules::source::Source;
+use dm_ids::source::Edition;
 use serde_json::Value;
 use std::alloc::{AllocError, Global};
 
@@ -116,7 +116,12 @@ pub(crate) fn is_asked(target: CargoTarget<'_>, kind: Option<&str>) -> bool {
 fn predicate_holds(alloc: Global, cfgs: &str, predicate: &str) -> Result<bool, AllocError> {
     let text = format!(in alloc; "#[{predicate}] mod a {{}}")?;
     let options = options_of(alloc, cfgs, "")?;
-    let read = Source::read(alloc, Edition::Edition2021, &options, text.as_str().as_bytes())?;
+    let read = Source::read(
+        alloc,
+        Edition::Edition2021,
+        &options,
+        text.as_str().as_bytes(),
+    )?;
     match read.standings().first() {
         None => Ok(true),
         Some(standing) => Ok(standing.is_configured),
@@ -124,11 +129,7 @@ fn predicate_holds(alloc: Global, cfgs: &str, predicate: &str) -> Result<bool, A
 }
 
 /// Whether the options are those of a platform, which is none, `cfg(..)` or the name of one.
-pub(crate) fn holds(
-    alloc: Global,
-    cfgs: &str,
-    platform: Option<&str>,
-) -> Result<bool, AllocError> {
+pub(crate) fn holds(alloc: Global, cfgs: &str, platform: Option<&str>) -> Result<bool, AllocError> {
     match platform {
         None => Ok(true),
         Some(predicate) if predicate.starts_with("cfg(") => predicate_holds(alloc, cfgs, predicate),

@@ -1,10 +1,11 @@
 //! The options that crates are compiled with, as `rustc --print cfg` prints them.
-use item_tree::cfg::CfgOptions;
 use dm_ids::symbol::Symbol;
+use item_tree::cfg::CfgOptions;
 use std::alloc::{AllocError, Global};
 
 /// What `rustc --print cfg` prints for Linux on x86-64.
-pub(crate) const LINUX: &'static str = "debug_assertions\npanic=\"unwind\"\ntarget_abi=\"\"\ntarget_arch=\"x86_64\"\n\
+pub(crate) const LINUX: &'static str =
+    "debug_assertions\npanic=\"unwind\"\ntarget_abi=\"\"\ntarget_arch=\"x86_64\"\n\
 target_endian=\"little\"\ntarget_env=\"gnu\"\ntarget_family=\"unix\"\ntarget_feature=\"fxsr\"\ntarget_feature=\"sse\"\n\
 target_feature=\"sse2\"\ntarget_has_atomic=\"16\"\ntarget_has_atomic=\"32\"\ntarget_has_atomic=\"64\"\n\
 target_has_atomic=\"8\"\ntarget_has_atomic=\"ptr\"\ntarget_os=\"linux\"\ntarget_pointer_width=\"64\"\n\
@@ -78,11 +79,7 @@ pub(crate) fn add_lines(
 }
 
 /// The options of the lines of two texts.
-pub(crate) fn options_of(
-    alloc: Global,
-    shared: &str,
-    own: &str,
-) -> Result<CfgOptions, AllocError> {
+pub(crate) fn options_of(alloc: Global, shared: &str, own: &str) -> Result<CfgOptions, AllocError> {
     let mut options = CfgOptions::new(alloc);
     add_lines(&mut options, alloc, shared)?;
     add_lines(&mut options, alloc, own)?;

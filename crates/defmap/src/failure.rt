@@ -65,7 +65,8 @@ impl Failure {
     pub(crate) fn line(&self) -> &str {
         match self {
             Failure::Told(_status, line) => line.as_str(),
-            Failure::OutOfMemory => "memory ran out: give the program more of it, or a smaller --limit",
+            Failure::OutOfMemory =>
+                "memory ran out: give the program more of it, or a smaller --limit",
             Failure::NoOutput => "the output cannot be written: see where it leads",
         }
     }

@@ -115,7 +115,11 @@ pub(crate) fn graph_of(
 
 /// The name of the crate of a number in a graph.
 fn name_in<'a>(plans: &'a [CratePlan], made: &PlannedGraph, krate: Crate) -> &'a str {
-    let plan = made.plans_of.get(krate.0 as usize).copied().unwrap_or(usize::MAX);
+    let plan = made
+        .plans_of
+        .get(krate.0 as usize)
+        .copied()
+        .unwrap_or(usize::MAX);
     match plans.get(plan) {
         None => "?",
         Some(plan) => plan.name.as_str(),
@@ -147,8 +151,16 @@ fn open_circle(plans: &mut [CratePlan], made: &PlannedGraph, circle: &[Crate]) {
     let (Some(first), Some(last)) = (circle.first(), circle.last()) else {
         return;
     };
-    let from = made.plans_of.get(last.0 as usize).copied().unwrap_or(usize::MAX);
-    let to = made.plans_of.get(first.0 as usize).copied().unwrap_or(usize::MAX);
+    let from = made
+        .plans_of
+        .get(last.0 as usize)
+        .copied()
+        .unwrap_or(usize::MAX);
+    let to = made
+        .plans_of
+        .get(first.0 as usize)
+        .copied()
+        .unwrap_or(usize::MAX);
     if let Some(plan) = plans.get_mut(from) {
         plan.forget(to);
     }

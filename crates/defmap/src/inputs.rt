@@ -4,7 +4,7 @@ use crate::cfg_file::{LINUX, cfg_line, first_fault, options_of};
 use crate::complaints::Complaints;
 use crate::extern_crates::planned;
 use crate::failure::{Failure, Status};
-use crate::loader::Loader;
+use crate::loader::{Loader, Manner};
 use crate::metadata::planned_by;
 use crate::plan::CratePlan;
 use crate::reading::{FileText, input_text, needed_text, unread_line};
@@ -34,7 +34,9 @@ fn file_cfgs<R: Files + AllocGlobal>(rt: &R, path: &str) -> Result<String, Failu
         None => Ok(text),
         Some((number, line)) => {
             let alloc = rt.alloc();
-            let told = format!(in alloc; "{path}:{number}: no option {line}: give NAME or NAME=\"VALUE\"")?;
+            let told = format!(in alloc;
+                "{path}:{number}: no option {line}: give NAME or NAME=\"VALUE\""
+            )?;
             Err(Failure::Told(Status::Unreadable, told))
         }
     }
@@ -52,7 +54,9 @@ fn shared_cfgs<R: Files + AllocGlobal>(rt: &R, given: &Arguments<'_>) -> Result<
 fn add_cfgs(alloc: Global, own: &mut CratePlan, given: &Arguments<'_>) -> Result<(), Failure> {
     for word in &given.cfgs {
         if cfg_line(*word).is_none() {
-            let told = format!(in alloc; "no option {word}: give --cfg NAME or --cfg NAME=\"VALUE\"")?;
+            let told = format!(in alloc;
+                "no option {word}: give --cfg NAME or --cfg NAME=\"VALUE\""
+            )?;
             return Err(Failure::Told(Status::Misused, told));
         }
         own.cfgs.push_str(*word)?;
@@ -113,14 +117,22 @@ fn read_plan<R: Files + Input + AllocGlobal>(
         return Ok(None);
     };
     let options = options_of(alloc, cfgs, plan.cfgs.as_str())?;
-    loader.read_modules(rt, root, plan.edition, options, limit)?;
+    let manner = Manner {
+        edition: plan.edition,
+        options: &options,
+        limit,
+    };
+    loader.read_modules(rt, root, manner)?;
     Ok(Some(root))
 }
 
 /// The failure of the first complaint.
 fn first_complaint(alloc: Global, complaints: &Complaints) -> Result<Failure, AllocError> {
     let line = match complaints.lines().first() {
-        None => String::from_str(alloc, "nothing could be read: see whether the root is a file")?,
+        None => String::from_str(
+            alloc,
+            "nothing could be read: see whether the root is a file",
+        )?,
         Some(line) => line.clone()?,
     };
     Ok(Failure::Told(Status::Unreadable, line))

@@ -1,9 +1,10 @@
 //! The files of crates, read by the modules that they declare.
 use crate::complaints::Complaints;
+use crate::outlines::{Outline, outlines_of};
 use crate::reading::{FileText, file_text, unread_line};
-use crate_modules::crate_data::CrateData;
 use crate_modules::file_table::{AddFileError, FileTable};
-use crate_modules::modules::{CrateModules, ModulesError, declared_modules};
+use crate_modules::mod_resolution::{Candidate, ModDir};
+use crate_modules::source::Source;
 use dm_ids::ids::FileId;
 use dm_ids::source::Edition;
 use indexmap::IndexSet;
@@ -19,18 +20,37 @@ pub(crate) struct Loader {
     pub(crate) complaints: Complaints,
 }
 
-/// The paths at which a crate's modules are looked for, of those that are not there.
-fn wanted(alloc: Global, list: &CrateModules) -> Result<Vec<Vec<u8>>, AllocError> {
-    let mut paths = Vec::new(alloc);
-    for fault in list.faults() {
-        if fault.within().is_some() {
-            continue;
+/// How a crate reads its files.
+#[derive(Clone, Copy)]
+pub(crate) struct Manner<'a> {
+    pub(crate) edition: Edition,
+    pub(crate) options: &'a CfgOptions,
+    /// How many files it may have.
+    pub(crate) limit: u32,
+}
+
+/// A file of a crate, as the one of some module.
+#[derive(Drop)]
+struct Visit {
+    file: FileId,
+    dir: ModDir,
+    /// The number of the visit of the file that declares the module.
+    around: Option<usize>,
+}
+
+/// Whether a file is that of a visit or one around it.
+fn is_around(visits: &[Visit], number: usize, file: FileId) -> bool {
+    let mut next = Some(number);
+    for _visit in 0..visits.len() {
+        let Some(visit) = next.and_then(|number| visits.get(number)) else {
+            return false;
+        };
+        if visit.file == file {
+            return true;
         }
-        for candidate in fault.candidates() {
-            paths.push(Vec::from_slice(alloc, candidate.path())?)?;
-        }
+        next = visit.around;
     }
-    Ok(paths)
+    false
 }
 
 impl Loader {
@@ -67,38 +87,25 @@ impl Loader {
         }
     }
 
-    /// Reads the file of a path, unless that was tried before. Tells whether a file was added.
-    fn read<R: Files + AllocGlobal>(&mut self, rt: &R, path: &[u8]) -> Result<bool, AllocError> {
+    /// Reads the file of a path, unless that was tried before.
+    fn read<R: Files + AllocGlobal>(&mut self, rt: &R, path: &[u8]) -> Result<(), AllocError> {
         let alloc = rt.alloc();
         if !self.tried.insert(Vec::from_slice(alloc, path)?)? {
-            return Ok(false);
+            return Ok(());
         }
         let Ok(path) = std::str::from_utf8(path) else {
-            return Ok(false);
+            return Ok(());
         };
         match file_text(rt, path) {
-            FileText::Missing => Ok(false),
-            FileText::Text(text) => Ok(self.add(alloc, path, text)?.is_some()),
+            FileText::Missing => {}
+            FileText::Text(text) => {
+                self.add(alloc, path, text)?;
+            }
             FileText::Unreadable(reason) => {
                 self.complaints.add(unread_line(alloc, path, reason)?)?;
-                Ok(false)
             }
         }
-    }
-
-    /// Reads the files of paths. Tells whether any was added.
-    fn read_all<R: Files + AllocGlobal>(
-        &mut self,
-        rt: &R,
-        paths: &[Vec<u8>],
-    ) -> Result<bool, AllocError> {
-        let mut has_new = false;
-        for path in paths {
-            if self.read(rt, path.as_slice())? {
-                has_new = true;
-            }
-        }
-        Ok(has_new)
+        Ok(())
     }
 
     /// Reads the root of a crate. None where there is no such text, which is complained of.
@@ -117,31 +124,90 @@ impl Loader {
         Ok(found)
     }
 
-    /// Reads the files of the modules of a crate whose root was read, as long as there are new ones. More modules than
-    /// the limit are left unread.
+    /// Reads the files at candidates. Answers with the one that is there, if no other is.
+    fn only_there<'a, R: Files + AllocGlobal>(
+        &mut self,
+        rt: &R,
+        candidates: &'a [Candidate],
+    ) -> Result<Option<(FileId, &'a Candidate)>, AllocError> {
+        let mut only = None;
+        let mut count = 0usize;
+        for candidate in candidates {
+            self.read(rt, candidate.path())?;
+            if let Some(file) = self.files.file_at(candidate.path()) {
+                only = Some((file, candidate));
+                count = count.saturating_add(1);
+            }
+        }
+        Ok(if count == 1 { only } else { None })
+    }
+
+    /// The modules of a visited file whose items stand in files of their own.
+    fn outlines(
+        &self,
+        alloc: Global,
+        visit: &Visit,
+        manner: Manner<'_>,
+    ) -> Result<Vec<Outline>, AllocError> {
+        if !self.files.contains(visit.file) {
+            return Ok(Vec::new(alloc));
+        }
+        let text = self.files.text(visit.file);
+        let source = Source::read(alloc, manner.edition, manner.options, text)?;
+        outlines_of(alloc, &source, text, &visit.dir)
+    }
+
+    /// Reads the files of the modules that a visited file declares, and adds the visits of these.
+    fn follow<R: Files + AllocGlobal>(
+        &mut self,
+        rt: &R,
+        visits: &mut Vec<Visit>,
+        number: usize,
+        manner: Manner<'_>,
+    ) -> Result<(), AllocError> {
+        let alloc = rt.alloc();
+        let Some(visit) = visits.get(number) else {
+            return Ok(());
+        };
+        for outline in &self.outlines(alloc, visit, manner)? {
+            let found = self.only_there(rt, outline.candidates.as_slice())?;
+            let Some((file, candidate)) = found else {
+                continue;
+            };
+            if is_around(visits.as_slice(), number, file) {
+                continue;
+            }
+            visits.push(Visit {
+                file,
+                dir: candidate.mod_dir(alloc, &outline.name)?,
+                around: Some(number),
+            })?;
+        }
+        Ok(())
+    }
+
+    /// Reads the files of the modules of a crate whose root was read, at most as many as it may have.
     pub(crate) fn read_modules<R: Files + AllocGlobal>(
         &mut self,
         rt: &R,
         root: FileId,
-        edition: Edition,
-        options: CfgOptions,
-        limit: u32,
+        manner: Manner<'_>,
     ) -> Result<(), AllocError> {
         let alloc = rt.alloc();
-        let described = CrateData::new(root, edition, options, false, Vec::new(alloc));
-        for _round in 0..limit {
-            if !self.files.contains(root) {
-                return Ok(());
+        if !self.files.contains(root) {
+            return Ok(());
+        }
+        let mut visits = Vec::new(alloc);
+        visits.push(Visit {
+            file: root,
+            dir: ModDir::root(alloc, self.files.path(root))?,
+            around: None,
+        })?;
+        for number in 0..manner.limit as usize {
+            if number >= visits.len() {
+                break;
             }
-            let list = match declared_modules(alloc, &described, &self.files, limit) {
-                Ok(list) => list,
-                Err(ModulesError::TooManyModules) => return Ok(()),
-                Err(ModulesError::OutOfMemory) => return Err(AllocError),
-            };
-            let paths = wanted(alloc, &list)?;
-            if !self.read_all(rt, paths.as_slice())? {
-                return Ok(());
-            }
+            self.follow(rt, &mut visits, number, manner)?;
         }
         Ok(())
     }

@@ -17,6 +17,7 @@ mod meanings;
 mod metadata;
 mod module_ids;
 mod offsets;
+mod outlines;
 mod path_text;
 mod places;
 mod plan;
@@ -33,8 +34,8 @@ mod unresolved;
 mod use_places;
 mod written_path;
 
-use crate::answer::answer;
-use crate::arguments::{arguments, command_line};
+use crate::answer::give_answer;
+use crate::arguments::{command_line, read_arguments};
 use crate::failure::{Failure, Status};
 use std::process::ExitCode;
 
@@ -44,8 +45,8 @@ fn answered<'a>(
     name: &str,
     given: &clap::ArgMatches<'a>,
 ) -> Result<Status, Failure> {
-    let given = arguments(rt.alloc(), name, given)?;
-    let answer = answer(rt, &given)?;
+    let given = read_arguments(rt.alloc(), name, given)?;
+    let answer = give_answer(rt, &given)?;
     rt.print(answer.out.as_str())?;
     rt.eprint(answer.told.as_str())?;
     Ok(answer.status)

@@ -35,7 +35,15 @@ pub(crate) fn meaning(world: &World, m: ModuleId, path: &ModPath) -> Option<Reso
     let map = world.map_of(m)?;
     let local = local_def_map(world, krate);
     let mode = ResolveMode::Other;
-    Some(map.resolve_path_fp_with_macro(local, world, mode, m, path, BuiltinShadowMode::Module, None))
+    Some(map.resolve_path_fp_with_macro(
+        local,
+        world,
+        mode,
+        m,
+        path,
+        BuiltinShadowMode::Module,
+        None,
+    ))
 }
 
 /// A definition, who sees it, and what brought it.

@@ -69,7 +69,13 @@ fn packages_of<'a>(
     for node in list_of(resolved, "nodes") {
         let id = text_of(node, "id");
         if let Some(package) = described.get(&id) {
-            packages.insert(id, Package { package: *package, node })?;
+            packages.insert(
+                id,
+                Package {
+                    package: *package,
+                    node,
+                },
+            )?;
         }
     }
     Ok(packages)
@@ -178,7 +184,12 @@ impl<'a> Workspace<'a> {
         }
         for entry in list_of(package.node, "deps") {
             if self.counts(target, entry)? {
-                self.add_entry(planning, number, text_of(entry, "name"), text_of(entry, "pkg"))?;
+                self.add_entry(
+                    planning,
+                    number,
+                    text_of(entry, "name"),
+                    text_of(entry, "pkg"),
+                )?;
             }
         }
         Ok(())
@@ -220,9 +231,9 @@ fn metadata_at<R: Files + AllocGlobal>(rt: &R, path: &str) -> Result<Value, Fail
     let text = needed_text(rt, path)?;
     match Value::from_str(alloc, text.as_str()) {
         Ok(metadata) if metadata.get("packages").is_some() => Ok(metadata),
-        Ok(_) | Err(_) => failed(
-            format!(in alloc; "{path}: no metadata: give what `cargo metadata --format-version 1` prints")?,
-        ),
+        Ok(_) | Err(_) => failed(format!(in alloc;
+            "{path}: no metadata: give what `cargo metadata --format-version 1` prints"
+        )?),
     }
 }
 
@@ -251,8 +262,8 @@ pub(crate) fn planned_by<R: Files + AllocGlobal>(
     let root = whole_path(rt, given.root)?;
     match workspace.asked(root.as_str()) {
         Some((id, target)) => Ok(plans_in(&workspace, given, id, target)?),
-        None => failed(
-            format!(in alloc; "{path}: no target has the root {root}: give the metadata of its package")?,
-        ),
+        None => failed(format!(in alloc;
+            "{path}: no target has the root {root}: give the metadata of its package"
+        )?),
     }
 }

@@ -1,8 +1,8 @@
 //! Where items stand, as FILE:LINE:COLUMN.
 ghost use Rattle.std.specs.Prelude.{◌≡◌, length};
 
-use crate::settled::Settled;
 use crate::offsets::{item_offset, leaf_offset};
+use crate::settled::Settled;
 use crate_modules::file_table::FileTable;
 use crate_modules::line_index::LineIndex;
 use crate_modules::source::Source;
@@ -102,7 +102,12 @@ pub(crate) fn use_spot(
 }
 
 /// Where an item of a crate begins.
-pub(crate) fn item_spot(settled: &Settled, krate: usize, file: FileId, item: usize) -> Option<Spot> {
+pub(crate) fn item_spot(
+    settled: &Settled,
+    krate: usize,
+    file: FileId,
+    item: usize,
+) -> Option<Spot> {
     let source = source_of(settled, krate, file)?;
     Some(Spot {
         file,

@@ -56,7 +56,11 @@ impl CratePlan {
         krate: usize,
         prelude: bool,
     ) -> Result<(), AllocError> {
-        if self.dependencies.iter().any(|one| one.name.as_str() == name) {
+        if self
+            .dependencies
+            .iter()
+            .any(|one| one.name.as_str() == name)
+        {
             return Ok(());
         }
         self.dependencies.push(DependencyPlan {

@@ -72,8 +72,5 @@ pub(crate) fn needed_text<R: Files + AllocGlobal>(rt: &R, path: &str) -> Result<
         FileText::Missing => "no such file: give the path of one",
         FileText::Unreadable(reason) => reason,
     };
-    Err(Failure::Told(
-        Status::Unreadable,
-        unread_line(alloc, path, reason)?,
-    ))
+    Err(Failure::Told(Status::Unreadable, unread_line(alloc, path, reason)?))
 }

@@ -2,11 +2,11 @@
 use crate::definitions::definition_text;
 use crate::failure::{Failure, Status};
 use crate::meanings::{Meant, meaning, meant_in};
+use crate::path_text::path_text;
 use crate::places::{Lines, import_spot, import_word};
 use crate::settled::Settled;
 use crate::shown::{module_path, visibility_text};
 use crate::steps::{glob_of, import_of, steps_of};
-use crate::path_text::path_text;
 use crate::written_path::{prefix_of, written_path};
 use dm_base::ids::{Crate, ModuleId};
 use dm_base::imports::ImportOrExternCrate;
@@ -29,11 +29,7 @@ pub(crate) struct Teller<'a> {
 }
 
 /// The module of a path from the root of the crate on.
-pub(crate) fn module_at(
-    alloc: Global,
-    settled: &Settled,
-    text: &str,
-) -> Result<ModuleId, Failure> {
+pub(crate) fn module_at(alloc: Global, settled: &Settled, text: &str) -> Result<ModuleId, Failure> {
     let world = settled.world();
     let Some(path) = written_path(alloc, text)? else {
         let told = format!(in alloc; "no module {text}: give it as crate::a::b")?;
@@ -196,14 +192,20 @@ impl<'a> Teller<'a> {
             };
             if let Some(meant) = meant_in(found.resolved_def, Namespace::Types) {
                 let shown = definition_text(self.alloc, self.settled, meant.def)?;
-                let line = format!(in self.alloc; "left at {}: {shown} has no such name\n", left.as_str())?;
+                let line = format!(in self.alloc;
+                    "left at {}: {shown} has no such name\n",
+                    left.as_str()
+                )?;
                 self.out.push_str(line.as_str())?;
                 return Ok(());
             }
         }
         if let Some(first) = path.segments().first() {
             let around = module_path(self.alloc, self.settled, self.home)?;
-            let line = format!(in self.alloc; "left at {}: no such name in {around}\n", first.as_str())?;
+            let line = format!(in self.alloc;
+                "left at {}: no such name in {around}\n",
+                first.as_str()
+            )?;
             self.out.push_str(line.as_str())?;
         }
         Ok(())

@@ -46,7 +46,9 @@ fn line_of(
                 None => "?",
                 Some(name) => name.as_str(),
             };
-            format!(in alloc; "the crate {name} has more than {limit} modules: give a greater --limit")
+            format!(in alloc;
+                "the crate {name} has more than {limit} modules: give a greater --limit"
+            )
         }
         NotSettled::Unsettled => String::from_str(
             alloc,
@@ -72,7 +74,13 @@ pub(crate) fn settle_inputs(
         roots,
     } = inputs;
     let (files, mut complaints) = loader.into_parts();
-    let made = ordered_graph(alloc, cfgs.as_str(), &mut plans, roots.as_slice(), &mut complaints)?;
+    let made = ordered_graph(
+        alloc,
+        cfgs.as_str(),
+        &mut plans,
+        roots.as_slice(),
+        &mut complaints,
+    )?;
     let names = names_of(alloc, plans.as_slice(), &made)?;
     let reading = Reading {
         files: &files,

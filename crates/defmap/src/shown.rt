@@ -9,7 +9,11 @@ use dm_maps::world::World;
 use std::alloc::{AllocError, Global};
 
 /// The name that a module has in the one that it stands in.
-pub(crate) fn name_in_parent<'a>(world: &'a World, parent: ModuleId, m: ModuleId) -> Option<&'a Name> {
+pub(crate) fn name_in_parent<'a>(
+    world: &'a World,
+    parent: ModuleId,
+    m: ModuleId,
+) -> Option<&'a Name> {
     let data = world.map_of(parent)?.get(parent)?;
     let entry = data.children().iter().find(|entry| *entry.1 == m)?;
     Some(entry.0)

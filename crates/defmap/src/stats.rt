@@ -101,5 +101,7 @@ pub(crate) fn count_lines(
     let imports = settled.collected.retry.len();
     let globs = settled.collected.globs.len();
     let Effort { rounds, tries } = effort;
-    format!(in alloc; "crates: {crates}\nfiles: {files}\nlines: {lines}\nmodules: {modules}\nimports: {imports}\nglobs: {globs}\nrounds: {rounds}\ntries: {tries}\n")
+    format!(in alloc;
+        "crates: {crates}\nfiles: {files}\nlines: {lines}\nmodules: {modules}\nimports: {imports}\nglobs: {globs}\nrounds: {rounds}\ntries: {tries}\n"
+    )
 }

@@ -38,12 +38,7 @@ fn through_import(settled: &Settled, id: ImportId, namespace: Namespace) -> Opti
 }
 
 /// What a glob brings under a name, as it is bound in the glob's source.
-fn through_glob(
-    settled: &Settled,
-    id: GlobId,
-    name: &Name,
-    namespace: Namespace,
-) -> Option<Meant> {
+fn through_glob(settled: &Settled, id: GlobId, name: &Name, namespace: Namespace) -> Option<Meant> {
     let world = settled.world();
     let glob = glob_of(settled, id)?;
     if !glob.is_known(world) {

@@ -166,7 +166,7 @@ pub(crate) fn nothing(alloc: Global, crates: usize) -> Result<Unresolved, AllocE
 }
 
 /// What leads nowhere in the crate that is asked about.
-pub(crate) fn unresolved(
+pub(crate) fn find_unresolved(
     alloc: Global,
     settled: &Settled,
     has_sysroot: bool,

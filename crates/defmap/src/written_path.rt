@@ -36,7 +36,7 @@ fn supers(path: &str, before: u8) -> Beginning<'_> {
     }
 }
 
-fn beginning(path: &str) -> Beginning<'_> {
+fn begun(path: &str) -> Beginning<'_> {
     if let Some(rest) = path.strip_prefix("::") {
         return Beginning {
             kind: PathKind::Abs,
@@ -92,19 +92,23 @@ fn names_of(alloc: Global, rest: &str) -> Result<Option<Vec<Name>>, AllocError> 
 
 /// The path of a text. None where it is none.
 pub(crate) fn written_path(alloc: Global, text: &str) -> Result<Option<ModPath>, AllocError> {
-    let begun = beginning(text);
-    let Some(names) = names_of(alloc, begun.rest)? else {
+    let beginning = begun(text);
+    let Some(names) = names_of(alloc, beginning.rest)? else {
         return Ok(None);
     };
-    let is_empty = names.is_empty() && matches!(begun.kind, PathKind::Plain | PathKind::Abs);
+    let is_empty = names.is_empty() && matches!(beginning.kind, PathKind::Plain | PathKind::Abs);
     if is_empty {
         return Ok(None);
     }
-    Ok(Some(ModPath::from_segments(begun.kind, names)))
+    Ok(Some(ModPath::from_segments(beginning.kind, names)))
 }
 
 /// The first segments of a path.
-pub(crate) fn prefix_of(alloc: Global, path: &ModPath, count: usize) -> Result<ModPath, AllocError> {
+pub(crate) fn prefix_of(
+    alloc: Global,
+    path: &ModPath,
+    count: usize,
+) -> Result<ModPath, AllocError> {
     let mut names = Vec::new(alloc);
     for name in path.segments().iter().take(count) {
         names.push(name.copy(alloc)?)?;
