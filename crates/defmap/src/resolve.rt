@@ -10,7 +10,8 @@ use crate::steps::{glob_of, import_of, steps_of};
 use crate::written_path::{prefix_of, written_path};
 use dm_base::ids::{Crate, ModuleId};
 use dm_base::imports::ImportOrExternCrate;
-use dm_base::mod_path::ModPath;
+use dm_base::item_ids::ModuleDefId;
+use dm_base::mod_path::{ModPath, PathKind};
 use dm_base::name::Name;
 use dm_base::per_ns::{Namespace, PerNs};
 use dm_maps::world::maps_of::crate_def_map;
@@ -180,35 +181,68 @@ impl<'a> Teller<'a> {
         self.add_steps(name, meant, Namespace::Types)
     }
 
+    /// Adds where a path is left that means nothing: at a name of a definition, or of a module.
+    fn add_left(&mut self, left: &Name, def: ModuleDefId) -> Result<(), AllocError> {
+        let shown = definition_text(self.alloc, self.settled, def)?;
+        let name = left.as_str();
+        let line = format!(in self.alloc; "left at {name}: {shown} shows no such name here\n")?;
+        self.out.push_str(line.as_str())?;
+        match def {
+            ModuleDefId::ModuleId(m) => self.add_dangling(left, m),
+            _ => Ok(()),
+        }
+    }
+
+    /// Adds the imports of a module that would bind a name, and lead nowhere.
+    fn add_dangling(&mut self, name: &Name, m: ModuleId) -> Result<(), AllocError> {
+        let retry = &self.settled.collected.retry;
+        for place in &retry.unresolved()? {
+            if let Some(pending) = retry.get(*place) {
+                if pending.origin() == m && pending.name() == name {
+                    self.add_step(ImportOrExternCrate::Import(pending.import()))?;
+                }
+            }
+        }
+        Ok(())
+    }
+
     /// Adds where a path is left that means nothing: behind the last beginning that means something.
     fn add_end(&mut self, path: &ModPath) -> Result<(), AllocError> {
         let count = path.segments().len();
-        for less in 1..=count {
-            let begun = prefix_of(self.alloc, path, count.saturating_sub(less))?;
-            let left = path.segments().get(count.saturating_sub(less));
-            let (Some(found), Some(left)) = (meaning(self.settled.world(), self.home, &begun), left)
-            else {
+        for less in 1..count {
+            let begun = count.saturating_sub(less);
+            let beginning = prefix_of(self.alloc, path, begun)?;
+            let found = meaning(self.settled.world(), self.home, &beginning);
+            let (Some(found), Some(left)) = (found, path.segments().get(begun)) else {
                 continue;
             };
             if let Some(meant) = meant_in(found.resolved_def, Namespace::Types) {
-                let shown = definition_text(self.alloc, self.settled, meant.def)?;
-                let line = format!(in self.alloc;
-                    "left at {}: {shown} has no such name\n",
-                    left.as_str()
-                )?;
-                self.out.push_str(line.as_str())?;
-                return Ok(());
+                return self.add_left(left, meant.def);
             }
         }
-        if let Some(first) = path.segments().first() {
-            let around = module_path(self.alloc, self.settled, self.home)?;
-            let line = format!(in self.alloc;
-                "left at {}: no such name in {around}\n",
-                first.as_str()
-            )?;
-            self.out.push_str(line.as_str())?;
+        match path.segments().first() {
+            None => Ok(()),
+            Some(first) => self.add_left(first, ModuleDefId::ModuleId(self.first_module(path)?)),
         }
-        Ok(())
+    }
+
+    /// The module that the first name of a path is looked up in.
+    fn first_module(&self, path: &ModPath) -> Result<ModuleId, AllocError> {
+        if matches!(path.kind(), PathKind::Plain | PathKind::Abs) {
+            return Ok(self.home);
+        }
+        let beginning = prefix_of(self.alloc, path, 0)?;
+        let found = match meaning(self.settled.world(), self.home, &beginning) {
+            None => None,
+            Some(found) => meant_in(found.resolved_def, Namespace::Types),
+        };
+        match found {
+            Some(Meant {
+                def: ModuleDefId::ModuleId(m),
+                ..
+            }) => Ok(m),
+            _ => Ok(self.home),
+        }
     }
 
     /// Adds what a path means.
