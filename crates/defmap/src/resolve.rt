@@ -19,10 +19,10 @@ use std::alloc::{AllocError, Global};
 
 /// What tells the meaning of a path.
 #[derive(Drop)]
-pub(crate) struct Teller<'a> {
+pub(crate) struct Teller<'s, 'l, 'f> {
     alloc: Global,
-    settled: &'a Settled,
-    lines: &'a Lines<'a>,
+    settled: &'s Settled,
+    lines: &'l Lines<'f>,
     home: ModuleId,
     out: String,
     /// Whether the path means anything.
@@ -67,13 +67,13 @@ fn path_by<'a>(settled: &'a Settled, import: ImportOrExternCrate) -> Option<&'a 
     }
 }
 
-impl<'a> Teller<'a> {
+impl<'s, 'l, 'f> Teller<'s, 'l, 'f> {
     pub(crate) fn new(
         alloc: Global,
-        settled: &'a Settled,
-        lines: &'a Lines<'a>,
+        settled: &'s Settled,
+        lines: &'l Lines<'f>,
         home: ModuleId,
-    ) -> Teller<'a> {
+    ) -> Teller<'s, 'l, 'f> {
         Teller {
             alloc,
             settled,
@@ -237,10 +237,12 @@ impl<'a> Teller<'a> {
             Some(found) => meant_in(found.resolved_def, Namespace::Types),
         };
         match found {
-            Some(Meant {
-                def: ModuleDefId::ModuleId(m),
-                ..
-            }) => Ok(m),
+            Some(
+                Meant {
+                    def: ModuleDefId::ModuleId(m),
+                    ..
+                },
+            ) => Ok(m),
             _ => Ok(self.home),
         }
     }

@@ -23,10 +23,10 @@ struct Branch {
 
 /// What shows the modules of a crate.
 #[derive(Drop)]
-struct Tree<'a> {
+struct Tree<'s, 'l, 'f> {
     alloc: Global,
-    settled: &'a Settled,
-    lines: &'a Lines<'a>,
+    settled: &'s Settled,
+    lines: &'l Lines<'f>,
     out: String,
     /// The module that is shown.
     home: ModuleId,
@@ -39,7 +39,7 @@ fn from_glob(import: ImportOrGlob) -> ImportOrExternCrate {
     }
 }
 
-impl<'a> Tree<'a> {
+impl<'s, 'l, 'f> Tree<'s, 'l, 'f> {
     /// Adds what a name is in a namespace: who sees it, and the import that brought it.
     fn add_item(
         &mut self,
