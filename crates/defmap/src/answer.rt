@@ -2,6 +2,7 @@
 use crate::arguments::{Arguments, Wish};
 use crate::complaints::Complaints;
 use crate::failure::{Failure, Status};
+use crate::imports::imports_text;
 use crate::inputs::read_inputs;
 use crate::places::Lines;
 use crate::resolve::{Teller, module_at};
@@ -147,6 +148,25 @@ fn resolve_answer(
     })
 }
 
+/// The answer to `imports`.
+fn imports_answer(
+    alloc: Global,
+    settled: &Settled,
+    given: &Arguments<'_>,
+    complaints: &Complaints,
+) -> Result<Answer, AllocError> {
+    let lines = Lines::new(alloc, &settled.files)?;
+    Ok(Answer {
+        out: imports_text(alloc, settled, &lines, given.sysroot.is_some())?,
+        told: ended(alloc, complaints)?,
+        status: if complaints.is_empty() {
+            Status::Fine
+        } else {
+            Status::Unreadable
+        },
+    })
+}
+
 /// The answer to a wish.
 fn wished(
     alloc: Global,
@@ -157,6 +177,7 @@ fn wished(
     match given.wish {
         Wish::Tree => Ok(tree_answer(alloc, settled, complaints)?),
         Wish::Unresolved => Ok(unresolved_answer(alloc, settled, given, complaints)?),
+        Wish::Imports => Ok(imports_answer(alloc, settled, given, complaints)?),
         Wish::Resolve { path, home } => resolve_answer(alloc, settled, path, home, complaints),
     }
 }

@@ -13,6 +13,8 @@ pub(crate) enum Wish<'a> {
     Resolve { path: &'a str, home: &'a str },
     /// What leads nowhere.
     Unresolved,
+    /// What each import means.
+    Imports,
 }
 
 /// A crate that the crate knows by a name.
@@ -159,6 +161,12 @@ fn unresolved_command<'a>(alloc: Global) -> Result<Command<'a>, AllocError> {
     with_options(alloc, with_root(alloc, command)?)
 }
 
+fn imports_command<'a>(alloc: Global) -> Result<Command<'a>, AllocError> {
+    let about = "Prints what each import of a crate means, as FILE:LINE:COLUMN: PATH; ...";
+    let command = Command::new(alloc, "imports").about(about);
+    with_options(alloc, with_root(alloc, command)?)
+}
+
 fn resolve_command<'a>(alloc: Global) -> Result<Command<'a>, AllocError> {
     let about = "Prints what a path means in each namespace, and through which imports it goes";
     let command = Command::new(alloc, "resolve").about(about);
@@ -182,7 +190,8 @@ pub(crate) fn command_line<'a>(alloc: Global) -> Result<Command<'a>, AllocError>
         .arg_required_else_help(true)
         .subcommand(tree_command(alloc)?)?
         .subcommand(resolve_command(alloc)?)?
-        .subcommand(unresolved_command(alloc)?)
+        .subcommand(unresolved_command(alloc)?)?
+        .subcommand(imports_command(alloc)?)
 }
 
 /// The edition of a word.
@@ -257,6 +266,7 @@ fn wish_of<'a>(name: &str, given: &ArgMatches<'a>) -> Wish<'a> {
             home: given.get_str("in").unwrap_or("crate"),
         },
         "unresolved" => Wish::Unresolved,
+        "imports" => Wish::Imports,
         _ => Wish::Tree,
     }
 }

@@ -1,4 +1,5 @@
 //! The crates that are asked about, collected and settled.
+use crate::glob_order::order_globs;
 use crate::stats::Effort;
 use crate::use_places::{UsePlace, all_items, use_places};
 use crate_items::declared_item::DeclaredItem;
@@ -124,6 +125,8 @@ pub(crate) fn world_of(
         Ok(collected) => collected,
         Err(fault) => return Err(of_fault(fault)),
     };
+    effort.spend(&mut collected.retry)?;
+    order_globs(alloc, collected.retry.world(), &mut collected.globs)?;
     settle_all(alloc, &mut collected, &mut effort)?;
     list_unresolved(alloc, &mut collected.retry)?;
     settle_all(alloc, &mut collected, &mut effort)?;
