@@ -40,6 +40,7 @@ fn unknown_line(alloc: Global, name: &str, count: UnknownCount) -> Result<String
     let UnknownCount {
         by_macros,
         by_standard,
+        calls,
     } = count;
     if by_macros > 0 {
         let told = format!(in alloc;
@@ -51,6 +52,10 @@ fn unknown_line(alloc: Global, name: &str, count: UnknownCount) -> Result<String
         let told = format!(in alloc;
             "{name}: {by_standard} imports unknown, from the standard library: give its folder by --sysroot\n"
         )?;
+        line.push_str(told.as_str())?;
+    }
+    if calls > 0 {
+        let told = format!(in alloc; "{name}: {calls} macro calls unknown\n")?;
         line.push_str(told.as_str())?;
     }
     Ok(line)

@@ -160,6 +160,10 @@ impl<'a> Hidden<'a> {
         self.settled
     }
 
+    pub(crate) fn has_sysroot(&self) -> bool {
+        self.has_sysroot
+    }
+
     pub(crate) fn alloc(&self) -> Global {
         self.alloc
     }
@@ -188,7 +192,11 @@ impl<'a> Hidden<'a> {
     }
 
     /// Why a path that leads nowhere is unknown, if it is.
-    fn cause_of(&self, home: ModuleId, path: &ModPath) -> Result<Option<Cause>, AllocError> {
+    pub(crate) fn cause_of(
+        &self,
+        home: ModuleId,
+        path: &ModPath,
+    ) -> Result<Option<Cause>, AllocError> {
         let missing = missing_of(self.alloc, self.settled.world(), home, path)?;
         let Some(name) = missing.name else {
             return Ok(None);

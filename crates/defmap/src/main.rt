@@ -15,6 +15,7 @@ mod hidden;
 mod imports;
 mod inputs;
 mod loader;
+mod macro_calls;
 mod meanings;
 mod metadata;
 mod module_ids;

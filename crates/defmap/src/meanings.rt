@@ -1,12 +1,12 @@
 //! What paths mean in the settled world.
 use dm_base::ids::ModuleId;
-use dm_base::imports::{GlobId, ImportId, ImportOrExternCrate, ImportOrGlob};
+use dm_base::imports::{ImportOrExternCrate, ImportOrGlob};
 use dm_base::item_ids::ModuleDefId;
 use dm_base::item_in_ns::ItemModules;
 use dm_base::mod_path::ModPath;
 use dm_base::per_ns::{Namespace, PerNs};
 use dm_base::visibility::Visibility;
-use dm_maps::modes::BuiltinShadowMode;
+use dm_maps::modes::{BuiltinShadowMode, MacroSubNs};
 use dm_maps::world::World;
 use dm_maps::world::maps_of::local_def_map;
 use dm_retry::meaning::path_meaning;
@@ -28,6 +28,25 @@ pub(crate) fn import_meaning(
 
 /// What a path that is no import's means in a module. None where the world has not what these name.
 pub(crate) fn meaning(world: &World, m: ModuleId, path: &ModPath) -> Option<ResolvePathResult> {
+    meaning_with(world, m, path, None)
+}
+
+/// What the path of a macro that is called means in a module. None where the world has not what these name.
+pub(crate) fn macro_meaning(
+    world: &World,
+    m: ModuleId,
+    path: &ModPath,
+) -> Option<ResolvePathResult> {
+    meaning_with(world, m, path, Some(MacroSubNs::Bang))
+}
+
+/// What a path means where a kind of macro is expected, or none.
+fn meaning_with(
+    world: &World,
+    m: ModuleId,
+    path: &ModPath,
+    expected: Option<MacroSubNs>,
+) -> Option<ResolvePathResult> {
     if !world.knows_def(ModuleDefId::ModuleId(m)) || !world.knows_path(path) {
         return None;
     }
@@ -42,7 +61,7 @@ pub(crate) fn meaning(world: &World, m: ModuleId, path: &ModPath) -> Option<Reso
         m,
         path,
         BuiltinShadowMode::Module,
-        None,
+        expected,
     ))
 }
 

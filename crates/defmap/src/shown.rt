@@ -20,7 +20,11 @@ pub(crate) fn name_in_parent<'a>(
 }
 
 /// The modules from one outwards to the root of its crate.
-fn outwards(alloc: Global, world: &World, m: ModuleId) -> Result<Vec<ModuleId>, AllocError> {
+pub(crate) fn outwards(
+    alloc: Global,
+    world: &World,
+    m: ModuleId,
+) -> Result<Vec<ModuleId>, AllocError> {
     let mut around = Vec::new(alloc);
     let mut next = Some(m);
     for _module in 0..u32::MAX {

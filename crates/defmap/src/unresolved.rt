@@ -1,6 +1,7 @@
 //! What leads nowhere in a crate.
 use crate::hidden::{Cause, Hidden};
-use crate::module_ids::macro_homes;
+use crate::macro_calls::{CallEnd, end_of, item_of};
+use crate::module_ids::{MacroHome, macro_homes};
 use crate::path_text::path_text;
 use crate::places::{Lines, Spot, item_spot, use_spot};
 use crate::settled::Settled;
@@ -24,6 +25,8 @@ pub(crate) struct Told {
 pub(crate) struct UnknownCount {
     pub(crate) by_macros: usize,
     pub(crate) by_standard: usize,
+    /// Macro calls.
+    pub(crate) calls: usize,
 }
 
 /// What leads nowhere, and how much of what leads nowhere may be there, by crate.
@@ -130,6 +133,46 @@ impl Unresolved {
         Ok(())
     }
 
+    /// Adds a macro call of the crate that leads nowhere.
+    fn add_call(
+        &mut self,
+        alloc: Global,
+        settled: &Settled,
+        call: MacroHome,
+        path: &ModPath,
+    ) -> Result<(), AllocError> {
+        let Some(item) = item_of(settled, call) else {
+            return Ok(());
+        };
+        let written = path_text(alloc, path)?;
+        self.told.push(Told {
+            spot: item_spot(settled, call.krate, item.file, item.item),
+            message: format!(in alloc; "unresolved macro {written}!")?,
+        })?;
+        Ok(())
+    }
+
+    /// Adds the macro calls of the crate that lead nowhere, and counts the unknown ones of all crates.
+    fn add_calls(&mut self, hidden: &Hidden<'_>, homes: &[MacroHome]) -> Result<(), AllocError> {
+        let settled = hidden.settled();
+        for call in homes {
+            match &end_of(hidden.alloc(), hidden, homes, *call)? {
+                CallEnd::Found => {}
+                CallEnd::Unknown(_cause) => {
+                    if let Some(count) = self.unknown.get_mut(call.krate) {
+                        count.calls = count.calls.saturating_add(1);
+                    }
+                }
+                CallEnd::Nowhere(path) => {
+                    if call.krate == 0 {
+                        self.add_call(hidden.alloc(), settled, *call, path)?;
+                    }
+                }
+            }
+        }
+        Ok(())
+    }
+
     /// Adds the modules of the crate that have no file.
     pub(crate) fn add_modules(
         &mut self,
@@ -157,6 +200,7 @@ pub(crate) fn nothing(alloc: Global, crates: usize) -> Result<Unresolved, AllocE
         unknown.push(UnknownCount {
             by_macros: 0,
             by_standard: 0,
+            calls: 0,
         })?;
     }
     Ok(Unresolved {
@@ -177,6 +221,7 @@ pub(crate) fn find_unresolved(
     found.add_modules(alloc, settled)?;
     found.add_named(&hidden)?;
     found.add_globs(&hidden)?;
+    found.add_calls(&hidden, homes.as_slice())?;
     Ok(found)
 }
 
