@@ -46,7 +46,7 @@ fn declares(items: PerNs, def: ModuleDefId) -> bool {
     is_type || is_value || is_macro
 }
 
-/// The name that a scope declares a definition under, in bytes.
+/// The name that a scope declares a definition under.
 fn declared_name<'a>(
     scope: &'a ItemScope,
     def: ModuleDefId,
@@ -59,6 +59,45 @@ fn declared_name<'a>(
     Ok(None)
 }
 
+/// The name of a macro of a module: one that is declared there by text alone, or exported at the crate's root.
+fn macro_name<'a>(
+    world: &'a World,
+    home: ModuleId,
+    id: MacroId,
+) -> Result<Option<&'a Name>, AllocError> {
+    if let Some(scope) = world.scope_of(home) {
+        for (name, macros) in scope.legacy_macros() {
+            if macros.iter().any(|one| *one == id) {
+                return Ok(Some(name));
+            }
+        }
+    }
+    let root = match world.map_of(home) {
+        None => home,
+        Some(map) => map.root_module_id(),
+    };
+    match world.scope_of(root) {
+        None => Ok(None),
+        Some(scope) => declared_name(scope, ModuleDefId::MacroId(id)),
+    }
+}
+
+/// The name that a module declares a definition under.
+fn name_in<'a>(
+    world: &'a World,
+    home: ModuleId,
+    def: ModuleDefId,
+) -> Result<Option<&'a Name>, AllocError> {
+    let own = match world.scope_of(home) {
+        None => None,
+        Some(scope) => declared_name(scope, def)?,
+    };
+    match (own, def) {
+        (None, ModuleDefId::MacroId(id)) => macro_name(world, home, id),
+        _ => Ok(own),
+    }
+}
+
 /// The path of what a module declares.
 fn path_in(
     alloc: Global,
@@ -67,11 +106,7 @@ fn path_in(
     def: ModuleDefId,
 ) -> Result<String, AllocError> {
     let path = module_path(alloc, settled, home)?;
-    let name = match settled.world().scope_of(home) {
-        None => None,
-        Some(scope) => declared_name(scope, def)?,
-    };
-    match name {
+    match name_in(settled.world(), home, def)? {
         None => Ok(path),
         Some(name) => format!(in alloc; "{path}::{}", name.as_str()),
     }
