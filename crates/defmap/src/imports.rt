@@ -10,7 +10,19 @@ use dm_base::ids::{Crate, ModuleId, UseId, UseTreeIdx};
 use dm_base::item_in_ns::ItemModules;
 use dm_base::mod_path::ModPath;
 use dm_base::per_ns::{Namespace, PerNs};
+use dm_retry::import_kind::ImportKind;
 use std::alloc::{AllocError, Global};
+
+/// What an import of a kind takes of some items.
+fn taken(kind: ImportKind, found: PerNs) -> PerNs {
+    match kind {
+        ImportKind::TypeOnly => PerNs {
+            types: found.types,
+            ..PerNs::none()
+        },
+        ImportKind::Plain | ImportKind::ReExport | ImportKind::Unnamed => found,
+    }
+}
 
 /// The words for what something is in each namespace.
 fn meant_words(alloc: Global, settled: &Settled, found: PerNs) -> Result<String, AllocError> {
@@ -48,7 +60,7 @@ impl<'s, 'h, 'l, 'f> Listing<'s, 'h, 'l, 'f> {
         home: ModuleId,
         path: &ModPath,
         leaf: (UseId, UseTreeIdx),
-        end: &str,
+        kind: Option<ImportKind>,
         is_unknown: bool,
     ) -> Result<(), AllocError> {
         let (use_, idx) = leaf;
@@ -59,10 +71,11 @@ impl<'s, 'h, 'l, 'f> Listing<'s, 'h, 'l, 'f> {
         let written = path_text(self.alloc, path)?;
         self.out.push_str(": ")?;
         self.out.push_str(written.as_str())?;
-        self.out.push_str(end)?;
+        self.out.push_str(if kind.is_none() { "::*" } else { "" })?;
         let words = match import_meaning(self.settled.world(), home, path) {
             Some(found) if found.segment_index.is_none() => {
-                meant_words(self.alloc, self.settled, found.resolved_def)?
+                let meant = taken(kind.unwrap_or(ImportKind::TypeOnly), found.resolved_def);
+                meant_words(self.alloc, self.settled, meant)?
             }
             _ => String::new(self.alloc),
         };
@@ -87,7 +100,13 @@ impl<'s, 'h, 'l, 'f> Listing<'s, 'h, 'l, 'f> {
                 let import = pending.import();
                 let leaf = (import.use_, import.idx);
                 let is_unknown = self.hidden.cause_of_named(place).is_some();
-                self.add(pending.origin(), pending.path(), leaf, "", is_unknown)?;
+                self.add(
+                    pending.origin(),
+                    pending.path(),
+                    leaf,
+                    Some(pending.kind()),
+                    is_unknown,
+                )?;
             }
         }
         Ok(())
@@ -99,7 +118,7 @@ impl<'s, 'h, 'l, 'f> Listing<'s, 'h, 'l, 'f> {
             if self.is_own(glob.into) {
                 let leaf = (glob.import.use_, glob.import.idx);
                 let is_unknown = self.hidden.cause_of_glob(place).is_some();
-                self.add(glob.into, &glob.path, leaf, "::*", is_unknown)?;
+                self.add(glob.into, &glob.path, leaf, None, is_unknown)?;
             }
         }
         Ok(())

@@ -23,6 +23,15 @@ pub(crate) struct CratePlan {
     pub(crate) dependencies: Vec<DependencyPlan>,
 }
 
+/// The name of a crate by that of its target.
+fn crate_name(alloc: Global, name: &str) -> Result<String, AllocError> {
+    let mut text = String::new(alloc);
+    for letter in name.chars() {
+        text.push(if letter == '-' { '_' } else { letter })?;
+    }
+    Ok(text)
+}
+
 impl CratePlan {
     pub(crate) fn new(
         alloc: Global,
@@ -31,7 +40,7 @@ impl CratePlan {
         edition: Edition,
     ) -> Result<CratePlan, AllocError> {
         Ok(CratePlan {
-            name: String::from_str(alloc, name)?,
+            name: crate_name(alloc, name)?,
             root: String::from_str(alloc, root)?,
             edition,
             cfgs: String::new(alloc),
