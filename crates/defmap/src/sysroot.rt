@@ -1,14 +1,16 @@
 //! The crates of the standard library, in the folders of a sysroot.
 use crate::arguments::edition_of;
-use crate::complaints::Complaints;
 use crate::plan::CratePlan;
-use crate::reading::{FileText, file_text, unread_line};
+use crate::reading::{FileText, file_text};
 use dm_ids::source::Edition;
 use std::alloc::{AllocError, Global};
 use std::rt::Files;
 
 /// The crates of a sysroot, from those that use none on.
 const CRATES: [&'static str; 3] = ["core", "alloc", "std"];
+
+/// Crates that a sysroot may have, and that only `extern crate` finds; each uses all those above.
+const OTHERS: [&'static str; 2] = ["proc_macro", "test"];
 
 /// The edition that the text of a Cargo.toml names.
 fn edition_in(manifest: &str) -> Option<Edition> {
@@ -53,6 +55,29 @@ fn plan_of<R: Files + AllocGlobal>(
     Ok(plan)
 }
 
+/// Adds a crate that a sysroot may have, and lets each crate that uses none of it find it by `extern crate`. To a crate
+/// of procedural macros `proc_macro` is known without that.
+fn add_other<R: Files + AllocGlobal>(
+    rt: &R,
+    plans: &mut Vec<CratePlan>,
+    sysroot: &str,
+    name: &str,
+    first: usize,
+) -> Result<(), AllocError> {
+    let alloc = rt.alloc();
+    let plan = plan_of(rt, sysroot, name, first, CRATES.len())?;
+    if !matches!(file_text(rt, plan.root.as_str()), FileText::Text(_)) {
+        return Ok(());
+    }
+    let number = plans.len();
+    for user in plans.iter_mut().take(first) {
+        let is_known = user.is_proc_macro && name == "proc_macro";
+        user.depend(alloc, name, number, is_known)?;
+    }
+    plans.push(plan)?;
+    Ok(())
+}
+
 /// Adds the crates of a sysroot, and lets each crate that is there know them.
 pub(crate) fn add_sysroot<R: Files + AllocGlobal>(
     rt: &R,
@@ -68,6 +93,9 @@ pub(crate) fn add_sysroot<R: Files + AllocGlobal>(
     }
     for (number, name) in CRATES.iter().enumerate() {
         plans.push(plan_of(rt, sysroot, name, first, number)?)?;
+    }
+    for name in &OTHERS {
+        add_other(rt, plans, sysroot, name, first)?;
     }
     Ok(())
 }
