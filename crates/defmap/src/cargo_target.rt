@@ -44,16 +44,20 @@ impl<'a> CargoTarget<'a> {
     }
 }
 
+/// Whether a list has a text.
+fn has(words: &[Value], wanted: &str) -> bool {
+    words.iter().any(|word| word.as_str() == Some(wanted))
+}
+
 /// What the words of a target's kind say.
 fn kind_of(words: &[Value]) -> TargetKind {
-    let has = |wanted: &str| words.iter().any(|word| word.as_str() == Some(wanted));
-    if has("proc-macro") {
+    if has(words, "proc-macro") {
         TargetKind::ProcMacro
-    } else if has("bin") {
+    } else if has(words, "bin") {
         TargetKind::Program
-    } else if has("custom-build") {
+    } else if has(words, "custom-build") {
         TargetKind::BuildScript
-    } else if has("test") || has("example") || has("bench") {
+    } else if has(words, "test") || has(words, "example") || has(words, "bench") {
         TargetKind::Trial
     } else {
         TargetKind::Library

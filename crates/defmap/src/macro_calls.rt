@@ -11,6 +11,7 @@ use dm_base::mod_path::{ModPath, PathKind};
 use dm_base::name::Name;
 use dm_maps::world::World;
 use dm_maps::world::maps_of::crate_def_map;
+use item_tree::item_kind::ItemKind;
 use std::alloc::{AllocError, Global};
 
 /// Where a macro call leads to.
@@ -46,6 +47,20 @@ fn is_exported(world: &World, crates: usize, name: &Name) -> bool {
     false
 }
 
+/// Whether a crate declares a macro under a name, wherever that is in scope.
+fn is_declared(settled: &Settled, krate: usize, name: &Name) -> bool {
+    let Some(items) = settled.items().get(krate) else {
+        return false;
+    };
+    for item in items {
+        let is_macro = matches!(item.kind, ItemKind::MacroRules | ItemKind::Macro2);
+        if is_macro && item.name.as_ref() == Some(name) {
+            return true;
+        }
+    }
+    false
+}
+
 /// Whether a macro of a name is in textual scope in a module or in one around it.
 fn is_textual(world: &World, around: &[ModuleId], name: &Name) -> bool {
     around.iter().any(|m| world.legacy_of(*m, name).is_some())
@@ -53,8 +68,13 @@ fn is_textual(world: &World, around: &[ModuleId], name: &Name) -> bool {
 
 /// How many macros are called in a module and in those around it.
 fn calls_around(homes: &[MacroHome], around: &[ModuleId]) -> usize {
-    let is_there = |home: &&MacroHome| around.iter().any(|m| *m == home.module);
-    homes.iter().filter(is_there).count()
+    let mut count = 0usize;
+    for home in homes {
+        if around.iter().any(|m| *m == home.module) {
+            count = count.saturating_add(1);
+        }
+    }
+    count
 }
 
 /// Where the call of a macro by its name alone leads to.
@@ -62,16 +82,18 @@ fn end_of_name(
     alloc: Global,
     hidden: &Hidden<'_>,
     homes: &[MacroHome],
-    home: ModuleId,
+    call: MacroHome,
     path: ModPath,
 ) -> Result<CallEnd, AllocError> {
     let settled = hidden.settled();
     let world = settled.world();
-    let around = outwards(alloc, world, home)?;
+    let around = outwards(alloc, world, call.module)?;
     let Some(name) = only_name(&path) else {
         return Ok(CallEnd::Nowhere(path));
     };
-    if is_textual(world, around.as_slice(), name) || is_exported(world, settled.names.len(), name) {
+    let is_here = is_textual(world, around.as_slice(), name)
+        || is_declared(settled, call.krate, name);
+    if is_here || is_exported(world, settled.names.len(), name) {
         return Ok(CallEnd::Found);
     }
     if !hidden.has_sysroot() {
@@ -120,7 +142,7 @@ pub(crate) fn end_of(
         }
     }
     if only_name(&path).is_some() {
-        return end_of_name(alloc, hidden, homes, call.module, path);
+        return end_of_name(alloc, hidden, homes, call, path);
     }
     match hidden.cause_of(call.module, &path)? {
         Some(cause) => Ok(CallEnd::Unknown(cause)),
