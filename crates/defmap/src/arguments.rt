@@ -1,0 +1,301 @@
+//! The words of the command line.
+use crate::failure::{Failure, Status};
+use clap::{Arg, ArgAction, ArgMatches, Command};
+use dm_ids::source::Edition;
+use std::alloc::{AllocError, Global};
+
+/// What is asked.
+#[derive(Clone, Copy)]
+pub(crate) enum Wish<'a> {
+    /// The modules of the crate, with what each binds.
+    Tree,
+    /// What a path means in a module.
+    Resolve { path: &'a str, home: &'a str },
+    /// What leads nowhere.
+    Unresolved,
+    /// What each import means.
+    Imports,
+}
+
+/// A crate that the crate knows by a name.
+#[derive(Clone, Copy)]
+pub(crate) struct ExternWord<'a> {
+    pub(crate) name: &'a str,
+    pub(crate) edition: Option<Edition>,
+    pub(crate) root: &'a str,
+}
+
+/// The words of the command line, read.
+#[derive(Drop)]
+pub(crate) struct Arguments<'a> {
+    pub(crate) wish: Wish<'a>,
+    /// The file of the crate's root; `-` is the standard input.
+    pub(crate) root: &'a str,
+    pub(crate) edition: Option<Edition>,
+    /// Options, each as a line of `rustc --print cfg`.
+    pub(crate) cfgs: Vec<&'a str>,
+    pub(crate) cfg_file: Option<&'a str>,
+    pub(crate) externs: Vec<ExternWord<'a>>,
+    pub(crate) sysroot: Option<&'a str>,
+    pub(crate) metadata: Option<&'a str>,
+    /// How many modules a crate may have.
+    pub(crate) limit: u32,
+    pub(crate) has_stats: bool,
+}
+
+/// How many modules a crate may have where nothing else is said.
+const LIMIT: u32 = 65_536;
+
+fn value<'a>(alloc: Global, id: &'a str, shown: &'a str, help: &'a str) -> Arg<'a> {
+    Arg::new(alloc, id)
+        .long(id)
+        .value_name(shown)
+        .help(help)
+        .action(ArgAction::Set)
+}
+
+fn values<'a>(alloc: Global, id: &'a str, shown: &'a str, help: &'a str) -> Arg<'a> {
+    Arg::new(alloc, id)
+        .long(id)
+        .value_name(shown)
+        .help(help)
+        .action(ArgAction::Append)
+}
+
+fn position<'a>(alloc: Global, id: &'a str, shown: &'a str, help: &'a str) -> Arg<'a> {
+    Arg::new(alloc, id)
+        .value_name(shown)
+        .help(help)
+        .required(true)
+        .action(ArgAction::Set)
+}
+
+fn with_root<'a>(alloc: Global, command: Command<'a>) -> Result<Command<'a>, AllocError> {
+    command.arg(position(
+        alloc,
+        "root",
+        "ROOT.rs",
+        "The file of the crate's root; - reads one file from standard input",
+    ))
+}
+
+/// A command with the options on how the crate is compiled.
+fn with_cfgs<'a>(alloc: Global, command: Command<'a>) -> Result<Command<'a>, AllocError> {
+    command
+        .arg(value(
+            alloc,
+            "edition",
+            "EDITION",
+            "2015, 2018, 2021 or 2024; 2021 where nothing is said",
+        ))?
+        .arg(values(
+            alloc,
+            "cfg",
+            "NAME[=\"VALUE\"]",
+            "One more option that the crate is compiled with",
+        ))?
+        .arg(value(
+            alloc,
+            "cfg-file",
+            "FILE",
+            "What `rustc --print cfg` prints, in place of a table for Linux on x86-64",
+        ))
+}
+
+/// A command with the options on the crates that the crate knows.
+fn with_crates<'a>(alloc: Global, command: Command<'a>) -> Result<Command<'a>, AllocError> {
+    command
+        .arg(values(
+            alloc,
+            "extern",
+            "NAME[@EDITION]=ROOT.rs",
+            "A crate that the crate knows, which itself knows those given before it",
+        ))?
+        .arg(value(
+            alloc,
+            "sysroot",
+            "DIR",
+            "The folder with the folders of core, alloc and std",
+        ))?
+        .arg(value(
+            alloc,
+            "metadata",
+            "FILE",
+            "What `cargo metadata --format-version 1` prints",
+        ))
+}
+
+/// A command with the options on the run.
+fn with_run<'a>(alloc: Global, command: Command<'a>) -> Result<Command<'a>, AllocError> {
+    let stats = Arg::new(alloc, "stats")
+        .long("stats")
+        .help("Tells on standard error what was read, and how long each stage took")
+        .action(ArgAction::SetTrue);
+    command
+        .arg(value(
+            alloc,
+            "limit",
+            "NUMBER",
+            "How many modules a crate may have; 65536 where nothing is said",
+        ))?
+        .arg(stats)
+}
+
+fn with_options<'a>(alloc: Global, command: Command<'a>) -> Result<Command<'a>, AllocError> {
+    let command = with_cfgs(alloc, command)?;
+    let command = with_crates(alloc, command)?;
+    with_run(alloc, command)
+}
+
+fn tree_command<'a>(alloc: Global) -> Result<Command<'a>, AllocError> {
+    let about =
+        "Prints the modules of a crate, with what each binds, who sees it and by which import it came";
+    let command = Command::new(alloc, "tree").about(about);
+    with_options(alloc, with_root(alloc, command)?)
+}
+
+fn unresolved_command<'a>(alloc: Global) -> Result<Command<'a>, AllocError> {
+    let about =
+        "Prints what leads nowhere, as FILE:LINE:COLUMN: message; status 1 if anything does";
+    let command = Command::new(alloc, "unresolved").about(about);
+    with_options(alloc, with_root(alloc, command)?)
+}
+
+fn imports_command<'a>(alloc: Global) -> Result<Command<'a>, AllocError> {
+    let about = "Prints what each import of a crate means, as FILE:LINE:COLUMN: PATH; ...";
+    let command = Command::new(alloc, "imports").about(about);
+    with_options(alloc, with_root(alloc, command)?)
+}
+
+fn resolve_command<'a>(alloc: Global) -> Result<Command<'a>, AllocError> {
+    let about = "Prints what a path means in each namespace, and through which imports it goes";
+    let command = Command::new(alloc, "resolve").about(about);
+    let command = with_root(alloc, command)?
+        .arg(position(alloc, "path", "PATH", "The path, as a::b::C"))?
+        .arg(value(
+            alloc,
+            "in",
+            "MODULE",
+            "The module that the path stands in; crate where nothing is said",
+        ))?;
+    with_options(alloc, command)
+}
+
+/// The command line of the program.
+pub(crate) fn command_line<'a>(alloc: Global) -> Result<Command<'a>, AllocError> {
+    Command::new(alloc, "defmap")
+        .about("Resolves the names of a crate, without expanding macros")
+        .version("0.1.0")
+        .subcommand_required(true)
+        .arg_required_else_help(true)
+        .subcommand(tree_command(alloc)?)?
+        .subcommand(resolve_command(alloc)?)?
+        .subcommand(unresolved_command(alloc)?)?
+        .subcommand(imports_command(alloc)?)
+}
+
+/// The edition of a word.
+pub(crate) fn edition_of(word: &str) -> Option<Edition> {
+    match word {
+        "2015" => Some(Edition::Edition2015),
+        "2018" => Some(Edition::Edition2018),
+        "2021" => Some(Edition::Edition2021),
+        "2024" => Some(Edition::Edition2024),
+        _ => None,
+    }
+}
+
+fn misused<T>(line: String) -> Result<T, Failure> {
+    Err(Failure::Told(Status::Misused, line))
+}
+
+fn known_edition(alloc: Global, word: &str) -> Result<Edition, Failure> {
+    match edition_of(word) {
+        Some(edition) => Ok(edition),
+        None => misused(format!(in alloc; "no edition {word}: give 2015, 2018, 2021 or 2024")?),
+    }
+}
+
+fn known_limit(alloc: Global, word: &str) -> Result<u32, Failure> {
+    match word.parse::<u32>() {
+        Ok(limit) => Ok(limit),
+        Err(_fault) => misused(format!(in alloc; "no limit {word}: give a number of modules")?),
+    }
+}
+
+/// What a word of `--extern` says.
+fn extern_word<'a>(alloc: Global, word: &'a str) -> Result<ExternWord<'a>, Failure> {
+    let Some((known, root)) = word.split_once('=') else {
+        return misused(format!(in alloc;
+            "--extern {word} names no file: give it as NAME=ROOT.rs"
+        )?);
+    };
+    let Some((name, edition)) = known.split_once('@') else {
+        return Ok(ExternWord {
+            name: known,
+            edition: None,
+            root,
+        });
+    };
+    Ok(ExternWord {
+        name,
+        edition: Some(known_edition(alloc, edition)?),
+        root,
+    })
+}
+
+fn extern_words<'a>(alloc: Global, words: &[&'a str]) -> Result<Vec<ExternWord<'a>>, Failure> {
+    let mut read = Vec::new(alloc);
+    for word in words {
+        read.push(extern_word(alloc, *word)?)?;
+    }
+    Ok(read)
+}
+
+fn all_of<'a>(alloc: Global, given: &ArgMatches<'a>, id: &str) -> Result<Vec<&'a str>, AllocError> {
+    match given.get_strs(id) {
+        None => Ok(Vec::new(alloc)),
+        Some(words) => Vec::from_slice(alloc, words),
+    }
+}
+
+fn wish_of<'a>(name: &str, given: &ArgMatches<'a>) -> Wish<'a> {
+    match name {
+        "resolve" => Wish::Resolve {
+            path: given.get_str("path").unwrap_or(""),
+            home: given.get_str("in").unwrap_or("crate"),
+        },
+        "unresolved" => Wish::Unresolved,
+        "imports" => Wish::Imports,
+        _ => Wish::Tree,
+    }
+}
+
+/// What the words of a subcommand say.
+pub(crate) fn read_arguments<'a>(
+    alloc: Global,
+    name: &str,
+    given: &ArgMatches<'a>,
+) -> Result<Arguments<'a>, Failure> {
+    let edition = match given.get_str("edition") {
+        None => None,
+        Some(word) => Some(known_edition(alloc, word)?),
+    };
+    let limit = match given.get_str("limit") {
+        None => LIMIT,
+        Some(word) => known_limit(alloc, word)?,
+    };
+    let externs = all_of(alloc, given, "extern")?;
+    Ok(Arguments {
+        wish: wish_of(name, given),
+        root: given.get_str("root").unwrap_or(""),
+        edition,
+        cfgs: all_of(alloc, given, "cfg")?,
+        cfg_file: given.get_str("cfg-file"),
+        externs: extern_words(alloc, externs.as_slice())?,
+        sysroot: given.get_str("sysroot"),
+        metadata: given.get_str("metadata"),
+        limit,
+        has_stats: given.get_flag("stats"),
+    })
+}

@@ -1,0 +1,33 @@
+//! What went wrong beside the answer: lines for the standard error.
+use std::alloc::{AllocError, Global};
+
+/// Lines that say what could not be read, each once.
+#[derive(Drop)]
+pub(crate) struct Complaints {
+    lines: Vec<String>,
+}
+
+impl Complaints {
+    pub(crate) fn new(alloc: Global) -> Complaints {
+        Complaints {
+            lines: Vec::new(alloc),
+        }
+    }
+
+    pub(crate) fn is_empty(&self) -> bool {
+        self.lines.is_empty()
+    }
+
+    pub(crate) fn lines(&self) -> &[String] {
+        self.lines.as_slice()
+    }
+
+    /// Adds a line, unless it is there.
+    pub(crate) fn add(&mut self, line: String) -> Result<(), AllocError> {
+        if self.lines.iter().any(|one| one.as_str() == line.as_str()) {
+            return Ok(());
+        }
+        self.lines.push(line)?;
+        Ok(())
+    }
+}

@@ -1,0 +1,170 @@
+//! Definitions, as they are written: what kind of thing, and its path.
+use crate::settled::Settled;
+use crate::shown::module_path;
+use dm_base::ids::{EnumId, EnumVariantId, ModuleId};
+use dm_base::item_ids::{AdtId, MacroId, ModuleDefId};
+use dm_base::item_in_ns::{ItemInNs, ItemModules};
+use dm_base::name::Name;
+use dm_base::per_ns::PerNs;
+use dm_maps::world::World;
+use dm_scope::item_scope::ItemScope;
+use dm_scope::scope_tables::ScopeTables;
+use std::alloc::{AllocError, Global};
+
+/// How a kind of definition is called.
+fn kind_word(def: ModuleDefId) -> &'static str {
+    match def {
+        ModuleDefId::ModuleId(_) => "mod",
+        ModuleDefId::FunctionId(_) => "fn",
+        ModuleDefId::AdtId(AdtId::StructId(_)) => "struct",
+        ModuleDefId::AdtId(AdtId::UnionId(_)) => "union",
+        ModuleDefId::AdtId(AdtId::EnumId(_)) => "enum",
+        ModuleDefId::EnumVariantId(_) => "variant",
+        ModuleDefId::ConstId(_) => "const",
+        ModuleDefId::StaticId(_) => "static",
+        ModuleDefId::TraitId(_) => "trait",
+        ModuleDefId::TypeAliasId(_) => "type",
+        ModuleDefId::BuiltinType(_) => "builtin type",
+        ModuleDefId::MacroId(_) => "macro",
+    }
+}
+
+/// Whether some items that a module declares are a definition.
+fn declares(items: PerNs, def: ModuleDefId) -> bool {
+    let is_type = match items.types {
+        None => false,
+        Some(item) => item.import.is_none() && item.def == def,
+    };
+    let is_value = match items.values {
+        None => false,
+        Some(item) => item.import.is_none() && item.def == def,
+    };
+    let is_macro = match items.macros {
+        None => false,
+        Some(item) => item.import.is_none() && ModuleDefId::MacroId(item.def) == def,
+    };
+    is_type || is_value || is_macro
+}
+
+/// The name that a scope declares a definition under.
+fn declared_name<'a>(
+    scope: &'a ItemScope,
+    def: ModuleDefId,
+) -> Result<Option<&'a Name>, AllocError> {
+    for (name, items) in &scope.entries()? {
+        if declares(*items, def) {
+            return Ok(Some(*name));
+        }
+    }
+    Ok(None)
+}
+
+/// The name of a macro of a module: one that is declared there by text alone, or exported at the crate's root.
+fn macro_name<'a>(
+    world: &'a World,
+    home: ModuleId,
+    id: MacroId,
+) -> Result<Option<&'a Name>, AllocError> {
+    if let Some(scope) = world.scope_of(home) {
+        for (name, macros) in scope.legacy_macros() {
+            if macros.iter().any(|one| *one == id) {
+                return Ok(Some(name));
+            }
+        }
+    }
+    let root = match world.map_of(home) {
+        None => home,
+        Some(map) => map.root_module_id(),
+    };
+    match world.scope_of(root) {
+        None => Ok(None),
+        Some(scope) => declared_name(scope, ModuleDefId::MacroId(id)),
+    }
+}
+
+/// The name that a module declares a definition under.
+fn name_in<'a>(
+    world: &'a World,
+    home: ModuleId,
+    def: ModuleDefId,
+) -> Result<Option<&'a Name>, AllocError> {
+    let own = match world.scope_of(home) {
+        None => None,
+        Some(scope) => declared_name(scope, def)?,
+    };
+    match (own, def) {
+        (None, ModuleDefId::MacroId(id)) => macro_name(world, home, id),
+        _ => Ok(own),
+    }
+}
+
+/// The path of what a module declares.
+fn path_in(
+    alloc: Global,
+    settled: &Settled,
+    home: ModuleId,
+    def: ModuleDefId,
+) -> Result<String, AllocError> {
+    let path = module_path(alloc, settled, home)?;
+    match name_in(settled.world(), home, def)? {
+        None => Ok(path),
+        Some(name) => format!(in alloc; "{path}::{}", name.as_str()),
+    }
+}
+
+/// The name of a variant of an enum.
+fn variant_name<'a>(world: &'a World, e: EnumId, variant: EnumVariantId) -> Option<&'a Name> {
+    for (name, (one, _shape)) in world.variants(e)? {
+        if one == variant {
+            return Some(name);
+        }
+    }
+    None
+}
+
+/// The path of a variant.
+fn variant_path(
+    alloc: Global,
+    settled: &Settled,
+    variant: EnumVariantId,
+) -> Result<String, AllocError> {
+    let world = settled.world();
+    let Some(e) = world.variant_enum(variant) else {
+        return String::from_str(alloc, "?");
+    };
+    let def = ModuleDefId::AdtId(AdtId::EnumId(e));
+    let path = match world.item_module(def) {
+        None => String::from_str(alloc, "?")?,
+        Some(home) => path_in(alloc, settled, home, def)?,
+    };
+    match variant_name(world, e, variant) {
+        None => Ok(path),
+        Some(name) => format!(in alloc; "{path}::{}", name.as_str()),
+    }
+}
+
+/// The path of a definition.
+fn path_of(alloc: Global, settled: &Settled, def: ModuleDefId) -> Result<String, AllocError> {
+    let world = settled.world();
+    let home = match def {
+        ModuleDefId::ModuleId(m) => return module_path(alloc, settled, m),
+        ModuleDefId::BuiltinType(builtin) => return String::from_str(alloc, builtin.as_str()),
+        ModuleDefId::EnumVariantId(variant) => return variant_path(alloc, settled, variant),
+        ModuleDefId::MacroId(id) => world.macro_module(id),
+        _ => world.item_module(def),
+    };
+    match home {
+        None => String::from_str(alloc, "?"),
+        Some(home) => path_in(alloc, settled, home, def),
+    }
+}
+
+/// A definition, as its kind and its path.
+pub(crate) fn definition_text(
+    alloc: Global,
+    settled: &Settled,
+    def: ModuleDefId,
+) -> Result<String, AllocError> {
+    let path = path_of(alloc, settled, def)?;
+    format!(in alloc; "{} {path}", kind_word(def))
+}

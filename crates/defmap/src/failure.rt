@@ -1,0 +1,73 @@
+//! Why the program ends without an answer, and the statuses that it ends with.
+use std::alloc::{AllocError, AllocFailed};
+use std::io;
+use std::process::ExitCode;
+
+/// The status that a run ends with.
+#[derive(Clone, Copy, PartialEq, Eq, Debug)]
+pub(crate) enum Status {
+    /// All that was asked was told.
+    Fine,
+    /// What was asked for is not there.
+    Absent,
+    /// The words of the command line are no wish.
+    Misused,
+    /// Something could not be read.
+    Unreadable,
+}
+
+impl Status {
+    pub(crate) fn code(self) -> ExitCode {
+        match self {
+            Status::Fine => ExitCode::SUCCESS,
+            Status::Absent => ExitCode::from(1),
+            Status::Misused => ExitCode::from(2),
+            Status::Unreadable => ExitCode::from(3),
+        }
+    }
+}
+
+/// Why there is no answer: the status, and a line that says what to do.
+#[derive(Drop)]
+pub(crate) enum Failure {
+    Told(Status, String),
+    OutOfMemory,
+    /// The standard output or the standard error takes nothing.
+    NoOutput,
+}
+
+impl From<AllocError> for Failure {
+    fn from(_refused: AllocError) -> Failure {
+        Failure::OutOfMemory
+    }
+}
+
+impl<T: Drop> From<AllocFailed<T>> for Failure {
+    fn from(_refused: AllocFailed<T>) -> Failure {
+        Failure::OutOfMemory
+    }
+}
+
+impl From<io::Error> for Failure {
+    fn from(_refused: io::Error) -> Failure {
+        Failure::NoOutput
+    }
+}
+
+impl Failure {
+    pub(crate) fn status(&self) -> Status {
+        match self {
+            Failure::Told(status, _line) => *status,
+            Failure::OutOfMemory | Failure::NoOutput => Status::Unreadable,
+        }
+    }
+
+    pub(crate) fn line(&self) -> &str {
+        match self {
+            Failure::Told(_status, line) => line.as_str(),
+            Failure::OutOfMemory =>
+                "memory ran out: give the program more of it, or a smaller --limit",
+            Failure::NoOutput => "the output cannot be written: see where it leads",
+        }
+    }
+}

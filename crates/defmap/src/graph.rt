@@ -1,0 +1,199 @@
+//! The crate graph of some plans.
+use crate::cfg_file::options_of;
+use crate::complaints::Complaints;
+use crate::plan::{CratePlan, DependencyPlan};
+use crate_modules::crate_data::CrateData;
+use crate_modules::crate_graph::CrateGraph;
+use crate_modules::crate_order::OrderFault;
+use crate_modules::dependency::Dependency;
+use dm_ids::ids::{Crate, FileId};
+use dm_ids::name::Name;
+use std::alloc::{AllocError, Global};
+
+/// A graph, and the number in it of each plan whose root was read.
+#[derive(Drop)]
+pub(crate) struct PlannedGraph {
+    pub(crate) graph: CrateGraph,
+    pub(crate) numbers: Vec<Option<Crate>>,
+    /// The plan of each crate of the graph.
+    pub(crate) plans_of: Vec<usize>,
+}
+
+fn number_of(numbers: &[Option<Crate>], plan: usize) -> Option<Crate> {
+    numbers.get(plan).copied().flatten()
+}
+
+/// Adds what a crate depends on, of what is in the graph.
+fn add_dependency(
+    graph: &mut CrateGraph,
+    alloc: Global,
+    numbers: &[Option<Crate>],
+    from: Crate,
+    planned: &DependencyPlan,
+) -> Result<(), AllocError> {
+    let Some(crate_id) = number_of(numbers, planned.krate) else {
+        return Ok(());
+    };
+    let dependency = Dependency {
+        crate_id,
+        name: Name::new(alloc, planned.name.as_str())?,
+        prelude: planned.prelude,
+    };
+    if graph.contains(from) && graph.contains(crate_id) {
+        graph.add_dep(from, dependency)?;
+    }
+    Ok(())
+}
+
+fn add_dependencies(
+    graph: &mut CrateGraph,
+    alloc: Global,
+    numbers: &[Option<Crate>],
+    number: usize,
+    plan: &CratePlan,
+) -> Result<(), AllocError> {
+    let Some(from) = number_of(numbers, number) else {
+        return Ok(());
+    };
+    for planned in &plan.dependencies {
+        add_dependency(graph, alloc, numbers, from, planned)?;
+    }
+    Ok(())
+}
+
+/// Adds the crate of a plan, where its root was read.
+fn add_crate(
+    made: &mut PlannedGraph,
+    alloc: Global,
+    cfgs: &str,
+    plan: &CratePlan,
+    number: usize,
+    root: Option<FileId>,
+) -> Result<(), AllocError> {
+    let Some(root) = root else {
+        made.numbers.push(None)?;
+        return Ok(());
+    };
+    let options = options_of(alloc, cfgs, plan.cfgs.as_str())?;
+    let added = CrateData::new(
+        root,
+        plan.edition,
+        options,
+        plan.is_proc_macro,
+        Vec::new(alloc),
+    );
+    if made.graph.knows(&added) {
+        let id = made.graph.add_crate(added)?;
+        made.numbers.push(Some(id))?;
+        made.plans_of.push(number)?;
+    }
+    Ok(())
+}
+
+/// The graph of plans whose roots have these files.
+pub(crate) fn graph_of(
+    alloc: Global,
+    cfgs: &str,
+    plans: &[CratePlan],
+    roots: &[Option<FileId>],
+) -> Result<PlannedGraph, AllocError> {
+    let mut made = PlannedGraph {
+        graph: CrateGraph::new(alloc),
+        numbers: Vec::new(alloc),
+        plans_of: Vec::new(alloc),
+    };
+    for (number, plan) in plans.iter().enumerate() {
+        let root = roots.get(number).copied().flatten();
+        add_crate(&mut made, alloc, cfgs, plan, number, root)?;
+    }
+    for (number, plan) in plans.iter().enumerate() {
+        let numbers = made.numbers.as_slice();
+        add_dependencies(&mut made.graph, alloc, numbers, number, plan)?;
+    }
+    Ok(made)
+}
+
+/// The name of the crate of a number in a graph.
+fn name_in<'a>(plans: &'a [CratePlan], made: &PlannedGraph, krate: Crate) -> &'a str {
+    let plan = made
+        .plans_of
+        .get(krate.0 as usize)
+        .copied()
+        .unwrap_or(usize::MAX);
+    match plans.get(plan) {
+        None => "?",
+        Some(plan) => plan.name.as_str(),
+    }
+}
+
+/// A line that names the crates of a circle.
+fn circle_line(
+    alloc: Global,
+    plans: &[CratePlan],
+    made: &PlannedGraph,
+    circle: &[Crate],
+) -> Result<String, AllocError> {
+    let mut line = String::from_str(alloc, "crates depend on each other in a circle: ")?;
+    for krate in circle {
+        line.push_str(name_in(plans, made, *krate))?;
+        line.push_str(" on ")?;
+    }
+    match circle.first() {
+        None => {}
+        Some(first) => line.push_str(name_in(plans, made, *first))?,
+    }
+    line.push_str(": take one of these dependencies away (the last was left out)")?;
+    Ok(line)
+}
+
+/// Takes away the dependency that closes a circle.
+fn open_circle(plans: &mut [CratePlan], made: &PlannedGraph, circle: &[Crate]) {
+    let (Some(first), Some(last)) = (circle.first(), circle.last()) else {
+        return;
+    };
+    let from = made
+        .plans_of
+        .get(last.0 as usize)
+        .copied()
+        .unwrap_or(usize::MAX);
+    let to = made
+        .plans_of
+        .get(first.0 as usize)
+        .copied()
+        .unwrap_or(usize::MAX);
+    if let Some(plan) = plans.get_mut(from) {
+        plan.forget(to);
+    }
+}
+
+/// How many dependencies the plans have.
+fn dependency_count(plans: &[CratePlan]) -> usize {
+    let mut count = 0usize;
+    for plan in plans {
+        count = count.saturating_add(plan.dependencies.len());
+    }
+    count
+}
+
+/// The graph of plans, without the dependencies that close circles, which are complained of.
+pub(crate) fn ordered_graph(
+    alloc: Global,
+    cfgs: &str,
+    plans: &mut Vec<CratePlan>,
+    roots: &[Option<FileId>],
+    complaints: &mut Complaints,
+) -> Result<PlannedGraph, AllocError> {
+    for _dependency in 0..dependency_count(plans.as_slice()) {
+        let made = graph_of(alloc, cfgs, plans.as_slice(), roots)?;
+        match made.graph.crates_in_topological_order(alloc) {
+            Ok(_order) => return Ok(made),
+            Err(OrderFault::OutOfMemory) => return Err(AllocError),
+            Err(OrderFault::Cycle(circle)) => {
+                let circle = circle.as_slice();
+                complaints.add(circle_line(alloc, plans.as_slice(), &made, circle)?)?;
+                open_circle(plans.as_mut_slice(), &made, circle);
+            }
+        }
+    }
+    graph_of(alloc, cfgs, plans.as_slice(), roots)
+}

@@ -1,0 +1,281 @@
+//! What may be there although it is not found: names that an unexpanded macro, or a crate that is not given, may bring.
+//!
+//! A module *hides* names where a macro is called among its items, and where it has a glob import of a module that hides
+//! names, or one that is itself unknown. An import that leads nowhere is *unknown* where it begins with a crate of the
+//! standard library, which is not given; where the module that its first missing name is looked up in hides names; and
+//! where an unknown import of that module would bind this name.
+use crate::meanings::import_meaning;
+use crate::module_ids::MacroHome;
+use crate::settled::Settled;
+use crate::written_path::prefix_of;
+use dm_base::ids::ModuleId;
+use dm_base::item_ids::ModuleDefId;
+use dm_base::item_in_ns::ItemModules;
+use dm_base::mod_path::{ModPath, PathKind};
+use dm_base::name::Name;
+use dm_collector::sources::{GlobImport, GlobSource};
+use dm_maps::world::World;
+use indexmap::{IndexMap, IndexSet};
+use std::alloc::{AllocError, Global};
+
+/// The crates of the standard library.
+const STANDARD: [&'static str; 5] = ["core", "alloc", "std", "test", "proc_macro"];
+
+/// Why an import is unknown.
+#[derive(Clone, Copy, PartialEq, Eq, Debug)]
+pub(crate) enum Cause {
+    /// A macro may bring what it needs.
+    Macro,
+    /// It needs the standard library.
+    Standard,
+}
+
+/// What is hidden in a world.
+#[derive(Drop)]
+pub(crate) struct Hidden<'a> {
+    alloc: Global,
+    settled: &'a Settled,
+    /// The crates of the standard library that are not given.
+    has_sysroot: bool,
+    by_macros: IndexSet<ModuleId>,
+    by_standard: IndexSet<ModuleId>,
+    /// The unknown imports, by their places among the named ones.
+    named: IndexMap<usize, Cause>,
+    /// The globs that hide names, by their places.
+    globs: IndexMap<usize, Cause>,
+}
+
+/// The name that is missing of a path, and the module that it is looked up in.
+#[derive(Clone, Copy)]
+struct Missing<'b> {
+    module: ModuleId,
+    name: Option<&'b Name>,
+    is_first: bool,
+}
+
+fn is_standard(name: &Name) -> bool {
+    STANDARD.iter().any(|one| *one == name.as_str())
+}
+
+/// The module that a beginning of an import's path means.
+fn module_meant(
+    alloc: Global,
+    world: &World,
+    home: ModuleId,
+    path: &ModPath,
+    count: usize,
+) -> Result<Option<ModuleId>, AllocError> {
+    let begun = prefix_of(alloc, path, count)?;
+    let Some(found) = import_meaning(world, home, &begun) else {
+        return Ok(None);
+    };
+    if found.segment_index.is_some() {
+        return Ok(None);
+    }
+    match found.resolved_def.types {
+        None => Ok(None),
+        Some(item) => match item.def {
+            ModuleDefId::ModuleId(m) => Ok(Some(m)),
+            _ => Ok(None),
+        },
+    }
+}
+
+/// The module that the first name of a path without a beginning is looked up in.
+fn first_module(world: &World, home: ModuleId) -> ModuleId {
+    let Some(krate) = world.module_krate(home) else {
+        return home;
+    };
+    if world.is_2015(krate) {
+        world.root_of(krate).unwrap_or(home)
+    } else {
+        home
+    }
+}
+
+/// The first missing name of the path of an import that leads nowhere.
+fn missing_of<'b>(
+    alloc: Global,
+    world: &World,
+    home: ModuleId,
+    path: &'b ModPath,
+) -> Result<Missing<'b>, AllocError> {
+    let count = path.segments().len();
+    for less in 0..count {
+        let begun = count.saturating_sub(less);
+        if let Some(module) = module_meant(alloc, world, home, path, begun)? {
+            let name = path.segments().get(begun);
+            return Ok(Missing {
+                module,
+                name,
+                is_first: false,
+            });
+        }
+    }
+    let is_plain = matches!(path.kind(), PathKind::Plain | PathKind::Abs);
+    let begun = if is_plain {
+        None
+    } else {
+        module_meant(alloc, world, home, path, 0)?
+    };
+    Ok(Missing {
+        module: begun.unwrap_or(first_module(world, home)),
+        name: path.segments().first(),
+        is_first: is_plain,
+    })
+}
+
+impl<'a> Hidden<'a> {
+    /// What is hidden in the settled world.
+    pub(crate) fn of(
+        alloc: Global,
+        settled: &'a Settled,
+        has_sysroot: bool,
+        homes: &[MacroHome],
+    ) -> Result<Hidden<'a>, AllocError> {
+        let mut hidden = Hidden {
+            alloc,
+            settled,
+            has_sysroot,
+            by_macros: IndexSet::new(alloc),
+            by_standard: IndexSet::new(alloc),
+            named: IndexMap::new(alloc),
+            globs: IndexMap::new(alloc),
+        };
+        for home in homes {
+            hidden.by_macros.insert(home.module)?;
+        }
+        let unresolved = settled.collected.retry.unresolved()?;
+        for _round in 0..u32::MAX {
+            let named = hidden.find_named(unresolved.as_slice())?;
+            let globs = hidden.find_globs()?;
+            if !named && !globs {
+                break;
+            }
+        }
+        Ok(hidden)
+    }
+
+    pub(crate) fn settled(&self) -> &'a Settled {
+        self.settled
+    }
+
+    pub(crate) fn has_sysroot(&self) -> bool {
+        self.has_sysroot
+    }
+
+    pub(crate) fn alloc(&self) -> Global {
+        self.alloc
+    }
+
+    /// Why a module hides names, if it does.
+    fn cause_in(&self, module: ModuleId) -> Option<Cause> {
+        if self.by_macros.contains(&module) {
+            Some(Cause::Macro)
+        } else if self.by_standard.contains(&module) {
+            Some(Cause::Standard)
+        } else {
+            None
+        }
+    }
+
+    /// Why the import of a module that would bind a name is unknown, if it is.
+    fn cause_by_name(&self, module: ModuleId, name: &Name) -> Option<Cause> {
+        for (place, cause) in self.named.iter() {
+            if let Some(pending) = self.settled.collected.retry.get(*place) {
+                if pending.origin() == module && pending.name() == name {
+                    return Some(*cause);
+                }
+            }
+        }
+        None
+    }
+
+    /// Why a path that leads nowhere is unknown, if it is.
+    pub(crate) fn cause_of(
+        &self,
+        home: ModuleId,
+        path: &ModPath,
+    ) -> Result<Option<Cause>, AllocError> {
+        let missing = missing_of(self.alloc, self.settled.world(), home, path)?;
+        let Some(name) = missing.name else {
+            return Ok(None);
+        };
+        if missing.is_first && !self.has_sysroot && is_standard(name) {
+            return Ok(Some(Cause::Standard));
+        }
+        match self.cause_in(missing.module) {
+            Some(cause) => Ok(Some(cause)),
+            None => Ok(self.cause_by_name(missing.module, name)),
+        }
+    }
+
+    /// Notes the named imports that are unknown by what is noted. Tells whether there is a new one.
+    fn find_named(&mut self, unresolved: &[usize]) -> Result<bool, AllocError> {
+        let settled = self.settled;
+        let mut has_new = false;
+        for place in unresolved {
+            let Some(pending) = settled.collected.retry.get(*place) else {
+                continue;
+            };
+            if self.cause_of_named(*place).is_some() {
+                continue;
+            }
+            if let Some(cause) = self.cause_of(pending.origin(), pending.path())? {
+                self.named.insert(*place, cause)?;
+                has_new = true;
+            }
+        }
+        Ok(has_new)
+    }
+
+    /// Lets a module hide names.
+    fn hide(&mut self, module: ModuleId, cause: Cause) -> Result<bool, AllocError> {
+        match cause {
+            Cause::Macro => Ok(self.by_macros.insert(module)?),
+            Cause::Standard => Ok(self.by_standard.insert(module)?),
+        }
+    }
+
+    /// Why the source of a glob hides names, or why there is none, if that is unknown.
+    fn cause_of_source(&self, glob: &GlobImport) -> Result<Option<Cause>, AllocError> {
+        let world = self.settled.world();
+        if !glob.is_known(world) {
+            return Ok(None);
+        }
+        match glob.resolved(world) {
+            None => self.cause_of(glob.into, &glob.path),
+            Some(found) => match found.from {
+                GlobSource::Module(m) => Ok(self.cause_in(m)),
+                GlobSource::Enum(_enum) => Ok(None),
+            },
+        }
+    }
+
+    /// Notes the globs that are unknown or of modules that hide names. Tells whether there is a new one.
+    fn find_globs(&mut self) -> Result<bool, AllocError> {
+        let settled = self.settled;
+        let mut has_new = false;
+        for (place, glob) in settled.collected.globs.iter().enumerate() {
+            if self.cause_of_glob(place).is_some() {
+                continue;
+            }
+            if let Some(cause) = self.cause_of_source(glob)? {
+                self.globs.insert(place, cause)?;
+                self.hide(glob.into, cause)?;
+                has_new = true;
+            }
+        }
+        Ok(has_new)
+    }
+
+    /// Why a named import is unknown, if it is.
+    pub(crate) fn cause_of_named(&self, place: usize) -> Option<Cause> {
+        self.named.get(&place).copied()
+    }
+
+    /// Why a glob is unknown, or brings hidden names, if it does.
+    pub(crate) fn cause_of_glob(&self, place: usize) -> Option<Cause> {
+        self.globs.get(&place).copied()
+    }
+}

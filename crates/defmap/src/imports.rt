@@ -1,0 +1,154 @@
+//! What each import of a crate means.
+use crate::definitions::definition_text;
+use crate::hidden::Hidden;
+use crate::meanings::{imported, meant_in};
+use crate::module_ids::macro_homes;
+use crate::path_text::path_text;
+use crate::places::{Lines, use_spot};
+use crate::settled::Settled;
+use dm_base::ids::{Crate, ModuleId, UseId, UseTreeIdx};
+use dm_base::item_in_ns::ItemModules;
+use dm_base::mod_path::ModPath;
+use dm_base::per_ns::{Namespace, PerNs};
+use dm_retry::import_kind::ImportKind;
+use std::alloc::{AllocError, Global};
+
+/// What an import of a kind takes of some items.
+fn taken(kind: ImportKind, found: PerNs) -> PerNs {
+    match kind {
+        ImportKind::TypeOnly => PerNs {
+            types: found.types,
+            ..PerNs::none()
+        },
+        ImportKind::Plain | ImportKind::ReExport | ImportKind::Unnamed => found,
+    }
+}
+
+/// The words for what something is in each namespace.
+fn meant_words(alloc: Global, settled: &Settled, found: PerNs) -> Result<String, AllocError> {
+    let mut words = String::new(alloc);
+    let namespaces = [
+        ("type", Namespace::Types),
+        ("value", Namespace::Values),
+        ("macro", Namespace::Macros),
+    ];
+    for (word, namespace) in &namespaces {
+        let Some(meant) = meant_in(found, *namespace) else {
+            continue;
+        };
+        let shown = definition_text(alloc, settled, meant.def)?;
+        let told = format!(in alloc; "; {word} {shown}")?;
+        words.push_str(told.as_str())?;
+    }
+    Ok(words)
+}
+
+/// What lists imports.
+#[derive(Drop)]
+struct Listing<'s, 'h, 'l, 'f> {
+    alloc: Global,
+    settled: &'s Settled,
+    hidden: &'h Hidden<'s>,
+    lines: &'l Lines<'f>,
+    out: String,
+}
+
+impl<'s, 'h, 'l, 'f> Listing<'s, 'h, 'l, 'f> {
+    /// Adds the line of an import.
+    fn add(
+        &mut self,
+        home: ModuleId,
+        path: &ModPath,
+        leaf: (UseId, UseTreeIdx),
+        kind: Option<ImportKind>,
+        is_unknown: bool,
+    ) -> Result<(), AllocError> {
+        let (use_, idx) = leaf;
+        if let Some(spot) = use_spot(self.alloc, self.settled, use_, idx)? {
+            let place = self.lines.place(self.alloc, spot.file, spot.offset)?;
+            self.out.push_str(place.as_str())?;
+        }
+        let written = path_text(self.alloc, path)?;
+        self.out.push_str(": ")?;
+        self.out.push_str(written.as_str())?;
+        self.out.push_str(if kind.is_none() { "::*" } else { "" })?;
+        let words = match imported(self.settled.world(), home, path) {
+            None => String::new(self.alloc),
+            Some(found) => {
+                let meant = taken(kind.unwrap_or(ImportKind::TypeOnly), found);
+                meant_words(self.alloc, self.settled, meant)?
+            }
+        };
+        self.out.push_str(words.as_str())?;
+        self.out
+            .push_str(if is_unknown { "; unknown\n" } else { "\n" })?;
+        Ok(())
+    }
+
+    fn is_own(&self, home: ModuleId) -> bool {
+        self.settled.world().module_krate(home) == Some(Crate(0))
+    }
+
+    fn add_named(&mut self) -> Result<(), AllocError> {
+        let settled = self.settled;
+        let retry = &settled.collected.retry;
+        for place in 0..retry.len() {
+            let Some(pending) = retry.get(place) else {
+                continue;
+            };
+            if self.is_own(pending.origin()) {
+                let import = pending.import();
+                let leaf = (import.use_, import.idx);
+                let is_unknown = self.hidden.cause_of_named(place).is_some();
+                self.add(
+                    pending.origin(),
+                    pending.path(),
+                    leaf,
+                    Some(pending.kind()),
+                    is_unknown,
+                )?;
+            }
+        }
+        Ok(())
+    }
+
+    fn add_globs(&mut self) -> Result<(), AllocError> {
+        let settled = self.settled;
+        for (place, glob) in settled.collected.globs.iter().enumerate() {
+            if self.is_own(glob.into) {
+                let leaf = (glob.import.use_, glob.import.idx);
+                let is_unknown = self.hidden.cause_of_glob(place).is_some();
+                self.add(glob.into, &glob.path, leaf, None, is_unknown)?;
+            }
+        }
+        Ok(())
+    }
+}
+
+/// What each import of the crate that is asked about means, the named ones first.
+pub(crate) fn imports_text(
+    alloc: Global,
+    settled: &Settled,
+    lines: &Lines<'_>,
+    has_sysroot: bool,
+) -> Result<String, AllocError> {
+    let homes = macro_homes(alloc, settled)?;
+    let hidden = Hidden::of(alloc, settled, has_sysroot, homes.as_slice())?;
+    let mut listing = Listing {
+        alloc,
+        settled,
+        hidden: &hidden,
+        lines,
+        out: String::new(alloc),
+    };
+    listing.add_named()?;
+    listing.add_globs()?;
+    let Listing {
+        alloc: _alloc,
+        settled: _settled,
+        hidden: _hidden,
+        lines: _lines,
+        out,
+    } = listing;
+    Ok(out)
+}

@@ -1,0 +1,164 @@
+//! What is read before anything is collected: options, plans of crates, and their files.
+use crate::arguments::Arguments;
+use crate::cfg_file::{LINUX, cfg_line, first_fault, options_of};
+use crate::complaints::Complaints;
+use crate::extern_crates::planned;
+use crate::failure::{Failure, Status};
+use crate::loader::{Loader, Manner};
+use crate::metadata::planned_by;
+use crate::plan::CratePlan;
+use crate::reading::{FileText, input_text, needed_text, unread_line};
+use crate::sysroot::add_sysroot;
+use dm_ids::ids::FileId;
+use std::alloc::{AllocError, Global};
+use std::rt::Files;
+
+/// The path that the standard input is shown under.
+const INPUT: &'static str = "<stdin>";
+
+/// Crates whose files were read.
+#[derive(Drop)]
+pub(crate) struct Inputs {
+    /// The options of all crates, as lines.
+    pub(crate) cfgs: String,
+    pub(crate) plans: Vec<CratePlan>,
+    pub(crate) loader: Loader,
+    /// The file of the root of each plan.
+    pub(crate) roots: Vec<Option<FileId>>,
+}
+
+/// The lines of a file of options.
+fn file_cfgs<R: Files + AllocGlobal>(rt: &R, path: &str) -> Result<String, Failure> {
+    let text = needed_text(rt, path)?;
+    match first_fault(text.as_str()) {
+        None => Ok(text),
+        Some((number, line)) => {
+            let alloc = rt.alloc();
+            let told = format!(in alloc;
+                "{path}:{number}: no option {line}: give NAME or NAME=\"VALUE\""
+            )?;
+            Err(Failure::Told(Status::Unreadable, told))
+        }
+    }
+}
+
+/// The lines of the options of all crates.
+fn shared_cfgs<R: Files + AllocGlobal>(rt: &R, given: &Arguments<'_>) -> Result<String, Failure> {
+    match given.cfg_file {
+        None => Ok(String::from_str(rt.alloc(), LINUX)?),
+        Some(path) => file_cfgs(rt, path),
+    }
+}
+
+/// Adds the options that are given to those of the crate that is asked about.
+fn add_cfgs(alloc: Global, own: &mut CratePlan, given: &Arguments<'_>) -> Result<(), Failure> {
+    for word in &given.cfgs {
+        if cfg_line(*word).is_none() {
+            let told = format!(in alloc;
+                "no option {word}: give --cfg NAME or --cfg NAME=\"VALUE\""
+            )?;
+            return Err(Failure::Told(Status::Misused, told));
+        }
+        own.cfgs.push_str(*word)?;
+        own.cfgs.push_str("\n")?;
+    }
+    Ok(())
+}
+
+/// The plans of all crates, that of the crate that is asked about first.
+fn plans_of<R: Files + AllocGlobal>(
+    rt: &R,
+    given: &Arguments<'_>,
+    cfgs: &str,
+) -> Result<Vec<CratePlan>, Failure> {
+    let alloc = rt.alloc();
+    let mut plans = match given.metadata {
+        None => planned(alloc, given)?,
+        Some(path) => planned_by(rt, given, path, cfgs)?,
+    };
+    if let Some(own) = plans.first_mut() {
+        add_cfgs(alloc, own, given)?;
+    }
+    if let Some(sysroot) = given.sysroot {
+        add_sysroot(rt, &mut plans, sysroot)?;
+    }
+    Ok(plans)
+}
+
+/// Reads the root of the crate that is asked about from the standard input.
+fn read_input<R: Input + AllocGlobal>(
+    rt: &R,
+    loader: &mut Loader,
+) -> Result<Option<FileId>, Failure> {
+    let alloc = rt.alloc();
+    match input_text(rt) {
+        FileText::Text(text) => Ok(loader.add(alloc, INPUT, text)?),
+        FileText::Missing => Ok(None),
+        FileText::Unreadable(reason) => {
+            loader.complaints.add(unread_line(alloc, INPUT, reason)?)?;
+            Ok(None)
+        }
+    }
+}
+
+/// Reads the files of a plan's crate. Answers with that of its root.
+fn read_plan<R: Files + Input + AllocGlobal>(
+    rt: &R,
+    loader: &mut Loader,
+    plan: &CratePlan,
+    cfgs: &str,
+    limit: u32,
+) -> Result<Option<FileId>, Failure> {
+    let alloc = rt.alloc();
+    if plan.root.as_str() == "-" {
+        return read_input(rt, loader);
+    }
+    let Some(root) = loader.read_root(rt, plan.root.as_str())? else {
+        return Ok(None);
+    };
+    let options = options_of(alloc, cfgs, plan.cfgs.as_str())?;
+    let manner = Manner {
+        edition: plan.edition,
+        options: &options,
+        limit,
+    };
+    loader.read_modules(rt, root, manner)?;
+    Ok(Some(root))
+}
+
+/// The failure of the first complaint.
+fn first_complaint(alloc: Global, complaints: &Complaints) -> Result<Failure, AllocError> {
+    let line = match complaints.lines().first() {
+        None => String::from_str(
+            alloc,
+            "nothing could be read: see whether the root is a file",
+        )?,
+        Some(line) => line.clone()?,
+    };
+    Ok(Failure::Told(Status::Unreadable, line))
+}
+
+/// Reads all that the command line names. Fails where the root of the crate that is asked about is not read.
+pub(crate) fn read_inputs<R: Files + Input + AllocGlobal>(
+    rt: &R,
+    given: &Arguments<'_>,
+) -> Result<Inputs, Failure> {
+    let alloc = rt.alloc();
+    let cfgs = shared_cfgs(rt, given)?;
+    let plans = plans_of(rt, given, cfgs.as_str())?;
+    let mut loader = Loader::new(alloc);
+    let mut roots = Vec::new(alloc);
+    for plan in &plans {
+        let root = read_plan(rt, &mut loader, plan, cfgs.as_str(), given.limit)?;
+        if root.is_none() && roots.is_empty() {
+            return Err(first_complaint(alloc, &loader.complaints)?);
+        }
+        roots.push(root)?;
+    }
+    Ok(Inputs {
+        cfgs,
+        plans,
+        loader,
+        roots,
+    })
+}

@@ -1,0 +1,151 @@
+//! The macro calls among the items of a crate that lead nowhere.
+use crate::hidden::{Cause, Hidden};
+use crate::meanings::macro_meaning;
+use crate::module_ids::MacroHome;
+use crate::settled::Settled;
+use crate::shown::outwards;
+use crate_items::declared_item::DeclaredItem;
+use crate_items::macro_call::macro_call_path;
+use dm_base::ids::{Crate, ModuleId};
+use dm_base::mod_path::{ModPath, PathKind};
+use dm_base::name::Name;
+use dm_maps::world::World;
+use dm_maps::world::maps_of::crate_def_map;
+use item_tree::item_kind::ItemKind;
+use std::alloc::{AllocError, Global};
+
+/// Where a macro call leads to.
+#[derive(Drop)]
+pub(crate) enum CallEnd {
+    Found,
+    /// To what may be there.
+    Unknown(Cause),
+    /// Nowhere.
+    Nowhere(ModPath),
+}
+
+/// The name that a path is, if it is one name alone.
+fn only_name(path: &ModPath) -> Option<&Name> {
+    if !matches!(path.kind(), PathKind::Plain) || path.segments().len() != 1 {
+        return None;
+    }
+    path.segments().first()
+}
+
+/// Whether the root of some crate binds a macro under a name: `#[macro_use]` may bring it.
+fn is_exported(world: &World, crates: usize, name: &Name) -> bool {
+    for number in 0..crates {
+        let krate = Crate(u32::try_from(number).unwrap_or(u32::MAX));
+        if !world.has_crate(krate) {
+            continue;
+        }
+        let root = crate_def_map(world, krate).root_module_id();
+        if world.bound_in(root, name).macros.is_some() {
+            return true;
+        }
+    }
+    false
+}
+
+/// Whether a crate declares a macro under a name, wherever that is in scope.
+fn is_declared(settled: &Settled, krate: usize, name: &Name) -> bool {
+    let Some(items) = settled.items().get(krate) else {
+        return false;
+    };
+    for item in items {
+        let is_macro = matches!(item.kind, ItemKind::MacroRules | ItemKind::Macro2);
+        if is_macro && item.name.as_ref() == Some(name) {
+            return true;
+        }
+    }
+    false
+}
+
+/// Whether a macro of a name is in textual scope in a module or in one around it.
+fn is_textual(world: &World, around: &[ModuleId], name: &Name) -> bool {
+    around.iter().any(|m| world.legacy_of(*m, name).is_some())
+}
+
+/// How many macros are called in a module and in those around it.
+fn calls_around(homes: &[MacroHome], around: &[ModuleId]) -> usize {
+    let mut count = 0usize;
+    for home in homes {
+        if around.iter().any(|m| *m == home.module) {
+            count = count.saturating_add(1);
+        }
+    }
+    count
+}
+
+/// Where the call of a macro by its name alone leads to.
+fn end_of_name(
+    alloc: Global,
+    hidden: &Hidden<'_>,
+    homes: &[MacroHome],
+    call: MacroHome,
+    path: ModPath,
+) -> Result<CallEnd, AllocError> {
+    let settled = hidden.settled();
+    let world = settled.world();
+    let around = outwards(alloc, world, call.module)?;
+    let Some(name) = only_name(&path) else {
+        return Ok(CallEnd::Nowhere(path));
+    };
+    let is_here = is_textual(world, around.as_slice(), name)
+        || is_declared(settled, call.krate, name);
+    if is_here || is_exported(world, settled.names.len(), name) {
+        return Ok(CallEnd::Found);
+    }
+    if !hidden.has_sysroot() {
+        return Ok(CallEnd::Unknown(Cause::Standard));
+    }
+    if calls_around(homes, around.as_slice()) > 1 {
+        return Ok(CallEnd::Unknown(Cause::Macro));
+    }
+    Ok(CallEnd::Nowhere(path))
+}
+
+/// The path of a macro call.
+fn path_of(
+    alloc: Global,
+    settled: &Settled,
+    call: MacroHome,
+) -> Result<Option<ModPath>, AllocError> {
+    let Some(item) = item_of(settled, call) else {
+        return Ok(None);
+    };
+    match settled.lists().get(call.krate) {
+        None => Ok(None),
+        Some(list) => macro_call_path(alloc, list, &settled.files, item),
+    }
+}
+
+/// The item that a macro call is.
+pub(crate) fn item_of(settled: &Settled, call: MacroHome) -> Option<&DeclaredItem> {
+    settled.items().get(call.krate)?.get(call.item)
+}
+
+/// Where a macro call leads to.
+pub(crate) fn end_of(
+    alloc: Global,
+    hidden: &Hidden<'_>,
+    homes: &[MacroHome],
+    call: MacroHome,
+) -> Result<CallEnd, AllocError> {
+    let settled = hidden.settled();
+    let Some(path) = path_of(alloc, settled, call)? else {
+        return Ok(CallEnd::Found);
+    };
+    if let Some(found) = macro_meaning(settled.world(), call.module, &path) {
+        if found.resolved_def.macros.is_some() {
+            return Ok(CallEnd::Found);
+        }
+    }
+    if only_name(&path).is_some() {
+        return end_of_name(alloc, hidden, homes, call, path);
+    }
+    match hidden.cause_of(call.module, &path)? {
+        Some(cause) => Ok(CallEnd::Unknown(cause)),
+        None => Ok(CallEnd::Nowhere(path)),
+    }
+}

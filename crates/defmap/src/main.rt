@@ -1,0 +1,87 @@
+//! Resolves the names of a crate of the user's: its modules and what each binds, what a path means, what leads nowhere.
+#![tactic(auto)]
+
+mod answer;
+mod arguments;
+mod cargo_target;
+mod cfg_file;
+mod complaints;
+mod definitions;
+mod extern_crates;
+mod failure;
+mod glob_order;
+mod graph;
+mod hidden;
+mod imports;
+mod inputs;
+mod loader;
+mod macro_calls;
+mod meanings;
+mod metadata;
+mod module_ids;
+mod offsets;
+mod outlines;
+mod path_text;
+mod places;
+mod plan;
+mod reading;
+mod resolve;
+mod settled;
+mod settling;
+mod shown;
+mod stats;
+mod steps;
+mod sysroot;
+mod tree;
+mod unresolved;
+mod use_places;
+mod written_path;
+
+use crate::answer::give_answer;
+use crate::arguments::{command_line, read_arguments};
+use crate::failure::{Failure, Status};
+use std::process::ExitCode;
+
+/// Prints an answer, and tells the status to end with.
+fn answered<'a>(
+    rt: &HostRuntime,
+    name: &str,
+    given: &clap::ArgMatches<'a>,
+) -> Result<Status, Failure> {
+    let given = read_arguments(rt.alloc(), name, given)?;
+    let answer = give_answer(rt, &given)?;
+    rt.print(answer.out.as_str())?;
+    rt.eprint(answer.told.as_str())?;
+    Ok(answer.status)
+}
+
+/// Reads the words of the command line, and does what they ask.
+fn run(rt: &HostRuntime) -> Result<Status, Failure> {
+    let alloc = rt.alloc();
+    let words: Vec<String> = std::env::args(rt)?.collect(alloc)?;
+    let command = command_line(alloc)?;
+    match command.try_get_matches_from(words.as_slice()) {
+        Ok(matches) => match matches.subcommand() {
+            None => Ok(Status::Misused),
+            Some((name, given)) => answered(rt, name, given),
+        },
+        Err(error) => {
+            error.print(rt)?;
+            Ok(if error.use_stderr() {
+                Status::Misused
+            } else {
+                Status::Fine
+            })
+        }
+    }
+}
+
+fn main(rt: HostRuntime) -> ExitCode {
+    match run(&rt) {
+        Ok(status) => status.code(),
+        Err(failure) => {
+            let _ = eprintln!(rt; "defmap: {}", failure.line());
+            failure.status().code()
+        }
+    }
+}

@@ -1,0 +1,269 @@
+//! The plans of crates by what `cargo metadata` prints.
+use crate::arguments::{Arguments, edition_of};
+use crate::cargo_target::{CargoTarget, holds, is_asked, library_of, target_at};
+use crate::failure::{Failure, Status};
+use crate::plan::CratePlan;
+use crate::reading::needed_text;
+use dm_ids::source::Edition;
+use indexmap::IndexMap;
+use serde_json::Value;
+use std::alloc::{AllocError, Global};
+use std::rt::Files;
+
+/// A package, and what was resolved of it.
+#[derive(Clone, Copy)]
+struct Package<'a> {
+    package: &'a Value,
+    node: &'a Value,
+}
+
+/// The packages of a workspace, by their ids.
+#[derive(Drop)]
+struct Workspace<'a> {
+    alloc: Global,
+    packages: IndexMap<&'a str, Package<'a>>,
+    /// The options that dependencies of a platform are tested by.
+    cfgs: &'a str,
+}
+
+/// Plans, and the packages whose dependencies are still to be planned.
+#[derive(Drop)]
+struct Planning<'a> {
+    plans: Vec<CratePlan>,
+    /// The plan of the library of each package.
+    libraries: IndexMap<&'a str, usize>,
+    /// The package of each plan, and its target.
+    sources: Vec<(&'a str, CargoTarget<'a>)>,
+}
+
+/// The text of a member; empty where there is none.
+fn text_of<'a>(value: &'a Value, key: &str) -> &'a str {
+    value.get(key).and_then(Value::as_str).unwrap_or("")
+}
+
+/// The values of a member that is a list.
+fn list_of<'a>(value: &'a Value, key: &str) -> &'a [Value] {
+    match value.get(key).and_then(Value::as_array) {
+        None => &[],
+        Some(values) => values.as_slice(),
+    }
+}
+
+fn failed<T>(line: String) -> Result<T, Failure> {
+    Err(Failure::Told(Status::Unreadable, line))
+}
+
+/// The packages of the metadata, each with what was resolved of it.
+fn packages_of<'a>(
+    alloc: Global,
+    metadata: &'a Value,
+) -> Result<IndexMap<&'a str, Package<'a>>, AllocError> {
+    let mut described: IndexMap<&'a str, &'a Value> = IndexMap::new(alloc);
+    for package in list_of(metadata, "packages") {
+        described.insert(text_of(package, "id"), package)?;
+    }
+    let mut packages = IndexMap::new(alloc);
+    let Some(resolved) = metadata.get("resolve") else {
+        return Ok(packages);
+    };
+    for node in list_of(resolved, "nodes") {
+        let id = text_of(node, "id");
+        if let Some(package) = described.get(&id) {
+            packages.insert(
+                id,
+                Package {
+                    package: *package,
+                    node,
+                },
+            )?;
+        }
+    }
+    Ok(packages)
+}
+
+impl<'a> Workspace<'a> {
+    /// The package and the target whose root is at a path.
+    fn asked(&self, path: &str) -> Option<(&'a str, CargoTarget<'a>)> {
+        for (id, package) in self.packages.iter() {
+            if let Some(target) = target_at(package.package, path) {
+                return Some((*id, target));
+            }
+        }
+        None
+    }
+
+    /// Adds the plan of a target.
+    fn add_plan(
+        &self,
+        planning: &mut Planning<'a>,
+        id: &'a str,
+        target: CargoTarget<'a>,
+        root: &str,
+        edition: Edition,
+    ) -> Result<usize, AllocError> {
+        let number = planning.plans.len();
+        let mut plan = CratePlan::new(self.alloc, target.name, root, edition)?;
+        plan.is_proc_macro = target.is_proc_macro();
+        if let Some(package) = self.packages.get(&id) {
+            for feature in list_of(package.node, "features") {
+                plan.enable(feature.as_str().unwrap_or(""))?;
+            }
+        }
+        planning.plans.push(plan)?;
+        planning.sources.push((id, target))?;
+        if target.is_library() {
+            planning.libraries.insert(id, number)?;
+        }
+        Ok(number)
+    }
+
+    /// The plan of the library of a package. None where it has none.
+    fn library_plan(
+        &self,
+        planning: &mut Planning<'a>,
+        id: &'a str,
+    ) -> Result<Option<usize>, AllocError> {
+        if let Some(number) = planning.libraries.get(&id) {
+            return Ok(Some(*number));
+        }
+        let Some(package) = self.packages.get(&id) else {
+            return Ok(None);
+        };
+        let Some(target) = library_of(package.package) else {
+            return Ok(None);
+        };
+        let number = self.add_plan(planning, id, target, target.root, target.edition)?;
+        Ok(Some(number))
+    }
+
+    /// Adds what the plan of a number depends on by one entry of its package.
+    fn add_entry(
+        &self,
+        planning: &mut Planning<'a>,
+        number: usize,
+        name: &str,
+        id: &'a str,
+    ) -> Result<(), AllocError> {
+        let Some(used) = self.library_plan(planning, id)? else {
+            return Ok(());
+        };
+        match planning.plans.get_mut(number) {
+            None => Ok(()),
+            Some(plan) => plan.depend(self.alloc, name, used, true),
+        }
+    }
+
+    /// Whether an entry counts for a target.
+    fn counts(&self, target: CargoTarget<'a>, entry: &Value) -> Result<bool, AllocError> {
+        let kinds = list_of(entry, "dep_kinds");
+        if kinds.is_empty() {
+            return Ok(true);
+        }
+        for kind in kinds {
+            let is_for = is_asked(target, kind.get("kind").and_then(Value::as_str));
+            let platform = kind.get("target").and_then(Value::as_str);
+            if is_for && holds(self.alloc, self.cfgs, platform)? {
+                return Ok(true);
+            }
+        }
+        Ok(false)
+    }
+
+    /// Adds all that the plan of a number depends on.
+    fn add_entries(&self, planning: &mut Planning<'a>, number: usize) -> Result<(), AllocError> {
+        let Some((id, target)) = planning.sources.get(number).copied() else {
+            return Ok(());
+        };
+        let Some(package) = self.packages.get(&id) else {
+            return Ok(());
+        };
+        if target.knows_library() {
+            if let Some(library) = library_of(package.package) {
+                self.add_entry(planning, number, library.name, id)?;
+            }
+        }
+        for entry in list_of(package.node, "deps") {
+            if self.counts(target, entry)? {
+                self.add_entry(
+                    planning,
+                    number,
+                    text_of(entry, "name"),
+                    text_of(entry, "pkg"),
+                )?;
+            }
+        }
+        Ok(())
+    }
+}
+
+/// The plans of the crate of a root and of all that it depends on.
+fn plans_in<'a>(
+    workspace: &Workspace<'a>,
+    given: &Arguments<'_>,
+    id: &'a str,
+    target: CargoTarget<'a>,
+) -> Result<Vec<CratePlan>, AllocError> {
+    let alloc = workspace.alloc;
+    let mut planning = Planning {
+        plans: Vec::new(alloc),
+        libraries: IndexMap::new(alloc),
+        sources: Vec::new(alloc),
+    };
+    let edition = given.edition.unwrap_or(target.edition);
+    workspace.add_plan(&mut planning, id, target, given.root, edition)?;
+    for number in 0..usize::MAX {
+        if number >= planning.plans.len() {
+            break;
+        }
+        workspace.add_entries(&mut planning, number)?;
+    }
+    let Planning {
+        plans,
+        libraries: _libraries,
+        sources: _sources,
+    } = planning;
+    Ok(plans)
+}
+
+/// The metadata in a file.
+fn metadata_at<R: Files + AllocGlobal>(rt: &R, path: &str) -> Result<Value, Failure> {
+    let alloc = rt.alloc();
+    let text = needed_text(rt, path)?;
+    match Value::from_str(alloc, text.as_str()) {
+        Ok(metadata) if metadata.get("packages").is_some() => Ok(metadata),
+        Ok(_) | Err(_) => failed(format!(in alloc;
+            "{path}: no metadata: give what `cargo metadata --format-version 1` prints"
+        )?),
+    }
+}
+
+/// The path of a file without links, where it is there.
+fn whole_path<R: Files + AllocGlobal>(rt: &R, path: &str) -> Result<String, AllocError> {
+    match std::fs::canonicalize(rt, path) {
+        Ok(whole) => String::from_str(rt.alloc(), whole.as_path().to_str().unwrap_or(path)),
+        Err(_error) => String::from_str(rt.alloc(), path),
+    }
+}
+
+/// The plans of the crates that the metadata in a file has of the crate that is asked about.
+pub(crate) fn planned_by<R: Files + AllocGlobal>(
+    rt: &R,
+    given: &Arguments<'_>,
+    path: &str,
+    cfgs: &str,
+) -> Result<Vec<CratePlan>, Failure> {
+    let alloc = rt.alloc();
+    let metadata = metadata_at(rt, path)?;
+    let workspace = Workspace {
+        alloc,
+        packages: packages_of(alloc, &metadata)?,
+        cfgs,
+    };
+    let root = whole_path(rt, given.root)?;
+    match workspace.asked(root.as_str()) {
+        Some((id, target)) => Ok(plans_in(&workspace, given, id, target)?),
+        None => failed(format!(in alloc;
+            "{path}: no target has the root {root}: give the metadata of its package"
+        )?),
+    }
+}

@@ -1,0 +1,138 @@
+//! Where items stand, as FILE:LINE:COLUMN.
+ghost use Rattle.std.specs.Prelude.{◌≡◌, length};
+
+use crate::offsets::{item_offset, leaf_offset};
+use crate::settled::Settled;
+use crate_modules::file_table::FileTable;
+use crate_modules::line_index::LineIndex;
+use crate_modules::source::Source;
+use dm_base::ids::{FileId, UseId, UseTreeIdx};
+use dm_base::imports::ImportOrExternCrate;
+use std::alloc::{AllocError, Global};
+
+/// The lines of a file.
+#[derive(Drop)]
+struct FileLines<'a> {
+    path: &'a str,
+    /// How long its text is.
+    len: usize,
+    index: LineIndex<'a>,
+    ghost whole: { len ≡ length index },
+}
+
+/// The lines of all files, by their numbers.
+#[derive(Drop)]
+pub(crate) struct Lines<'a> {
+    files: Vec<FileLines<'a>>,
+}
+
+/// The lines of a text.
+fn file_lines<'a>(
+    alloc: Global,
+    path: &'a [u8],
+    text: &'a [u8],
+) -> Result<FileLines<'a>, AllocError> {
+    Ok(FileLines {
+        path: std::str::from_utf8(path).unwrap_or("?"),
+        len: text.len(),
+        index: LineIndex::new(alloc, text)?,
+    })
+}
+
+impl<'a> Lines<'a> {
+    pub(crate) fn new(alloc: Global, files: &'a FileTable) -> Result<Lines<'a>, AllocError> {
+        let mut all = Vec::new(alloc);
+        for number in 0..files.len() {
+            let id = FileId(u32::try_from(number).unwrap_or(u32::MAX));
+            if files.contains(id) {
+                all.push(file_lines(alloc, files.path(id), files.text(id))?)?;
+            }
+        }
+        Ok(Lines { files: all })
+    }
+
+    /// The path of a file, the line and the column of a byte of it.
+    pub(crate) fn place(
+        &self,
+        alloc: Global,
+        file: FileId,
+        offset: usize,
+    ) -> Result<String, AllocError> {
+        let Some(lines) = self.files.get(file.0 as usize) else {
+            return String::from_str(alloc, "?");
+        };
+        let path = lines.path;
+        if offset > lines.len {
+            return String::from_str(alloc, path);
+        }
+        let at = lines.index.line_col(offset);
+        format!(in alloc; "{path}:{}:{}", at.line, at.col)
+    }
+}
+
+/// The file of an import, and the byte of it where the import begins.
+#[derive(Clone, Copy)]
+pub(crate) struct Spot {
+    pub(crate) file: FileId,
+    pub(crate) offset: usize,
+}
+
+/// The source of a file in a crate's list.
+pub(crate) fn source_of(settled: &Settled, krate: usize, file: FileId) -> Option<&Source> {
+    settled.lists().get(krate)?.sources().get(file)
+}
+
+/// Where a leaf of a `use` begins.
+pub(crate) fn use_spot(
+    alloc: Global,
+    settled: &Settled,
+    use_: UseId,
+    leaf: UseTreeIdx,
+) -> Result<Option<Spot>, AllocError> {
+    let Some(place) = settled.use_place(use_) else {
+        return Ok(None);
+    };
+    let Some(source) = source_of(settled, place.krate, place.file) else {
+        return Ok(None);
+    };
+    Ok(Some(Spot {
+        file: place.file,
+        offset: leaf_offset(alloc, source, place.item, leaf)?,
+    }))
+}
+
+/// Where an item of a crate begins.
+pub(crate) fn item_spot(
+    settled: &Settled,
+    krate: usize,
+    file: FileId,
+    item: usize,
+) -> Option<Spot> {
+    let source = source_of(settled, krate, file)?;
+    Some(Spot {
+        file,
+        offset: item_offset(source, item),
+    })
+}
+
+/// Where the import begins that brought something.
+pub(crate) fn import_spot(
+    alloc: Global,
+    settled: &Settled,
+    import: ImportOrExternCrate,
+) -> Result<Option<Spot>, AllocError> {
+    match import {
+        ImportOrExternCrate::Import(id) => use_spot(alloc, settled, id.use_, id.idx),
+        ImportOrExternCrate::Glob(id) => use_spot(alloc, settled, id.use_, id.idx),
+        ImportOrExternCrate::ExternCrate(_id) => Ok(None),
+    }
+}
+
+/// How an import is called.
+pub(crate) fn import_word(import: ImportOrExternCrate) -> &'static str {
+    match import {
+        ImportOrExternCrate::Import(_) => "import",
+        ImportOrExternCrate::Glob(_) => "glob",
+        ImportOrExternCrate::ExternCrate(_) => "extern",
+    }
+}

@@ -1,0 +1,87 @@
+//! The crates that are to be collected, and what each depends on.
+use dm_ids::source::Edition;
+use std::alloc::{AllocError, Global};
+
+/// A crate that a crate depends on, by its number among the plans.
+#[derive(Drop)]
+pub(crate) struct DependencyPlan {
+    pub(crate) name: String,
+    pub(crate) krate: usize,
+    /// Whether paths find it by its name alone.
+    pub(crate) prelude: bool,
+}
+
+/// A crate that is to be collected.
+#[derive(Drop)]
+pub(crate) struct CratePlan {
+    pub(crate) name: String,
+    pub(crate) root: String,
+    pub(crate) edition: Edition,
+    /// Options of its own, as lines.
+    pub(crate) cfgs: String,
+    pub(crate) is_proc_macro: bool,
+    pub(crate) dependencies: Vec<DependencyPlan>,
+}
+
+/// The name of a crate by that of its target.
+fn crate_name(alloc: Global, name: &str) -> Result<String, AllocError> {
+    let mut text = String::new(alloc);
+    for letter in name.chars() {
+        text.push(if letter == '-' { '_' } else { letter })?;
+    }
+    Ok(text)
+}
+
+impl CratePlan {
+    pub(crate) fn new(
+        alloc: Global,
+        name: &str,
+        root: &str,
+        edition: Edition,
+    ) -> Result<CratePlan, AllocError> {
+        Ok(CratePlan {
+            name: crate_name(alloc, name)?,
+            root: String::from_str(alloc, root)?,
+            edition,
+            cfgs: String::new(alloc),
+            is_proc_macro: false,
+            dependencies: Vec::new(alloc),
+        })
+    }
+
+    /// Adds a feature to its options.
+    pub(crate) fn enable(&mut self, feature: &str) -> Result<(), AllocError> {
+        self.cfgs.push_str("feature=\"")?;
+        self.cfgs.push_str(feature)?;
+        self.cfgs.push_str("\"\n")?;
+        Ok(())
+    }
+
+    /// Adds a dependency, unless there is one of this name.
+    pub(crate) fn depend(
+        &mut self,
+        alloc: Global,
+        name: &str,
+        krate: usize,
+        prelude: bool,
+    ) -> Result<(), AllocError> {
+        if self
+            .dependencies
+            .iter()
+            .any(|one| one.name.as_str() == name)
+        {
+            return Ok(());
+        }
+        self.dependencies.push(DependencyPlan {
+            name: String::from_str(alloc, name)?,
+            krate,
+            prelude,
+        })?;
+        Ok(())
+    }
+
+    /// Takes away the dependencies on a crate.
+    pub(crate) fn forget(&mut self, krate: usize) {
+        self.dependencies.retain(|one| one.krate != krate);
+    }
+}

@@ -1,0 +1,76 @@
+//! Files, read as UTF-8, and why one could not be read.
+use crate::failure::{Failure, Status};
+use std::alloc::{AllocError, Global};
+use std::io::{self, ErrorKind, Read};
+use std::rt::Files;
+
+/// What reading a file gave.
+#[derive(Drop)]
+pub(crate) enum FileText {
+    Text(Vec<u8>),
+    /// There is no file of this path.
+    Missing,
+    /// There is something, and this is why it is no text.
+    Unreadable(&'static str),
+}
+
+fn why(kind: ErrorKind) -> &'static str {
+    match kind {
+        ErrorKind::IsADirectory => "a folder and no file: give the file in it",
+        ErrorKind::PermissionDenied => "may not be read: change who may read it",
+        ErrorKind::OutOfMemory => "too large for the memory",
+        ErrorKind::FilesystemLoop => "a circle of links: mend the links",
+        _ => "cannot be read: see whether it is a file",
+    }
+}
+
+fn as_text(bytes: Vec<u8>) -> FileText {
+    if std::str::from_utf8(bytes.as_slice()).is_ok() {
+        FileText::Text(bytes)
+    } else {
+        FileText::Unreadable("not UTF-8: save it as UTF-8")
+    }
+}
+
+fn of_result(read: io::Result<Vec<u8>>) -> FileText {
+    match read {
+        Ok(bytes) => as_text(bytes),
+        Err(error) => match error.kind() {
+            ErrorKind::NotFound | ErrorKind::NotADirectory => FileText::Missing,
+            kind => FileText::Unreadable(why(kind)),
+        },
+    }
+}
+
+/// Reads the file of a path.
+pub(crate) fn file_text<R: Files + AllocGlobal>(rt: &R, path: &str) -> FileText {
+    of_result(std::fs::read(rt, path))
+}
+
+/// Reads the standard input.
+pub(crate) fn input_text<R: Input + AllocGlobal>(rt: &R) -> FileText {
+    let mut bytes = Vec::new(rt.alloc());
+    let mut input = rt.reader();
+    match input.read_to_end(&mut bytes) {
+        Ok(_count) => as_text(bytes),
+        Err(error) => FileText::Unreadable(why(error.kind())),
+    }
+}
+
+/// A line that says why the file of a path was not read.
+pub(crate) fn unread_line(alloc: Global, path: &str, reason: &str) -> Result<String, AllocError> {
+    format!(in alloc; "{path}: {reason}")
+}
+
+/// The text of a file that has to be there.
+pub(crate) fn needed_text<R: Files + AllocGlobal>(rt: &R, path: &str) -> Result<String, Failure> {
+    let alloc = rt.alloc();
+    let reason = match file_text(rt, path) {
+        FileText::Text(bytes) => {
+            return Ok(String::from_utf8(bytes).unwrap_or(String::new(alloc)));
+        }
+        FileText::Missing => "no such file: give the path of one",
+        FileText::Unreadable(reason) => reason,
+    };
+    Err(Failure::Told(Status::Unreadable, unread_line(alloc, path, reason)?))
+}

@@ -1,0 +1,187 @@
+//! The crates that are asked about, collected and settled.
+use crate::glob_order::order_globs;
+use crate::stats::Effort;
+use crate::use_places::{UsePlace, all_items, use_places};
+use crate_items::declared_item::DeclaredItem;
+use crate_modules::crate_graph::CrateGraph;
+use crate_modules::file_table::FileTable;
+use crate_modules::modules::{CrateModules, declared_modules};
+use crate_tables::crate_filling::Reading;
+use dm_base::ids::{Crate, UseId};
+use dm_collector::collect::{Collected, collect};
+use dm_collector::collect_fault::CollectFault;
+use dm_collector::settle::settle;
+use dm_collector::unresolved_names::list_unresolved;
+use dm_maps::world::World;
+use dm_retry::retry::Retry;
+use std::alloc::{AllocError, Global};
+
+/// How many turns imports and globs may take at most.
+const TURNS: u32 = 1_000_000;
+
+/// Crates, settled, with what tells where their items stand.
+#[derive(Drop)]
+pub(crate) struct Settled {
+    pub(crate) files: FileTable,
+    lists: Vec<CrateModules>,
+    items: Vec<Vec<DeclaredItem>>,
+    pub(crate) uses: Vec<UsePlace>,
+    pub(crate) collected: Collected,
+    /// The name of each crate.
+    pub(crate) names: Vec<String>,
+}
+
+/// Why there is no settled world.
+#[derive(Drop)]
+pub(crate) enum NotSettled {
+    TooManyModules(Crate),
+    /// The turns were not enough.
+    Unsettled,
+    /// What the crates declare does not fit together, which does not come up.
+    Unfit,
+    OutOfMemory,
+}
+
+impl From<AllocError> for NotSettled {
+    fn from(_refused: AllocError) -> NotSettled {
+        NotSettled::OutOfMemory
+    }
+}
+
+fn of_fault(fault: CollectFault) -> NotSettled {
+    match fault {
+        CollectFault::TooManyModules(krate) => NotSettled::TooManyModules(krate),
+        CollectFault::OutOfMemory => NotSettled::OutOfMemory,
+        CollectFault::Cycle(_)
+        | CollectFault::NoRootFile(_)
+        | CollectFault::OutOfNumbers
+        | CollectFault::Dangling(_)
+        | CollectFault::Unknown => NotSettled::Unfit,
+    }
+}
+
+/// The modules that each crate declares.
+fn lists_of(
+    alloc: Global,
+    graph: &CrateGraph,
+    reading: &Reading<'_>,
+) -> Result<Vec<CrateModules>, AllocError> {
+    let mut lists = Vec::new(alloc);
+    for krate in graph.crates() {
+        if !reading.files.contains(krate.root_file_id()) {
+            continue;
+        }
+        if let Ok(list) = declared_modules(alloc, krate, reading.files, reading.limit) {
+            lists.push(list)?;
+        }
+    }
+    Ok(lists)
+}
+
+impl Effort {
+    /// Tries imports until none changes anything.
+    fn spend(&mut self, retry: &mut Retry) -> Result<(), AllocError> {
+        for _round in 0..TURNS {
+            let is_changed = retry.round_changed()?;
+            self.rounds = self.rounds.saturating_add(1);
+            self.tries = self.tries.saturating_add(retry.last_tries());
+            if !is_changed {
+                return Ok(());
+            }
+        }
+        Ok(())
+    }
+}
+
+/// Settles what was collected.
+fn settle_all(
+    alloc: Global,
+    collected: &mut Collected,
+    effort: &mut Effort,
+) -> Result<(), NotSettled> {
+    for _turn in 0..TURNS {
+        effort.spend(&mut collected.retry)?;
+        let globs = collected.globs.as_slice();
+        match settle(&mut collected.retry, globs, 1, alloc) {
+            Ok(true) => return Ok(()),
+            Ok(false) => {}
+            Err(_fault) => return Err(NotSettled::Unfit),
+        }
+    }
+    Err(NotSettled::Unsettled)
+}
+
+/// The world of a graph, and what it took to settle it.
+pub(crate) fn world_of(
+    alloc: Global,
+    graph: &CrateGraph,
+    reading: &Reading<'_>,
+) -> Result<(Collected, Effort), NotSettled> {
+    let mut effort = Effort {
+        rounds: 0,
+        tries: 0,
+    };
+    let mut collected = match collect(alloc, graph, reading, 0) {
+        Ok(collected) => collected,
+        Err(fault) => return Err(of_fault(fault)),
+    };
+    effort.spend(&mut collected.retry)?;
+    order_globs(alloc, collected.retry.world(), &mut collected.globs)?;
+    settle_all(alloc, &mut collected, &mut effort)?;
+    list_unresolved(alloc, &mut collected.retry)?;
+    settle_all(alloc, &mut collected, &mut effort)?;
+    Ok((collected, effort))
+}
+
+impl Settled {
+    /// The settled crates of a graph, with what tells where their items stand.
+    pub(crate) fn of_graph(
+        alloc: Global,
+        graph: &CrateGraph,
+        limit: u32,
+        files: FileTable,
+        names: Vec<String>,
+        collected: Collected,
+    ) -> Result<Settled, AllocError> {
+        let reading = Reading {
+            files: &files,
+            limit,
+        };
+        let lists = lists_of(alloc, graph, &reading)?;
+        let items = all_items(alloc, graph, lists.as_slice(), &files)?;
+        let uses = use_places(alloc, lists.as_slice(), items.as_slice())?;
+        Ok(Settled {
+            files,
+            lists,
+            items,
+            uses,
+            collected,
+            names,
+        })
+    }
+
+    pub(crate) fn world(&self) -> &World {
+        self.collected.retry.world()
+    }
+
+    /// The modules of each crate.
+    pub(crate) fn lists(&self) -> &[CrateModules] {
+        self.lists.as_slice()
+    }
+
+    /// The items of each crate.
+    pub(crate) fn items(&self) -> &[Vec<DeclaredItem>] {
+        self.items.as_slice()
+    }
+
+    pub(crate) fn use_place(&self, use_: UseId) -> Option<&UsePlace> {
+        self.uses.get(use_.0 as usize)
+    }
+
+    pub(crate) fn name_of(&self, krate: Crate) -> &str {
+        match self.names.get(krate.0 as usize) {
+            None => "?",
+            Some(name) => name.as_str(),
+        }
+    }
+}

@@ -1,0 +1,110 @@
+//! Modules and visibilities, as they are written.
+use crate::settled::Settled;
+use dm_base::ids::{Crate, ModuleId};
+use dm_base::item_in_ns::ItemModules;
+use dm_base::module_tree::ModuleTree;
+use dm_base::name::Name;
+use dm_base::visibility::Visibility;
+use dm_maps::world::World;
+use std::alloc::{AllocError, Global};
+
+/// The name that a module has in the one that it stands in.
+pub(crate) fn name_in_parent<'a>(
+    world: &'a World,
+    parent: ModuleId,
+    m: ModuleId,
+) -> Option<&'a Name> {
+    let data = world.map_of(parent)?.get(parent)?;
+    let entry = data.children().iter().find(|entry| *entry.1 == m)?;
+    Some(entry.0)
+}
+
+/// The modules from one outwards to the root of its crate.
+pub(crate) fn outwards(
+    alloc: Global,
+    world: &World,
+    m: ModuleId,
+) -> Result<Vec<ModuleId>, AllocError> {
+    let mut around = Vec::new(alloc);
+    let mut next = Some(m);
+    for _module in 0..u32::MAX {
+        let Some(one) = next else {
+            return Ok(around);
+        };
+        around.push(one)?;
+        next = match world.map_of(one) {
+            None => None,
+            Some(map) => match map.get(one) {
+                None => None,
+                Some(data) => data.parent(),
+            },
+        };
+    }
+    Ok(around)
+}
+
+/// The crate of a module, as it is written: the crate that is asked about is `crate`.
+fn crate_word(settled: &Settled, m: ModuleId) -> &str {
+    match settled.world().module_krate(m) {
+        None => "?",
+        Some(krate) if krate == Crate(0) => "crate",
+        Some(krate) => settled.name_of(krate),
+    }
+}
+
+/// The path of a module, from its crate on.
+pub(crate) fn module_path(
+    alloc: Global,
+    settled: &Settled,
+    m: ModuleId,
+) -> Result<String, AllocError> {
+    let world = settled.world();
+    let mut path = String::from_str(alloc, crate_word(settled, m))?;
+    let around = outwards(alloc, world, m)?;
+    let mut parent = None;
+    for child in around.iter().rev() {
+        let Some(home) = parent else {
+            parent = Some(*child);
+            continue;
+        };
+        let name = name_in_parent(world, home, *child);
+        path.push_str("::")?;
+        path.push_str(match name {
+            None => "?",
+            Some(name) => name.as_str(),
+        })?;
+        parent = Some(*child);
+    }
+    Ok(path)
+}
+
+/// Whether a module is the root of its crate.
+fn is_root(world: &World, m: ModuleId) -> bool {
+    match world.map_of(m) {
+        None => false,
+        Some(map) => map.root_module_id() == m,
+    }
+}
+
+/// A visibility, as it is written in a module.
+pub(crate) fn visibility_text(
+    alloc: Global,
+    settled: &Settled,
+    home: ModuleId,
+    visibility: Visibility,
+) -> Result<String, AllocError> {
+    match visibility {
+        Visibility::Public => String::from_str(alloc, "pub"),
+        Visibility::PubCrate(_krate) => String::from_str(alloc, "pub(crate)"),
+        Visibility::Module(m, _is_written) => {
+            if is_root(settled.world(), m) {
+                return String::from_str(alloc, "pub(crate)");
+            }
+            if m == home {
+                return String::from_str(alloc, "pub(self)");
+            }
+            let path = module_path(alloc, settled, m)?;
+            format!(in alloc; "pub(in {path})")
+        }
+    }
+}

@@ -1,0 +1,87 @@
+//! The imports that something goes through, from the module that it is looked up in on.
+use crate::meanings::{Meant, imported, meant_in};
+use crate::settled::Settled;
+use dm_base::imports::{GlobId, ImportId, ImportOrExternCrate};
+use dm_base::name::Name;
+use dm_base::per_ns::Namespace;
+use dm_collector::sources::{GlobImport, GlobSource};
+use dm_retry::pending::Pending;
+use std::alloc::{AllocError, Global};
+
+/// At most so many imports are told.
+const STEPS: usize = 256;
+
+/// The import of an id.
+pub(crate) fn import_of(settled: &Settled, id: ImportId) -> Option<&Pending> {
+    let retry = &settled.collected.retry;
+    for number in 0..retry.len() {
+        if let Some(pending) = retry.get(number) {
+            if pending.import() == id {
+                return Some(pending);
+            }
+        }
+    }
+    None
+}
+
+/// The glob of an id.
+pub(crate) fn glob_of(settled: &Settled, id: GlobId) -> Option<&GlobImport> {
+    let globs = settled.collected.globs.as_slice();
+    globs.iter().find(|glob| glob.import == id)
+}
+
+/// What an import under a name leads to, as it is bound where that stands.
+fn through_import(settled: &Settled, id: ImportId, namespace: Namespace) -> Option<Meant> {
+    let pending = import_of(settled, id)?;
+    let found = imported(settled.world(), pending.origin(), pending.path())?;
+    meant_in(found, namespace)
+}
+
+/// What a glob brings under a name, as it is bound in the glob's source.
+fn through_glob(settled: &Settled, id: GlobId, name: &Name, namespace: Namespace) -> Option<Meant> {
+    let world = settled.world();
+    let glob = glob_of(settled, id)?;
+    if !glob.is_known(world) {
+        return None;
+    }
+    match glob.resolved(world)?.from {
+        GlobSource::Module(m) => meant_in(world.bound_in(m, name), namespace),
+        GlobSource::Enum(_enum) => None,
+    }
+}
+
+/// The imports that brought something which is bound under a name, the last first.
+pub(crate) fn steps_of(
+    alloc: Global,
+    settled: &Settled,
+    name: &Name,
+    meant: Meant,
+    namespace: Namespace,
+) -> Result<Vec<ImportOrExternCrate>, AllocError> {
+    let mut steps = Vec::new(alloc);
+    let mut known = name.copy(alloc)?;
+    let mut next = meant.import;
+    for _step in 0..STEPS {
+        let Some(import) = next else {
+            break;
+        };
+        steps.push(import)?;
+        let before = match import {
+            ImportOrExternCrate::ExternCrate(_) => None,
+            ImportOrExternCrate::Glob(id) => through_glob(settled, id, &known, namespace),
+            ImportOrExternCrate::Import(id) => {
+                if let Some(pending) = import_of(settled, id) {
+                    if let Some(last) = pending.path().segments().last() {
+                        known = last.copy(alloc)?;
+                    }
+                }
+                through_import(settled, id, namespace)
+            }
+        };
+        next = match before {
+            None => None,
+            Some(before) => before.import,
+        };
+    }
+    Ok(steps)
+}

@@ -1,0 +1,254 @@
+//! What leads nowhere in a crate.
+use crate::hidden::{Cause, Hidden};
+use crate::macro_calls::{CallEnd, end_of, item_of};
+use crate::module_ids::{MacroHome, macro_homes};
+use crate::path_text::path_text;
+use crate::places::{Lines, Spot, item_spot, use_spot};
+use crate::settled::Settled;
+use crate_modules::declared_module::ModuleFault;
+use dm_base::ids::{Crate, ModuleId, UseId, UseTreeIdx};
+use dm_base::item_in_ns::ItemModules;
+use dm_base::mod_path::ModPath;
+use dm_collector::sources::GlobImport;
+use dm_maps::world::World;
+use std::alloc::{AllocError, Global};
+
+/// A message, and what it is about.
+#[derive(Drop)]
+pub(crate) struct Told {
+    spot: Option<Spot>,
+    message: String,
+}
+
+/// How many imports of a crate are unknown.
+#[derive(Clone, Copy)]
+pub(crate) struct UnknownCount {
+    pub(crate) by_macros: usize,
+    pub(crate) by_standard: usize,
+    /// Macro calls.
+    pub(crate) calls: usize,
+}
+
+/// What leads nowhere, and how much of what leads nowhere may be there, by crate.
+#[derive(Drop)]
+pub(crate) struct Unresolved {
+    pub(crate) told: Vec<Told>,
+    pub(crate) unknown: Vec<UnknownCount>,
+}
+
+impl UnknownCount {
+    fn add(&mut self, cause: Cause) {
+        match cause {
+            Cause::Macro => self.by_macros = self.by_macros.saturating_add(1),
+            Cause::Standard => self.by_standard = self.by_standard.saturating_add(1),
+        }
+    }
+}
+
+/// The paths that the file of a module was looked for at.
+fn module_message(alloc: Global, fault: &ModuleFault) -> Result<String, AllocError> {
+    if fault.within().is_some() {
+        return String::from_str(alloc, "a file within itself");
+    }
+    let mut paths = String::from_str(alloc, "unresolved module, tried")?;
+    for (place, candidate) in fault.candidates().iter().enumerate() {
+        let path = std::str::from_utf8(candidate.path()).unwrap_or("?");
+        paths.push_str(if place == 0 { " " } else { " and " })?;
+        paths.push_str(path)?;
+    }
+    Ok(paths)
+}
+
+/// Whether the path of a glob means no module and no enum.
+fn leads_nowhere(world: &World, glob: &GlobImport) -> bool {
+    glob.is_known(world) && glob.resolved(world).is_none()
+}
+
+fn is_own(world: &World, home: ModuleId) -> bool {
+    world.module_krate(home) == Some(Crate(0))
+}
+
+impl Unresolved {
+    /// Adds an import that leads nowhere.
+    fn add_import(
+        &mut self,
+        alloc: Global,
+        settled: &Settled,
+        path: &ModPath,
+        leaf: (UseId, UseTreeIdx),
+    ) -> Result<(), AllocError> {
+        let (use_, idx) = leaf;
+        let written = path_text(alloc, path)?;
+        self.told.push(Told {
+            spot: use_spot(alloc, settled, use_, idx)?,
+            message: format!(in alloc; "unresolved import {written}")?,
+        })?;
+        Ok(())
+    }
+
+    /// Counts an unknown import of a module.
+    fn count(&mut self, world: &World, home: ModuleId, cause: Cause) {
+        let Some(krate) = world.module_krate(home) else {
+            return;
+        };
+        if let Some(count) = self.unknown.get_mut(krate.0 as usize) {
+            count.add(cause);
+        }
+    }
+
+    /// Adds the named imports of the crate, and counts the unknown ones of all crates.
+    fn add_named(&mut self, hidden: &Hidden<'_>) -> Result<(), AllocError> {
+        let settled = hidden.settled();
+        let retry = &settled.collected.retry;
+        for place in retry.unresolved()? {
+            let Some(pending) = retry.get(place) else {
+                continue;
+            };
+            if let Some(cause) = hidden.cause_of_named(place) {
+                self.count(settled.world(), pending.origin(), cause);
+            } else if is_own(settled.world(), pending.origin()) {
+                let import = pending.import();
+                let leaf = (import.use_, import.idx);
+                self.add_import(hidden.alloc(), settled, pending.path(), leaf)?;
+            }
+        }
+        Ok(())
+    }
+
+    /// Adds the globs of the crate, and counts the unknown ones of all crates.
+    fn add_globs(&mut self, hidden: &Hidden<'_>) -> Result<(), AllocError> {
+        let settled = hidden.settled();
+        let world = settled.world();
+        for (place, glob) in settled.collected.globs.iter().enumerate() {
+            if !leads_nowhere(world, glob) {
+                continue;
+            }
+            if let Some(cause) = hidden.cause_of_glob(place) {
+                self.count(world, glob.into, cause);
+            } else if is_own(world, glob.into) {
+                let leaf = (glob.import.use_, glob.import.idx);
+                self.add_import(hidden.alloc(), settled, &glob.path, leaf)?;
+            }
+        }
+        Ok(())
+    }
+
+    /// Adds a macro call of the crate that leads nowhere.
+    fn add_call(
+        &mut self,
+        alloc: Global,
+        settled: &Settled,
+        call: MacroHome,
+        path: &ModPath,
+    ) -> Result<(), AllocError> {
+        let Some(item) = item_of(settled, call) else {
+            return Ok(());
+        };
+        let written = path_text(alloc, path)?;
+        self.told.push(Told {
+            spot: item_spot(settled, call.krate, item.file, item.item),
+            message: format!(in alloc; "unresolved macro {written}!")?,
+        })?;
+        Ok(())
+    }
+
+    /// Adds the macro calls of the crate that lead nowhere, and counts the unknown ones of all crates.
+    fn add_calls(&mut self, hidden: &Hidden<'_>, homes: &[MacroHome]) -> Result<(), AllocError> {
+        let settled = hidden.settled();
+        for call in homes {
+            match &end_of(hidden.alloc(), hidden, homes, *call)? {
+                CallEnd::Found => {}
+                CallEnd::Unknown(_cause) => {
+                    if let Some(count) = self.unknown.get_mut(call.krate) {
+                        count.calls = count.calls.saturating_add(1);
+                    }
+                }
+                CallEnd::Nowhere(path) => {
+                    if call.krate == 0 {
+                        self.add_call(hidden.alloc(), settled, *call, path)?;
+                    }
+                }
+            }
+        }
+        Ok(())
+    }
+
+    /// Adds the modules of the crate that have no file.
+    pub(crate) fn add_modules(
+        &mut self,
+        alloc: Global,
+        settled: &Settled,
+    ) -> Result<(), AllocError> {
+        let Some(list) = settled.lists().first() else {
+            return Ok(());
+        };
+        for fault in list.faults() {
+            let declaration = fault.declaration();
+            self.told.push(Told {
+                spot: item_spot(settled, 0, declaration.file, declaration.item),
+                message: module_message(alloc, fault)?,
+            })?;
+        }
+        Ok(())
+    }
+}
+
+/// Nothing that leads nowhere in some crates.
+pub(crate) fn nothing(alloc: Global, crates: usize) -> Result<Unresolved, AllocError> {
+    let mut unknown = Vec::new(alloc);
+    for _krate in 0..crates {
+        unknown.push(UnknownCount {
+            by_macros: 0,
+            by_standard: 0,
+            calls: 0,
+        })?;
+    }
+    Ok(Unresolved {
+        told: Vec::new(alloc),
+        unknown,
+    })
+}
+
+/// What leads nowhere in the crate that is asked about.
+pub(crate) fn find_unresolved(
+    alloc: Global,
+    settled: &Settled,
+    has_sysroot: bool,
+) -> Result<Unresolved, AllocError> {
+    let homes = macro_homes(alloc, settled)?;
+    let hidden = Hidden::of(alloc, settled, has_sysroot, homes.as_slice())?;
+    let mut found = nothing(alloc, settled.names.len())?;
+    found.add_modules(alloc, settled)?;
+    found.add_named(&hidden)?;
+    found.add_globs(&hidden)?;
+    found.add_calls(&hidden, homes.as_slice())?;
+    Ok(found)
+}
+
+/// What a message is sorted by.
+fn order_of(told: &Told) -> (u32, usize) {
+    match told.spot {
+        None => (u32::MAX, 0),
+        Some(spot) => (spot.file.0, spot.offset),
+    }
+}
+
+/// The messages, each in a line, in the order of the files and their bytes.
+pub(crate) fn message_lines(
+    alloc: Global,
+    lines: &Lines<'_>,
+    told: &mut Vec<Told>,
+) -> Result<String, AllocError> {
+    told.sort_by_key(|one| order_of(one))?;
+    let mut out = String::new(alloc);
+    for one in told.iter() {
+        if let Some(spot) = one.spot {
+            let place = lines.place(alloc, spot.file, spot.offset)?;
+            out.push_str(place.as_str())?;
+            out.push_str(": ")?;
+        }
+        out.push_str(one.message.as_str())?;
+        out.push_str("\n")?;
+    }
+    Ok(out)
+}
