@@ -2,7 +2,7 @@
 use crate::definitions::definition_text;
 use crate::hidden::Hidden;
 use crate::macro_homes::macro_homes;
-use crate::meanings::{import_meaning, meant_in};
+use crate::meanings::{imported, meant_in};
 use crate::path_text::path_text;
 use crate::places::{Lines, use_spot};
 use crate::settled::Settled;
@@ -72,12 +72,12 @@ impl<'s, 'h, 'l, 'f> Listing<'s, 'h, 'l, 'f> {
         self.out.push_str(": ")?;
         self.out.push_str(written.as_str())?;
         self.out.push_str(if kind.is_none() { "::*" } else { "" })?;
-        let words = match import_meaning(self.settled.world(), home, path) {
-            Some(found) if found.segment_index.is_none() => {
-                let meant = taken(kind.unwrap_or(ImportKind::TypeOnly), found.resolved_def);
+        let words = match imported(self.settled.world(), home, path) {
+            None => String::new(self.alloc),
+            Some(found) => {
+                let meant = taken(kind.unwrap_or(ImportKind::TypeOnly), found);
                 meant_words(self.alloc, self.settled, meant)?
             }
-            _ => String::new(self.alloc),
         };
         self.out.push_str(words.as_str())?;
         self.out

@@ -26,6 +26,19 @@ pub(crate) fn import_meaning(
     }
 }
 
+/// What an import of a module takes by its path: of another crate what is public alone.
+pub(crate) fn imported(world: &World, m: ModuleId, path: &ModPath) -> Option<PerNs> {
+    let found = import_meaning(world, m, path)?;
+    if found.segment_index.is_some() {
+        return None;
+    }
+    if found.prefix_info.differing_crate {
+        let public = |visibility: Visibility| visibility.is_visible_from_other_crate();
+        return Some(found.resolved_def.filter_visibility(public));
+    }
+    Some(found.resolved_def)
+}
+
 /// What a path that is no import's means in a module. None where the world has not what these name.
 pub(crate) fn meaning(world: &World, m: ModuleId, path: &ModPath) -> Option<ResolvePathResult> {
     meaning_with(world, m, path, None)

@@ -1,5 +1,5 @@
 //! The imports that something goes through, from the module that it is looked up in on.
-use crate::meanings::{Meant, import_meaning, meant_in};
+use crate::meanings::{Meant, imported, meant_in};
 use crate::settled::Settled;
 use dm_base::imports::{GlobId, ImportId, ImportOrExternCrate};
 use dm_base::name::Name;
@@ -33,8 +33,8 @@ pub(crate) fn glob_of(settled: &Settled, id: GlobId) -> Option<&GlobImport> {
 /// What an import under a name leads to, as it is bound where that stands.
 fn through_import(settled: &Settled, id: ImportId, namespace: Namespace) -> Option<Meant> {
     let pending = import_of(settled, id)?;
-    let found = import_meaning(settled.world(), pending.origin(), pending.path())?;
-    meant_in(found.resolved_def, namespace)
+    let found = imported(settled.world(), pending.origin(), pending.path())?;
+    meant_in(found, namespace)
 }
 
 /// What a glob brings under a name, as it is bound in the glob's source.
