@@ -4,8 +4,8 @@
 //! names, or one that is itself unknown. An import that leads nowhere is *unknown* where it begins with a crate of the
 //! standard library, which is not given; where the module that its first missing name is looked up in hides names; and
 //! where an unknown import of that module would bind this name.
+use crate::macro_homes::MacroHome;
 use crate::meanings::import_meaning;
-use crate::module_ids::MacroHome;
 use crate::settled::Settled;
 use crate::written_path::prefix_of;
 use dm_base::ids::ModuleId;

@@ -1,8 +1,8 @@
 //! What each import of a crate means.
 use crate::definitions::definition_text;
 use crate::hidden::Hidden;
+use crate::macro_homes::macro_homes;
 use crate::meanings::{imported, meant_in};
-use crate::module_ids::macro_homes;
 use crate::path_text::path_text;
 use crate::places::{Lines, use_spot};
 use crate::settled::Settled;

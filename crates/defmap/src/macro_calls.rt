@@ -1,7 +1,7 @@
 //! The macro calls among the items of a crate that lead nowhere.
 use crate::hidden::{Cause, Hidden};
+use crate::macro_homes::MacroHome;
 use crate::meanings::macro_meaning;
-use crate::module_ids::MacroHome;
 use crate::settled::Settled;
 use crate::shown::outwards;
 use crate_items::declared_item::DeclaredItem;

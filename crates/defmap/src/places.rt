@@ -6,8 +6,9 @@ use crate::settled::Settled;
 use crate_modules::file_table::FileTable;
 use crate_modules::line_index::LineIndex;
 use crate_modules::source::Source;
-use dm_base::ids::{FileId, UseId, UseTreeIdx};
+use dm_base::ids::{ExternCrateId, FileId, UseId, UseTreeIdx};
 use dm_base::imports::ImportOrExternCrate;
+use dm_base::item_in_ns::ItemModules;
 use std::alloc::{AllocError, Global};
 
 /// The lines of a file.
@@ -115,6 +116,13 @@ pub(crate) fn item_spot(
     })
 }
 
+/// Where an `extern crate` begins.
+fn extern_spot(settled: &Settled, id: ExternCrateId) -> Option<Spot> {
+    let row = settled.collected.externs.get(id.0 as usize)?;
+    let krate = settled.world().module_krate(row.home)?;
+    item_spot(settled, krate.0 as usize, row.file, row.item)
+}
+
 /// Where the import begins that brought something.
 pub(crate) fn import_spot(
     alloc: Global,
@@ -124,7 +132,7 @@ pub(crate) fn import_spot(
     match import {
         ImportOrExternCrate::Import(id) => use_spot(alloc, settled, id.use_, id.idx),
         ImportOrExternCrate::Glob(id) => use_spot(alloc, settled, id.use_, id.idx),
-        ImportOrExternCrate::ExternCrate(_id) => Ok(None),
+        ImportOrExternCrate::ExternCrate(id) => Ok(extern_spot(settled, id)),
     }
 }
 

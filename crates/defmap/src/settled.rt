@@ -1,11 +1,11 @@
 //! The crates that are asked about, collected and settled.
 use crate::glob_order::order_globs;
+use crate::item_places::{ItemPlace, all_items, use_places};
 use crate::stats::Effort;
-use crate::use_places::{UsePlace, all_items, use_places};
 use crate_items::declared_item::DeclaredItem;
 use crate_modules::crate_graph::CrateGraph;
 use crate_modules::file_table::FileTable;
-use crate_modules::modules::{CrateModules, declared_modules};
+use crate_modules::modules::CrateModules;
 use crate_tables::crate_filling::Reading;
 use dm_base::ids::{Crate, UseId};
 use dm_collector::collect::{Collected, collect};
@@ -14,6 +14,7 @@ use dm_collector::settle::settle;
 use dm_collector::unresolved_names::list_unresolved;
 use dm_maps::world::World;
 use dm_retry::retry::Retry;
+use indexmap::IndexMap;
 use std::alloc::{AllocError, Global};
 
 /// How many turns imports and globs may take at most.
@@ -23,9 +24,8 @@ const TURNS: u32 = 1_000_000;
 #[derive(Drop)]
 pub(crate) struct Settled {
     pub(crate) files: FileTable,
-    lists: Vec<CrateModules>,
     items: Vec<Vec<DeclaredItem>>,
-    pub(crate) uses: Vec<UsePlace>,
+    uses: IndexMap<UseId, ItemPlace>,
     pub(crate) collected: Collected,
     /// The name of each crate.
     pub(crate) names: Vec<String>,
@@ -58,24 +58,6 @@ fn of_fault(fault: CollectFault) -> NotSettled {
         | CollectFault::Dangling(_)
         | CollectFault::Unknown => NotSettled::Unfit,
     }
-}
-
-/// The modules that each crate declares.
-fn lists_of(
-    alloc: Global,
-    graph: &CrateGraph,
-    reading: &Reading<'_>,
-) -> Result<Vec<CrateModules>, AllocError> {
-    let mut lists = Vec::new(alloc);
-    for krate in graph.crates() {
-        if !reading.files.contains(krate.root_file_id()) {
-            continue;
-        }
-        if let Ok(list) = declared_modules(alloc, krate, reading.files, reading.limit) {
-            lists.push(list)?;
-        }
-    }
-    Ok(lists)
 }
 
 impl Effort {
@@ -138,21 +120,14 @@ impl Settled {
     pub(crate) fn of_graph(
         alloc: Global,
         graph: &CrateGraph,
-        limit: u32,
         files: FileTable,
         names: Vec<String>,
         collected: Collected,
     ) -> Result<Settled, AllocError> {
-        let reading = Reading {
-            files: &files,
-            limit,
-        };
-        let lists = lists_of(alloc, graph, &reading)?;
-        let items = all_items(alloc, graph, lists.as_slice(), &files)?;
-        let uses = use_places(alloc, lists.as_slice(), items.as_slice())?;
+        let items = all_items(alloc, graph, collected.lists.as_slice(), &files)?;
+        let uses = use_places(alloc, collected.tables.as_slice())?;
         Ok(Settled {
             files,
-            lists,
             items,
             uses,
             collected,
@@ -166,7 +141,7 @@ impl Settled {
 
     /// The modules of each crate.
     pub(crate) fn lists(&self) -> &[CrateModules] {
-        self.lists.as_slice()
+        self.collected.lists.as_slice()
     }
 
     /// The items of each crate.
@@ -174,8 +149,8 @@ impl Settled {
         self.items.as_slice()
     }
 
-    pub(crate) fn use_place(&self, use_: UseId) -> Option<&UsePlace> {
-        self.uses.get(use_.0 as usize)
+    pub(crate) fn use_place(&self, use_: UseId) -> Option<&ItemPlace> {
+        self.uses.get(&use_)
     }
 
     pub(crate) fn name_of(&self, krate: Crate) -> &str {

@@ -93,7 +93,7 @@ pub(crate) fn settle_inputs(
             return Err(Failure::Told(Status::Unreadable, line));
         }
     };
-    let settled = Settled::of_graph(alloc, &made.graph, limit, files, names, collected)?;
+    let settled = Settled::of_graph(alloc, &made.graph, files, names, collected)?;
     Ok(SettledInputs {
         settled,
         effort,

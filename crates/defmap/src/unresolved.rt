@@ -1,7 +1,7 @@
 //! What leads nowhere in a crate.
 use crate::hidden::{Cause, Hidden};
 use crate::macro_calls::{CallEnd, end_of, item_of};
-use crate::module_ids::{MacroHome, macro_homes};
+use crate::macro_homes::{MacroHome, macro_homes};
 use crate::path_text::path_text;
 use crate::places::{Lines, Spot, item_spot, use_spot};
 use crate::settled::Settled;

@@ -1,0 +1,67 @@
+//! The items of crates, and where those of a world are written.
+use crate_items::declared_item::{DeclaredItem, declared_items};
+use crate_items::module_items::module_items;
+use crate_modules::crate_graph::CrateGraph;
+use crate_modules::file_table::FileTable;
+use crate_modules::modules::CrateModules;
+use crate_tables::crate_table::CrateTable;
+use dm_base::ids::{Crate, FileId, UseId};
+use indexmap::IndexMap;
+use std::alloc::{AllocError, Global};
+
+/// The crate, the file and the number there of an item.
+#[derive(Clone, Copy)]
+pub(crate) struct ItemPlace {
+    pub(crate) krate: usize,
+    pub(crate) file: FileId,
+    pub(crate) item: usize,
+}
+
+/// The items of a crate.
+fn items_of(
+    alloc: Global,
+    graph: &CrateGraph,
+    krate: usize,
+    list: &CrateModules,
+    files: &FileTable,
+) -> Result<Vec<DeclaredItem>, AllocError> {
+    let id = Crate(u32::try_from(krate).unwrap_or(u32::MAX));
+    if !graph.contains(id) {
+        return Ok(Vec::new(alloc));
+    }
+    let rows = module_items(alloc, list)?;
+    declared_items(alloc, graph.get(id).edition(), list, files, rows.as_slice())
+}
+
+/// The items of each crate.
+pub(crate) fn all_items(
+    alloc: Global,
+    graph: &CrateGraph,
+    lists: &[CrateModules],
+    files: &FileTable,
+) -> Result<Vec<Vec<DeclaredItem>>, AllocError> {
+    let mut items = Vec::new(alloc);
+    for (krate, list) in lists.iter().enumerate() {
+        items.push(items_of(alloc, graph, krate, list, files)?)?;
+    }
+    Ok(items)
+}
+
+/// The places of the uses of crates.
+pub(crate) fn use_places(
+    alloc: Global,
+    tables: &[CrateTable],
+) -> Result<IndexMap<UseId, ItemPlace>, AllocError> {
+    let mut places = IndexMap::new(alloc);
+    for (krate, table) in tables.iter().enumerate() {
+        for place in table.uses() {
+            let written = ItemPlace {
+                krate,
+                file: place.file,
+                item: place.item,
+            };
+            places.insert(place.use_, written)?;
+        }
+    }
+    Ok(places)
+}
