@@ -1,16 +1,22 @@
-//! What a fixture leaves: the def map of each of its crates, and what is told of them.
+//! What a fixture leaves: the def map of each of its crates, what is told of them, and how many imports and macro calls are
+//! unknown.
 use crate::fixture::Fixture;
 use crate::graph::{files_of, graph_of};
-use crate::use_places::{UsePlace, items_of, use_places};
+use crate::macro_view::{MacroView, calls_of};
+use collector_diagnostics::macro_calls::unresolved_macro_calls;
 use crate_diagnostics::declarations::declaration_faults;
 use crate_diagnostics::diagnostic::{Diagnostic, DiagnosticKind, Place};
 use crate_diagnostics::lines::lines;
 use crate_diagnostics::message::{Message, message_of, push_messages};
 use crate_diagnostics::unconfigured::unconfigured;
+use crate_items::declared_item::{DeclaredItem, declared_items};
+use crate_items::module_items::module_items;
+use crate_modules::crate_data::CrateData;
 use crate_modules::crate_graph::CrateGraph;
 use crate_modules::file_table::FileTable;
-use crate_modules::modules::{CrateModules, declared_modules};
+use crate_modules::modules::CrateModules;
 use crate_tables::crate_filling::Reading;
+use crate_tables::item_place::UsePlace;
 use dm_base::ids::{Crate, UseId, UseTreeIdx};
 use dm_collector::collect::{Collected, collect};
 use dm_collector::settle::settle;
@@ -25,30 +31,26 @@ const LIMIT: u32 = 8_192;
 
 /// The crates of a fixture, settled.
 #[derive(Drop)]
-struct Settled {
-    files: FileTable,
-    graph: CrateGraph,
-    lists: Vec<CrateModules>,
-    uses: Vec<UsePlace>,
-    collected: Collected,
+pub(crate) struct Settled {
+    pub(crate) files: FileTable,
+    pub(crate) graph: CrateGraph,
+    pub(crate) collected: Collected,
 }
 
-/// The modules that each crate declares.
-fn lists_of(
-    alloc: Global,
-    graph: &CrateGraph,
-    files: &FileTable,
-) -> Result<Vec<CrateModules>, AllocError> {
-    let mut lists = Vec::new(alloc);
-    for krate in graph.crates() {
-        if !files.contains(krate.root_file_id()) {
-            continue;
-        }
-        if let Ok(list) = declared_modules(alloc, krate, files, LIMIT) {
-            lists.push(list)?;
+/// What is told, and how much is unknown in each crate.
+#[derive(Drop)]
+struct Found {
+    messages: Vec<Message>,
+    unknown: Vec<u32>,
+}
+
+impl Found {
+    /// Counts something that is unknown in a crate.
+    fn count_unknown(&mut self, krate: usize) {
+        if let Some(count) = self.unknown.get_mut(krate) {
+            *count = count.saturating_add(1);
         }
     }
-    Ok(lists)
 }
 
 /// Lists the names of imports that lead nowhere, and settles again. Answers whether that was reached.
@@ -69,8 +71,6 @@ fn list_names(alloc: Global, collected: &mut Collected) -> Result<bool, AllocErr
 fn settled_by(alloc: Global, fixture: &Fixture<'_>) -> Result<Option<Settled>, AllocError> {
     let files = files_of(alloc, fixture)?;
     let graph = graph_of(alloc, fixture, &files)?;
-    let lists = lists_of(alloc, &graph, &files)?;
-    let uses = use_places(alloc, &graph, lists.as_slice(), &files)?;
     let reading = Reading {
         files: &files,
         limit: LIMIT,
@@ -84,8 +84,6 @@ fn settled_by(alloc: Global, fixture: &Fixture<'_>) -> Result<Option<Settled>, A
     Ok(Some(Settled {
         files,
         graph,
-        lists,
-        uses,
         collected,
     }))
 }
@@ -98,19 +96,50 @@ fn is_unresolved(world: &World, glob: &GlobImport) -> bool {
     glob.resolved(world).is_none()
 }
 
+/// The items of a crate.
+pub(crate) fn items_of(
+    alloc: Global,
+    krate: &CrateData,
+    list: &CrateModules,
+    files: &FileTable,
+) -> Result<Vec<DeclaredItem>, AllocError> {
+    let rows = module_items(alloc, list)?;
+    declared_items(alloc, krate.edition(), list, files, rows.as_slice())
+}
+
 impl Settled {
-    /// Adds what is told of an import that leads nowhere.
+    /// The world.
+    pub(crate) fn world(&self) -> &World {
+        self.collected.retry.world()
+    }
+
+    /// The crate of a use, and where it is written.
+    fn place_of(&self, use_: UseId) -> Option<(usize, UsePlace)> {
+        for (krate, table) in self.collected.tables.iter().enumerate() {
+            if let Some(place) = table.uses().iter().find(|place| place.use_ == use_) {
+                return Some((krate, *place));
+            }
+        }
+        None
+    }
+
+    /// Adds what is told of an import that leads nowhere, unless a macro may hide what it imports.
     fn add_import(
         &self,
-        messages: &mut Vec<Message>,
+        found: &mut Found,
         alloc: Global,
+        is_hidden: bool,
         use_: UseId,
         idx: UseTreeIdx,
     ) -> Result<(), AllocError> {
-        let Some(place) = self.uses.get(use_.0 as usize) else {
+        let Some((krate, place)) = self.place_of(use_) else {
             return Ok(());
         };
-        let Some(list) = self.lists.get(place.krate) else {
+        if is_hidden {
+            found.count_unknown(krate);
+            return Ok(());
+        }
+        let Some(list) = self.collected.lists.get(krate) else {
             return Ok(());
         };
         let diagnostic = Diagnostic {
@@ -118,64 +147,98 @@ impl Settled {
             place: Place::UseTree(place.item, idx),
             kind: DiagnosticKind::UnresolvedImport,
         };
-        messages.push(message_of(alloc, list, &diagnostic)?)?;
+        found.messages.push(message_of(alloc, list, &diagnostic)?)?;
         Ok(())
     }
 
     /// Adds what is told of named imports.
-    fn add_imports(&self, messages: &mut Vec<Message>, alloc: Global) -> Result<(), AllocError> {
+    fn add_imports(
+        &self,
+        found: &mut Found,
+        alloc: Global,
+        view: &MacroView,
+    ) -> Result<(), AllocError> {
         for place in self.collected.retry.unresolved()? {
             if let Some(pending) = self.collected.retry.get(place) {
                 let import = pending.import();
-                self.add_import(messages, alloc, import.use_, import.idx)?;
+                let is_hidden =
+                    view.hides_import(alloc, self.world(), pending.origin(), pending.path())?;
+                self.add_import(found, alloc, is_hidden, import.use_, import.idx)?;
             }
         }
         Ok(())
     }
 
     /// Adds what is told of globs.
-    fn add_globs(&self, messages: &mut Vec<Message>, alloc: Global) -> Result<(), AllocError> {
+    fn add_globs(
+        &self,
+        found: &mut Found,
+        alloc: Global,
+        view: &MacroView,
+    ) -> Result<(), AllocError> {
         for glob in &self.collected.globs {
-            if is_unresolved(self.collected.retry.world(), glob) {
-                self.add_import(messages, alloc, glob.import.use_, glob.import.idx)?;
+            if is_unresolved(self.world(), glob) {
+                let is_hidden = view.hides_import(alloc, self.world(), glob.into, &glob.path)?;
+                self.add_import(found, alloc, is_hidden, glob.import.use_, glob.import.idx)?;
             }
         }
         Ok(())
     }
 
-    /// Adds what is told of the declarations of the crate of a number.
+    /// Adds what is told of the declarations of a crate.
     fn add_declarations(
         &self,
         messages: &mut Vec<Message>,
         alloc: Global,
-        number: usize,
+        krate: &CrateData,
         list: &CrateModules,
+        items: &[DeclaredItem],
     ) -> Result<(), AllocError> {
-        let Some(krate) = self.graph.crates().get(number) else {
-            return Ok(());
-        };
-        let items = items_of(alloc, &self.graph, number, list, &self.files)?;
-        let faults = declaration_faults(
-            alloc,
-            list,
-            &self.files,
-            krate.dependencies(),
-            items.as_slice(),
-        )?;
+        let faults = declaration_faults(alloc, list, &self.files, krate.dependencies(), items)?;
         push_messages(messages, alloc, list, faults.as_slice())?;
-        let inactive = unconfigured(alloc, list, items.as_slice())?;
+        let inactive = unconfigured(alloc, list, items)?;
         push_messages(messages, alloc, list, inactive.as_slice())
     }
 
-    /// What is told of the crates.
-    fn told(&self, alloc: Global) -> Result<String, AllocError> {
-        let mut messages = Vec::new(alloc);
-        for (number, list) in self.lists.iter().enumerate() {
-            self.add_declarations(&mut messages, alloc, number, list)?;
+    /// Adds what is told of the macro calls of the crate of a number.
+    fn add_calls(
+        &self,
+        found: &mut Found,
+        alloc: Global,
+        view: &MacroView,
+        number: usize,
+        list: &CrateModules,
+    ) -> Result<(), AllocError> {
+        let mut wrong = Vec::new(alloc);
+        for call in calls_of(alloc, self, number)? {
+            if call.called.is_none() && view.hides_call(alloc, self.world(), &call)? {
+                found.count_unknown(number);
+            } else {
+                wrong.push(call)?;
+            }
         }
-        self.add_imports(&mut messages, alloc)?;
-        self.add_globs(&mut messages, alloc)?;
-        lines(alloc, &self.files, messages)
+        let told = unresolved_macro_calls(alloc, wrong.as_slice())?;
+        push_messages(&mut found.messages, alloc, list, told.as_slice())
+    }
+
+    /// What is told of the crates.
+    fn found(&self, alloc: Global) -> Result<Found, AllocError> {
+        let view = MacroView::new(alloc, self)?;
+        let mut found = Found {
+            messages: Vec::new(alloc),
+            unknown: Vec::new(alloc),
+        };
+        for (number, list) in self.collected.lists.iter().enumerate() {
+            found.unknown.push(0)?;
+            if let Some(krate) = self.graph.crates().get(number) {
+                let items = items_of(alloc, krate, list, &self.files)?;
+                self.add_declarations(&mut found.messages, alloc, krate, list, items.as_slice())?;
+            }
+            self.add_calls(&mut found, alloc, &view, number, list)?;
+        }
+        self.add_imports(&mut found, alloc, &view)?;
+        self.add_globs(&mut found, alloc, &view)?;
+        Ok(found)
     }
 }
 
@@ -198,10 +261,18 @@ pub(crate) fn left_by(alloc: Global, fixture: &Fixture<'_>) -> Result<String, Al
         return Ok(out);
     };
     for (number, krate) in fixture.crates.iter().enumerate() {
-        let dump = dump_of(alloc, settled.collected.retry.world(), number)?;
+        let dump = dump_of(alloc, settled.world(), number)?;
         let shown = format!(in alloc; "# {}\n{dump}", krate.name)?;
         out.push_str(shown.as_str())?;
     }
-    out.push_str(settled.told(alloc)?.as_str())?;
+    let found = settled.found(alloc)?;
+    out.push_str(lines(alloc, &settled.files, found.messages)?.as_str())?;
+    for (number, krate) in fixture.crates.iter().enumerate() {
+        let count = found.unknown.get(number).copied().unwrap_or(0);
+        if count > 0 {
+            let shown = format!(in alloc; "{}: {count} unknown\n", krate.name)?;
+            out.push_str(shown.as_str())?;
+        }
+    }
     Ok(out)
 }

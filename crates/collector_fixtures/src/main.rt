@@ -4,7 +4,7 @@
 mod fixture;
 mod graph;
 mod left;
-mod use_places;
+mod macro_view;
 
 use crate::fixture::fixtures;
 use crate::left::left_by;
