@@ -9,6 +9,7 @@ class Crate:
         self.root = f"{name}/lib.rs"
         self.files = {self.root: []}
         self.scopes = {(): {}}
+        self.textual = {}
 
     def module(self, path):
         """A module of that path, which is bound in its parent."""
@@ -18,6 +19,10 @@ class Crate:
 
     def bind(self, path, name, meaning):
         self.scopes[path][name] = meaning
+
+    def define(self, path, name):
+        """A macro in the textual scope where the module ends."""
+        self.textual.setdefault(path, []).append(name)
 
     def line(self, file, text):
         self.files.setdefault(file, []).append(text)
@@ -42,6 +47,7 @@ class Crate:
             shown = ["crate" + "".join("::" + part for part in path)]
             for name in sorted(self.scopes[path], key=str.encode):
                 shown.append(f"- {name} : {self.scopes[path][name]}")
+            shown += [f"- (legacy) {name} : macro!" for name in sorted(self.textual.get(path, []))]
             parts.append("\n".join(shown))
         return [f"# {self.name}", "\n\n".join(parts)]
 
@@ -214,6 +220,7 @@ def platforms(size):
             crate.bind((name,), variant, by("type value", "glob"))
         crate.line(file, f"#[macro_export]\nmacro_rules! exported_{k} {{ ($x:expr) => {{ $x; {{}} }} }}")
         crate.bind((), f"exported_{k}", "macro!")
+        crate.define((name,), f"exported_{k}")
         crate.line(crate.root, f"use {name}::Trait as Trait{k};\npub use crate::exported_{k} as again_{k};")
         crate.bind((), f"Trait{k}", by("type", "import"))
         crate.bind((), f"again_{k}", by("macro!", "import"))
