@@ -10,6 +10,7 @@ class Crate:
         self.files = {self.root: []}
         self.scopes = {(): {}}
         self.textual = {}
+        self.inactive = 0  # how many items `cfg` takes away
 
     def module(self, path):
         """A module of that path, which is bound in its parent."""
@@ -226,6 +227,7 @@ def platforms(size):
         crate.bind((), f"again_{k}", by("macro!", "import"))
         crate.line(crate.root, f"cfg_if! {{ if #[cfg(windows)] {{ fn way_{k}() {{}} }} else {{ struct Way_{k} {{}} }} }}")
         crate.bind((), f"Way_{k}", "type")
+        crate.inactive += 3  # a module, a use and a function
     return [crate]
 
 
