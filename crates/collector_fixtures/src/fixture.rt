@@ -1,7 +1,8 @@
 //! Fixtures: small crate graphs in text.
 //!
 //! A fixture begins with a line `=== NAME`. A line `//- PATH` begins a file; words behind it make it the root of a crate:
-//! `crate:NAME`, `edition:2018`, `deps:a,name=b` and `cfg:a,b`.
+//! `crate:NAME`, `edition:2018`, `deps:a,name=b` for what is in the extern prelude, `hidden:a` for what `extern crate`
+//! alone finds, and `cfg:a,b`.
 use dm_ids::source::Edition;
 use std::alloc::{AllocError, Global};
 
@@ -20,6 +21,8 @@ pub(crate) struct FixtureCrate<'a> {
     pub(crate) edition: Edition,
     /// What it depends on, with commas between: names of crates, or `NAME=CRATE`.
     pub(crate) deps: &'a str,
+    /// The same of what is not in the extern prelude.
+    pub(crate) hidden: &'a str,
     /// Options that hold in it, with commas between.
     pub(crate) cfgs: &'a str,
 }
@@ -50,6 +53,7 @@ fn with_word<'a>(krate: FixtureCrate<'a>, word: &'a str) -> FixtureCrate<'a> {
             ..krate
         },
         Some(("deps", deps)) => FixtureCrate { deps, ..krate },
+        Some(("hidden", hidden)) => FixtureCrate { hidden, ..krate },
         Some(("cfg", cfgs)) => FixtureCrate { cfgs, ..krate },
         _ => krate,
     }
@@ -64,6 +68,7 @@ fn crate_of(rest: &str) -> Option<FixtureCrate<'_>> {
         root,
         edition: Edition::Edition2021,
         deps: "",
+        hidden: "",
         cfgs: "",
     };
     for word in words {

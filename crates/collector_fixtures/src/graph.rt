@@ -56,6 +56,7 @@ fn dependency(
     alloc: Global,
     fixture: &Fixture<'_>,
     word: &str,
+    prelude: bool,
 ) -> Result<Option<Dependency>, AllocError> {
     let (name, of) = word.split_once('=').unwrap_or((word, word));
     let Some(crate_id) = numbered(fixture, of) else {
@@ -64,22 +65,24 @@ fn dependency(
     Ok(Some(Dependency {
         crate_id,
         name: Name::new(alloc, name)?,
-        prelude: true,
+        prelude,
     }))
 }
 
-/// Adds what a crate depends on.
+/// Adds what a crate depends on by some words, in the extern prelude or not.
 fn add_deps(
     alloc: Global,
     graph: &mut CrateGraph,
     fixture: &Fixture<'_>,
-    krate: FixtureCrate<'_>,
+    name: &str,
+    words: &str,
+    prelude: bool,
 ) -> Result<(), AllocError> {
-    let Some(from) = numbered(fixture, krate.name) else {
+    let Some(from) = numbered(fixture, name) else {
         return Ok(());
     };
-    for word in krate.deps.split(',') {
-        let Some(dependency) = dependency(alloc, fixture, word)? else {
+    for word in words.split(',') {
+        let Some(dependency) = dependency(alloc, fixture, word, prelude)? else {
             continue;
         };
         if graph.contains(from) && graph.contains(dependency.crate_id) {
@@ -112,7 +115,8 @@ pub(crate) fn graph_of(
         }
     }
     for krate in &fixture.crates {
-        add_deps(alloc, &mut graph, fixture, *krate)?;
+        add_deps(alloc, &mut graph, fixture, krate.name, krate.deps, true)?;
+        add_deps(alloc, &mut graph, fixture, krate.name, krate.hidden, false)?;
     }
     Ok(graph)
 }

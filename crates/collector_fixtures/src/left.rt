@@ -2,11 +2,9 @@
 use crate::fixture::Fixture;
 use crate::graph::{files_of, graph_of};
 use crate::told::{Told, add_module_faults, leaf_offset, lines};
-use crate::use_places::{UsePlace, use_places};
-use crate_modules::crate_graph::CrateGraph;
 use crate_modules::file_table::FileTable;
-use crate_modules::modules::{CrateModules, declared_modules};
 use crate_tables::crate_filling::Reading;
+use crate_tables::item_place::UsePlace;
 use dm_base::ids::{Crate, UseId, UseTreeIdx};
 use dm_collector::collect::{Collected, collect};
 use dm_collector::settle::settle;
@@ -23,27 +21,7 @@ const LIMIT: u32 = 8_192;
 #[derive(Drop)]
 struct Settled {
     files: FileTable,
-    lists: Vec<CrateModules>,
-    uses: Vec<UsePlace>,
     collected: Collected,
-}
-
-/// The modules that each crate declares.
-fn lists_of(
-    alloc: Global,
-    graph: &CrateGraph,
-    files: &FileTable,
-) -> Result<Vec<CrateModules>, AllocError> {
-    let mut lists = Vec::new(alloc);
-    for krate in graph.crates() {
-        if !files.contains(krate.root_file_id()) {
-            continue;
-        }
-        if let Ok(list) = declared_modules(alloc, krate, files, LIMIT) {
-            lists.push(list)?;
-        }
-    }
-    Ok(lists)
 }
 
 /// Lists the names of imports that lead nowhere, and settles again. Answers whether that was reached.
@@ -64,8 +42,6 @@ fn list_names(alloc: Global, collected: &mut Collected) -> Result<bool, AllocErr
 fn settled_by(alloc: Global, fixture: &Fixture<'_>) -> Result<Option<Settled>, AllocError> {
     let files = files_of(alloc, fixture)?;
     let graph = graph_of(alloc, fixture, &files)?;
-    let lists = lists_of(alloc, &graph, &files)?;
-    let uses = use_places(alloc, &graph, lists.as_slice(), &files)?;
     let reading = Reading {
         files: &files,
         limit: LIMIT,
@@ -76,12 +52,7 @@ fn settled_by(alloc: Global, fixture: &Fixture<'_>) -> Result<Option<Settled>, A
     if !collected.is_settled || !list_names(alloc, &mut collected)? {
         return Ok(None);
     }
-    Ok(Some(Settled {
-        files,
-        lists,
-        uses,
-        collected,
-    }))
+    Ok(Some(Settled { files, collected }))
 }
 
 /// Whether the path of a glob means no module and no enum.
@@ -93,6 +64,16 @@ fn is_unresolved(world: &World, glob: &GlobImport) -> bool {
 }
 
 impl Settled {
+    /// The crate of a use, and where it is written.
+    fn place_of(&self, use_: UseId) -> Option<(usize, UsePlace)> {
+        for (krate, table) in self.collected.tables.iter().enumerate() {
+            if let Some(place) = table.uses().iter().find(|place| place.use_ == use_) {
+                return Some((krate, *place));
+            }
+        }
+        None
+    }
+
     /// Adds what is told of an import that leads nowhere.
     fn add_import(
         &self,
@@ -101,10 +82,10 @@ impl Settled {
         use_: UseId,
         idx: UseTreeIdx,
     ) -> Result<(), AllocError> {
-        let Some(place) = self.uses.get(use_.0 as usize) else {
+        let Some((krate, place)) = self.place_of(use_) else {
             return Ok(());
         };
-        let Some(list) = self.lists.get(place.krate) else {
+        let Some(list) = self.collected.lists.get(krate) else {
             return Ok(());
         };
         let Some(source) = list.sources().get(place.file) else {
@@ -142,7 +123,7 @@ impl Settled {
     /// What is told of the crates.
     fn told(&self, alloc: Global) -> Result<String, AllocError> {
         let mut told = Vec::new(alloc);
-        for list in &self.lists {
+        for list in &self.collected.lists {
             add_module_faults(&mut told, alloc, list)?;
         }
         self.add_imports(&mut told, alloc)?;

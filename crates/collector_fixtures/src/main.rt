@@ -5,7 +5,6 @@ mod fixture;
 mod graph;
 mod left;
 mod told;
-mod use_places;
 
 use crate::fixture::fixtures;
 use crate::left::left_by;

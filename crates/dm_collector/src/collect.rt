@@ -2,29 +2,25 @@
 ghost use Rattle.std.specs.Prelude.{◌≡◌, ℕ, true, All, IfOk, List, OnOk, map};
 ghost use Rattle.std.specs.List.{flat_map};
 ghost use Rattle.crate_modules.specs.CrateGraphs.{IsOrder, rows};
-ghost use Rattle.crate_tables.specs.CrateFillings.{AreCratesFrom, no_crates, IsKnownTable};
-ghost use Rattle.crate_tables.specs.CrateRoots.{with_roots};
-ghost use Rattle.crate_tables.specs.CrateTables.{IsNameOf, Table};
-ghost use Rattle.crate_tables.specs.DeclaredWorlds.{AreShown};
+ghost use Rattle.crate_tables.specs.CrateFillings.{AreFilled, IsKnownTable};
+ghost use Rattle.crate_tables.specs.CrateTables.{IsNameOf, Table, emptied};
+ghost use Rattle.crate_tables.specs.DeclaredWorlds.{AreShown, BindNothing};
 ghost use Rattle.dm_collector.specs.Collecting as spec;
 ghost use Rattle.dm_collector.specs.Globs.{IsFilledBySource};
 ghost use Rattle.dm_collector.specs.Leaves.{globs_of, pendings_of};
 ghost use Rattle.dm_collector.specs.Steps.{IsReached};
 ghost use Rattle.dm_collector.specs.UnnamedTraits.{HasBroughtBySource};
 ghost use Rattle.dm_collector.specs.Widening.{IsWideBySource};
-ghost use Rattle.dm_ids.specs.declared.ids.ModuleId.{ModuleId};
-ghost use Rattle.dm_maps.specs.Build.{no_world};
-ghost use Rattle.dm_maps.specs.World.{scope_of};
 ghost use Rattle.dm_retry.specs.Rounds.{marked};
 ghost use Rattle.dm_retry.specs.Settling.{IsFixedPoint};
-ghost use Rattle.dm_scope.specs.Scope.{no_scope};
 
 use crate::collect_fault::{CollectFault, of_declared, of_filling, of_glob, of_order};
 use crate::leaves::split;
 use crate::settle::settle;
 use crate::sources::GlobImport;
 use crate_modules::crate_graph::CrateGraph;
-use crate_tables::crate_filling::{Reading, filled};
+use crate_modules::modules::CrateModules;
+use crate_tables::crate_filling::{FilledCrates, Reading, filled};
 use crate_tables::crate_table::CrateTable;
 use crate_tables::declared_name::DeclaredName;
 use crate_tables::declared_world::declared_world;
@@ -46,21 +42,39 @@ pub struct Collected {
     pub globs: Vec<GlobImport>,
     /// Whether the world is a fixed point.
     pub is_settled: bool,
+    /// The modules that each crate declares, with what was read of their files.
+    pub lists: Vec<CrateModules>,
+    /// The table of each crate, from which names and imports were taken: the ids of its modules, and where its uses and
+    /// its definitions are written.
+    pub tables: Vec<CrateTable>,
+    /// The extern crates of all crates, by their numbers.
+    pub externs: Vec<ExternCrateRow>,
 }
 
-/// A state in which nothing is imported yet, with the globs.
+/// A state in which nothing is imported yet, with the globs, and the tables without names and imports.
 #[derive(Drop)]
 struct Beginning {
     retry: Retry,
     globs: Vec<GlobImport>,
+    rest: Vec<CrateTable>,
 }
 
-/// The tables of crates, and what each has there.
+/// The same, with what stays known of crates.
 #[derive(Drop)]
-struct Tables {
-    builder: WorldBuilder,
-    crates: Vec<CrateTable>,
+struct BegunCrates {
+    retry: Retry,
+    globs: Vec<GlobImport>,
+    lists: Vec<CrateModules>,
+    tables: Vec<CrateTable>,
     externs: Vec<ExternCrateRow>,
+}
+
+/// The same, settled.
+#[derive(Drop)]
+struct SettledState {
+    retry: Retry,
+    globs: Vec<GlobImport>,
+    is_settled: bool,
 }
 
 /// Imports of a world in which names are declared, all of them due.
@@ -89,7 +103,7 @@ fn declared(
     pendings: Vec<Pending>,
 ) -> Result<Retry, CollectFault>
     requires known { All (IsNameOf tables) names.now }
-    requires empty { (m : ModuleId) → scope_of tables m ≡ no_scope }
+    requires empty { BindNothing tables }
     ensures declared { IfOk result (λ retry. AreShown retry.state.world retry.state.globs names.now) }
     ensures pending { IfOk result (λ retry. retry.state.pending ≡ map (marked true) pendings.items) }
 {
@@ -100,45 +114,46 @@ fn declared(
 }
 
 /// The same of what crates declare and import.
-fn begun(alloc: Global, tables: Tables) -> Result<Beginning, CollectFault>
-    requires known { All (IsKnownTable tables.builder) tables.crates.items }
-    requires empty { (m : ModuleId) → scope_of tables.builder m ≡ no_scope }
+fn begun(
+    alloc: Global,
+    builder: WorldBuilder,
+    tables: Vec<CrateTable>,
+) -> Result<Beginning, CollectFault>
+    requires known { All (IsKnownTable builder) tables.items }
+    requires empty { BindNothing builder }
     ensures declared { IfOk result (λ begun. AreShown begun.retry.state.world begun.retry.state.globs
-        (flat_map (λ (t : Table). t.names) tables.crates.items)) }
+        (flat_map (λ (t : Table). t.names) tables.items)) }
     ensures pending { IfOk result (λ begun. begun.retry.state.pending ≡
-        map (marked true) (flat_map pendings_of (flat_map (λ (t : Table). t.leaves) tables.crates.items))) }
+        map (marked true) (flat_map pendings_of (flat_map (λ (t : Table). t.leaves) tables.items))) }
     ensures globs { IfOk result (λ begun. begun.globs.items ≡
-        flat_map globs_of (flat_map (λ (t : Table). t.leaves) tables.crates.items)) }
+        flat_map globs_of (flat_map (λ (t : Table). t.leaves) tables.items)) }
+    ensures rest { IfOk result (λ begun. begun.rest.items ≡ map emptied tables.items) }
 {
-    let parts = table_parts(alloc, tables.crates)?;
+    let parts = table_parts(alloc, tables)?;
     let leaves = split(alloc, parts.leaves)?;
     let names = parts.names;
-    let retry = declared(alloc, tables.builder, names.as_slice(), leaves.pendings)?;
+    let retry = declared(alloc, builder, names.as_slice(), leaves.pendings)?;
     Ok(Beginning {
         retry,
         globs: leaves.globs,
+        rest: parts.rest,
     })
 }
 
-/// The tables of a graph's crates.
+/// The crates of a graph, filled.
 fn tables_of(
     alloc: Global,
     graph: &CrateGraph,
     reading: &Reading<'_>,
-) -> Result<Tables, CollectFault>
-    ensures filled { IfOk result (λ made. AreCratesFrom reading.now 0 graph.now
-        (no_crates (with_roots no_world graph.now))
-        (record { world = made.builder; tables = made.crates.items; rows = made.externs.items })) }
-    ensures known { IfOk result (λ made. All (IsKnownTable made.builder) made.crates.items) }
-    ensures empty { IfOk result (λ made. (m : ModuleId) → scope_of made.builder m ≡ no_scope) }
+) -> Result<FilledCrates, CollectFault>
+    ensures filled { IfOk result (λ made. AreFilled reading.now graph.now
+        (record { world = made.builder; lists = made.lists.items; tables = made.tables.items; rows = made.externs.items })) }
+    ensures known { IfOk result (λ made. All (IsKnownTable made.builder) made.tables.items) }
+    ensures empty { IfOk result (λ made. BindNothing made.builder) }
 {
     match filled(alloc, graph, reading) {
         Err(fault) => Err(of_filling(fault)),
-        Ok(filled) => Ok(Tables {
-            builder: filled.builder,
-            crates: filled.tables,
-            externs: filled.externs,
-        }),
+        Ok(filled) => Ok(filled),
     }
 }
 
@@ -147,18 +162,37 @@ fn begin(
     alloc: Global,
     graph: &CrateGraph,
     reading: &Reading<'_>,
-) -> Result<Beginning, CollectFault>
-    ensures { IfOk result (λ begun. spec.IsBegun reading.now graph.now begun.globs.items begun.retry.state) }
+) -> Result<BegunCrates, CollectFault>
+    ensures { IfOk result (λ begun. spec.IsBegun reading.now graph.now
+        (record { lists = begun.lists.items; tables = begun.tables.items; rows = begun.externs.items })
+        begun.globs.items begun.retry.state) }
 {
-    let tables = tables_of(alloc, graph, reading)?;
-    let made = begun(alloc, tables)?;
-    Ok(made)
+    let made = tables_of(alloc, graph, reading)?;
+    let FilledCrates {
+        builder,
+        lists,
+        tables,
+        externs,
+    } = made;
+    let beginning = begun(alloc, builder, tables)?;
+    Ok(BegunCrates {
+        retry: beginning.retry,
+        globs: beginning.globs,
+        lists,
+        tables: beginning.rest,
+        externs,
+    })
 }
 
 /// Settles what was begun.
-fn settled(alloc: Global, rounds: u32, begun: Beginning) -> Result<Collected, CollectFault>
-    ensures reached { IfOk result (λ made. IsReached begun.globs.items 0 begun.retry.state made.retry.state) }
-    ensures globs { IfOk result (λ made. made.globs.items ≡ begun.globs.items) }
+fn settled(
+    alloc: Global,
+    rounds: u32,
+    begun: Retry,
+    globs: Vec<GlobImport>,
+) -> Result<SettledState, CollectFault>
+    ensures reached { IfOk result (λ made. IsReached globs.items 0 begun.state made.retry.state) }
+    ensures globs { IfOk result (λ made. made.globs.items ≡ globs.items) }
     ensures fixed { IfOk result (λ made. made.is_settled ≡ true → IsFixedPoint made.retry.state) }
     ensures filled { IfOk result (λ made. made.is_settled ≡ true
         → All (IsFilledBySource made.retry.state.world) made.globs.items) }
@@ -167,11 +201,10 @@ fn settled(alloc: Global, rounds: u32, begun: Beginning) -> Result<Collected, Co
     ensures wide { IfOk result (λ made. made.is_settled ≡ true
         → All (IsWideBySource made.retry.state.world) made.globs.items) }
 {
-    let mut retry = begun.retry;
-    let globs = begun.globs;
+    let mut retry = begun;
     match settle(&mut retry, globs.as_slice(), rounds, alloc) {
         Err(fault) => Err(of_glob(fault)),
-        Ok(is_settled) => Ok(Collected {
+        Ok(is_settled) => Ok(SettledState {
             retry,
             globs,
             is_settled,
@@ -206,7 +239,9 @@ pub fn collect(
     ensures order { OnOk result ((order : List ℕ) × IsOrder (rows graph.now) order) }
 
     // The state was reached from that of the crates' own declarations by rounds of imports and steps of the globs.
-    ensures collected { IfOk result (λ made. spec.IsCollected reading.now graph.now made.globs.items made.retry.state) }
+    ensures collected { IfOk result (λ made. spec.IsCollected reading.now graph.now
+        (record { lists = made.lists.items; tables = made.tables.items; rows = made.externs.items })
+        made.globs.items made.retry.state) }
 
     // Where it is settled, each import and each glob, tried again, would write nothing.
     ensures fixed { IfOk result (λ made. made.is_settled ≡ true → IsFixedPoint made.retry.state) }
@@ -219,6 +254,20 @@ pub fn collect(
 {
     ordered(alloc, graph)?;
     let begun = begin(alloc, graph, reading)?;
-    let made = settled(alloc, rounds, begun)?;
-    Ok(made)
+    let BegunCrates {
+        retry,
+        globs,
+        lists,
+        tables,
+        externs,
+    } = begun;
+    let made = settled(alloc, rounds, retry, globs)?;
+    Ok(Collected {
+        retry: made.retry,
+        globs: made.globs,
+        is_settled: made.is_settled,
+        lists,
+        tables,
+        externs,
+    })
 }

@@ -2,11 +2,10 @@ use Rattle.dm_collector.proofs.collect.begin.Goals as goal
 
 pub returns : goal.returns
 returns c = record {
-  tables = c.in_ok-tables.tables.builder;
-  crates = c.in_ok-tables.tables.crates.items;
-  rows = c.in_ok-tables.tables.externs.items;
-  filled = c.in_ok-tables.ensures.filled;
-  declared = c.in_ok-made.ensures.declared;
-  pending = c.in_ok-made.ensures.pending;
-  globs = c.in_ok-made.ensures.globs;
+  crates = record { world = c.in_ok-made.made.builder; lists = c.in_ok-made.made.lists.items; tables = c.in_ok-made.made.tables.items; rows = c.in_ok-made.made.externs.items };
+  filled = c.in_ok-made.ensures.filled;
+  kept = λ i. record { lists = c.in_ok-made.made.lists.items; tables = c.in_ok-beginning.ensures.rest i; rows = c.in_ok-made.made.externs.items };
+  declared = c.in_ok-beginning.ensures.declared;
+  pending = c.in_ok-beginning.ensures.pending;
+  globs = c.in_ok-beginning.ensures.globs;
 }

@@ -8,7 +8,7 @@ use Rattle.dm_collector.proofs.collect.begun.Goals as goal
 
 pub declared-requires-clause-known : goal.declared-requires-clause-known
 declared-requires-clause-known c =
-    subst (All (IsNameOf c.args.tables.builder)) (sym (c.as_slice.ensures.value ∙ c.in_ok-parts.ensures.names)) (names-known c.args.tables.builder c.args.tables.crates.items c.requires.known)
+    subst (All (IsNameOf c.args.builder)) (sym (c.as_slice.ensures.value ∙ c.in_ok-parts.ensures.names)) (names-known c.args.builder c.args.tables.items c.requires.known)
 
 pub returns-clause-declared : goal.returns-clause-declared
 returns-clause-declared c =
