@@ -6,7 +6,6 @@ use Rattle.std.specs.List.{All}
 use Rattle.std.specs.Option.{IfSome, option_map_or}
 use Rattle.dm_ids.specs.Names.{Name}
 use Rattle.dm_base.specs.PerNs.{is_empty, keep}
-use Rattle.dm_maps.specs.World.{World}
 use Rattle.dm_retry.specs.Rounds.{State}
 use Rattle.dm_collector.specs.Globs.{IsFilled, IsFilledBySource, missing, resolved}
 use Rattle.dm_collector.specs.Steps.{Bind, SeesNothing, writes}

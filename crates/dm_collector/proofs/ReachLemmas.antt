@@ -1,5 +1,5 @@
 -- What steps reach, and how many of them write: no step, one more, one way after another, and rounds.
-use Rattle.std.proofs.Common.{◌≡◌, ◌∙◌, ◌++◌, ◌+◌, ◌≤◌, ◌<◌, ◌⊎◌, inl, inr, ℕ, zero, suc, arith, Err, Ok, Result, Bool, true, false, List, [], ◌∷◌, ap, cond, refl, sym, subst}
+use Rattle.std.proofs.Common.{◌≡◌, ◌∙◌, ◌++◌, ◌+◌, ◌≤◌, inl, inr, ℕ, zero, suc, arith, Err, Ok, Result, Bool, true, false, List, [], ◌∷◌, ap, cond, refl, sym, subst}
 use Rattle.std.specs.List.{AllByRecursion}
 use Rattle.std.specs.Result.{IfErr, IsErrAnd}
 use Rattle.dm_retry.specs.Retries.{Retries}

@@ -1,5 +1,5 @@
 -- What the tables of some crates have is known, where each table's is.
-use Rattle.std.proofs.Common.{◌<◌, ◌++◌, ◌∷◌, [], zero, suc, List, arith}
+use Rattle.std.proofs.Common.{◌∷◌, [], zero, suc, List, arith}
 use Rattle.std.specs.Prelude.{All}
 use Rattle.std.specs.List.{flat_map}
 use Rattle.std.proofs.lemmas.List.Elements.{All-append, All-nil}

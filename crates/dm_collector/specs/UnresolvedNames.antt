@@ -3,7 +3,6 @@ use Rattle.std.specs.Prelude.{ℕ, Bool, true, false, List, [], ◌∷◌, Optio
 use Rattle.std.specs.List.{flat_map}
 use Rattle.dm_base.specs.PerNs.{nothing}
 use Rattle.dm_check.specs.declared.held.HeldId.TheVariants as held
-use Rattle.dm_ids.specs.declared.imports.ImportOrExternCrate.{ImportOrExternCrate}
 use Rattle.dm_maps.specs.Known.{knows}
 use Rattle.dm_retry.specs.Kinds.{is_unnamed}
 use Rattle.dm_retry.specs.Rounds.{Pending, State, pushed_into, unresolved}

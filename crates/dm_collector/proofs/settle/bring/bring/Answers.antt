@@ -7,7 +7,7 @@ use Rattle.dm_collector.specs.Globs.{resolved}
 use Rattle.dm_collector.specs.Steps.{Bring}
 use Rattle.dm_collector.specs.UnnamedTraits.{missing_trait, unnamed_in}
 use Rattle.dm_collector.proofs.IdleLemmas.{brought-by}
-use Rattle.dm_collector.proofs.ReachLemmas.{reached-by, reached-more, reached-then, reached-written}
+use Rattle.dm_collector.proofs.ReachLemmas.{reached-more, reached-then, reached-written}
 use Rattle.dm_collector.proofs.settle.bring.bring.Goals as goal
 
 pub loop-i-preserved : goal.loop-i-preserved

@@ -1,4 +1,4 @@
-use Rattle.std.proofs.Common.{◌∙◌, List, inl, inr, subst, sym}
+use Rattle.std.proofs.Common.{◌∙◌, inl, inr, subst}
 use Rattle.std.proofs.lemmas.Bool.{or_cases, or_parts}
 use Rattle.std.proofs.lemmas.List.{take_all}
 use Rattle.std.proofs.lemmas.List.Elements.{All-more}
