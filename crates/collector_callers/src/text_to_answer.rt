@@ -49,7 +49,8 @@ pub fn world_of(alloc: Global, text: Vec<u8>) -> Result<Collected, CollectFault>
 
 /// What a path means in the root of the first crate; nothing where it begins with `$crate` of one that is not there.
 pub fn meaning_in_first(world: &World, path: &ModPath) -> PerNs
-    ensures value { IsTrue (knows world.now (held.Crate (record { 0 = 0 }))) → KnowsAll world.now (path_holds path.now.kind)
+    ensures value { IsTrue (knows world.now (held.Crate (record { 0 = 0 })))
+        → KnowsAll world.now (path_holds path.now.kind)
         → (map : Map) (local : LocalMap) → crate_map world.now (record { 0 = 0 }) ≡ Some map →
         slice_get world.now.local_maps 0 ≡ Some local →
         result ≡ (answer world.now local (asked map.root Other Module None path.now.kind)
