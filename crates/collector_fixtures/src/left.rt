@@ -161,8 +161,12 @@ impl Settled {
         for place in self.collected.retry.unresolved()? {
             if let Some(pending) = self.collected.retry.get(place) {
                 let import = pending.import();
-                let is_hidden =
-                    view.hides_import(alloc, self.world(), pending.origin(), pending.path())?;
+                let is_hidden = view.hides_import(
+                    alloc,
+                    self.world(),
+                    pending.origin(),
+                    pending.path(),
+                )?;
                 self.add_import(found, alloc, is_hidden, import.use_, import.idx)?;
             }
         }
