@@ -13,8 +13,8 @@ mod visibilities;
 
 use dm_base::fields_shape::FieldsShape;
 use dm_base::ids::{
-    BlockId, Crate, EnumId, FileAstId, FileId, FunctionId, ImplId, MacroCallId, MacroRulesId,
-    MapId, ModuleId, ProcMacroId, StructId, TraitId, UseId, UseTreeIdx,
+    BlockId, Crate, EnumId, FileAstId, FileId, FunctionId, ImplId, MacroCallId,
+    MacroRulesId, MapId, ModuleId, ProcMacroId, StructId, TraitId, UseId, UseTreeIdx,
 };
 use dm_base::imports::{ImportId, ImportOrExternCrate};
 use dm_base::item_ids::{
