@@ -12,6 +12,8 @@ macro_rules! again {
     };
 }
 
+mod base;
+mod scopes;
 mod worlds;
 
 use dm_base::name::Name;

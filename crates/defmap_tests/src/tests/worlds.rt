@@ -9,11 +9,12 @@ mod outwards;
 mod reading;
 mod refused;
 mod reported;
+mod rounds;
 mod visibilities;
 
 use dm_base::fields_shape::FieldsShape;
 use dm_base::ids::{
-    BlockId, Crate, EnumId, FileAstId, FileId, FunctionId, ImplId, MacroCallId,
+    BlockId, Crate, EnumId, EnumVariantId, FileAstId, FileId, FunctionId, ImplId, MacroCallId,
     MacroRulesId, MapId, ModuleId, ProcMacroId, StructId, TraitId, UseId, UseTreeIdx,
 };
 use dm_base::imports::{ImportId, ImportOrExternCrate};
@@ -223,13 +224,6 @@ struct Checked {
 impl Drop for Checked {
     fn drop(self) {
         let Checked { world: _world } = self;
-    }
-}
-
-impl Checked {
-    fn into_world(self) -> World {
-        let Checked { world } = self;
-        world
     }
 }
 

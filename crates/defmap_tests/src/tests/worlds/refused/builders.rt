@@ -3,9 +3,8 @@
 //! With enough memory none fails. `tools/refusals` injects faults: it runs this test with every allocation failing in
 //! turn. Before each call, and where it fails, the tables are checked, which allocates nothing, and the world tells all
 //! that a call could have changed; the call made again then does what it would have done.
-ghost use Rattle.std.specs.Iterator.{IsFinite};
-
 use super::super::{Building, CRATE_MAP, FILE, RULES, STRUCT, ast, in_crate, map_at, structure};
+use crate::tests::scopes::told::tell_scope;
 use crate::tests::{a_name, a_symbol, gives};
 use dm_base::fields_shape::FieldsShape;
 use dm_base::ids::{Crate, EnumId, FunctionId, ModuleId, ProcMacroId, TraitId, UseId};
@@ -13,7 +12,6 @@ use dm_base::item_ids::{AssocItemId, ItemContainerId, ItemKind, MacroId, ModuleD
 use dm_base::macros::{MacroLoc, ProcMacroKind};
 use dm_base::module_tree::ModuleTree;
 use dm_base::name::Name;
-use dm_base::per_ns::Namespace;
 use dm_base::source::Edition;
 use dm_base::symbol::Symbol;
 use dm_base::visibility::{RawVisibility, Visibility, VisibilityExplicitness};
@@ -21,7 +19,6 @@ use dm_maps::build_fault::BuildFault;
 use dm_maps::def_map::DefMap;
 use dm_maps::world::World;
 use dm_maps::world::maps_of::local_def_map;
-use dm_scope::item_scope::ItemScope;
 use dm_scope::scope_tables::ScopeTables;
 use std::alloc::{AllocError, Global};
 use std::hash::{DefaultHasher, Hash, Hasher};
@@ -147,33 +144,6 @@ fn tell_tables(state: &mut DefaultHasher, map: &DefMap, words: &Words) {
         None => 0usize.hash(state),
         Some(helpers) => helpers.len().hash(state),
     }
-}
-
-/// Takes in what is listed, in order, and how long the list is.
-fn tell<I: Iterator + Drop>(state: &mut DefaultHasher, listed: I)
-where
-    I::Item: Hash + Drop,
-    requires can { I.can_next listed }
-    requires finite { IsFinite (I.remaining listed) }
-{
-    let mut length = 0usize;
-    for thing in listed {
-        thing.hash(state);
-        length = length.saturating_add(1);
-    }
-    length.hash(state);
-}
-
-/// What a scope binds and declares, and what brought it; scopes are told whole in their own tests.
-fn tell_scope(state: &mut DefaultHasher, scope: &ItemScope) {
-    tell(state, scope.types());
-    tell(state, scope.values());
-    tell(state, scope.macros());
-    tell(state, scope.legacy_macros());
-    tell(state, scope.declarations());
-    tell(state, scope.import_records(Namespace::Types));
-    tell(state, scope.import_records(Namespace::Values));
-    tell(state, scope.import_records(Namespace::Macros));
 }
 
 /// How many modules a map has, and what the scope of one and its children are.

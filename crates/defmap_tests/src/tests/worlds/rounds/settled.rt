@@ -1,7 +1,7 @@
 //! Rounds until a fixed point, what is unresolved then, a push between rounds, and an import that never settles.
 use super::{CHILD, ROOT, STRUCT, Waiting, import, pending, plain_path, taken, two_imports};
-use crate::tests::building::{Bound, Building};
 use crate::tests::gives;
+use crate::tests::worlds::{Bound, Building};
 use defmap_callers::maps::bring_by_glob;
 use defmap_callers::rounds::{declare_between, is_settled, rest, settled};
 use dm_base::ids::{ModuleId, UseId, UseTreeIdx};

@@ -1,7 +1,7 @@
 //! Fault injection: what is done between rounds, each call made again where an allocation fails. A failed addition hands
 //! the import back, and it is none of the imports then.
 use crate::tests::gives;
-use crate::tests::rounds::{
+use crate::tests::worlds::rounds::{
     ROOT, Waiting, import, path_in_crate, pending, plain_path, taken, the_struct,
 };
 use dm_base::name::Name;

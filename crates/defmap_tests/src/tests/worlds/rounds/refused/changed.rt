@@ -1,14 +1,13 @@
 //! Fault injection: an import as `_`, and what else changes a world between rounds, each made again where an allocation
 //! fails. What failed has changed nothing.
-use crate::tests::building::{Building, FILE};
-use crate::tests::rounds::{CHILD, ROOT, Waiting, pending, two_imports, typed};
+use crate::tests::worlds::rounds::{CHILD, ROOT, Waiting, pending, two_imports, typed};
+use crate::tests::worlds::{Building, CRATE_MAP, RULES, ast};
 use crate::tests::{a_name, gives};
-use dm_base::ids::{Crate, FileAstId, MacroRulesId, MapId, TraitId, UseTreeIdx};
-use dm_base::item_ids::{ItemKind, MacroId, ModuleDefId};
+use dm_base::ids::{TraitId, UseTreeIdx};
+use dm_base::item_ids::{ItemKind, ModuleDefId};
 use dm_base::macros::{MacroCallStyles, MacroExpander, MacroLoc};
 use dm_base::mod_path::{ModPath, PathKind};
 use dm_base::name::Name;
-use dm_base::source::{AstId, HirFileId};
 use dm_base::visibility::Visibility;
 use dm_maps::build_fault::BuildFault;
 use dm_retry::import_kind::ImportKind;
@@ -16,21 +15,6 @@ use dm_retry::pending::Pending;
 use dm_scope::diagnostics::DefDiagnostic;
 use std::alloc::{AllocError, Global};
 use std::test::Fail;
-
-/// The map of the crate.
-const CRATE_MAP: MapId = MapId {
-    krate: Crate(0),
-    block: None,
-};
-
-/// The macro of the root.
-const RULES: MacroId = MacroId::MacroRulesId(MacroRulesId(0));
-
-/// An item of the crate's file.
-const ITEM: AstId = AstId {
-    file_id: HirFileId::File(FILE),
-    value: FileAstId(7),
-};
 
 /// A trait, the second of the items, which the module `a` binds as `T`.
 const TRAIT: TraitId = TraitId(1);
@@ -116,7 +100,7 @@ impl Waiting {
     }
 
     fn report(&mut self) -> Result<bool, AllocError> {
-        let diagnostic = DefDiagnostic::unresolved_import(ROOT, ITEM, UseTreeIdx(0));
+        let diagnostic = DefDiagnostic::unresolved_import(ROOT, ast(7), UseTreeIdx(0));
         let world = self.retry.world();
         if world.lacks_map(CRATE_MAP) || !world.knows_diagnostic(&diagnostic) {
             return Ok(false);

@@ -3,7 +3,7 @@ mod collected;
 mod refused;
 mod settled;
 
-use super::building::{Bound, Building, FILE};
+use super::{Bound, Building, Checked, FILE};
 use crate::tests::gives;
 use defmap_callers::maps::declare_type;
 use dm_base::ids::{ModuleId, StructId, UseId, UseTreeIdx};
@@ -100,15 +100,10 @@ impl Bound {
         Some(())
     }
 
-    /// What taking imports in the world answers.
-    fn taken(self, pendings: Vec<Pending>) -> Taken {
-        let (world, globs) = self.into_parts();
-        outcome(Retry::new(world, globs, pendings))
-    }
-
     /// Unresolved imports in the world, if they are taken.
     fn waiting(self, pendings: Vec<Pending>) -> Option<Waiting> {
-        self.taken(pendings).ok()
+        let Bound { world, globs } = self;
+        outcome(Retry::new(world, globs, pendings)).ok()
     }
 }
 
@@ -147,6 +142,21 @@ fn two_imports(alloc: Global) -> Result<Vec<Pending>, AllocError> {
     Ok(pendings)
 }
 
+/// The crate's world, if there is one.
+fn a_world(alloc: Global) -> Result<Option<World>, BuildFault> {
+    match Building::with_struct(alloc)?.world() {
+        None => Ok(None),
+        Some(checked) => Ok(Some(checked.into_world())),
+    }
+}
+
+impl Checked {
+    pub(super) fn into_world(self) -> World {
+        let Checked { world } = self;
+        world
+    }
+}
+
 /// Why imports are not taken, the index of the one that is meant, and how many were handed back.
 type Refused = (Option<RetryFault>, Option<usize>, usize);
 
@@ -166,9 +176,12 @@ fn outcome(answer: Result<Retry, (RetryFault, World, PerNsGlobImports, Vec<Pendi
 
 /// What taking imports in the crate's world answers.
 fn taken(alloc: Global, pendings: Vec<Pending>) -> Result<Taken, BuildFault> {
-    match again!(Building::with_struct(alloc))?.bound() {
+    match again!(a_world(alloc))? {
         None => Ok(Err((None, None, 0))),
-        Some(bound) => Ok(bound.taken(pendings)),
+        Some(world) => {
+            let globs = PerNsGlobImports::new(alloc);
+            Ok(outcome(Retry::new(world, globs, pendings)))
+        }
     }
 }
 

@@ -1,7 +1,7 @@
 //! A collector's rounds: a glob and what shadows it, a chain of re-exports, a circle, and an import that leads nowhere.
 use super::{CHILD, ROOT, Waiting, import, pending, typed};
-use crate::tests::building::{Bound, Building};
 use crate::tests::gives;
+use crate::tests::worlds::{Bound, Building};
 use defmap_callers::collecting::{Glob, collected};
 use dm_base::ids::{ModuleId, StructId, UseId, UseTreeIdx};
 use dm_base::imports::GlobId;

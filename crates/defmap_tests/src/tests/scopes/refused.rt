@@ -5,7 +5,7 @@
 ghost use Rattle.std.specs.Iterator.{IsFinite};
 
 use super::told::told;
-use super::{Filled, GLOB, HERE, ast, import, import_id, structure, typed, valued};
+use super::{Filled, GLOB, HERE, ast, function, import, import_id, structure, typed, valued};
 use crate::tests::{a_name, gives, same};
 use defmap_callers::modules::Modules;
 use defmap_callers::scopes::say_the_same;
@@ -86,7 +86,7 @@ fn in_all(number: Option<u32>) -> PerNs {
 }
 
 /// What a scope and the table of flags say of a name.
-#[derive(PartialEq, Drop)]
+#[derive(Clone, Copy, PartialEq, Eq, Debug)]
 struct Reading {
     bound: PerNs,
     flags: [bool; 3],
@@ -96,7 +96,7 @@ struct Reading {
 }
 
 /// What a scope says of three names and of one entry of each other table, how long its lists are, and what they tell.
-#[derive(PartialEq, Drop)]
+#[derive(Clone, Copy, PartialEq, Eq, Debug)]
 struct Seen {
     names: [Reading; 3],
     named: [usize; 8],
@@ -310,7 +310,7 @@ fn seen_in_the_end(alloc: Global) -> Result<(Seen, Seen, bool), AllocError> {
 fn a_refused_call_leaves_the_scope_and_is_made_again(rt: HostRuntime) -> Result<(), Fail> {
     let (seen, shrunk, as_told) = seen_in_the_end(rt.alloc())?;
     assert!(rt; as_told);
-    assert!(rt; are_same(&shrunk, &seen));
+    same(&rt, &shrunk, &seen);
     same(&rt, &seen.named, &[3, 2, 2, 2, 0, 1, 1, 1]);
     same(&rt, &seen.defined, &[1, 2, 1, 1, 1, 1, 1, 1, 0]);
     same(&rt, &seen.calls, &[1, 1, 1, 2]);
