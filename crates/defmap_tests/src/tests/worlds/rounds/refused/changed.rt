@@ -1,8 +1,8 @@
 //! Fault injection: an import as `_`, and what else changes a world between rounds, each made again where an allocation
 //! fails. What failed has changed nothing.
+use crate::tests::gives;
 use crate::tests::worlds::rounds::{CHILD, ROOT, Waiting, pending, two_imports, typed};
 use crate::tests::worlds::{Building, CRATE_MAP, RULES, ast};
-use crate::tests::{a_name, gives};
 use dm_base::ids::{TraitId, UseTreeIdx};
 use dm_base::item_ids::{ItemKind, ModuleDefId};
 use dm_base::macros::{MacroCallStyles, MacroExpander, MacroLoc};
@@ -119,7 +119,7 @@ impl Waiting {
 
     /// Makes a change, again where that fails: whether it was made, and a failure left all as it was.
     fn insist_on_change(&mut self, change: Change, alloc: Global) -> Result<bool, BuildFault> {
-        let name = a_name(alloc, "Y")?;
+        let name = again!(Name::new(alloc, "Y"))?;
         let before = self.seen(&name);
         match self.make(change, alloc) {
             Ok(made) => Ok(made),
@@ -152,7 +152,7 @@ fn changes(alloc: Global) -> Result<Option<([bool; 4], Option<Seen>)>, BuildFaul
         waiting.insist_on_change(Change::UnnamedTrait, alloc)?,
         waiting.insist_on_change(Change::Diagnostic, alloc)?,
     ];
-    let name = a_name(alloc, "Y")?;
+    let name = again!(Name::new(alloc, "Y"))?;
     Ok(Some((made, waiting.seen(&name))))
 }
 
