@@ -227,22 +227,6 @@ impl Drop for Checked {
     }
 }
 
-/// A checked world, and the flags of globs.
-struct Bound {
-    world: World,
-    globs: PerNsGlobImports,
-}
-
-/// A hand-written `Drop`, as for a builder.
-impl Drop for Bound {
-    fn drop(self) {
-        let Bound {
-            world: _world,
-            globs: _globs,
-        } = self;
-    }
-}
-
 impl Building {
     /// Nothing yet.
     fn new(alloc: Global) -> Building {
@@ -473,18 +457,6 @@ impl Building {
     fn world(self) -> Option<Checked> {
         match self.checked() {
             Ok(checked) => Some(checked),
-            Err(_fault) => None,
-        }
-    }
-
-    /// The world, if there is one, and the flags.
-    fn bound(self) -> Option<Bound> {
-        let Building { builder, globs } = self;
-        match outcome(builder.check()) {
-            Ok(checked) => Some(Bound {
-                world: checked.into_world(),
-                globs,
-            }),
             Err(_fault) => None,
         }
     }

@@ -1,7 +1,9 @@
 //! Fault injection: an import as `_`, and what else changes a world between rounds, each made again where an allocation
 //! fails. What failed has changed nothing.
 use crate::tests::gives;
-use crate::tests::worlds::rounds::{CHILD, ROOT, Waiting, pending, two_imports, typed};
+use crate::tests::worlds::rounds::{
+    CHILD, ROOT, Waiting, import, outcome, pending, two_imports, typed,
+};
 use crate::tests::worlds::{Building, CRATE_MAP, RULES, ast};
 use dm_base::ids::{TraitId, UseTreeIdx};
 use dm_base::item_ids::{ItemKind, ModuleDefId};
@@ -12,7 +14,9 @@ use dm_base::visibility::Visibility;
 use dm_maps::build_fault::BuildFault;
 use dm_retry::import_kind::ImportKind;
 use dm_retry::pending::Pending;
+use dm_retry::retry::Retry;
 use dm_scope::diagnostics::DefDiagnostic;
+use dm_scope::glob_imports::PerNsGlobImports;
 use std::alloc::{AllocError, Global};
 use std::test::Fail;
 
@@ -134,11 +138,13 @@ impl Waiting {
 
 /// The three imports in that crate, if it has a world.
 fn waiting(alloc: Global) -> Result<Option<Waiting>, BuildFault> {
+    let Some(checked) = again!(Building::with_trait(alloc))?.world() else {
+        return Ok(None);
+    };
+    let world = checked.into_world();
     let pendings = again!(three_imports(alloc))?;
-    match again!(Building::with_trait(alloc))?.bound() {
-        None => Ok(None),
-        Some(bound) => Ok(bound.waiting(pendings)),
-    }
+    let globs = PerNsGlobImports::new(alloc);
+    Ok(outcome(Retry::new(world, globs, pendings)).ok())
 }
 
 /// Whether rounds settle, the three changes are made, and what there is to be seen then.
