@@ -8,9 +8,7 @@ use std::test::Fail;
 fn an_import_of_a_tuple_struct(rt: HostRuntime) -> Result<(), Fail> {
     let alloc = rt.alloc();
     let text = Vec::from_slice(alloc, b"use a::S; mod a { pub struct S(u8); }")?;
-    let Ok(made) = world_of(alloc, text) else {
-        return Err(Fail::new());
-    };
+    let made = world_of(alloc, text)?;
     assert_eq!(rt; made.is_settled, true);
     let mut segments = Vec::new(alloc);
     segments.push(Name::new(alloc, "S")?)?;
