@@ -109,6 +109,36 @@ fn print_attribute(
     out.push_str(if attribute.inner { ", inner" } else { "" })
 }
 
+/// Adds a line for each attribute of a table.
+fn print_lines(
+    alloc: Global,
+    out: &mut String,
+    options: &CfgOptions,
+    text: &[u8],
+    lexemes: &[Lexeme],
+    table: &Attributes,
+    active: &[bool],
+) -> Result<(), AllocError> {
+    for attribute in table.attributes() {
+        let holds = may_be(options, text, table, attribute.kind);
+        print_attribute(alloc, out, text, lexemes, *attribute, holds)?;
+        let is_there = is_active(active, attribute.condition);
+        out.push_str(if is_there { "\n" } else { ", left out\n" })?;
+    }
+    Ok(())
+}
+
+/// Adds a line that counts errors and conditions.
+fn print_counts(
+    alloc: Global,
+    out: &mut String,
+    errors: usize,
+    conditions: usize,
+) -> Result<(), AllocError> {
+    let shown = format!(in alloc; "{errors} errors, {conditions} conditions\n")?;
+    out.push_str(shown.as_str())
+}
+
 pub(crate) fn print_attributes(
     alloc: Global,
     out: &mut String,
@@ -118,14 +148,16 @@ pub(crate) fn print_attributes(
     let text = text.as_bytes();
     let lexemes = read_lexemes(alloc, text, heading.edition)?;
     let table = read_attributes(alloc, text, lexemes.as_slice())?;
-    let active = table.active_conditions(alloc, &heading.options, text)?;
-    for attribute in table.attributes() {
-        let holds = may_be(&heading.options, text, &table, attribute.kind);
-        print_attribute(alloc, out, text, lexemes.as_slice(), *attribute, holds)?;
-        let is_there = is_active(active.as_slice(), attribute.condition);
-        out.push_str(if is_there { "\n" } else { ", left out\n" })?;
-    }
-    let (errors, conditions) = (table.errors().len(), table.conditions().len());
-    let shown = format!(in alloc; "{errors} errors, {conditions} conditions\n")?;
-    out.push_str(shown.as_str())
+    let options = &heading.options;
+    let active = table.active_conditions(alloc, options, text)?;
+    print_lines(
+        alloc,
+        out,
+        options,
+        text,
+        lexemes.as_slice(),
+        &table,
+        active.as_slice(),
+    )?;
+    print_counts(alloc, out, table.errors().len(), table.conditions().len())
 }

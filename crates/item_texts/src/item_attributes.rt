@@ -2,12 +2,11 @@
 ghost use Rattle.item_tree.specs.Children.{ByParent};
 
 use crate::heading::Heading;
+use crate::parsed::Parsed;
 use item_tree::attributes::{Attributes, read_attributes};
 use item_tree::children::children_of;
-use item_tree::delimiters::partners;
 use item_tree::item_attributes::{inner_attributes, outer_attributes};
-use item_tree::items::{Item, Range, item_tree};
-use item_tree::lexeme::read_lexemes;
+use item_tree::items::{Item, Range};
 use std::alloc::{AllocError, Global};
 
 /// Where the inner attributes of an item stand, which has these items in its body.
@@ -30,7 +29,18 @@ fn insides(alloc: Global, items: &[Item]) -> Result<Vec<Range>, AllocError>
     Ok(ranges)
 }
 
-/// Adds how many attributes begin in a range, and whether they leave there what they belong to.
+/// Adds how many attributes there are, and whether they leave there what they belong to.
+fn print_counts(
+    alloc: Global,
+    out: &mut String,
+    count: usize,
+    is_there: bool,
+) -> Result<(), AllocError> {
+    let shown = format!(in alloc; " {count} {is_there}")?;
+    out.push_str(shown.as_str())
+}
+
+/// Adds that for those that begin in a range.
 fn print_range(
     alloc: Global,
     out: &mut String,
@@ -42,8 +52,7 @@ fn print_range(
 ) -> Result<(), AllocError> {
     let count = table.attributes_in(range).len();
     let is_there = table.is_cfg_enabled(&heading.options, text, active, range);
-    let shown = format!(in alloc; " {count} {is_there}")?;
-    out.push_str(shown.as_str())
+    print_counts(alloc, out, count, is_there)
 }
 
 pub(crate) fn print_item_attributes(
@@ -51,16 +60,16 @@ pub(crate) fn print_item_attributes(
     out: &mut String,
     heading: &Heading<'_>,
     text: &str,
-) -> Result<(), AllocError> {
+    read: &Parsed,
+) -> Result<(), AllocError>
+    requires { ByParent read.now.tree.items.items }
+{
     let bytes = text.as_bytes();
-    let lexemes = read_lexemes(alloc, bytes, heading.edition)?;
-    let partners = partners(alloc, lexemes.as_slice())?;
-    let tree = item_tree(alloc, lexemes.as_slice(), partners.as_slice())?;
-    let insides = insides(alloc, tree.items.as_slice())?;
-    let table = read_attributes(alloc, bytes, lexemes.as_slice())?;
+    let insides = insides(alloc, read.tree.items.as_slice())?;
+    let table = read_attributes(alloc, bytes, read.lexemes.as_slice())?;
     let active = table.active_conditions(alloc, &heading.options, bytes)?;
     let active = active.as_slice();
-    for (item, inner) in tree.items.iter().zip(&insides) {
+    for (item, inner) in read.tree.items.iter().zip(&insides) {
         let kind = format!(in alloc; "{:?}", item.kind)?;
         out.push_str(kind.as_str())?;
         let outer = outer_attributes(*item);

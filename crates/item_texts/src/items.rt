@@ -1,10 +1,9 @@
 //! Items of texts.
-use crate::parsed::{lexeme_text, read_text, text_in};
-use dm_ids::source::Edition;
+use crate::parsed::{Parsed, lexeme_text, text_in};
 use item_tree::ids::item_range;
 use item_tree::items::{Item, Range};
 use item_tree::lexeme::Lexeme;
-use item_tree::visibility::raw_visibility;
+use item_tree::visibility::{RawVisibility, raw_visibility};
 use std::alloc::{AllocError, Global};
 
 fn print_item(
@@ -31,31 +30,35 @@ fn print_item(
 pub(crate) fn print_items(
     alloc: Global,
     out: &mut String,
-    edition: Edition,
     text: &str,
+    read: &Parsed,
 ) -> Result<(), AllocError> {
-    let read = read_text(alloc, edition, text)?;
     for item in &read.tree.items {
         print_item(alloc, out, text, read.lexemes.as_slice(), *item)?;
     }
     Ok(())
 }
 
+fn print_visibility(
+    alloc: Global,
+    out: &mut String,
+    visibility: RawVisibility,
+) -> Result<(), AllocError> {
+    let shown = format!(in alloc; "{visibility:?}\n")?;
+    out.push_str(shown.as_str())
+}
+
 pub(crate) fn print_visibilities(
     alloc: Global,
     out: &mut String,
-    edition: Edition,
-    text: &str,
+    read: &Parsed,
 ) -> Result<(), AllocError> {
-    let read = read_text(alloc, edition, text)?;
     for item in &read.tree.items {
         let range = Range {
             first: item.visibility,
             behind: item.qualifiers,
         };
-        let visibility = raw_visibility(read.lexemes.as_slice(), range);
-        let shown = format!(in alloc; "{visibility:?}\n")?;
-        out.push_str(shown.as_str())?;
+        print_visibility(alloc, out, raw_visibility(read.lexemes.as_slice(), range))?;
     }
     Ok(())
 }

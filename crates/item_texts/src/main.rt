@@ -16,6 +16,8 @@
 //!   ones in its body.
 #![tactic(auto)]
 
+ghost use Rattle.item_tree.specs.Children.{ByParent};
+
 mod attributes;
 mod cfg;
 mod errors;
@@ -28,9 +30,33 @@ mod tokens;
 mod uses;
 
 use crate::heading::{Heading, characters_put, heading_of};
+use crate::parsed::{Parsed, read_text};
 use std::alloc::{AllocError, Global};
 use std::io::{Read, Write};
 use std::process::ExitCode;
+
+/// Adds what is printed of a text whose items are read.
+fn print_read(
+    alloc: Global,
+    out: &mut String,
+    heading: &Heading<'_>,
+    text: &str,
+    read: &Parsed,
+) -> Result<(), AllocError>
+    requires { ByParent read.now.tree.items.items }
+{
+    match heading.kind {
+        "items" => items::print_items(alloc, out, text, read),
+        "visibilities" => items::print_visibilities(alloc, out, read),
+        "members" => members::print_members(alloc, out, text, read),
+        "uses" => uses::print_uses(alloc, out, text, read),
+        "errors" => errors::print_errors(alloc, out, text, read),
+        "item_attributes" => item_attributes::print_item_attributes(
+            alloc, out, heading, text, read,
+        ),
+        _ => out.push_str("there is no such kind\n"),
+    }
+}
 
 /// Adds what is printed of a text.
 fn print_text(
@@ -43,15 +69,12 @@ fn print_text(
         "tokens" => tokens::print_tokens(alloc, out, heading.edition, text),
         "lexemes" => tokens::print_lexemes(alloc, out, heading.edition, text),
         "cut" => tokens::print_cuts(alloc, out, heading.edition, text),
-        "items" => items::print_items(alloc, out, heading.edition, text),
-        "visibilities" => items::print_visibilities(alloc, out, heading.edition, text),
-        "members" => members::print_members(alloc, out, heading.edition, text),
-        "uses" => uses::print_uses(alloc, out, heading.edition, text),
-        "errors" => errors::print_errors(alloc, out, heading.edition, text),
         "cfg" => cfg::print_predicates(alloc, out, heading, text),
         "attributes" => attributes::print_attributes(alloc, out, heading, text),
-        "item_attributes" => item_attributes::print_item_attributes(alloc, out, heading, text),
-        _ => out.push_str("there is no such kind\n"),
+        _ => {
+            let read = read_text(alloc, heading.edition, text)?;
+            print_read(alloc, out, heading, text, &read)
+        }
     }
 }
 

@@ -1,13 +1,12 @@
 //! Members of structs, unions and enums: each with its visibility, the first lexeme of its name or type, whether that is a
 //! name, and the shape of its own fields.
-use crate::parsed::{Parsed, lexeme_text, read_text};
-use dm_ids::source::Edition;
+use crate::parsed::{Parsed, lexeme_text};
 use item_tree::fields::item_fields;
 use item_tree::item_kind::ItemKind;
 use item_tree::items::{Item, Range};
 use item_tree::lexeme::Lexeme;
 use item_tree::members::{Fields, FieldsShape, Member, MemberKind, members};
-use item_tree::visibility::raw_visibility;
+use item_tree::visibility::{RawVisibility, raw_visibility};
 use std::alloc::{AllocError, Global};
 
 /// What the members of an item are.
@@ -22,6 +21,19 @@ fn kind_of(item: Item, fields: Fields) -> MemberKind {
 fn print_member(
     alloc: Global,
     out: &mut String,
+    visibility: RawVisibility,
+    name: &str,
+    named: bool,
+    shape: FieldsShape,
+) -> Result<(), AllocError> {
+    let shown = format!(in alloc; "  {visibility:?} {name} {named} {shape:?}\n")?;
+    out.push_str(shown.as_str())
+}
+
+/// Adds a member, as it is written.
+fn print_written(
+    alloc: Global,
+    out: &mut String,
     text: &str,
     lexemes: &[Lexeme],
     member: Member,
@@ -30,11 +42,14 @@ fn print_member(
         first: member.visibility,
         behind: member.name,
     };
-    let visibility = raw_visibility(lexemes, written);
-    let name = lexeme_text(text, lexemes, member.name);
-    let (named, shape) = (member.named, member.fields.shape);
-    let shown = format!(in alloc; "  {visibility:?} {name} {named} {shape:?}\n")?;
-    out.push_str(shown.as_str())
+    print_member(
+        alloc,
+        out,
+        raw_visibility(lexemes, written),
+        lexeme_text(text, lexemes, member.name),
+        member.named,
+        member.fields.shape,
+    )
 }
 
 fn print_members_of(
@@ -56,7 +71,7 @@ fn print_members_of(
         fields.range,
         kind_of(item, fields),
     )? {
-        print_member(alloc, out, text, lexemes, *member)?;
+        print_written(alloc, out, text, lexemes, *member)?;
     }
     Ok(())
 }
@@ -64,12 +79,11 @@ fn print_members_of(
 pub(crate) fn print_members(
     alloc: Global,
     out: &mut String,
-    edition: Edition,
     text: &str,
+    read: &Parsed,
 ) -> Result<(), AllocError> {
-    let read = read_text(alloc, edition, text)?;
     for item in &read.tree.items {
-        print_members_of(alloc, out, text, &read, *item)?;
+        print_members_of(alloc, out, text, read, *item)?;
     }
     Ok(())
 }

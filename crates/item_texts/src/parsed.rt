@@ -1,4 +1,7 @@
 //! A text that is read, and pieces of it.
+ghost use Rattle.std.specs.Prelude.{IfOk};
+ghost use Rattle.item_tree.specs.Children.{ByParent};
+
 use dm_ids::source::Edition;
 use item_tree::delimiters::partners;
 use item_tree::ids::TextRange;
@@ -14,7 +17,9 @@ pub(crate) struct Parsed {
     pub(crate) tree: ItemTree,
 }
 
-pub(crate) fn read_text(alloc: Global, edition: Edition, text: &str) -> Result<Parsed, AllocError> {
+pub(crate) fn read_text(alloc: Global, edition: Edition, text: &str) -> Result<Parsed, AllocError>
+    ensures { IfOk result (λ read. ByParent read.tree.items.items) }
+{
     let lexemes = read_lexemes(alloc, text.as_bytes(), edition)?;
     let partners = partners(alloc, lexemes.as_slice())?;
     let tree = item_tree(alloc, lexemes.as_slice(), partners.as_slice())?;
@@ -30,12 +35,15 @@ pub(crate) fn text_in(text: &str, range: TextRange) -> &str {
     text.get(range.start..range.end).unwrap_or("?")
 }
 
+/// So many bytes of a text.
+fn bytes_in(text: &str, start: usize, len: usize) -> &str {
+    text.get(start..start.saturating_add(len)).unwrap_or("?")
+}
+
 /// The text of a lexeme.
 pub(crate) fn lexeme_text<'a>(text: &'a str, lexemes: &[Lexeme], place: usize) -> &'a str {
     match lexemes.get(place) {
-        Some(lexeme) => text
-            .get(lexeme.start..lexeme.start.saturating_add(lexeme.len))
-            .unwrap_or("?"),
+        Some(lexeme) => bytes_in(text, lexeme.start, lexeme.len),
         None => "?",
     }
 }

@@ -1,6 +1,5 @@
 //! Use trees of `use` items: each with the number of the list that it stands in, its text, and what it imports.
-use crate::parsed::{lexeme_text, read_text, text_in};
-use dm_ids::source::Edition;
+use crate::parsed::{Parsed, lexeme_text, text_in};
 use item_tree::ids::use_tree_range;
 use item_tree::imports::{import_kind, import_path};
 use item_tree::items::Range;
@@ -37,10 +36,9 @@ fn imported(
 pub(crate) fn print_uses(
     alloc: Global,
     out: &mut String,
-    edition: Edition,
     text: &str,
+    read: &Parsed,
 ) -> Result<(), AllocError> {
-    let read = read_text(alloc, edition, text)?;
     let lexemes = read.lexemes.as_slice();
     let whole = Range {
         first: 1,
