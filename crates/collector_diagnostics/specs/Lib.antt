@@ -9,3 +9,4 @@ pub mod ToldInMaps
 pub mod ToldPlaces
 pub mod MapDiagnostics
 pub mod UnresolvedImports
+pub mod UnresolvedGlobs

@@ -12,4 +12,5 @@ pub mod map_diagnostics;
 pub mod open_modules;
 pub mod told_in_maps;
 pub mod told_places;
+pub mod unresolved_globs;
 pub mod unresolved_imports;
