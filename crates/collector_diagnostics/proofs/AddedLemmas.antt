@@ -1,11 +1,7 @@
 -- Diagnostics, added to a map one after another.
-use Rattle.std.proofs.Common.{◌≡◌, ◌∙◌, ◌++◌, ℕ, List, [], ◌∷◌, ap, refl, sym}
-use Rattle.std.proofs.lemmas.List.{append_assoc, map-append}
-use Rattle.std.specs.Prelude.{map}
-use Rattle.collector_diagnostics.specs.ItemModules.{MappedCrate}
-use Rattle.collector_diagnostics.specs.MapDiagnostics.{ArePartlyAdded, IsPartly, added, beside, map_of, with_all, with_one}
-use Rattle.collector_diagnostics.specs.ToldInMaps.{told_by, told_from}
-use Rattle.crate_diagnostics.specs.declared.diagnostic.Diagnostic.{Diagnostic}
+use Rattle.std.proofs.Common.{◌≡◌, ◌∙◌, ◌++◌, List, [], ◌∷◌, ap, refl, sym}
+use Rattle.std.proofs.lemmas.List.{append_assoc}
+use Rattle.collector_diagnostics.specs.MapDiagnostics.{added, beside, with_all, with_one}
 use Rattle.dm_ids.specs.declared.ids.MapId.{MapId}
 use Rattle.dm_maps.specs.World.{World}
 use Rattle.dm_retry.specs.Retries.{Retries}
@@ -26,13 +22,3 @@ one_behind r s t id ds d h e =
 pub one_taken : {X : Type 0} (front rest behind all : List X) (x : X)
     → front ++ rest ≡ all → rest ≡ x ∷ behind → (front ++ x ∷ []) ++ behind ≡ all
 one_taken front rest behind all x h e = append_assoc front (x ∷ []) behind ∙ ap (λ r. front ++ r) (sym e) ∙ h
-
--- what is told of the first of them is the first of what is told
-pub first_are_added : (c : MappedCrate) (row : ℕ) (xs : List Diagnostic) (old new : Retries) (ds : List DefDiagnostic)
-    → map told_by ds ≡ told_from c row xs → IsPartly old (map_of c.krate) ds new → ArePartlyAdded c row xs old new
-first_are_added c row xs old new ds told p = record {
-  diagnostics = p.first;
-  rest = map told_by p.rest;
-  told = sym told ∙ ap (map told_by) p.split ∙ map-append told_by p.first p.rest;
-  state = p.state;
-}

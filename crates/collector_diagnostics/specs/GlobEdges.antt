@@ -1,5 +1,5 @@
 -- Which modules have globs of which modules.
-use Rattle.std.specs.Prelude.{◌&&◌, Option, None, Some, if◌then◌else◌}
+use Rattle.std.specs.Prelude.{◌&&◌, Option, None, if◌then◌else◌}
 use Rattle.std.specs.Option.{option_map}
 use Rattle.collector_diagnostics.specs.Hidden.{module_meant}
 use Rattle.collector_diagnostics.specs.MacroMeanings.{knows_path}

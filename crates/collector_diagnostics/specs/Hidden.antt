@@ -1,6 +1,5 @@
 -- Which imports that find nothing may find something once macros are expanded.
 use Rattle.std.specs.Prelude.{◌&&◌, ◌||◌, ◌==◌, ◌+◌, ℕ, Bool, true, false, List, [], ◌∷◌, Option, None, Some, is_none, is_some, take, if◌then◌else◌}
-use Rattle.std.specs.Option.{option_and_then}
 use Rattle.dm_base.specs.Path.{Path}
 use Rattle.dm_base.specs.PerNs.{is_empty}
 use Rattle.dm_base.specs.Tree.{is_among}

@@ -1,5 +1,5 @@
 -- Where a diagnostic of a def map is written.
-use Rattle.std.specs.Prelude.{ℕ, List, Option, None, Some, slice_get}
+use Rattle.std.specs.Prelude.{List, Option, None, Some, slice_get}
 use Rattle.std.specs.Option.{option_map}
 use Rattle.collector_diagnostics.specs.declared.told_in_maps.CallPlace.{CallPlace}
 use Rattle.collector_diagnostics.specs.declared.told_places.ToldPlace.{ToldPlace}
