@@ -1,2 +1,3 @@
+mod AddedLemmas
 pub mod KnownLemmas
 pub mod OpenLemmas

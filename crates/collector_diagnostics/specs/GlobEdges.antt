@@ -1,19 +1,20 @@
 -- Which modules have globs of which modules.
-use Rattle.std.specs.Prelude.{◌&&◌, Option, None, Some, if◌then◌else◌}
+use Rattle.std.specs.Prelude.{◌&&◌, Option, None, if◌then◌else◌}
 use Rattle.std.specs.Option.{option_map}
 use Rattle.collector_diagnostics.specs.Hidden.{module_meant}
-use Rattle.collector_diagnostics.specs.MacroMeanings.{import_meaning, knows_path}
+use Rattle.collector_diagnostics.specs.MacroMeanings.{knows_path}
 use Rattle.collector_diagnostics.specs.declared.open_modules.GlobEdge.{GlobEdge}
 use Rattle.dm_base.specs.Path.{Path}
 use Rattle.dm_check.specs.declared.held.HeldId.TheVariants as held
 use Rattle.dm_ids.specs.declared.ids.ModuleId.{ModuleId}
 use Rattle.dm_maps.specs.Known.{knows}
 use Rattle.dm_maps.specs.World.{World}
+use Rattle.dm_retry.specs.Rounds.{path_meaning}
 
 -- the module that the path of a glob means, if the world has what it names
 abbrev pub source_of : World → ModuleId → Path → Option ModuleId
 source_of w into p =
-    if knows w (held.Module into) && knows_path w p.kind then module_meant (import_meaning w into p) else None
+    if knows w (held.Module into) && knows_path w p.kind then module_meant (path_meaning w into p) else None
 
 abbrev pub edge_of : ModuleId → ModuleId → GlobEdge
 edge_of into from = record { into = into; from = from }

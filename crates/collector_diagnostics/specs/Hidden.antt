@@ -1,7 +1,5 @@
 -- Which imports that find nothing may find something once macros are expanded.
 use Rattle.std.specs.Prelude.{◌&&◌, ◌||◌, ◌==◌, ◌+◌, ℕ, Bool, true, false, List, [], ◌∷◌, Option, None, Some, is_none, is_some, take, if◌then◌else◌}
-use Rattle.std.specs.Option.{option_and_then}
-use Rattle.collector_diagnostics.specs.MacroMeanings.{import_meaning}
 use Rattle.dm_base.specs.Path.{Path}
 use Rattle.dm_base.specs.PerNs.{is_empty}
 use Rattle.dm_base.specs.Tree.{is_among}
@@ -13,6 +11,7 @@ use Rattle.dm_ids.specs.declared.ids.ModuleId.{ModuleId}
 use Rattle.dm_maps.specs.ItemHomes.{homes_of}
 use Rattle.dm_maps.specs.Readings.{is_2015_in, root_of}
 use Rattle.dm_maps.specs.World.{World}
+use Rattle.dm_retry.specs.Rounds.{path_meaning}
 use Rattle.hir_def_map.specs.Paths.{type_module}
 use Rattle.hir_def_map.specs.declared.result.ResolvePathResult.{ResolvePathResult}
 
@@ -21,7 +20,7 @@ abbrev pub prefix : Path → ℕ → Path
 prefix p n = record { kind = p.kind; segments = take n p.segments }
 
 abbrev pub prefix_meaning : World → ModuleId → Path → ℕ → ResolvePathResult
-prefix_meaning w m p n = import_meaning w m (prefix p n)
+prefix_meaning w m p n = path_meaning w m (prefix p n)
 
 -- a path leads nowhere, or not to its end
 abbrev pub finds_nothing : ResolvePathResult → Bool

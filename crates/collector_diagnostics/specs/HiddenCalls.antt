@@ -1,5 +1,5 @@
 -- Which macro calls that call no macro may call one once others are expanded.
-use Rattle.std.specs.Prelude.{◌&&◌, ◌||◌, ◌==◌, Bool, true, false, List, is_some, length, if◌then◌else◌}
+use Rattle.std.specs.Prelude.{◌&&◌, ◌==◌, Bool, true, false, List, is_some, length, if◌then◌else◌}
 use Rattle.std.specs.List.{list_any}
 use Rattle.collector_diagnostics.specs.Hidden.{is_hidden}
 use Rattle.collector_diagnostics.specs.declared.macro_calls.MacroCall.{MacroCall}

@@ -4,3 +4,9 @@ pub mod GlobEdges
 pub mod OpenModules
 pub mod Hidden
 pub mod HiddenCalls
+pub mod ItemModules
+pub mod ToldInMaps
+pub mod ToldPlaces
+pub mod MapDiagnostics
+pub mod UnresolvedImports
+pub mod UnresolvedGlobs

@@ -3,18 +3,19 @@ ghost use Rattle.std.specs.Prelude.{◌≡◌};
 ghost use Rattle.collector_diagnostics.specs.GlobEdges as spec;
 
 use crate::hidden::module_meant;
-use crate::macro_meaning::{import_meaning, knows_module, knows_path};
+use crate::macro_meaning::{knows_module, knows_path};
 use crate::open_modules::GlobEdge;
 use dm_base::ids::ModuleId;
 use dm_base::mod_path::ModPath;
 use dm_maps::world::World;
+use dm_retry::meaning::path_meaning;
 
 /// The module of which the glob of a path is, if the world has what the path names.
 fn source_of(world: &World, into: ModuleId, path: &ModPath) -> Option<ModuleId>
     ensures { result ≡ spec.source_of world.now into path.now }
 {
     if knows_module(world, into) && knows_path(world, path) {
-        module_meant(&import_meaning(world, into, path))
+        module_meant(&path_meaning(world, into, path))
     } else {
         None
     }

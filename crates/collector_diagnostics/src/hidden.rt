@@ -6,7 +6,6 @@ ghost use Rattle.dm_check.specs.declared.held.HeldId.TheVariants as held;
 ghost use Rattle.dm_maps.specs.Known.{knows, KnowsAll};
 
 use crate::macro_calls::copied_names;
-use crate::macro_meaning::import_meaning;
 use crate::open_modules::OpenModules;
 use dm_base::ids::{Crate, ModuleId};
 use dm_base::item_ids::ModuleDefId;
@@ -14,6 +13,7 @@ use dm_base::item_in_ns::ItemModules;
 use dm_base::mod_path::{ModPath, PathKind};
 use dm_base::name::Name;
 use dm_maps::world::World;
+use dm_retry::meaning::path_meaning;
 use hir_def_map::result::ResolvePathResult;
 use std::alloc::{AllocError, Global};
 
@@ -110,7 +110,7 @@ fn prefix_meaning(
     ensures { IfOk result (λ answer. answer ≡ spec.prefix_meaning world.now m path.now count) }
 {
     let prefix = prefix(alloc, path, count)?;
-    Ok(import_meaning(world, m, &prefix))
+    Ok(path_meaning(world, m, &prefix))
 }
 
 /// The module in which the segment of a number is looked up, where those before it mean one.

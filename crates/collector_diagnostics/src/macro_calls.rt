@@ -30,7 +30,7 @@ pub struct MacroCall {
 }
 
 /// The id of the module of a number in a crate's list, unless it was left out.
-fn id_at(ids: &[Option<ModuleId>], number: usize) -> Option<ModuleId>
+pub(crate) fn id_at(ids: &[Option<ModuleId>], number: usize) -> Option<ModuleId>
     ensures { result ≡ spec.id_at ids.now number }
 {
     match ids.get(number) {

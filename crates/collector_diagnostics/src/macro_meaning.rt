@@ -1,9 +1,10 @@
-//! What the paths of macro calls and of imports mean in a world.
+//! What the paths of macro calls mean in a world.
 ghost use Rattle.std.specs.Prelude.{◌≡◌, ◌↔◌, IsTrue};
 ghost use Rattle.collector_diagnostics.specs.MacroMeanings as spec;
 ghost use Rattle.dm_check.specs.Holding.{local_holds, path_holds, res_holds};
 ghost use Rattle.dm_check.specs.declared.held.HeldId.TheVariants as held;
 ghost use Rattle.dm_maps.specs.Known.{knows, KnowsAll};
+ghost use Rattle.dm_retry.specs.Rounds.{local_of};
 
 use dm_base::ids::ModuleId;
 use dm_base::item_ids::{MacroId, ModuleDefId};
@@ -19,7 +20,7 @@ use hir_def_map::result::{ResolveMode, ResolvePathResult};
 /// The extern prelude of a module's crate.
 fn local_of(world: &World, m: ModuleId) -> &LocalDefMap
     requires { IsTrue (knows world.now (held.Module m)) }
-    ensures value { result.now ≡ spec.local_of world.now m }
+    ensures value { result.now ≡ local_of world.now m }
     ensures known { KnowsAll world.now (local_holds result.now) }
 {
     let krate = world.module_krate(m).unwrap();
@@ -44,35 +45,6 @@ pub(crate) fn knows_path(world: &World, path: &ModPath) -> bool
     }
 }
 
-/// What a path in a module resolves to, for an import or not, where some kind of macro is expected or none.
-fn meaning(
-    world: &World,
-    m: ModuleId,
-    path: &ModPath,
-    mode: ResolveMode,
-    expected: Option<MacroSubNs>,
-) -> ResolvePathResult
-    requires module_known { IsTrue (knows world.now (held.Module m)) }
-    requires path_known { KnowsAll world.now (path_holds path.now.kind) }
-    ensures { result ≡ spec.meaning world.now m path.now mode expected }
-{
-    let map = world.map_of(m).unwrap();
-    let local = local_of(world, m);
-    let shadow = BuiltinShadowMode::Module;
-    map.resolve_path_fp_with_macro(local, world, mode, m, path, shadow, expected)
-}
-
-/// What the path of an import in a module resolves to. Does not allocate.
-///
-/// The module has to be the world's, and so has the crate of the path's `$crate`: `knows_def` and `knows_path` test it.
-pub fn import_meaning(world: &World, m: ModuleId, path: &ModPath) -> ResolvePathResult
-    requires module_known { IsTrue (knows world.now (held.Module m)) }
-    requires path_known { KnowsAll world.now (path_holds path.now.kind) }
-    ensures { result ≡ spec.import_meaning world.now m path.now }
-{
-    meaning(world, m, path, ResolveMode::Import, None)
-}
-
 /// What the path of a call `path!(..)` in a module resolves to, in the textual scope of the module's end. Does not
 /// allocate.
 ///
@@ -82,7 +54,12 @@ pub fn macro_meaning(world: &World, m: ModuleId, path: &ModPath) -> ResolvePathR
     requires path_known { KnowsAll world.now (path_holds path.now.kind) }
     ensures { result ≡ spec.macro_meaning world.now m path.now }
 {
-    meaning(world, m, path, ResolveMode::Other, Some(MacroSubNs::Bang))
+    let map = world.map_of(m).unwrap();
+    let local = local_of(world, m);
+    let mode = ResolveMode::Other;
+    let shadow = BuiltinShadowMode::Module;
+    let expected = Some(MacroSubNs::Bang);
+    map.resolve_path_fp_with_macro(local, world, mode, m, path, shadow, expected)
 }
 
 /// The macro that an answer has, where no segment is left.

@@ -6,6 +6,7 @@ pub mod DeclaredMods
 pub mod TakenNames
 pub mod Duplicates
 pub mod ModuleFaults
+pub mod MissingFiles
 pub mod Unconfigured
 pub mod Offsets
 pub mod Texts

@@ -47,6 +47,19 @@ abbrev pub line_of : List SourceFile → Told → List ℕ
 line_of files m =
     if nat_lt m.file.0 (length files) then line_in (path_of files m.file) (text_of files m.file) m else bare_line m
 
+-- a file that is seen: its path, and its text
+pub record SeenFile : Type 0 where
+  pub file : FileId
+  pub path : List ℕ
+  pub text : List ℕ
+
+abbrev pub seen_in : List SourceFile → FileId → SeenFile
+seen_in files f = record { file = f; path = path_of files f; text = text_of files f }
+
+-- it is as a table has it
+abbrev pub IsSeenIn : List SourceFile → SeenFile → Type 0
+IsSeenIn files s = s ≡ seen_in files s.file
+
 -- the order of messages: by their files, and in these by their bytes
 abbrev pub place_of : Told → ℕ × ℕ
 place_of m = (m.file.0, m.offset)

@@ -9,7 +9,7 @@ use std::marker::Model;
 /// Paths of files, which contracts see as a list.
 #[derive(Drop)]
 pub struct CandidatePaths {
-    paths: Vec<Vec<u8>>,
+    pub(crate) paths: Vec<Vec<u8>>,
 }
 
 impl Model for CandidatePaths {
@@ -35,6 +35,21 @@ fn push_path(
     Ok(())
 }
 
+/// Adds the paths of candidates.
+pub(crate) fn push_paths(
+    paths: &mut Vec<Vec<u8>>,
+    alloc: Global,
+    candidates: &[Candidate],
+) -> Result<(), AllocError>
+    ensures { OnOk result
+        (map bytes_of paths.new.items ≡ map bytes_of paths.old.items ++ paths_of candidates.now) }
+{
+    for candidate in candidates {
+        push_path(paths, alloc, candidate)?;
+    }
+    Ok(())
+}
+
 impl CandidatePaths {
     /// Those of some candidates.
     ///
@@ -45,9 +60,7 @@ impl CandidatePaths {
         ensures { IfOk result (λ paths. paths ≡ paths_of candidates.now) }
     {
         let mut paths = Vec::new(alloc);
-        for candidate in candidates {
-            push_path(&mut paths, alloc, candidate)?;
-        }
+        push_paths(&mut paths, alloc, candidates)?;
         Ok(CandidatePaths { paths })
     }
 

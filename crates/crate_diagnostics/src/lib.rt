@@ -10,6 +10,7 @@ pub mod duplicates;
 pub mod extern_crates;
 pub mod lines;
 pub mod message;
+pub mod missing_files;
 pub mod module_faults;
 pub mod offsets;
 pub mod taken_laws;

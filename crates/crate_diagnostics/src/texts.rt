@@ -9,7 +9,7 @@ use dm_ids::name::Name;
 use std::alloc::{AllocError, Global};
 
 /// Bytes as text; what is no UTF-8 is a question mark.
-pub(crate) fn as_text(bytes: &[u8]) -> &str
+pub fn as_text(bytes: &[u8]) -> &str
     ensures { result.now ≡ spec.as_text bytes.now }
 {
     match std::str::from_utf8(bytes) {
