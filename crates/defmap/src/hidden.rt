@@ -2,8 +2,10 @@
 //!
 //! A module *hides* names where a macro is called among its items, and where it has a glob import of a module that hides
 //! names, or one that is itself unknown. An import that leads nowhere is *unknown* where it begins with a crate of the
-//! standard library, which is not given; where the module that its first missing name is looked up in hides names; and
+//! standard library, which is not given; where the module that its first missing name is looked up in hides names; where
+//! this name is the last, and that module the root of a crate in which a macro is called that may export macros; and
 //! where an unknown import of that module would bind this name.
+use crate::macro_exports::exporting_roots;
 use crate::macro_homes::MacroHome;
 use crate::meanings::import_meaning;
 use crate::settled::Settled;
@@ -39,6 +41,8 @@ pub(crate) struct Hidden<'a> {
     has_sysroot: bool,
     by_macros: IndexSet<ModuleId>,
     by_standard: IndexSet<ModuleId>,
+    /// The roots that macros may bring macros to.
+    exporting: IndexSet<ModuleId>,
     /// The unknown imports, by their places among the named ones.
     named: IndexMap<usize, Cause>,
     /// The globs that hide names, by their places.
@@ -51,6 +55,7 @@ struct Missing<'b> {
     module: ModuleId,
     name: Option<&'b Name>,
     is_first: bool,
+    is_last: bool,
 }
 
 fn is_standard(name: &Name) -> bool {
@@ -109,6 +114,7 @@ fn missing_of<'b>(
                 module,
                 name,
                 is_first: false,
+                is_last: less == 1,
             });
         }
     }
@@ -122,6 +128,7 @@ fn missing_of<'b>(
         module: begun.unwrap_or(first_module(world, home)),
         name: path.segments().first(),
         is_first: is_plain,
+        is_last: count == 1,
     })
 }
 
@@ -139,6 +146,7 @@ impl<'a> Hidden<'a> {
             has_sysroot,
             by_macros: IndexSet::new(alloc),
             by_standard: IndexSet::new(alloc),
+            exporting: exporting_roots(alloc, settled, homes)?,
             named: IndexMap::new(alloc),
             globs: IndexMap::new(alloc),
         };
@@ -203,6 +211,9 @@ impl<'a> Hidden<'a> {
         };
         if missing.is_first && !self.has_sysroot && is_standard(name) {
             return Ok(Some(Cause::Standard));
+        }
+        if missing.is_last && self.exporting.contains(&missing.module) {
+            return Ok(Some(Cause::Macro));
         }
         match self.cause_in(missing.module) {
             Some(cause) => Ok(Some(cause)),

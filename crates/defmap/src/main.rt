@@ -3,6 +3,7 @@
 
 mod answer;
 mod arguments;
+mod build_messages;
 mod cargo_target;
 mod cfg_file;
 mod complaints;
@@ -17,6 +18,7 @@ mod inputs;
 mod item_places;
 mod loader;
 mod macro_calls;
+mod macro_exports;
 mod macro_homes;
 mod meanings;
 mod metadata;
