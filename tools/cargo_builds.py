@@ -17,7 +17,7 @@ from judging import Wrong
 from rustc_tree import read
 
 REGISTRY = "/usr/share/cargo/registry"
-SYSROOT = "/usr/lib/rustlib/src/rust/library"
+SYSROOT = os.path.realpath("/usr/lib/rustlib/src/rust/library")
 CARGO, RUSTC = "/usr/bin/cargo", "/usr/bin/rustc"
 SECONDS = 600
 PASS = re.compile(r"^time: +([\d.]+); rss: +\d+MB -> +(\d+)MB .*?\t(\w+)$", re.M)

@@ -11,7 +11,8 @@ from dataclasses import dataclass, field
 from cargo_builds import REGISTRY, RUSTC, SYSROOT, Build, compiled_with, passes, run, write
 
 LIBRARIES = ("core", "alloc", "std")
-LINKED = ("addr2line", "cfg_if", "hashbrown", "libc", "miniz_oxide", "object", "panic_unwind", "rustc_demangle", "std_detect", "unwind")
+LINKED = ("addr2line", "cfg_if", "hashbrown", "libc", "miniz_oxide", "object", "panic_unwind", "rustc_demangle",
+          "std_detect", "unwind")
 
 
 @dataclass
@@ -78,15 +79,16 @@ def metadata(name):
 
 def messages(name):
     """What cargo would print of the build scripts."""
-    rows = [{"reason": "build-script-executed", "package_id": it, "cfgs": PACKAGES[it].options} for it in sorted(below(name))]
+    rows = [{"reason": "build-script-executed", "package_id": it, "cfgs": PACKAGES[it].options}
+            for it in sorted(below(name))]
     return "".join(f"{json.dumps(it)}\n" for it in rows)
 
 
 def rustc_words(name, tree):
     """How rustc is run on a crate: of the crates that it needs it has what it kept."""
     linked = [word for it in PACKAGES[name].needs for word in ("--extern", it)]
-    return [RUSTC, "--crate-name", name, "--edition=2021", root_of(name), "--crate-type", "lib", "--cap-lints", "allow", *linked,
-            "-Zforce-unstable-if-unmarked", "-Zunpretty=hir-tree", "-Ztime-passes", "-o", tree]
+    return [RUSTC, "--crate-name", name, "--edition=2021", root_of(name), "--crate-type", "lib", "--cap-lints", "allow",
+            *linked, "-Zforce-unstable-if-unmarked", "-Zunpretty=hir-tree", "-Ztime-passes", "-o", tree]
 
 
 def library(folder, name):

@@ -22,6 +22,7 @@ class Ours:
 
     meant: set = field(default_factory=set)
     is_unknown: bool = False
+    has_more: bool = False  # perhaps, in other namespaces, by macros
 
 
 @dataclass
@@ -30,6 +31,7 @@ class Outcome:
 
     compared: int = 0
     unknown: int = 0
+    partly: int = 0
     brought: int = 0
     reasons: dict = field(default_factory=dict)
     differing: list = field(default_factory=list)
@@ -55,6 +57,8 @@ def imports(printed, own):
         for part in told.split("; ")[1:]:
             if part == "unknown":
                 one.is_unknown = True
+            elif part == "more unknown":
+                one.has_more = True
             elif " builtin " not in part:
                 one.meant.add(meant_by(part, own))
     return found
@@ -77,6 +81,11 @@ def reason_for(theirs, ours, known):
     if (of_macros or shadowed) and theirs - of_macros == ours - shadowed:
         return PROCEDURAL
     return TESTS if theirs == {it for it in ours if it.kind != "fn" or it.path not in known.tests} else None
+
+
+def is_part(meant, whole):
+    """Whether something is all that is meant in its namespaces."""
+    return bool(meant) and meant == {it for it in whole if it.namespace in {one.namespace for one in meant}}
 
 
 def shown(where):
@@ -102,6 +111,9 @@ def compare_leaf(outcome, where, leaf, one, known):
     outcome.compared += 1
     meant = without_constructors(one.meant, leaf.meant) if one else set()
     if one is not None and meant == leaf.meant:
+        return
+    if one is not None and one.has_more and is_part(meant, leaf.meant):
+        outcome.partly += 1
         return
     reason = reason_for(leaf.meant, meant, known)
     if reason:

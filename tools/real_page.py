@@ -23,11 +23,13 @@ class Row:
     globs: int = 0
     compared: int = 0
     unknown: int = 0
+    partly: int = 0
     brought: int = 0
     modules: int = 0
     names: int = 0
     bound: int = 0
     unknown_names: int = 0
+    partly_names: int = 0
     reasons: dict = field(default_factory=dict)
     differing: list = field(default_factory=list)
     statistics: dict = field(default_factory=dict)
@@ -42,11 +44,12 @@ class Row:
     def add(self, outcome):
         """Adds how the imports compare."""
         self.compared, self.unknown, self.brought = outcome.compared, outcome.unknown, outcome.brought
+        self.partly = outcome.partly
         self.add_reasons(outcome)
 
     def add_names(self, outcome, wanted, ours, tree, theirs):
         """Adds how the names of modules compare, and those of which `tree` tells something else than the imports do."""
-        self.unknown_names = outcome.unknown
+        self.unknown_names, self.partly_names = outcome.unknown, outcome.partly
         self.bound = sum(bool(theirs[it].meant) for it in wanted if it in theirs)
         self.add_reasons(outcome)
         for where, (module, name) in wanted.items():
@@ -57,9 +60,9 @@ class Row:
 
     def told(self):
         reasons = "".join(f", {count} of {reason}" for reason, count in sorted(self.reasons.items()))
-        return (f"{self.imports} imports, {self.globs} globs, {self.compared} compared, {self.unknown} unknown, "
+        return (f"{self.imports} imports, {self.globs} globs, {self.compared} compared, {self.unknown} unknown, {self.partly} partly, "
                 f"{self.brought} in modules of macros; {self.names} names of {self.modules} modules, {self.bound} bound, "
-                f"{self.unknown_names} unknown{reasons}; {len(self.differing)} differ")
+                f"{self.unknown_names} unknown, {self.partly_names} partly{reasons}; {len(self.differing)} differ")
 
 
 def allowed(row):
@@ -115,11 +118,12 @@ def limits(rows):
     """What cannot be right without expansion, with the number of places."""
     procedural, tests = (sum(it.reasons.get(reason, 0) for it in rows) for reason in (PROCEDURAL, TESTS))
     unknown, brought = sum(it.unknown for it in rows), sum(it.brought for it in rows)
-    names = sum(it.unknown_names for it in rows)
+    names, partly = sum(it.unknown_names for it in rows), sum(it.partly + it.partly_names for it in rows)
     return table(["what", "places"], [
         ["imports that lead nowhere, where a macro that is called may bring what they name: `unknown`", unknown],
         ["imports in modules that a macro brings, as those of `cfg_if!`: not read", brought],
         ["names of the modules asked about that a macro may bring: `unknown`", names],
+        ["imports and names that mean more in another namespace, by a macro: `more unknown`", partly],
         ["functions that are procedural macros, which bind a function and no macro", procedural],
         ["functions that an attribute as `#[test]` takes away, which are bound", tests]])
 

@@ -8,8 +8,6 @@ from cargo_builds import read_text, write
 
 PROBE = "__defmap_probe"
 MODULES = 8
-# More names than this are not asked of a module that has globs: those that only the texts have are left out then.
-NAMES = 4000
 WORD = re.compile(r"\b[A-Za-z_]\w*")
 BOUND = re.compile(r"\b(type|value|macro) pub")
 TEST = re.compile(r"#\[(?:test|bench|test_case)\b[^;{}]*?\bfn (\w+)")
@@ -43,21 +41,34 @@ def trees(printed):
     return modules
 
 
-def candidates(said, module, bound, words):
-    """The names that a module could bind: what `defmap` binds, and what rustc could."""
-    names = set(bound) | said.declared[module]
+def candidates(said, own, module, bound):
+    """The names that a module could bind: those that `defmap` binds, and those that rustc could."""
+    names = set(bound) | names_of(said, own, module, set())
     if module == "crate":
         names |= said.macros
-    if module in said.globbed:
-        names |= said.names
-        names |= words if len(names) + len(words) <= NAMES else set()
     return sorted(names - NOT_ASKED)
+
+
+def names_of(said, own, module, seen):
+    """The names that a module could bind by rustc: of its items, and of all that its globs bring. What rustc has of other
+    crates it does not list: of those all words count of the file that the module stands in."""
+    if module in seen:
+        return set()
+    seen.add(module)
+    names = set(said.declared[module])
+    for meant in said.globs.get(module, ()):
+        inner = f"crate{meant.path[len(own):]}" if meant and meant.path.split("::")[0] == own else None
+        if inner in said.declared:
+            names |= names_of(said, own, inner, seen)
+        elif module in said.modules:
+            names |= set(WORD.findall(read_text(said.modules[module].file)))
+    return names
 
 
 def chosen(said, tree):
     """The modules that are asked about: the root, then those that have globs, then those with the most names."""
     own = [it for it in said.modules if it in tree and is_probed(said, it)]
-    order = {it: (it != "crate", it not in said.globbed, -len(tree[it]), it) for it in own}
+    order = {it: (it != "crate", it not in said.globs, -len(tree[it]), it) for it in own}
     by_line = {}
     for it in sorted(own, key=order.get):
         by_line.setdefault((said.modules[it].file, said.modules[it].row), it)
@@ -77,11 +88,6 @@ def is_probed(said, module):
         return is_probed(said, module.rpartition("::")[0])
     sharing = [it for it, other in said.modules.items() if other.file == place.file and not is_inline(said, it)]
     return sharing == [module]
-
-
-def words_of(said):
-    """All words of the files of a crate."""
-    return {word for file in {it.file for it in said.modules.values()} for word in WORD.findall(read_text(file))}
 
 
 def probe_text(probe, column):
@@ -115,10 +121,9 @@ def asked_by(probes):
     return asked
 
 
-def probes_of(said, tree):
+def probes_of(said, own, tree):
     """What is asked of a crate."""
-    words = words_of(said)
-    found = [Probe(it, candidates(said, it, tree[it], words)) for it in chosen(said, tree)]
+    found = [Probe(it, candidates(said, own, it, tree[it])) for it in chosen(said, tree)]
     return [it for it in found if it.names]
 
 

@@ -14,6 +14,7 @@ TYPES = {"mod", "struct", "union", "enum", "variant", "trait", "type"}
 SPAN = re.compile(r"span: (.+?):(\d+):(\d+): (\d+):(\d+) \(#(\d+)\)")
 IDENT = re.compile(r"ident: (\S*?)#\d+,")
 OWN_ID = re.compile(r"def_id: DefId\(\d+:\d+ ~ \w+\[\w+\]([^)]*)\)")
+OWNER = re.compile(r"owner: DefId\(\d+:\d+ ~ \w+\[\w+\]([^)]*)\)")
 KIND = re.compile(r"( *)kind: (\w+)")
 DEF_ID = re.compile(r"DefId\(\d+:\d+ ~ (\w+)\[\w+\]([^)]*)\)")
 INSIDE = re.compile(r"::\{(extern|constructor)#\d+\}")
@@ -53,10 +54,9 @@ class Said:
 
     leaves: dict = field(default_factory=dict)  # by file, row and column
     modules: dict = field(default_factory=dict)  # the places of those that no macro brought
-    declared: dict = field(default_factory=dict)  # the names of the items of each module
-    names: set = field(default_factory=set)  # of all items and variants
-    macros: set = field(default_factory=set)
-    globbed: set = field(default_factory=set)  # modules that have a glob import
+    declared: dict = field(default_factory=dict)  # the names of the items of each module, and of the variants of each enum
+    macros: set = field(default_factory=set)  # the names of all macros
+    globs: dict = field(default_factory=dict)  # what the globs of each module mean, those of macros too
 
 
 def without_raw(name):
@@ -88,7 +88,7 @@ def meant_by_leaf(body):
 
 
 def meant_by_glob(body):
-    """What the path of a glob means: only its last segment tells."""
+    """What the path of a glob means, if not `super` or `crate` alone: only its last segment tells."""
     last = max((it for it, text in enumerate(body) if text.strip() == "res: Some("), default=None)
     return definition(joined(body[last : last + 6])) if last is not None else None
 
@@ -99,12 +99,12 @@ def read_use(said, name, owner, body, last):
     if home not in said.declared or last not in ("Single,", "Glob,") or not span:
         return
     is_glob = last == "Glob,"
+    meant = meant_by_leaf(body) or (meant_by_glob(body) if is_glob else None)
     if is_glob:
-        said.globbed.add(home)
+        said.globs.setdefault(home, set()).add(meant)
     if span[6] != "0":
         return
     leaf = said.leaves.setdefault((span[1], int(span[2]), int(span[3])), Leaf(home, name, is_glob))
-    meant = meant_by_glob(body) if is_glob else meant_by_leaf(body)
     if meant:
         leaf.meant.add(meant)
 
@@ -123,7 +123,6 @@ def read_item(said, lines):
     if not name or not owner or not kind:
         return
     name, path = without_raw(name[1]), f"crate{owner[1]}"
-    said.names.add(name)
     home = path.rpartition("::")[0]
     if home in said.declared:
         said.declared[home].add(name)
@@ -131,10 +130,19 @@ def read_item(said, lines):
         said.macros.add(name)
     elif kind[2] == "Mod":
         read_module(said, path, lines)
+    elif kind[2] == "Enum":
+        said.declared[path] = set()
     elif kind[2] == "Use":
         end = f"{kind[1]}),\n"
         body = list(takewhile(lambda it: it != end, lines))
         read_use(said, name, path, body[1:], body[-1].strip())
+
+
+def read_variant(said, lines):
+    """Reads a variant of an enum, whose lines follow."""
+    name, owner = IDENT.search(next(lines)), OWNER.search(next(lines) + next(lines))
+    if name and owner and f"crate{owner[1]}" in said.declared:
+        said.declared[f"crate{owner[1]}"].add(without_raw(name[1]))
 
 
 def read(lines):
@@ -144,8 +152,7 @@ def read(lines):
         if line.endswith(" Item {\n"):
             read_item(said, lines)
         elif line.endswith(" Variant {\n"):
-            said.names.add(without_raw(IDENT.search(next(lines))[1]))
+            read_variant(said, lines)
         elif line.endswith(" node: Crate(\n"):
             read_module(said, "crate", lines)
-    said.names -= {"_", ""}
     return said

@@ -1,6 +1,6 @@
-//! The crates whose roots may get macros from macros that are called.
+//! The crates whose roots may have macros that are not written there as such.
 //!
-//! A macro that is called exports macros where `macro_export` stands in the call, or in a macro of its name.
+//! Procedural macros are written as functions. A macro that is called exports macros where `macro_export` stands in the call, or in a macro of its name.
 use crate::macro_calls::{item_of, path_of};
 use crate::macro_homes::MacroHome;
 use crate::places::source_of;
@@ -84,7 +84,30 @@ fn may_export(
     }
 }
 
-/// The roots of the crates in which a macro is called that may export macros.
+/// Adds the root of a crate.
+fn add_root(
+    roots: &mut IndexSet<ModuleId>,
+    settled: &Settled,
+    krate: usize,
+) -> Result<(), AllocError> {
+    let krate = Crate(u32::try_from(krate).unwrap_or(u32::MAX));
+    if settled.world().has_crate(krate) {
+        roots.insert(crate_def_map(settled.world(), krate).root_module_id())?;
+    }
+    Ok(())
+}
+
+/// Adds the roots of the crates of procedural macros.
+fn add_procedural(roots: &mut IndexSet<ModuleId>, settled: &Settled) -> Result<(), AllocError> {
+    for krate in 0..settled.names.len() {
+        if settled.is_procedural(krate) {
+            add_root(roots, settled, krate)?;
+        }
+    }
+    Ok(())
+}
+
+/// The roots of the crates of procedural macros, and of those in which a macro is called that may export macros.
 pub(crate) fn exporting_roots(
     alloc: Global,
     settled: &Settled,
@@ -92,10 +115,10 @@ pub(crate) fn exporting_roots(
 ) -> Result<IndexSet<ModuleId>, AllocError> {
     let names = exporting_names(alloc, settled)?;
     let mut roots = IndexSet::new(alloc);
+    add_procedural(&mut roots, settled)?;
     for call in homes {
-        let krate = Crate(u32::try_from(call.krate).unwrap_or(u32::MAX));
-        if settled.world().has_crate(krate) && may_export(alloc, settled, &names, *call)? {
-            roots.insert(crate_def_map(settled.world(), krate).root_module_id())?;
+        if may_export(alloc, settled, &names, *call)? {
+            add_root(&mut roots, settled, call.krate)?;
         }
     }
     Ok(roots)

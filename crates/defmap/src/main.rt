@@ -24,6 +24,7 @@ mod meanings;
 mod metadata;
 mod offsets;
 mod outlines;
+mod partly;
 mod path_text;
 mod places;
 mod plan;
