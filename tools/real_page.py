@@ -1,7 +1,10 @@
 """The page docs/REAL-CRATES.md, and how many imports of each crate may be unknown."""
+import hashlib
+import json
 import os
 import subprocess
-from dataclasses import dataclass, field
+import textwrap
+from dataclasses import asdict, dataclass, field
 
 from cargo_builds import PASSES, RUSTC, read_text
 from judging import ROOT
@@ -65,6 +68,30 @@ class Row:
                 f"{self.unknown_names} unknown, {self.partly_names} partly{reasons}; {len(self.differing)} differ")
 
 
+def sum_of(path):
+    """A number for the text of a file."""
+    with open(path, "rb") as it:
+        return hashlib.sha256(it.read()).hexdigest()
+
+
+def kept_rows(folder, program):
+    """The rows that a folder keeps of the same program, by the names of the crates."""
+    path, rows = f"{folder}/rows", {}
+    for line in read_text(path).splitlines() if folder and os.path.exists(path) else []:
+        made_by, row = json.loads(line)
+        if made_by == program:
+            rows[row["name"]] = Row(**row)
+    return rows
+
+
+def keep_row(folder, program, row):
+    """Keeps the row of a crate, if there is a folder for that."""
+    if folder:
+        os.makedirs(folder, exist_ok=True)
+        with open(f"{folder}/rows", "a", encoding="utf-8") as it:
+            it.write(f"{json.dumps([program, asdict(row)])}\n")
+
+
 def allowed(row):
     """How many imports of a crate may be unknown; any number where nothing is written of it."""
     if not os.path.exists(SHARES):
@@ -96,7 +123,7 @@ def thousands(number):
 
 def compared_table(rows):
     heads = ["crate", "version", "lines", "imports", "globs", "compared", "unknown", "by macros", "modules", "names", "differ"]
-    cells = [[f"`{it.name}`", it.version, thousands(it.lines), it.imports, it.globs, it.compared, it.unknown, it.brought,
+    cells = [[it.name, it.version, thousands(it.lines), it.imports, it.globs, it.compared, it.unknown, it.brought,
               it.modules, thousands(it.names), len(it.differing)] for it in rows]
     sums = [thousands(sum(getattr(it, key) for it in rows))
             for key in ("lines", "imports", "globs", "compared", "unknown", "brought", "modules", "names")]
@@ -104,12 +131,12 @@ def compared_table(rows):
 
 
 def time_table(rows):
-    heads = ["crate", "lines read", "rounds", *(f"{it} ms" for it in STAGES), "MB", *(f"`{it}` ms" for it in PASSES), "MB"]
+    heads = ["crate", "lines read", "rounds", *(f"{it} ms" for it in STAGES), "MB", "parse ms", "expand ms", "imports ms", "MB"]
     cells = []
     for row in rows:
         ours = [round(row.statistics.get(it, 0) / 1000) for it in STAGES]
         passes = [row.passes.get(it, (0, 0)) for it in PASSES]
-        cells.append([f"`{row.name}`", thousands(row.statistics.get("lines", 0)), row.statistics.get("rounds", 0), *ours,
+        cells.append([row.name, thousands(row.statistics.get("lines", 0)), row.statistics.get("rounds", 0), *ours,
                       row.megabytes, *(round(1000 * seconds) for seconds, _ in passes), passes[-1][1]])
     return table(heads, cells)
 
@@ -135,8 +162,8 @@ def version():
 HEAD = """# Compared with rustc over real crates
 
 `tools/real-crates --page` wrote this page: what it ran, what agrees, and how long each side took. The crates are those of
-Debian 12, with their default features, and `core`, `alloc` and `std` of `rust-src`; rustc is {version}. {crates} crates have
-{imports} named imports and {globs} globs outside macros and bodies. The program was built without proof, by `rt try`'s
+Debian 12, with their default features, and `core`, `alloc` and `std` of `rust-src`; it is {version} that they are compared with. {crates} crates
+have {imports} named imports and {globs} globs outside macros and bodies. The program was built without proof, by `rt try`'s
 compiler and LLVM at -O2; what is proved of it, [PROGRAM.md](PROGRAM.md) tells.
 
 Each leaf of each `use`, private ones and globs too, is compared in each namespace by kind and path with what rustc found
@@ -159,11 +186,16 @@ LIMITS = """## What cannot be right without expansion
 """
 
 
+def wrapped(text):
+    """Prose in lines of at most 120 characters."""
+    return "\n\n".join(textwrap.fill(it, 118, break_on_hyphens=False, break_long_words=False) for it in text.split("\n\n"))
+
+
 def write_page(rows):
     """Writes the page, and the shares."""
     rows = sorted(rows, key=lambda it: it.name)
     head = HEAD.format(version=version(), crates=len(rows), imports=thousands(sum(it.imports for it in rows)),
                        globs=thousands(sum(it.globs for it in rows)))
-    lines = [head, *compared_table(rows), "", LIMITS, *limits(rows), "", TIMES, *time_table(rows)]
+    lines = [wrapped(head), "", *compared_table(rows), "", LIMITS, *limits(rows), "", wrapped(TIMES), "", *time_table(rows)]
     write(PAGE, "\n".join(lines) + "\n")
     write_shares(rows)
