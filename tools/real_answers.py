@@ -6,6 +6,7 @@ from rustc_tree import Meant
 # Why a leaf may mean something else by rustc than by `defmap`, or nothing that `defmap` can know.
 PROCEDURAL = "procedural macros"
 TESTS = "tests"
+INJECTED = "injected crates"
 
 
 @dataclass
@@ -14,6 +15,7 @@ class Known:
 
     procedural: set  # the crates of procedural macros
     tests: set  # the paths of functions that attributes as `#[test]` take away
+    injected: set  # what rustc binds in the root of a crate of edition 2015, though nothing there says so
 
 
 @dataclass
@@ -80,7 +82,14 @@ def reason_for(theirs, ours, known):
     shadowed = {it for it in ours if it.kind == "fn" and it.path.split("::")[0] in known.procedural}
     if (of_macros or shadowed) and theirs - of_macros == ours - shadowed:
         return PROCEDURAL
+    if not ours and theirs and theirs <= known.injected:
+        return INJECTED
     return TESTS if theirs == {it for it in ours if it.kind != "fn" or it.path not in known.tests} else None
+
+
+def injected(options):
+    """What rustc binds in the root of a crate that is compiled with some options: the crate of the standard library."""
+    return {Meant("type", "mod", it) for it in ("compiler_builtins", "core", "std")} if "--edition=2015" in options else set()
 
 
 def is_part(meant, whole):

@@ -8,7 +8,7 @@ from dataclasses import asdict, dataclass, field
 
 from cargo_builds import PASSES, RUSTC, read_text
 from judging import ROOT
-from real_answers import PROCEDURAL, TESTS
+from real_answers import INJECTED, PROCEDURAL, TESTS
 
 PAGE = f"{ROOT}/docs/REAL-CRATES.md"
 SHARES = f"{ROOT}/tools/real-crates.shares"
@@ -142,8 +142,8 @@ def time_table(rows):
 
 
 def limits(rows):
-    """What cannot be right without expansion, with the number of places."""
-    procedural, tests = (sum(it.reasons.get(reason, 0) for it in rows) for reason in (PROCEDURAL, TESTS))
+    """What cannot be right without expansion, or is another thing by decision, with the number of places."""
+    places = {reason: sum(it.reasons.get(reason, 0) for it in rows) for reason in (PROCEDURAL, TESTS, INJECTED)}
     unknown, brought = sum(it.unknown for it in rows), sum(it.brought for it in rows)
     names, partly = sum(it.unknown_names for it in rows), sum(it.partly + it.partly_names for it in rows)
     return table(["what", "places"], [
@@ -151,8 +151,9 @@ def limits(rows):
         ["imports in modules that a macro brings, as those of `cfg_if!`: not read", brought],
         ["names of the modules asked about that a macro may bring: `unknown`", names],
         ["imports and names that mean more in another namespace, by a macro: `more unknown`", partly],
-        ["functions that are procedural macros, which bind a function and no macro", procedural],
-        ["functions that an attribute as `#[test]` takes away, which are bound", tests]])
+        ["functions that are procedural macros, which bind a function and no macro", places[PROCEDURAL]],
+        ["functions that an attribute as `#[test]` takes away, which are bound", places[TESTS]],
+        ["roots of edition 2015, in which rustc binds the name of the standard library", places[INJECTED]]])
 
 
 def version():

@@ -1,6 +1,7 @@
 //! The crates whose roots may have macros that are not written there as such.
 //!
-//! Procedural macros are written as functions. A macro that is called exports macros where `macro_export` stands in the call, or in a macro of its name.
+//! Procedural macros are written as functions. A macro that is called may export macros where `macro_export` stands in the
+//! call or in a macro of its name, and where it includes a file.
 use crate::macro_calls::{item_of, path_of};
 use crate::macro_homes::MacroHome;
 use crate::places::source_of;
@@ -13,6 +14,9 @@ use item_tree::item_kind::ItemKind;
 use item_tree::lexeme::{Lexeme, LexemeKind};
 use item_tree::word::Word;
 use std::alloc::{AllocError, Global};
+
+/// The macro that puts the items of a file in its place.
+const INCLUDE: &'static str = "include";
 
 fn is_export(lexeme: Lexeme) -> bool {
     matches!(lexeme.kind, LexemeKind::Word(Word::MacroExport))
@@ -80,7 +84,7 @@ fn may_export(
     };
     match path.segments().last() {
         None => Ok(false),
-        Some(name) => Ok(names.contains(&name.as_str())),
+        Some(name) => Ok(name.as_str() == INCLUDE || names.contains(&name.as_str())),
     }
 }
 
