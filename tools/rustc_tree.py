@@ -17,7 +17,8 @@ OWN_ID = re.compile(r"def_id: DefId\(\d+:\d+ ~ \w+\[\w+\]([^)]*)\)")
 OWNER = re.compile(r"owner: DefId\(\d+:\d+ ~ \w+\[\w+\]([^)]*)\)")
 KIND = re.compile(r"( *)kind: (\w+)")
 DEF_ID = re.compile(r"DefId\(\d+:\d+ ~ (\w+)\[\w+\]([^)]*)\)")
-INSIDE = re.compile(r"::\{(extern|constructor)#\d+\}")
+# What paths have beyond names: the `extern` block or the constructor, and a number where a name stands twice.
+INSIDE = re.compile(r"::\{(?:extern|constructor)#\d+\}|(?<=\w)#\d+(?=::|$)")
 
 
 @dataclass(frozen=True)
@@ -122,7 +123,7 @@ def read_item(said, lines):
     name, owner, kind = IDENT.search(next(lines)), OWN_ID.search(next(lines)), KIND.match(next(lines))
     if not name or not owner or not kind:
         return
-    name, path = without_raw(name[1]), f"crate{owner[1]}"
+    name, path = without_raw(name[1]), f"crate{INSIDE.sub('', owner[1])}"
     home = path.rpartition("::")[0]
     if home in said.declared:
         said.declared[home].add(name)
@@ -141,8 +142,8 @@ def read_item(said, lines):
 def read_variant(said, lines):
     """Reads a variant of an enum, whose lines follow."""
     name, owner = IDENT.search(next(lines)), OWNER.search(next(lines) + next(lines))
-    if name and owner and f"crate{owner[1]}" in said.declared:
-        said.declared[f"crate{owner[1]}"].add(without_raw(name[1]))
+    if name and owner and (path := f"crate{INSIDE.sub('', owner[1])}") in said.declared:
+        said.declared[path].add(without_raw(name[1]))
 
 
 def read(lines):
