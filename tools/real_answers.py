@@ -1,5 +1,6 @@
 """What `defmap` says of the imports of a crate, and where rustc says otherwise."""
 from dataclasses import dataclass, field
+from os.path import normpath
 
 from rustc_tree import Meant
 
@@ -55,7 +56,7 @@ def imports(printed, own):
         if place.count(":") < 2:
             continue
         path, row, column = place.rsplit(":", 2)
-        one = found.setdefault((path, int(row), int(column)), Ours())
+        one = found.setdefault((normpath(path), int(row), int(column)), Ours())
         for part in told.split("; ")[1:]:
             if part == "unknown":
                 one.is_unknown = True

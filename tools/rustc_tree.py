@@ -5,6 +5,7 @@ Only what is written in the crate's files is read: what a macro brought has a sp
 import re
 from dataclasses import dataclass, field
 from itertools import takewhile
+from os.path import normpath
 
 # The words for rustc's kinds of definitions.
 KINDS = {"Mod": "mod", "Struct": "struct", "Union": "union", "Enum": "enum", "Variant": "variant", "Trait": "trait",
@@ -105,7 +106,7 @@ def read_use(said, name, owner, body, last):
         said.globs.setdefault(home, set()).add(meant)
     if span[6] != "0":
         return
-    leaf = said.leaves.setdefault((span[1], int(span[2]), int(span[3])), Leaf(home, name, is_glob))
+    leaf = said.leaves.setdefault((normpath(span[1]), int(span[2]), int(span[3])), Leaf(home, name, is_glob))
     if meant:
         leaf.meant.add(meant)
 
@@ -115,7 +116,7 @@ def read_module(said, path, lines):
     said.declared[path] = set()
     inner = next(span for span in map(SPAN.search, lines) if span)
     if inner[6] == "0":
-        said.modules[path] = Place(inner[1], int(inner[4]), int(inner[5]))
+        said.modules[path] = Place(normpath(inner[1]), int(inner[4]), int(inner[5]))
 
 
 def read_item(said, lines):
