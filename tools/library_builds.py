@@ -29,7 +29,7 @@ class Package:
 PACKAGES = {
     "core": Package(f"{SYSROOT}/core/src/lib.rs", "2021"),
     "alloc": Package(f"{SYSROOT}/alloc/src/lib.rs", "2021", ("core",)),
-    "std": Package(f"{SYSROOT}/std/src/lib.rs", "2021", ("core", "alloc", *LINKED)),
+    "std": Package(f"{SYSROOT}/std/src/lib.rs", "2021", ("core", "alloc", *LINKED), (), ("backtrace_in_libstd",)),
     "addr2line": Package(f"{REGISTRY}/addr2line-0*/src/lib.rs", "2015", ("core", "alloc", "gimli"), ("rustc-dep-of-std",)),
     "adler": Package(f"{REGISTRY}/adler-1*/src/lib.rs", "2015", ("core",)),
     "cfg_if": Package(f"{REGISTRY}/cfg-if-1*/src/lib.rs", "2018", ("core",)),
@@ -87,6 +87,7 @@ def messages(name):
 def rustc_words(name, tree):
     """How rustc is run on a crate: of the crates that it needs it has what it kept."""
     linked = [word for it in PACKAGES[name].needs for word in ("--extern", it)]
+    linked += [word for it in PACKAGES[name].options for word in ("--cfg", it)]
     return [RUSTC, "--crate-name", name, "--edition=2021", root_of(name), "--crate-type", "lib", "--cap-lints", "allow",
             *linked, "-Zforce-unstable-if-unmarked", "-Zunpretty=hir-tree", "-Ztime-passes", "-o", tree]
 
