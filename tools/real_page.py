@@ -169,7 +169,7 @@ compiler and LLVM at -O2; what is proved of it, [PROGRAM.md](PROGRAM.md) tells.
 
 Each leaf of each `use`, private ones and globs too, is compared in each namespace by kind and path with what rustc found
 (`-Zunpretty=hir-tree`). Of at most eight modules of each crate, the root and those with globs first, every name is asked
-that `defmap tree` or rustc could bind there: a probe in a copy of the crate imports all of them, and both sides tell what
+that `defmap tree` or rustc could bind there, or of more than 400 as many at even distances: a probe in a copy of the crate imports all of them, and both sides tell what
 each import means, so that a name that one side does not bind is absent on the other. *Unknown* is what leads nowhere and a
 macro may bring; how much of each crate that may be stands in `tools/real-crates.shares`. *By macros* are the imports in
 modules that a macro brings.

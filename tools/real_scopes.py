@@ -8,6 +8,8 @@ from cargo_builds import read_text, write
 
 PROBE = "__defmap_probe"
 MODULES = 8
+# Of more names than this only so many are asked of a module, at even distances.
+NAMES = 400
 WORD = re.compile(r"\b[A-Za-z_]\w*")
 BOUND = re.compile(r"\b(type|value|macro) pub")
 TEST = re.compile(r"#\[(?:test|bench|test_case)\b[^;{}]*?\bfn (\w+)")
@@ -46,7 +48,8 @@ def candidates(said, own, module, bound):
     names = set(bound) | names_of(said, own, module, set())
     if module == "crate":
         names |= said.macros
-    return sorted(names - NOT_ASKED)
+    asked = sorted(names - NOT_ASKED)
+    return asked[:: -(-len(asked) // NAMES) or 1]
 
 
 def names_of(said, own, module, seen):
