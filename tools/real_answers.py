@@ -8,6 +8,7 @@ from rustc_tree import Meant
 PROCEDURAL = "procedural macros"
 TESTS = "tests"
 INJECTED = "injected crates"
+BEHIND = "unknown names behind globs"
 
 
 @dataclass
@@ -17,6 +18,7 @@ class Known:
     procedural: set  # the crates of procedural macros
     tests: set  # the paths of functions that attributes as `#[test]` take away
     injected: set  # what rustc binds in the root of a crate of edition 2015, though nothing there says so
+    behind: set = field(default_factory=set)  # the probes of names that globs bring of unknown imports
 
 
 @dataclass
@@ -77,12 +79,14 @@ def without_constructors(meant, theirs):
     return {it for it in meant if (it.namespace, it.kind) != ("value", "struct") or it in theirs}
 
 
-def reason_for(theirs, ours, known):
+def reason_for(where, theirs, ours, known):
     """Why rustc's meaning is known to be another one; None where that is not known."""
     of_macros = {it for it in theirs if it.kind == "macro" and it.path.split("::")[0] in known.procedural}
     shadowed = {it for it in ours if it.kind == "fn" and it.path.split("::")[0] in known.procedural}
     if (of_macros or shadowed) and theirs - of_macros == ours - shadowed:
         return PROCEDURAL
+    if not ours and where in known.behind:
+        return BEHIND
     if not ours and theirs and theirs <= known.injected:
         return INJECTED
     return TESTS if theirs == {it for it in ours if it.kind != "fn" or it.path not in known.tests} else None
@@ -125,7 +129,7 @@ def compare_leaf(outcome, where, leaf, one, known):
     if one is not None and one.has_more and is_part(meant, leaf.meant):
         outcome.partly += 1
         return
-    reason = reason_for(leaf.meant, meant, known)
+    reason = reason_for(where, leaf.meant, meant, known)
     if reason:
         outcome.reasons[reason] = outcome.reasons.get(reason, 0) + 1
         return

@@ -8,7 +8,7 @@ from dataclasses import asdict, dataclass, field
 
 from cargo_builds import PASSES, RUSTC, read_text
 from judging import ROOT
-from real_answers import INJECTED, PROCEDURAL, TESTS
+from real_answers import BEHIND, INJECTED, PROCEDURAL, TESTS
 
 PAGE = f"{ROOT}/docs/REAL-CRATES.md"
 SHARES = f"{ROOT}/tools/real-crates.shares"
@@ -63,7 +63,8 @@ class Row:
 
     def told(self):
         reasons = "".join(f", {count} of {reason}" for reason, count in sorted(self.reasons.items()))
-        return (f"{self.imports} imports, {self.globs} globs, {self.compared} compared, {self.unknown} unknown, {self.partly} partly, "
+        return (f"{self.imports} imports, {self.globs} globs, {self.compared} compared, {self.unknown} unknown, "
+                f"{self.partly} partly, "
                 f"{self.brought} in modules of macros; {self.names} names of {self.modules} modules, {self.bound} bound, "
                 f"{self.unknown_names} unknown, {self.partly_names} partly{reasons}; {len(self.differing)} differ")
 
@@ -143,7 +144,7 @@ def time_table(rows):
 
 def limits(rows):
     """What cannot be right without expansion, or is another thing by decision, with the number of places."""
-    places = {reason: sum(it.reasons.get(reason, 0) for it in rows) for reason in (PROCEDURAL, TESTS, INJECTED)}
+    places = {reason: sum(it.reasons.get(reason, 0) for it in rows) for reason in (PROCEDURAL, TESTS, INJECTED, BEHIND)}
     unknown, brought = sum(it.unknown for it in rows), sum(it.brought for it in rows)
     names, partly = sum(it.unknown_names for it in rows), sum(it.partly + it.partly_names for it in rows)
     return table(["what", "places"], [
@@ -153,7 +154,8 @@ def limits(rows):
         ["imports and names that mean more in another namespace, by a macro: `more unknown`", partly],
         ["functions that are procedural macros, which bind a function and no macro", places[PROCEDURAL]],
         ["functions that an attribute as `#[test]` takes away, which are bound", places[TESTS]],
-        ["roots of edition 2015, in which rustc binds the name of the standard library", places[INJECTED]]])
+        ["names that a glob brings of an import that is unknown: told as absent", places[BEHIND]],
+        ["names of the standard library that rustc binds in roots of edition 2015: absent", places[INJECTED]]])
 
 
 def version():

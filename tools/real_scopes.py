@@ -45,27 +45,47 @@ def trees(printed):
 
 def candidates(said, own, module, bound):
     """The names that a module could bind: those that `defmap` binds, and those that rustc could."""
-    names = set(bound) | names_of(said, own, module, set())
+    names = set(bound) | names_of(said, own, module)
     if module == "crate":
         names |= said.macros
     asked = sorted(names - NOT_ASKED)
     return asked[:: -(-len(asked) // NAMES) or 1]
 
 
-def names_of(said, own, module, seen):
+def sources_of(said, own, module, seen):
+    """A module or an enum of a crate, and all that its globs bring names of, by rustc."""
+    if module not in seen:
+        seen.add(module)
+        for meant in said.globs.get(module, ()):
+            inner = f"crate{meant.path[len(own):]}" if meant and meant.path.split("::")[0] == own else None
+            if inner in said.declared:
+                sources_of(said, own, inner, seen)
+    return seen
+
+
+def has_foreign(said, own, module):
+    return any(not it or it.path.split("::")[0] != own for it in said.globs.get(module, ()))
+
+
+def names_of(said, own, module):
     """The names that a module could bind by rustc: of its items, and of all that its globs bring. What rustc has of other
-    crates it does not list: of those all words count of the file that the module stands in."""
-    if module in seen:
-        return set()
-    seen.add(module)
-    names = set(said.declared[module])
-    for meant in said.globs.get(module, ()):
-        inner = f"crate{meant.path[len(own):]}" if meant and meant.path.split("::")[0] == own else None
-        if inner in said.declared:
-            names |= names_of(said, own, inner, seen)
-        elif module in said.modules:
-            names |= set(WORD.findall(read_text(said.modules[module].file)))
+    crates it does not list: of those all words count of the file that the module with the glob stands in."""
+    names = set()
+    for it in sources_of(said, own, module, set()):
+        names |= said.declared[it]
+        if it in said.modules and has_foreign(said, own, it):
+            names |= set(WORD.findall(read_text(said.modules[it].file)))
     return names
+
+
+def behind_globs(said, own, tree, wanted):
+    """The probes of names that a glob would bring of an import that leads nowhere: `tree` tells such names of its module."""
+    found = set()
+    for where, (module, name) in wanted.items():
+        others = sources_of(said, own, module, set()) - {module}
+        if any(tree.get(it, {}).get(name, {module}) == set() for it in others):
+            found.add(where)
+    return found
 
 
 def chosen(said, tree):
