@@ -23,11 +23,15 @@ def built(folder, crate, name):
     return path
 
 
-def program_words(page):
-    """The words that a program takes which runs what was built; `page` is what it says of itself."""
+def program_words(page, *more):
+    """The words that a program takes which runs what was built; `page` is what it says of itself. More options take a word
+    each, or none where they are shown without one."""
     words = argparse.ArgumentParser(description=page, formatter_class=argparse.RawDescriptionHelpFormatter)
     words.add_argument("--bin", default="", metavar="FOLDER", help="where the programs are, if not in the crates")
     words.add_argument("--only", default="", metavar="WORD", help="judge only what has the word in its title")
+    for name, shown, told in more:
+        how = {"default": "", "metavar": shown} if shown else {"action": "store_true"}
+        words.add_argument(name, help=told, **how)
     return words.parse_args()
 
 

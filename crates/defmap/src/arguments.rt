@@ -38,6 +38,8 @@ pub(crate) struct Arguments<'a> {
     pub(crate) externs: Vec<ExternWord<'a>>,
     pub(crate) sysroot: Option<&'a str>,
     pub(crate) metadata: Option<&'a str>,
+    /// What cargo printed of the build scripts of the packages.
+    pub(crate) build: Option<&'a str>,
     /// How many modules a crate may have.
     pub(crate) limit: u32,
     pub(crate) has_stats: bool,
@@ -122,6 +124,12 @@ fn with_crates<'a>(alloc: Global, command: Command<'a>) -> Result<Command<'a>, A
             "metadata",
             "FILE",
             "What `cargo metadata --format-version 1` prints",
+        ))?
+        .arg(value(
+            alloc,
+            "build",
+            "FILE",
+            "What `cargo check --message-format json` prints, beside --metadata: the options that build scripts set",
         ))
 }
 
@@ -295,6 +303,7 @@ pub(crate) fn read_arguments<'a>(
         externs: extern_words(alloc, externs.as_slice())?,
         sysroot: given.get_str("sysroot"),
         metadata: given.get_str("metadata"),
+        build: given.get_str("build"),
         limit,
         has_stats: given.get_flag("stats"),
     })

@@ -64,11 +64,13 @@ fn kind_of(words: &[Value]) -> TargetKind {
     }
 }
 
-fn text_of<'a>(value: &'a Value, key: &str) -> &'a str {
+/// The text of a member; empty where there is none.
+pub(crate) fn text_of<'a>(value: &'a Value, key: &str) -> &'a str {
     value.get(key).and_then(Value::as_str).unwrap_or("")
 }
 
-fn list_of<'a>(value: &'a Value, key: &str) -> &'a [Value] {
+/// The values of a member that is a list.
+pub(crate) fn list_of<'a>(value: &'a Value, key: &str) -> &'a [Value] {
     match value.get(key).and_then(Value::as_array) {
         None => &[],
         Some(values) => values.as_slice(),

@@ -2,8 +2,10 @@
 //!
 //! A module *hides* names where a macro is called among its items, and where it has a glob import of a module that hides
 //! names, or one that is itself unknown. An import that leads nowhere is *unknown* where it begins with a crate of the
-//! standard library, which is not given; where the module that its first missing name is looked up in hides names; and
-//! where an unknown import of that module would bind this name.
+//! standard library, which is not given; where the module that its first missing name is looked up in hides names; where
+//! this name is the last, and that module the root of a crate of procedural macros, or of one in which a macro is called
+//! that may export macros; and where an unknown import of that module would bind this name.
+use crate::macro_exports::exporting_roots;
 use crate::macro_homes::MacroHome;
 use crate::meanings::import_meaning;
 use crate::settled::Settled;
@@ -39,8 +41,12 @@ pub(crate) struct Hidden<'a> {
     has_sysroot: bool,
     by_macros: IndexSet<ModuleId>,
     by_standard: IndexSet<ModuleId>,
+    /// The roots that macros may bring macros to.
+    exporting: IndexSet<ModuleId>,
     /// The unknown imports, by their places among the named ones.
     named: IndexMap<usize, Cause>,
+    /// The same, by the modules that they stand in and the names that they would bind.
+    by_name: IndexMap<(ModuleId, &'a str), Cause>,
     /// The globs that hide names, by their places.
     globs: IndexMap<usize, Cause>,
 }
@@ -51,6 +57,7 @@ struct Missing<'b> {
     module: ModuleId,
     name: Option<&'b Name>,
     is_first: bool,
+    is_last: bool,
 }
 
 fn is_standard(name: &Name) -> bool {
@@ -58,7 +65,7 @@ fn is_standard(name: &Name) -> bool {
 }
 
 /// The module that a beginning of an import's path means.
-fn module_meant(
+pub(crate) fn module_meant(
     alloc: Global,
     world: &World,
     home: ModuleId,
@@ -82,7 +89,7 @@ fn module_meant(
 }
 
 /// The module that the first name of a path without a beginning is looked up in.
-fn first_module(world: &World, home: ModuleId) -> ModuleId {
+pub(crate) fn first_module(world: &World, home: ModuleId) -> ModuleId {
     let Some(krate) = world.module_krate(home) else {
         return home;
     };
@@ -109,6 +116,7 @@ fn missing_of<'b>(
                 module,
                 name,
                 is_first: false,
+                is_last: less == 1,
             });
         }
     }
@@ -122,6 +130,7 @@ fn missing_of<'b>(
         module: begun.unwrap_or(first_module(world, home)),
         name: path.segments().first(),
         is_first: is_plain,
+        is_last: count == 1,
     })
 }
 
@@ -139,7 +148,9 @@ impl<'a> Hidden<'a> {
             has_sysroot,
             by_macros: IndexSet::new(alloc),
             by_standard: IndexSet::new(alloc),
+            exporting: exporting_roots(alloc, settled, homes)?,
             named: IndexMap::new(alloc),
+            by_name: IndexMap::new(alloc),
             globs: IndexMap::new(alloc),
         };
         for home in homes {
@@ -181,14 +192,14 @@ impl<'a> Hidden<'a> {
 
     /// Why the import of a module that would bind a name is unknown, if it is.
     fn cause_by_name(&self, module: ModuleId, name: &Name) -> Option<Cause> {
-        for (place, cause) in self.named.iter() {
-            if let Some(pending) = self.settled.collected.retry.get(*place) {
-                if pending.origin() == module && pending.name() == name {
-                    return Some(*cause);
-                }
-            }
-        }
-        None
+        self.by_name.get(&(module, name.as_str())).copied()
+    }
+
+    /// Whether a macro may bring a name of a module.
+    pub(crate) fn may_bring(&self, module: ModuleId, name: &Name) -> bool {
+        self.cause_in(module).is_some()
+            || self.exporting.contains(&module)
+            || self.cause_by_name(module, name).is_some()
     }
 
     /// Why a path that leads nowhere is unknown, if it is.
@@ -203,6 +214,9 @@ impl<'a> Hidden<'a> {
         };
         if missing.is_first && !self.has_sysroot && is_standard(name) {
             return Ok(Some(Cause::Standard));
+        }
+        if missing.is_last && self.exporting.contains(&missing.module) {
+            return Ok(Some(Cause::Macro));
         }
         match self.cause_in(missing.module) {
             Some(cause) => Ok(Some(cause)),
@@ -223,6 +237,8 @@ impl<'a> Hidden<'a> {
             }
             if let Some(cause) = self.cause_of(pending.origin(), pending.path())? {
                 self.named.insert(*place, cause)?;
+                let bound = (pending.origin(), pending.name().as_str());
+                self.by_name.insert(bound, cause)?;
                 has_new = true;
             }
         }

@@ -3,6 +3,7 @@ use crate::definitions::definition_text;
 use crate::hidden::Hidden;
 use crate::macro_homes::macro_homes;
 use crate::meanings::{imported, meant_in};
+use crate::partly::partly_unknown;
 use crate::path_text::path_text;
 use crate::places::{Lines, use_spot};
 use crate::settled::Settled;
@@ -11,6 +12,7 @@ use dm_base::item_in_ns::ItemModules;
 use dm_base::mod_path::ModPath;
 use dm_base::per_ns::{Namespace, PerNs};
 use dm_retry::import_kind::ImportKind;
+use indexmap::IndexSet;
 use std::alloc::{AllocError, Global};
 
 /// What an import of a kind takes of some items.
@@ -50,6 +52,8 @@ struct Listing<'s, 'h, 'l, 'f> {
     settled: &'s Settled,
     hidden: &'h Hidden<'s>,
     lines: &'l Lines<'f>,
+    /// The named imports that may mean more.
+    partly: IndexSet<usize>,
     out: String,
 }
 
@@ -61,7 +65,7 @@ impl<'s, 'h, 'l, 'f> Listing<'s, 'h, 'l, 'f> {
         path: &ModPath,
         leaf: (UseId, UseTreeIdx),
         kind: Option<ImportKind>,
-        is_unknown: bool,
+        reservation: &str,
     ) -> Result<(), AllocError> {
         let (use_, idx) = leaf;
         if let Some(spot) = use_spot(self.alloc, self.settled, use_, idx)? {
@@ -80,13 +84,24 @@ impl<'s, 'h, 'l, 'f> Listing<'s, 'h, 'l, 'f> {
             }
         };
         self.out.push_str(words.as_str())?;
-        self.out
-            .push_str(if is_unknown { "; unknown\n" } else { "\n" })?;
+        self.out.push_str(reservation)?;
+        self.out.push_str("\n")?;
         Ok(())
     }
 
     fn is_own(&self, home: ModuleId) -> bool {
         self.settled.world().module_krate(home) == Some(Crate(0))
+    }
+
+    /// What is not known of a named import.
+    fn reservation(&self, place: usize) -> &'static str {
+        if self.hidden.cause_of_named(place).is_some() {
+            "; unknown"
+        } else if self.partly.contains(&place) {
+            "; more unknown"
+        } else {
+            ""
+        }
     }
 
     fn add_named(&mut self) -> Result<(), AllocError> {
@@ -99,13 +114,13 @@ impl<'s, 'h, 'l, 'f> Listing<'s, 'h, 'l, 'f> {
             if self.is_own(pending.origin()) {
                 let import = pending.import();
                 let leaf = (import.use_, import.idx);
-                let is_unknown = self.hidden.cause_of_named(place).is_some();
+                let reservation = self.reservation(place);
                 self.add(
                     pending.origin(),
                     pending.path(),
                     leaf,
                     Some(pending.kind()),
-                    is_unknown,
+                    reservation,
                 )?;
             }
         }
@@ -118,7 +133,8 @@ impl<'s, 'h, 'l, 'f> Listing<'s, 'h, 'l, 'f> {
             if self.is_own(glob.into) {
                 let leaf = (glob.import.use_, glob.import.idx);
                 let is_unknown = self.hidden.cause_of_glob(place).is_some();
-                self.add(glob.into, &glob.path, leaf, None, is_unknown)?;
+                let reservation = if is_unknown { "; unknown" } else { "" };
+                self.add(glob.into, &glob.path, leaf, None, reservation)?;
             }
         }
         Ok(())
@@ -139,6 +155,7 @@ pub(crate) fn imports_text(
         settled,
         hidden: &hidden,
         lines,
+        partly: partly_unknown(&hidden)?,
         out: String::new(alloc),
     };
     listing.add_named()?;
@@ -148,6 +165,7 @@ pub(crate) fn imports_text(
         settled: _settled,
         hidden: _hidden,
         lines: _lines,
+        partly: _partly,
         out,
     } = listing;
     Ok(out)

@@ -59,8 +59,7 @@ fn add_cfgs(alloc: Global, own: &mut CratePlan, given: &Arguments<'_>) -> Result
             )?;
             return Err(Failure::Told(Status::Misused, told));
         }
-        own.cfgs.push_str(*word)?;
-        own.cfgs.push_str("\n")?;
+        own.set(*word)?;
     }
     Ok(())
 }

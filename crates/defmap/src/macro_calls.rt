@@ -106,7 +106,7 @@ fn end_of_name(
 }
 
 /// The path of a macro call.
-fn path_of(
+pub(crate) fn path_of(
     alloc: Global,
     settled: &Settled,
     call: MacroHome,

@@ -3,6 +3,7 @@
 
 mod answer;
 mod arguments;
+mod build_messages;
 mod cargo_target;
 mod cfg_file;
 mod complaints;
@@ -17,11 +18,13 @@ mod inputs;
 mod item_places;
 mod loader;
 mod macro_calls;
+mod macro_exports;
 mod macro_homes;
 mod meanings;
 mod metadata;
 mod offsets;
 mod outlines;
+mod partly;
 mod path_text;
 mod places;
 mod plan;

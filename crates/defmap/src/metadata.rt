@@ -1,6 +1,9 @@
 //! The plans of crates by what `cargo metadata` prints.
 use crate::arguments::{Arguments, edition_of};
-use crate::cargo_target::{CargoTarget, holds, is_asked, library_of, target_at};
+use crate::build_messages::{add_built, build_messages};
+use crate::cargo_target::{
+    CargoTarget, TargetKind, holds, is_asked, library_of, list_of, target_at, text_of,
+};
 use crate::failure::{Failure, Status};
 use crate::plan::CratePlan;
 use crate::reading::needed_text;
@@ -22,6 +25,8 @@ struct Package<'a> {
 struct Workspace<'a> {
     alloc: Global,
     packages: IndexMap<&'a str, Package<'a>>,
+    /// The messages about build scripts that ran.
+    built: &'a [Value],
     /// The options that dependencies of a platform are tested by.
     cfgs: &'a str,
 }
@@ -34,19 +39,6 @@ struct Planning<'a> {
     libraries: IndexMap<&'a str, usize>,
     /// The package of each plan, and its target.
     sources: Vec<(&'a str, CargoTarget<'a>)>,
-}
-
-/// The text of a member; empty where there is none.
-fn text_of<'a>(value: &'a Value, key: &str) -> &'a str {
-    value.get(key).and_then(Value::as_str).unwrap_or("")
-}
-
-/// The values of a member that is a list.
-fn list_of<'a>(value: &'a Value, key: &str) -> &'a [Value] {
-    match value.get(key).and_then(Value::as_array) {
-        None => &[],
-        Some(values) => values.as_slice(),
-    }
 }
 
 fn failed<T>(line: String) -> Result<T, Failure> {
@@ -108,6 +100,9 @@ impl<'a> Workspace<'a> {
             for feature in list_of(package.node, "features") {
                 plan.enable(feature.as_str().unwrap_or(""))?;
             }
+        }
+        if target.kind != TargetKind::BuildScript {
+            add_built(&mut plan, self.built, id)?;
         }
         planning.plans.push(plan)?;
         planning.sources.push((id, target))?;
@@ -254,9 +249,11 @@ pub(crate) fn planned_by<R: Files + AllocGlobal>(
 ) -> Result<Vec<CratePlan>, Failure> {
     let alloc = rt.alloc();
     let metadata = metadata_at(rt, path)?;
+    let built = build_messages(rt, given.build)?;
     let workspace = Workspace {
         alloc,
         packages: packages_of(alloc, &metadata)?,
+        built: built.as_slice(),
         cfgs,
     };
     let root = whole_path(rt, given.root)?;

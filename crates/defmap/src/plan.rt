@@ -49,6 +49,13 @@ impl CratePlan {
         })
     }
 
+    /// Adds an option, as a line of `rustc --print cfg`.
+    pub(crate) fn set(&mut self, option: &str) -> Result<(), AllocError> {
+        self.cfgs.push_str(option)?;
+        self.cfgs.push_str("\n")?;
+        Ok(())
+    }
+
     /// Adds a feature to its options.
     pub(crate) fn enable(&mut self, feature: &str) -> Result<(), AllocError> {
         self.cfgs.push_str("feature=\"")?;

@@ -29,6 +29,8 @@ pub(crate) struct Settled {
     pub(crate) collected: Collected,
     /// The name of each crate.
     pub(crate) names: Vec<String>,
+    /// Whether each crate is one of procedural macros.
+    procedural: Vec<bool>,
 }
 
 /// Why there is no settled world.
@@ -115,6 +117,24 @@ pub(crate) fn world_of(
     Ok((collected, effort))
 }
 
+/// Whether each of the first crates of a graph is one of procedural macros.
+fn procedural_crates(
+    alloc: Global,
+    graph: &CrateGraph,
+    count: usize,
+) -> Result<Vec<bool>, AllocError> {
+    let mut procedural = Vec::new(alloc);
+    for number in 0..count {
+        let id = Crate(u32::try_from(number).unwrap_or(u32::MAX));
+        if graph.contains(id) {
+            procedural.push(graph.get(id).is_proc_macro())?;
+        } else {
+            procedural.push(false)?;
+        }
+    }
+    Ok(procedural)
+}
+
 impl Settled {
     /// The settled crates of a graph, with what tells where their items stand.
     pub(crate) fn of_graph(
@@ -126,12 +146,14 @@ impl Settled {
     ) -> Result<Settled, AllocError> {
         let items = all_items(alloc, graph, collected.lists.as_slice(), &files)?;
         let uses = use_places(alloc, collected.tables.as_slice())?;
+        let procedural = procedural_crates(alloc, graph, collected.lists.len())?;
         Ok(Settled {
             files,
             items,
             uses,
             collected,
             names,
+            procedural,
         })
     }
 
@@ -151,6 +173,11 @@ impl Settled {
 
     pub(crate) fn use_place(&self, use_: UseId) -> Option<&ItemPlace> {
         self.uses.get(&use_)
+    }
+
+    /// Whether a crate is one of procedural macros.
+    pub(crate) fn is_procedural(&self, krate: usize) -> bool {
+        self.procedural.get(krate).copied().unwrap_or(false)
     }
 
     pub(crate) fn name_of(&self, krate: Crate) -> &str {

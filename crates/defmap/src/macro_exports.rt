@@ -1,0 +1,129 @@
+//! The crates whose roots may have macros that are not written there as such.
+//!
+//! Procedural macros are written as functions. A macro that is called may export macros where `macro_export` stands in the
+//! call or in a macro of its name, and where it includes a file.
+use crate::macro_calls::{item_of, path_of};
+use crate::macro_homes::MacroHome;
+use crate::places::source_of;
+use crate::settled::Settled;
+use crate_items::declared_item::DeclaredItem;
+use dm_base::ids::{Crate, ModuleId};
+use dm_maps::world::maps_of::crate_def_map;
+use indexmap::IndexSet;
+use item_tree::item_kind::ItemKind;
+use item_tree::lexeme::{Lexeme, LexemeKind};
+use item_tree::word::Word;
+use std::alloc::{AllocError, Global};
+
+/// The macro that puts the items of a file in its place.
+const INCLUDE: &'static str = "include";
+
+fn is_export(lexeme: Lexeme) -> bool {
+    matches!(lexeme.kind, LexemeKind::Word(Word::MacroExport))
+}
+
+/// Whether `macro_export` stands in an item, behind the word that it begins with.
+fn has_export(settled: &Settled, krate: usize, item: &DeclaredItem) -> bool {
+    let Some(source) = source_of(settled, krate, item.file) else {
+        return false;
+    };
+    let Some(written) = source.items().get(item.item) else {
+        return false;
+    };
+    match source.lexemes().get(written.word..written.behind) {
+        None => false,
+        Some(lexemes) => lexemes.iter().any(|lexeme| is_export(*lexeme)),
+    }
+}
+
+/// Adds the names of the macros of a crate that export macros.
+fn add_names<'a>(
+    names: &mut IndexSet<&'a str>,
+    settled: &Settled,
+    krate: usize,
+    items: &'a [DeclaredItem],
+) -> Result<(), AllocError> {
+    for item in items {
+        let is_macro = matches!(item.kind, ItemKind::MacroRules | ItemKind::Macro2);
+        if !is_macro || !has_export(settled, krate, item) {
+            continue;
+        }
+        if let Some(name) = &item.name {
+            names.insert(name.as_str())?;
+        }
+    }
+    Ok(())
+}
+
+/// The names of the macros that export macros.
+fn exporting_names<'a>(
+    alloc: Global,
+    settled: &'a Settled,
+) -> Result<IndexSet<&'a str>, AllocError> {
+    let mut names = IndexSet::new(alloc);
+    for (krate, items) in settled.items().iter().enumerate() {
+        add_names(&mut names, settled, krate, items.as_slice())?;
+    }
+    Ok(names)
+}
+
+/// Whether a macro call may export macros.
+fn may_export(
+    alloc: Global,
+    settled: &Settled,
+    names: &IndexSet<&str>,
+    call: MacroHome,
+) -> Result<bool, AllocError> {
+    if let Some(item) = item_of(settled, call) {
+        if has_export(settled, call.krate, item) {
+            return Ok(true);
+        }
+    }
+    let Some(path) = path_of(alloc, settled, call)? else {
+        return Ok(false);
+    };
+    match path.segments().last() {
+        None => Ok(false),
+        Some(name) => Ok(name.as_str() == INCLUDE || names.contains(&name.as_str())),
+    }
+}
+
+/// Adds the root of a crate.
+fn add_root(
+    roots: &mut IndexSet<ModuleId>,
+    settled: &Settled,
+    krate: usize,
+) -> Result<(), AllocError> {
+    let krate = Crate(u32::try_from(krate).unwrap_or(u32::MAX));
+    if settled.world().has_crate(krate) {
+        roots.insert(crate_def_map(settled.world(), krate).root_module_id())?;
+    }
+    Ok(())
+}
+
+/// Adds the roots of the crates of procedural macros.
+fn add_procedural(roots: &mut IndexSet<ModuleId>, settled: &Settled) -> Result<(), AllocError> {
+    for krate in 0..settled.names.len() {
+        if settled.is_procedural(krate) {
+            add_root(roots, settled, krate)?;
+        }
+    }
+    Ok(())
+}
+
+/// The roots of the crates of procedural macros, and of those in which a macro is called that may export macros.
+pub(crate) fn exporting_roots(
+    alloc: Global,
+    settled: &Settled,
+    homes: &[MacroHome],
+) -> Result<IndexSet<ModuleId>, AllocError> {
+    let names = exporting_names(alloc, settled)?;
+    let mut roots = IndexSet::new(alloc);
+    add_procedural(&mut roots, settled)?;
+    for call in homes {
+        if may_export(alloc, settled, &names, *call)? {
+            add_root(&mut roots, settled, call.krate)?;
+        }
+    }
+    Ok(roots)
+}

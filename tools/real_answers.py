@@ -1,0 +1,138 @@
+"""What `defmap` says of the imports of a crate, and where rustc says otherwise."""
+from dataclasses import dataclass, field
+from os.path import normpath
+
+from rustc_tree import Meant
+
+# Why a leaf may mean something else by rustc than by `defmap`, or nothing that `defmap` can know.
+PROCEDURAL = "procedural macros"
+TESTS = "tests"
+INJECTED = "injected crates"
+BEHIND = "unknown names behind globs"
+
+
+@dataclass
+class Known:
+    """What is known to be another thing without expansion."""
+
+    procedural: set  # the crates of procedural macros
+    tests: set  # the paths of functions that attributes as `#[test]` take away
+    injected: set  # what rustc binds in the root of a crate of edition 2015, though nothing there says so
+    behind: set = field(default_factory=set)  # the probes of names that globs bring of unknown imports
+
+
+@dataclass
+class Ours:
+    """What `defmap` says of an import."""
+
+    meant: set = field(default_factory=set)
+    is_unknown: bool = False
+    has_more: bool = False  # perhaps, in other namespaces, by macros
+
+
+@dataclass
+class Outcome:
+    """How some leaves compare."""
+
+    compared: int = 0
+    unknown: int = 0
+    partly: int = 0
+    brought: int = 0
+    reasons: dict = field(default_factory=dict)
+    differing: list = field(default_factory=list)
+
+
+def meant_by(part, own):
+    """What a part of a line tells: a namespace, a kind and a path, which is `crate::..` of the crate itself."""
+    namespace, kind, path = part.split(" ", 2)
+    if path == "crate" or path.startswith("crate::"):
+        path = own + path[len("crate") :]
+    return Meant(namespace, kind, path)
+
+
+def imports(printed, own):
+    """What each import means by `defmap imports`, by where it begins."""
+    found = {}
+    for line in printed.splitlines():
+        place, _, told = line.partition(": ")
+        if place.count(":") < 2:
+            continue
+        path, row, column = place.rsplit(":", 2)
+        one = found.setdefault((normpath(path), int(row), int(column)), Ours())
+        for part in told.split("; ")[1:]:
+            if part == "unknown":
+                one.is_unknown = True
+            elif part == "more unknown":
+                one.has_more = True
+            elif " builtin " not in part:
+                one.meant.add(meant_by(part, own))
+    return found
+
+
+def unresolved(found):
+    """The places of the imports that lead nowhere and are not told as unknown."""
+    return sorted(where for where, one in found.items() if not one.meant and not one.is_unknown)
+
+
+def without_constructors(meant, theirs):
+    """What `defmap` found, without constructors of structs that rustc lets those see alone who see the fields."""
+    return {it for it in meant if (it.namespace, it.kind) != ("value", "struct") or it in theirs}
+
+
+def reason_for(where, theirs, ours, known):
+    """Why rustc's meaning is known to be another one; None where that is not known."""
+    of_macros = {it for it in theirs if it.kind == "macro" and it.path.split("::")[0] in known.procedural}
+    shadowed = {it for it in ours if it.kind == "fn" and it.path.split("::")[0] in known.procedural}
+    if (of_macros or shadowed) and theirs - of_macros == ours - shadowed:
+        return PROCEDURAL
+    if not ours and where in known.behind:
+        return BEHIND
+    if not ours and theirs and theirs <= known.injected:
+        return INJECTED
+    return TESTS if theirs == {it for it in ours if it.kind != "fn" or it.path not in known.tests} else None
+
+
+def injected(options):
+    """What rustc binds in the root of a crate that is compiled with some options: the crate of the standard library."""
+    return {Meant("type", "mod", it) for it in ("compiler_builtins", "core", "std")} if "--edition=2015" in options else set()
+
+
+def is_part(meant, whole):
+    """Whether something is all that is meant in its namespaces."""
+    return bool(meant) and meant == {it for it in whole if it.namespace in {one.namespace for one in meant}}
+
+
+def shown(where):
+    return ":".join(map(str, where))
+
+
+def compare(leaves, ours, known, is_brought=lambda leaf: False):
+    """Compares leaves, by where they begin, with what `defmap` says of them."""
+    outcome = Outcome()
+    for where, leaf in sorted(leaves.items()):
+        one = ours.get(where)
+        if one is None and is_brought(leaf):
+            outcome.brought += 1
+        elif one is not None and not one.meant and one.is_unknown:
+            outcome.unknown += 1
+        else:
+            compare_leaf(outcome, where, leaf, one, known)
+    return outcome
+
+
+def compare_leaf(outcome, where, leaf, one, known):
+    """Compares a leaf that is known."""
+    outcome.compared += 1
+    meant = without_constructors(one.meant, leaf.meant) if one else set()
+    if one is not None and meant == leaf.meant:
+        return
+    if one is not None and one.has_more and is_part(meant, leaf.meant):
+        outcome.partly += 1
+        return
+    reason = reason_for(where, leaf.meant, meant, known)
+    if reason:
+        outcome.reasons[reason] = outcome.reasons.get(reason, 0) + 1
+        return
+    more, less = (sorted(f"{it.namespace} {it.kind} {it.path}" for it in them)
+                  for them in (leaf.meant - meant, meant - leaf.meant))
+    outcome.differing.append(f"{shown(where)} {leaf.name or '*'}: {more} and not {less}{'' if one else ', not listed'}")

@@ -1,0 +1,204 @@
+"""The page docs/REAL-CRATES.md, and how many imports of each crate may be unknown."""
+import hashlib
+import json
+import os
+import subprocess
+import textwrap
+from dataclasses import asdict, dataclass, field
+
+from cargo_builds import PASSES, RUSTC, read_text
+from judging import ROOT
+from real_answers import BEHIND, INJECTED, PROCEDURAL, TESTS
+
+PAGE = f"{ROOT}/docs/REAL-CRATES.md"
+SHARES = f"{ROOT}/tools/real-crates.shares"
+STAGES = ("reading", "settling")
+
+
+@dataclass
+class Row:
+    """How a crate compares."""
+
+    name: str
+    version: str
+    lines: int = 0
+    imports: int = 0
+    globs: int = 0
+    compared: int = 0
+    unknown: int = 0
+    partly: int = 0
+    brought: int = 0
+    modules: int = 0
+    names: int = 0
+    bound: int = 0
+    unknown_names: int = 0
+    partly_names: int = 0
+    reasons: dict = field(default_factory=dict)
+    differing: list = field(default_factory=list)
+    statistics: dict = field(default_factory=dict)
+    passes: dict = field(default_factory=dict)
+    megabytes: int = 0
+
+    def add_reasons(self, outcome):
+        for reason, count in outcome.reasons.items():
+            self.reasons[reason] = self.reasons.get(reason, 0) + count
+        self.differing += outcome.differing
+
+    def add(self, outcome):
+        """Adds how the imports compare."""
+        self.compared, self.unknown, self.brought = outcome.compared, outcome.unknown, outcome.brought
+        self.partly = outcome.partly
+        self.add_reasons(outcome)
+
+    def add_names(self, outcome, wanted, ours, tree, theirs):
+        """Adds how the names of modules compare, and those of which `tree` tells something else than the imports do."""
+        self.unknown_names, self.partly_names = outcome.unknown, outcome.partly
+        self.bound = sum(bool(theirs[it].meant) for it in wanted if it in theirs)
+        self.add_reasons(outcome)
+        for where, (module, name) in wanted.items():
+            spaces = {it.namespace for it in ours[where].meant}
+            if tree[module].get(name, set()) != spaces:
+                self.differing.append(f"{module}::{name}: {sorted(tree[module].get(name, set()))} by tree, and "
+                                      f"{sorted(spaces)} by a probe")
+
+    def told(self):
+        reasons = "".join(f", {count} of {reason}" for reason, count in sorted(self.reasons.items()))
+        return (f"{self.imports} imports, {self.globs} globs, {self.compared} compared, {self.unknown} unknown, "
+                f"{self.partly} partly, "
+                f"{self.brought} in modules of macros; {self.names} names of {self.modules} modules, {self.bound} bound, "
+                f"{self.unknown_names} unknown, {self.partly_names} partly{reasons}; {len(self.differing)} differ")
+
+
+def sum_of(path):
+    """A number for the text of a file."""
+    with open(path, "rb") as it:
+        return hashlib.sha256(it.read()).hexdigest()
+
+
+def kept_rows(folder, program):
+    """The rows that a folder keeps of the same program, by the names of the crates."""
+    path, rows = f"{folder}/rows", {}
+    for line in read_text(path).splitlines() if folder and os.path.exists(path) else []:
+        made_by, row = json.loads(line)
+        if made_by == program:
+            rows[row["name"]] = Row(**row)
+    return rows
+
+
+def keep_row(folder, program, row):
+    """Keeps the row of a crate, if there is a folder for that."""
+    if folder:
+        os.makedirs(folder, exist_ok=True)
+        with open(f"{folder}/rows", "a", encoding="utf-8") as it:
+            it.write(f"{json.dumps([program, asdict(row)])}\n")
+
+
+def allowed(row):
+    """How many imports of a crate may be unknown; any number where nothing is written of it."""
+    if not os.path.exists(SHARES):
+        return row.unknown
+    shares = {it.split()[0]: int(it.split()[1]) for it in read_text(SHARES).splitlines() if it and it[0] != "#"}
+    return shares.get(row.name, row.unknown)
+
+
+def write(path, text):
+    with open(path, "w", encoding="utf-8") as it:
+        it.write(text)
+
+
+def write_shares(rows):
+    """Writes how many imports of each crate may be unknown: as many as there are."""
+    lines = ["# crate, how many of its imports may be unknown, and how many it has with its globs"]
+    lines += [f"{it.name} {it.unknown} {it.imports + it.globs}" for it in sorted(rows, key=lambda it: it.name)]
+    write(SHARES, "\n".join(lines) + "\n")
+
+
+def table(heads, rows):
+    lines = ["| " + " | ".join(heads) + " |", "|" + "---|" * len(heads)]
+    return lines + ["| " + " | ".join(map(str, it)) + " |" for it in rows]
+
+
+def thousands(number):
+    return f"{number:,}"
+
+
+def compared_table(rows):
+    heads = ["crate", "version", "lines", "imports", "globs", "compared", "unknown", "by macros", "modules", "names", "differ"]
+    cells = [[it.name, it.version, thousands(it.lines), it.imports, it.globs, it.compared, it.unknown, it.brought,
+              it.modules, thousands(it.names), len(it.differing)] for it in rows]
+    sums = [thousands(sum(getattr(it, key) for it in rows))
+            for key in ("lines", "imports", "globs", "compared", "unknown", "brought", "modules", "names")]
+    return table(heads, [*cells, ["all", "", *sums, sum(len(it.differing) for it in rows)]])
+
+
+def time_table(rows):
+    heads = ["crate", "lines read", "rounds", *(f"{it} ms" for it in STAGES), "MB", "parse ms", "expand ms", "imports ms", "MB"]
+    cells = []
+    for row in rows:
+        ours = [round(row.statistics.get(it, 0) / 1000) for it in STAGES]
+        passes = [row.passes.get(it, (0, 0)) for it in PASSES]
+        cells.append([row.name, thousands(row.statistics.get("lines", 0)), row.statistics.get("rounds", 0), *ours,
+                      row.megabytes, *(round(1000 * seconds) for seconds, _ in passes), passes[-1][1]])
+    return table(heads, cells)
+
+
+def limits(rows):
+    """What cannot be right without expansion, or is another thing by decision, with the number of places."""
+    places = {reason: sum(it.reasons.get(reason, 0) for it in rows) for reason in (PROCEDURAL, TESTS, INJECTED, BEHIND)}
+    unknown, brought = sum(it.unknown for it in rows), sum(it.brought for it in rows)
+    names, partly = sum(it.unknown_names for it in rows), sum(it.partly + it.partly_names for it in rows)
+    return table(["what", "places"], [
+        ["imports that lead nowhere, where a macro that is called may bring what they name: `unknown`", unknown],
+        ["imports in modules that a macro brings, as those of `cfg_if!`: not read", brought],
+        ["names of the modules asked about that a macro may bring: `unknown`", names],
+        ["imports and names that mean more in another namespace, by a macro: `more unknown`", partly],
+        ["functions that are procedural macros, which bind a function and no macro", places[PROCEDURAL]],
+        ["functions that an attribute as `#[test]` takes away, which are bound", places[TESTS]],
+        ["names that a glob brings of an import that is unknown: told as absent", places[BEHIND]],
+        ["names of the standard library that rustc binds in roots of edition 2015: absent", places[INJECTED]]])
+
+
+def version():
+    return subprocess.run([RUSTC, "--version"], capture_output=True, text=True, check=False).stdout.strip()
+
+
+HEAD = """# Compared with rustc over real crates
+
+`tools/real-crates --page` wrote this page: what it ran, what agrees, and how long each side took. The crates are those of
+Debian 12, with their default features, and `core`, `alloc` and `std` of `rust-src`; it is {version} that they are compared with. {crates} crates
+have {imports} named imports and {globs} globs outside macros and bodies. The program was built without proof, by `rt try`'s
+compiler and LLVM at -O2; what is proved of it, [PROGRAM.md](PROGRAM.md) tells.
+
+Each leaf of each `use`, private ones and globs too, is compared in each namespace by kind and path with what rustc found
+(`-Zunpretty=hir-tree`). Of at most eight modules of each crate, the root and those with globs first, every name is asked
+that `defmap tree` or rustc could bind there, or of more than 400 as many at even distances: a probe in a copy of the crate imports all of them, and both sides tell what
+each import means, so that a name that one side does not bind is absent on the other. *Unknown* is what leads nowhere and a
+macro may bring; how much of each crate that may be stands in `tools/real-crates.shares`. *By macros* are the imports in
+modules that a macro brings.
+"""
+
+TIMES = """## Time and memory
+
+Of one run each, on a machine that others used too, so no ratio is promised. `defmap` reads the sources of the crate, of all
+that it depends on and of `core`, `alloc` and `std`, and settles them together; rustc reads one crate, and of the others what
+it kept when it compiled them. `lines read` are those of all sources; `rounds` are of imports. rustc's times are of its
+passes, its memory what it held after the last of them.
+"""
+
+LIMITS = """## What cannot be right without expansion
+"""
+
+
+def wrapped(text):
+    """Prose in lines of at most 120 characters."""
+    return "\n\n".join(textwrap.fill(it, 118, break_on_hyphens=False, break_long_words=False) for it in text.split("\n\n"))
+
+
+def write_page(rows):
+    """Writes the page, and the shares."""
+    rows = sorted(rows, key=lambda it: it.name)
+    head = HEAD.format(version=version(), crates=len(rows), imports=thousands(sum(it.imports for it in rows)),
+                       globs=thousands(sum(it.globs for it in rows)))
+    lines = [wrapped(head), "", *compared_table(rows), "", LIMITS, *limits(rows), "", wrapped(TIMES), "", *time_table(rows)]
+    write(PAGE, "\n".join(lines) + "\n")
+    write_shares(rows)
