@@ -244,7 +244,7 @@ fn found(alloc: Global) -> Result<Option<Row>, BuildFault> {
         return Ok(None);
     }
     let globs = globs(alloc)?;
-    let Ok(settled) = settle(&mut waiting.retry, &globs, 8, alloc) else {
+    let Ok(settled) = settle(&mut waiting.retry, &globs, &[], 8, alloc) else {
         return Ok(None);
     };
     let bound = [
