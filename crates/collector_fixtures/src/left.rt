@@ -59,6 +59,7 @@ fn list_names(alloc: Global, collected: &mut Collected) -> Result<bool, AllocErr
     match settle(
         &mut collected.retry,
         collected.globs.as_slice(),
+        collected.uses.as_slice(),
         LIMIT,
         alloc,
     ) {

@@ -10,7 +10,6 @@ mod complaints;
 mod definitions;
 mod extern_crates;
 mod failure;
-mod glob_order;
 mod graph;
 mod hidden;
 mod imports;

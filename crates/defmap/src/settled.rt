@@ -1,5 +1,4 @@
 //! The crates that are asked about, collected and settled.
-use crate::glob_order::order_globs;
 use crate::item_places::{ItemPlace, all_items, use_places};
 use crate::stats::Effort;
 use crate_items::declared_item::DeclaredItem;
@@ -86,7 +85,8 @@ fn settle_all(
     for _turn in 0..TURNS {
         effort.spend(&mut collected.retry)?;
         let globs = collected.globs.as_slice();
-        match settle(&mut collected.retry, globs, 1, alloc) {
+        let uses = collected.uses.as_slice();
+        match settle(&mut collected.retry, globs, uses, 1, alloc) {
             Ok(true) => return Ok(()),
             Ok(false) => {}
             Err(_fault) => return Err(NotSettled::Unfit),
@@ -109,8 +109,6 @@ pub(crate) fn world_of(
         Ok(collected) => collected,
         Err(fault) => return Err(of_fault(fault)),
     };
-    effort.spend(&mut collected.retry)?;
-    order_globs(alloc, collected.retry.world(), &mut collected.globs)?;
     settle_all(alloc, &mut collected, &mut effort)?;
     list_unresolved(alloc, &mut collected.retry)?;
     settle_all(alloc, &mut collected, &mut effort)?;

@@ -3,3 +3,5 @@ pub mod ListLemmas
 pub mod ReachLemmas
 pub mod IdleLemmas
 pub mod TableLemmas
+pub mod OrderLemmas
+pub mod MacroLemmas

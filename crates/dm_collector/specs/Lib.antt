@@ -1,8 +1,12 @@
 pub mod Globs
+pub mod GlobOrders
 pub mod Widening
 pub mod UnnamedTraits
+pub mod MacroUses
+pub mod MacroPreludes
 pub mod Steps
 pub mod GlobRows
+pub mod StaleBindings
 pub mod UnresolvedNames
 pub mod Leaves
 pub mod Collecting

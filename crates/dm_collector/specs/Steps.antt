@@ -5,10 +5,14 @@ use Rattle.std.specs.Option.{option_map_or}
 use Rattle.dm_ids.specs.Names.{Name}
 use Rattle.dm_ids.specs.declared.imports.ImportOrExternCrate.TheVariants as wide
 use Rattle.dm_base.specs.PerNs.{is_empty}
+use Rattle.crate_tables.specs.StandardPreludes.{own_map}
+use Rattle.dm_maps.specs.BuildMaps.{with_macro_use}
 use Rattle.dm_maps.specs.GoesOn.{with_macro_seen, with_type_seen, with_unnamed_trait, with_value_seen}
 use Rattle.dm_retry.specs.Retries.{Stops}
 use Rattle.dm_retry.specs.Rounds.{State, changed_beside, changed_under, pushed_into, round, round_answer}
 use Rattle.dm_collector.specs.Globs.{missing, resolved}
+use Rattle.dm_collector.specs.MacroPreludes.{missing_macro}
+use Rattle.dm_collector.specs.MacroUses.{Uses}
 use Rattle.dm_collector.specs.UnnamedTraits.{missing_trait}
 use Rattle.dm_collector.specs.Widening.{wider}
 use Rattle.dm_collector.specs.declared.globs.Glob.{Glob}
@@ -17,7 +21,7 @@ use Rattle.dm_collector.specs.declared.glob_fault.GlobFault.TheVariants as fault
 use Rattle.dm_collector.specs.declared.sources.GlobImport.{GlobImport}
 
 -- A step: a round of imports; a glob binds a name, brings the unnamed trait at a place of its source, or lets more see the
--- type, the value or the macro of a name.
+-- type, the value or the macro of a name; or the `macro_use` prelude of a crate gets the macro of a name.
 pub data Step : Type 0 where
   Resolve : Step
   Bind : GlobImport → Name → Step
@@ -25,6 +29,7 @@ pub data Step : Type 0 where
   SeeType : GlobImport → Name → Step
   SeeValue : GlobImport → Name → Step
   SeeMacro : GlobImport → Name → Step
+  Use : Uses → Name → Step
 
 -- ---- What a glob writes with the source that its path means
 
@@ -49,9 +54,16 @@ with_wider_value s g n = option_map_or (λ v. changed_under s n (with_value_seen
 abbrev pub with_wider_macro : State → Glob → Name → State
 with_wider_macro s g n = option_map_or (λ v. changed_under s n (with_macro_seen s.world g.into n v)) (wider s.world g n).macros s
 
+-- ---- What a `macro_use` prelude gets
+
+-- the macro that it has yet to get under a name, if any
+abbrev pub with_macro_used : State → Uses → Name → State
+with_macro_used s u n =
+    option_map_or (λ e. changed_under s n (with_macro_use s.world (own_map u.krate) n e.0 e.1)) (missing_macro s.world u n) s
+
 -- ---- Steps
 
--- The state after a step. What a glob's path means, and what it has yet to write, is looked up when the step is made; where the
+-- The state after a step. What a glob's path means, and what is yet to be written, is looked up when the step is made; where the
 -- path means no source, nothing is written.
 abbrev pub after_step : Step → State → State
 after_step Resolve s = round s
@@ -60,6 +72,7 @@ after_step (Bring g i) s = option_map_or (λ r. brought s r i) (resolved s.world
 after_step (SeeType g n) s = option_map_or (λ r. with_wider_type s r n) (resolved s.world g) s
 after_step (SeeValue g n) s = option_map_or (λ r. with_wider_value s r n) (resolved s.world g) s
 after_step (SeeMacro g n) s = option_map_or (λ r. with_wider_macro s r n) (resolved s.world g) s
+after_step (Use u n) s = with_macro_used s u n
 
 -- the state after some, one after another
 abbrev pub made : List Step → State → State
@@ -74,6 +87,7 @@ writes (Bring g i) s = option_map_or (λ r. is_some (missing_trait s.world r i))
 writes (SeeType g n) s = option_map_or (λ r. is_some (wider s.world r n).types) (resolved s.world g) false
 writes (SeeValue g n) s = option_map_or (λ r. is_some (wider s.world r n).values) (resolved s.world g) false
 writes (SeeMacro g n) s = option_map_or (λ r. is_some (wider s.world r n).macros) (resolved s.world g) false
+writes (Use u n) s = is_some (missing_macro s.world u n)
 
 -- how many of some steps do, one after another
 abbrev pub writes_of : List Step → State → ℕ
@@ -84,7 +98,7 @@ writes_of (x ∷ xs) s = (if writes x s then 1 else 0) + writes_of xs (after_ste
 abbrev pub SeesNothing : State → GlobImport → Name → Type 0
 SeesNothing s g n = (writes (SeeType g n) s ≡ false) × (writes (SeeValue g n) s ≡ false) × (writes (SeeMacro g n) s ≡ false)
 
--- the glob of a step; a round has none
+-- the glob of a step, if it has one
 abbrev pub glob_of : Step → Option GlobImport
 glob_of Resolve = None
 glob_of (Bind g n) = Some g
@@ -92,27 +106,33 @@ glob_of (Bring g i) = Some g
 glob_of (SeeType g n) = Some g
 glob_of (SeeValue g n) = Some g
 glob_of (SeeMacro g n) = Some g
+glob_of (Use u n) = None
 
--- A step is of some globs: its glob, if it has one, is one of them.
-abbrev pub IsOf : List GlobImport → Step → Type 0
-IsOf gs x = IfSome (glob_of x) (Contains gs)
+-- the crate of one that gets a macro, with the roots that it has macros from
+abbrev pub used_by : Step → Option Uses
+used_by (Use u n) = Some u
+used_by _ = None
+
+-- A step is of some globs and crates: its glob, if it has one, is one of them, and so is its crate.
+abbrev pub IsOf : List GlobImport → List Uses → Step → Type 0
+IsOf gs us x = IfSome (glob_of x) (Contains gs) × IfSome (used_by x) (Contains us)
 
 -- ---- Where settling leads
 
--- State t is reached from s by steps of these globs, of which so many at least write: nothing else is written.
-pub record IsReached (gs : List GlobImport) (count : ℕ) (s t : State) : Type 0 where
+-- State t is reached from s by steps of these globs and crates, of which so many at least write: nothing else is written.
+pub record IsReached (gs : List GlobImport) (us : List Uses) (count : ℕ) (s t : State) : Type 0 where
   pub steps : List Step
-  pub own : AllByRecursion (IsOf gs) steps
+  pub own : AllByRecursion (IsOf gs us) steps
   pub state : t ≡ made steps s
   pub enough : count ≤ writes_of steps s
 
 -- State t is reached but for the end of a round, which an allocation failure stopped at one of its imports.
-pub record IsCutOff (gs : List GlobImport) (s t : State) : Type 0 where
+pub record IsCutOff (gs : List GlobImport) (us : List Uses) (s t : State) : Type 0 where
   pub last : State
-  pub reached : IsReached gs 0 s last
+  pub reached : IsReached gs us 0 s last
   pub stops : Stops last t
 
 -- what a fault leaves: an unknown glob stops no round
-abbrev pub IsLeftBy : GlobFault → List GlobImport → State → State → Type 0
-IsLeftBy fault.Unknown gs s t = IsReached gs 0 s t
-IsLeftBy fault.OutOfMemory gs s t = IsReached gs 0 s t ⊎ IsCutOff gs s t
+abbrev pub IsLeftBy : GlobFault → List GlobImport → List Uses → State → State → Type 0
+IsLeftBy fault.Unknown gs us s t = IsReached gs us 0 s t
+IsLeftBy fault.OutOfMemory gs us s t = IsReached gs us 0 s t ⊎ IsCutOff gs us s t

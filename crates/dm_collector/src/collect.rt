@@ -8,6 +8,8 @@ ghost use Rattle.crate_tables.specs.DeclaredWorlds.{AreShown, BindNothing};
 ghost use Rattle.dm_collector.specs.Collecting as spec;
 ghost use Rattle.dm_collector.specs.Globs.{IsFilledBySource};
 ghost use Rattle.dm_collector.specs.Leaves.{globs_of, pendings_of};
+ghost use Rattle.dm_collector.specs.MacroPreludes.{HasMacros};
+ghost use Rattle.dm_collector.specs.MacroUses.{macro_uses};
 ghost use Rattle.dm_collector.specs.Steps.{IsReached};
 ghost use Rattle.dm_collector.specs.UnnamedTraits.{HasBroughtBySource};
 ghost use Rattle.dm_collector.specs.Widening.{IsWideBySource};
@@ -16,6 +18,7 @@ ghost use Rattle.dm_retry.specs.Settling.{IsFixedPoint};
 
 use crate::collect_fault::{CollectFault, of_declared, of_filling, of_glob, of_order};
 use crate::leaves::split;
+use crate::macro_uses::{MacroUses, macro_uses};
 use crate::settle::settle;
 use crate::sources::GlobImport;
 use crate_modules::crate_graph::CrateGraph;
@@ -40,6 +43,8 @@ pub struct Collected {
     pub retry: Retry,
     /// The globs of all crates.
     pub globs: Vec<GlobImport>,
+    /// The roots that each crate has macros from.
+    pub uses: Vec<MacroUses>,
     /// Whether the world is a fixed point.
     pub is_settled: bool,
     /// The modules that each crate declares, with what was read of their files.
@@ -64,6 +69,7 @@ struct Beginning {
 struct BegunCrates {
     retry: Retry,
     globs: Vec<GlobImport>,
+    uses: Vec<MacroUses>,
     lists: Vec<CrateModules>,
     tables: Vec<CrateTable>,
     externs: Vec<ExternCrateRow>,
@@ -74,6 +80,7 @@ struct BegunCrates {
 struct SettledState {
     retry: Retry,
     globs: Vec<GlobImport>,
+    uses: Vec<MacroUses>,
     is_settled: bool,
 }
 
@@ -157,6 +164,22 @@ fn tables_of(
     }
 }
 
+/// The roots that each crate of a graph has macros from.
+fn uses_of(
+    alloc: Global,
+    graph: &CrateGraph,
+    reading: &Reading<'_>,
+    retry: &Retry,
+    lists: &[CrateModules],
+    rows: &[ExternCrateRow],
+) -> Result<Vec<MacroUses>, CollectFault>
+    ensures { IfOk result (λ uses. uses.items ≡
+        macro_uses retry.now.state.world reading.now.files lists.now rows.now 0 graph.now) }
+{
+    let uses = macro_uses(alloc, retry.world(), graph, reading.files, lists, rows)?;
+    Ok(uses)
+}
+
 /// The state of a graph's crates in which nothing is imported yet.
 fn begin(
     alloc: Global,
@@ -165,7 +188,7 @@ fn begin(
 ) -> Result<BegunCrates, CollectFault>
     ensures { IfOk result (λ begun. spec.IsBegun reading.now graph.now
         (record { lists = begun.lists.items; tables = begun.tables.items; rows = begun.externs.items })
-        begun.globs.items begun.retry.state) }
+        begun.globs.items begun.uses.items begun.retry.state) }
 {
     let made = tables_of(alloc, graph, reading)?;
     let FilledCrates {
@@ -175,9 +198,18 @@ fn begin(
         externs,
     } = made;
     let beginning = begun(alloc, builder, tables)?;
+    let uses = uses_of(
+        alloc,
+        graph,
+        reading,
+        &beginning.retry,
+        lists.as_slice(),
+        externs.as_slice(),
+    )?;
     Ok(BegunCrates {
         retry: beginning.retry,
         globs: beginning.globs,
+        uses,
         lists,
         tables: beginning.rest,
         externs,
@@ -190,9 +222,11 @@ fn settled(
     rounds: u32,
     begun: Retry,
     globs: Vec<GlobImport>,
+    uses: Vec<MacroUses>,
 ) -> Result<SettledState, CollectFault>
-    ensures reached { IfOk result (λ made. IsReached globs.items 0 begun.state made.retry.state) }
+    ensures reached { IfOk result (λ made. IsReached globs.items uses.items 0 begun.state made.retry.state) }
     ensures globs { IfOk result (λ made. made.globs.items ≡ globs.items) }
+    ensures uses { IfOk result (λ made. made.uses.items ≡ uses.items) }
     ensures fixed { IfOk result (λ made. made.is_settled ≡ true → IsFixedPoint made.retry.state) }
     ensures filled { IfOk result (λ made. made.is_settled ≡ true
         → All (IsFilledBySource made.retry.state.world) made.globs.items) }
@@ -200,13 +234,16 @@ fn settled(
         → All (HasBroughtBySource made.retry.state.world) made.globs.items) }
     ensures wide { IfOk result (λ made. made.is_settled ≡ true
         → All (IsWideBySource made.retry.state.world) made.globs.items) }
+    ensures used { IfOk result (λ made. made.is_settled ≡ true
+        → All (HasMacros made.retry.state.world) made.uses.items) }
 {
     let mut retry = begun;
-    match settle(&mut retry, globs.as_slice(), rounds, alloc) {
+    match settle(&mut retry, globs.as_slice(), uses.as_slice(), rounds, alloc) {
         Err(fault) => Err(of_glob(fault)),
         Ok(is_settled) => Ok(SettledState {
             retry,
             globs,
+            uses,
             is_settled,
         }),
     }
@@ -223,7 +260,7 @@ fn ordered(alloc: Global, graph: &CrateGraph) -> Result<(), CollectFault>
 }
 
 /// Collects the crates of a graph: reads their files, lists their modules and items, declares them in one world, and
-/// settles imports and globs there in at most so many turns.
+/// settles imports, globs and `macro_use` preludes there in at most so many turns.
 ///
 /// # Errors
 ///
@@ -238,12 +275,13 @@ pub fn collect(
     // The crates are in no circle.
     ensures order { OnOk result ((order : List ℕ) × IsOrder (rows graph.now) order) }
 
-    // The state was reached from that of the crates' own declarations by rounds of imports and steps of the globs.
+    // The state was reached from that of the crates' own declarations by rounds of imports and steps of globs and crates.
     ensures collected { IfOk result (λ made. spec.IsCollected reading.now graph.now
         (record { lists = made.lists.items; tables = made.tables.items; rows = made.externs.items })
-        made.globs.items made.retry.state) }
+        made.globs.items made.uses.items made.retry.state) }
 
-    // Where it is settled, each import and each glob, tried again, would write nothing.
+    // Where it is settled, each import and each glob, tried again, would write nothing, and no `macro_use` prelude would get
+    // a macro.
     ensures fixed { IfOk result (λ made. made.is_settled ≡ true → IsFixedPoint made.retry.state) }
     ensures filled { IfOk result (λ made. made.is_settled ≡ true
         → All (IsFilledBySource made.retry.state.world) made.globs.items) }
@@ -251,20 +289,24 @@ pub fn collect(
         → All (HasBroughtBySource made.retry.state.world) made.globs.items) }
     ensures wide { IfOk result (λ made. made.is_settled ≡ true
         → All (IsWideBySource made.retry.state.world) made.globs.items) }
+    ensures used { IfOk result (λ made. made.is_settled ≡ true
+        → All (HasMacros made.retry.state.world) made.uses.items) }
 {
     ordered(alloc, graph)?;
     let begun = begin(alloc, graph, reading)?;
     let BegunCrates {
         retry,
         globs,
+        uses,
         lists,
         tables,
         externs,
     } = begun;
-    let made = settled(alloc, rounds, retry, globs)?;
+    let made = settled(alloc, rounds, retry, globs, uses)?;
     Ok(Collected {
         retry: made.retry,
         globs: made.globs,
+        uses: made.uses,
         is_settled: made.is_settled,
         lists,
         tables,

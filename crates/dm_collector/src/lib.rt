@@ -4,10 +4,14 @@
 pub mod collect;
 pub mod collect_fault;
 pub mod glob_fault;
+mod glob_order;
 pub mod globs;
 pub mod leaves;
+pub mod macro_preludes;
+pub mod macro_uses;
 pub mod settle;
 pub mod sources;
+pub mod stale;
 pub mod unnamed_traits;
 pub mod unresolved_names;
 pub mod widening;

@@ -4,7 +4,9 @@ ghost use Rattle.dm_check.specs.declared.held.HeldId.TheVariants as held;
 ghost use Rattle.dm_check.specs.Holding.{vis_holds};
 ghost use Rattle.dm_base.specs.PerNs.{is_empty};
 ghost use Rattle.dm_maps.specs.Known.{knows, KnowsAll};
+ghost use Rattle.dm_collector.specs.GlobOrders.{behind};
 ghost use Rattle.dm_collector.specs.Globs.{glob_holds, HasUnknown, IsFilledBySource, missing};
+ghost use Rattle.dm_collector.specs.MacroUses.{Uses};
 ghost use Rattle.dm_collector.specs.declared.glob_fault.GlobFault.TheVariants as faults;
 ghost use Rattle.dm_collector.specs.Steps.{after_step, Bind, bound, IsReached, writes};
 ghost use Rattle.dm_collector.specs.declared.sources.GlobImport.{GlobImport as Import};
@@ -20,21 +22,21 @@ use std::alloc::Global;
 /// Fills each glob once. Answers whether one had anything to bind.
 pub(crate) fn fill_all(
     retry: &mut Retry,
-    globs: &[GlobImport],
+    globs: &[&GlobImport],
     alloc: Global,
 ) -> Result<bool, GlobFault>
     ensures same { IfOk result (λ written. written ≡ false → retry.new ≡ retry.old) }
     ensures filled { IfOk result
-        (λ written. written ≡ false → All (IsFilledBySource retry.old.state.world) globs.now) }
-    ensures reached { IsReached globs.now 0 retry.old.state retry.new.state }
+        (λ written. written ≡ false → All (IsFilledBySource retry.old.state.world) (behind globs.now)) }
+    ensures reached { (us : List Uses) → IsReached (behind globs.now) us 0 retry.old.state retry.new.state }
     ensures written { IfOk result
-        (λ written. written ≡ true → IsReached globs.now 1 retry.old.state retry.new.state) }
+        (λ written. written ≡ true → (us : List Uses) → IsReached (behind globs.now) us 1 retry.old.state retry.new.state) }
     ensures unknown { IfErr result
-        (λ fault. fault ≡ faults.Unknown → HasUnknown retry.new.state.world globs.now) }
+        (λ fault. fault ≡ faults.Unknown → HasUnknown retry.new.state.world (behind globs.now)) }
 {
     let mut written = false;
     for glob in globs {
-        written |= fill(retry, glob, alloc)?;
+        written |= fill(retry, *glob, alloc)?;
     }
     Ok(written)
 }
@@ -44,10 +46,10 @@ fn fill(retry: &mut Retry, glob: &GlobImport, alloc: Global) -> Result<bool, Glo
     ensures same { IfOk result (λ written. written ≡ false → retry.new ≡ retry.old) }
     ensures filled { IfOk result
         (λ written. written ≡ false → IsFilledBySource retry.old.state.world glob.now) }
-    ensures reached { (gs : List Import) → Contains gs glob.now → IsReached gs 0 retry.old.state retry.new.state }
+    ensures reached { (gs : List Import) (us : List Uses) → Contains gs glob.now → IsReached gs us 0 retry.old.state retry.new.state }
     ensures written { IfOk result
-        (λ written. written ≡ true → (gs : List Import) → Contains gs glob.now
-        → IsReached gs 1 retry.old.state retry.new.state) }
+        (λ written. written ≡ true → (gs : List Import) (us : List Uses) → Contains gs glob.now
+        → IsReached gs us 1 retry.old.state retry.new.state) }
     ensures unknown { IfErr result
         (λ fault. fault ≡ faults.Unknown
         → ¬ (KnowsAll retry.new.state.world (glob_holds glob.now))) }
@@ -66,10 +68,10 @@ fn bind_all(retry: &mut Retry, glob: &GlobImport, names: Vec<Name>) -> Result<bo
     ensures idle { IfOk result
         (λ written. written ≡ false
         → All (λ n. writes (Bind glob.now n) retry.old.state ≡ false) names.items) }
-    ensures reached { (gs : List Import) → Contains gs glob.now → IsReached gs 0 retry.old.state retry.new.state }
+    ensures reached { (gs : List Import) (us : List Uses) → Contains gs glob.now → IsReached gs us 0 retry.old.state retry.new.state }
     ensures written { IfOk result
-        (λ written. written ≡ true → (gs : List Import) → Contains gs glob.now
-        → IsReached gs 1 retry.old.state retry.new.state) }
+        (λ written. written ≡ true → (gs : List Import) (us : List Uses) → Contains gs glob.now
+        → IsReached gs us 1 retry.old.state retry.new.state) }
     ensures unknown { IfErr result
         (λ fault. fault ≡ faults.Unknown
         → ¬ (KnowsAll retry.new.state.world (glob_holds glob.now))) }

@@ -1,7 +1,9 @@
 //! What globs bound is widened.
 ghost use Rattle.std.specs.Prelude.{◌≡◌, false, true, All, Contains, IfErr, IfOk, List, OnErr, OnOk};
 ghost use Rattle.dm_maps.specs.Known.{KnowsAll};
+ghost use Rattle.dm_collector.specs.GlobOrders.{behind};
 ghost use Rattle.dm_collector.specs.Globs.{glob_holds, HasUnknown};
+ghost use Rattle.dm_collector.specs.MacroUses.{Uses};
 ghost use Rattle.dm_collector.specs.declared.glob_fault.GlobFault.TheVariants as faults;
 ghost use Rattle.dm_collector.specs.Steps.{after_step, IsReached, SeeMacro, SeesNothing, SeeType, SeeValue, writes};
 ghost use Rattle.dm_collector.specs.Widening.{IsWideBySource};
@@ -17,21 +19,21 @@ use std::alloc::Global;
 /// Widens what each glob bound. Answers whether there was anything to widen.
 pub(crate) fn widen_all(
     retry: &mut Retry,
-    globs: &[GlobImport],
+    globs: &[&GlobImport],
     alloc: Global,
 ) -> Result<bool, GlobFault>
     ensures same { IfOk result (λ written. written ≡ false → retry.new ≡ retry.old) }
     ensures wide { IfOk result
-        (λ written. written ≡ false → All (IsWideBySource retry.old.state.world) globs.now) }
-    ensures reached { IsReached globs.now 0 retry.old.state retry.new.state }
+        (λ written. written ≡ false → All (IsWideBySource retry.old.state.world) (behind globs.now)) }
+    ensures reached { (us : List Uses) → IsReached (behind globs.now) us 0 retry.old.state retry.new.state }
     ensures written { IfOk result
-        (λ written. written ≡ true → IsReached globs.now 1 retry.old.state retry.new.state) }
+        (λ written. written ≡ true → (us : List Uses) → IsReached (behind globs.now) us 1 retry.old.state retry.new.state) }
     ensures unknown { IfErr result
-        (λ fault. fault ≡ faults.Unknown → HasUnknown retry.new.state.world globs.now) }
+        (λ fault. fault ≡ faults.Unknown → HasUnknown retry.new.state.world (behind globs.now)) }
 {
     let mut written = false;
     for glob in globs {
-        written |= widen(retry, glob, alloc)?;
+        written |= widen(retry, *glob, alloc)?;
     }
     Ok(written)
 }
@@ -42,10 +44,10 @@ fn widen(retry: &mut Retry, glob: &GlobImport, alloc: Global) -> Result<bool, Gl
     ensures same { IfOk result (λ written. written ≡ false → retry.new ≡ retry.old) }
     ensures wide { IfOk result
         (λ written. written ≡ false → IsWideBySource retry.old.state.world glob.now) }
-    ensures reached { (gs : List Import) → Contains gs glob.now → IsReached gs 0 retry.old.state retry.new.state }
+    ensures reached { (gs : List Import) (us : List Uses) → Contains gs glob.now → IsReached gs us 0 retry.old.state retry.new.state }
     ensures written { IfOk result
-        (λ written. written ≡ true → (gs : List Import) → Contains gs glob.now
-        → IsReached gs 1 retry.old.state retry.new.state) }
+        (λ written. written ≡ true → (gs : List Import) (us : List Uses) → Contains gs glob.now
+        → IsReached gs us 1 retry.old.state retry.new.state) }
     ensures unknown { IfErr result
         (λ fault. fault ≡ faults.Unknown
         → ¬ (KnowsAll retry.new.state.world (glob_holds glob.now))) }
@@ -63,10 +65,10 @@ fn see_all(retry: &mut Retry, glob: &GlobImport, names: &[Name]) -> Result<bool,
     ensures same { IfOk result (λ written. written ≡ false → retry.new ≡ retry.old) }
     ensures idle { IfOk result
         (λ written. written ≡ false → All (SeesNothing retry.old.state glob.now) names.now) }
-    ensures reached { (gs : List Import) → Contains gs glob.now → IsReached gs 0 retry.old.state retry.new.state }
+    ensures reached { (gs : List Import) (us : List Uses) → Contains gs glob.now → IsReached gs us 0 retry.old.state retry.new.state }
     ensures written { IfOk result
-        (λ written. written ≡ true → (gs : List Import) → Contains gs glob.now
-        → IsReached gs 1 retry.old.state retry.new.state) }
+        (λ written. written ≡ true → (gs : List Import) (us : List Uses) → Contains gs glob.now
+        → IsReached gs us 1 retry.old.state retry.new.state) }
     ensures unknown { IfErr result
         (λ fault. fault ≡ faults.Unknown
         → ¬ (KnowsAll retry.new.state.world (glob_holds glob.now))) }
@@ -83,10 +85,10 @@ fn see(retry: &mut Retry, glob: &GlobImport, name: &Name) -> Result<bool, GlobFa
     ensures same { IfOk result (λ written. written ≡ false → retry.new ≡ retry.old) }
     ensures idle { IfOk result
         (λ written. written ≡ false → SeesNothing retry.old.state glob.now name.now) }
-    ensures reached { (gs : List Import) → Contains gs glob.now → IsReached gs 0 retry.old.state retry.new.state }
+    ensures reached { (gs : List Import) (us : List Uses) → Contains gs glob.now → IsReached gs us 0 retry.old.state retry.new.state }
     ensures written { IfOk result
-        (λ written. written ≡ true → (gs : List Import) → Contains gs glob.now
-        → IsReached gs 1 retry.old.state retry.new.state) }
+        (λ written. written ≡ true → (gs : List Import) (us : List Uses) → Contains gs glob.now
+        → IsReached gs us 1 retry.old.state retry.new.state) }
     ensures unknown { IfErr result
         (λ fault. fault ≡ faults.Unknown
         → ¬ (KnowsAll retry.new.state.world (glob_holds glob.now))) }

@@ -1,7 +1,5 @@
-use Rattle.std.proofs.Common.{◌≡◌}
-use Rattle.std.specs.Prelude.{List}
-use Rattle.crate_tables.specs.CrateTables.{Table}
-use Rattle.dm_collector.specs.Collecting.{Kept}
+use Rattle.std.proofs.Common.{◌∙◌}
+use Rattle.dm_collector.specs.MacroUses.{macro_uses}
 use Rattle.dm_collector.proofs.collect.begin.Goals as goal
 
 pub returns : goal.returns
@@ -12,4 +10,6 @@ returns c = record {
   declared = c.in_ok-beginning.ensures.declared;
   pending = c.in_ok-beginning.ensures.pending;
   globs = c.in_ok-beginning.ensures.globs;
+  uses = c.in_ok-uses.ensures
+      ∙ (λ i. macro_uses c.in_ok-beginning.beginning.retry.state.world c.args.reading.now.files (c.as_slice.ensures.value i) (c.as_slice-2.ensures.value i) 0 c.args.graph.now);
 }

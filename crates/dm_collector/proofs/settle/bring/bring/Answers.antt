@@ -23,10 +23,10 @@ loop-i-preserved c =
           let Q : Retries → Type 0 = λ r. IfSome (resolved r.state.world g) (λ z. missing_trait r.state.world z c.loop-i.i ≡ None) in
           let here : P c.loop-i.i = subst Q (inv.same parts.0) (own.none parts.1) in
           elim (cases_lt k c.loop-i.i) [ inl h ↦ inv.none parts.0 k h | inr h ↦ subst P (omega arith) here ];
-      reached = λ gs has. reached-more gs 0 _ _ _ (Bring g c.loop-i.i) (inv.reached gs has) has own.state;
-      written = λ some gs has. elim (or_cases c.loop-i.written c.in_ok-written.field-0 some) [
-        | inl before ↦ reached-more gs 1 _ _ _ (Bring g c.loop-i.i) (inv.written before gs has) has own.state
-        | inr here ↦ reached-then gs 0 1 _ _ _ (inv.reached gs has) (reached-written gs _ _ (Bring g c.loop-i.i) has own.state (sym own.answer ∙ here))
+      reached = λ gs us has. reached-more gs us 0 _ _ _ (Bring g c.loop-i.i) (inv.reached gs us has) (has, tt) own.state;
+      written = λ some gs us has. elim (or_cases c.loop-i.written c.in_ok-written.field-0 some) [
+        | inl before ↦ reached-more gs us 1 _ _ _ (Bring g c.loop-i.i) (inv.written before gs us has) (has, tt) own.state
+        | inr here ↦ reached-then gs us 0 1 _ _ _ (inv.reached gs us has) (reached-written gs us _ _ (Bring g c.loop-i.i) (has, tt) own.state (sym own.answer ∙ here))
       ];
     }
 

@@ -2,6 +2,7 @@ use Rattle.std.proofs.Common.{◌≡◌, ◌<◌, ℕ, None, List, false, true}
 use Rattle.std.specs.List.{Contains}
 use Rattle.std.specs.Option.{IfSome}
 use Rattle.dm_collector.specs.Globs.{resolved}
+use Rattle.dm_collector.specs.MacroUses.{Uses}
 use Rattle.dm_collector.specs.Steps.{IsReached}
 use Rattle.dm_collector.specs.UnnamedTraits.{missing_trait}
 use Rattle.dm_collector.specs.declared.sources.GlobImport.{GlobImport}
@@ -13,6 +14,6 @@ abbrev pub invariant-loop-i : goal.invariant-loop-i
 invariant-loop-i l = record {
   same : l.written ≡ false → l.retry ≡ l.fn.retry;
   none : l.written ≡ false → (k : ℕ) → k < l.i → IfSome (resolved l.fn.retry.state.world l.glob) (λ g. missing_trait l.fn.retry.state.world g k ≡ None);
-  reached : (gs : List GlobImport) → Contains gs l.glob → IsReached gs 0 l.fn.retry.state l.retry.state;
-  written : l.written ≡ true → (gs : List GlobImport) → Contains gs l.glob → IsReached gs 1 l.fn.retry.state l.retry.state;
+  reached : (gs : List GlobImport) (us : List Uses) → Contains gs l.glob → IsReached gs us 0 l.fn.retry.state l.retry.state;
+  written : l.written ≡ true → (gs : List GlobImport) (us : List Uses) → Contains gs l.glob → IsReached gs us 1 l.fn.retry.state l.retry.state;
 }

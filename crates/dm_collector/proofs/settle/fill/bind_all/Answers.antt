@@ -19,9 +19,9 @@ loop-name-preserved c =
           let parts = or_parts c.loop-name.written c.in_ok-written.field-0 none in
           let here = subst (λ (r : Retries). writes (Bind g n) r.state ≡ false) (inv.same parts.0) (sym own.answer ∙ parts.1) in
           All-push (λ (m : Name). writes (Bind g m) c.args.retry.now.state ≡ false) c.loop-name.yielded n (inv.idle parts.0) here;
-      reached = λ gs has. reached-more gs 0 _ _ _ (Bind g n) (inv.reached gs has) has own.ok;
-      written = λ some gs has. elim (or_cases c.loop-name.written c.in_ok-written.field-0 some) [
-        | inl before ↦ reached-more gs 1 _ _ _ (Bind g n) (inv.written before gs has) has own.ok
-        | inr here ↦ reached-then gs 0 1 _ _ _ (inv.reached gs has) (reached-written gs _ _ (Bind g n) has own.ok (sym own.answer ∙ here))
+      reached = λ gs us has. reached-more gs us 0 _ _ _ (Bind g n) (inv.reached gs us has) (has, tt) own.ok;
+      written = λ some gs us has. elim (or_cases c.loop-name.written c.in_ok-written.field-0 some) [
+        | inl before ↦ reached-more gs us 1 _ _ _ (Bind g n) (inv.written before gs us has) (has, tt) own.ok
+        | inr here ↦ reached-then gs us 0 1 _ _ _ (inv.reached gs us has) (reached-written gs us _ _ (Bind g n) (has, tt) own.ok (sym own.answer ∙ here))
       ];
     }

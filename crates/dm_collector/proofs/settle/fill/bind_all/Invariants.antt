@@ -1,6 +1,7 @@
 use Rattle.std.proofs.Common.{◌≡◌, List, false, true}
 use Rattle.std.specs.List.{All, Contains}
 use Rattle.dm_ids.specs.Names.{Name}
+use Rattle.dm_collector.specs.MacroUses.{Uses}
 use Rattle.dm_collector.specs.Steps.{Bind, IsReached, writes}
 use Rattle.dm_collector.specs.declared.sources.GlobImport.{GlobImport}
 use Rattle.dm_collector.proofs.settle.fill.bind_all.Given as goal
@@ -11,6 +12,6 @@ abbrev pub invariant-loop-name : goal.invariant-loop-name
 invariant-loop-name l = record {
   same : l.written ≡ false → l.retry ≡ l.fn.retry;
   idle : l.written ≡ false → All (λ (n : Name). writes (Bind l.glob n) l.fn.retry.state ≡ false) l.yielded;
-  reached : (gs : List GlobImport) → Contains gs l.glob → IsReached gs 0 l.fn.retry.state l.retry.state;
-  written : l.written ≡ true → (gs : List GlobImport) → Contains gs l.glob → IsReached gs 1 l.fn.retry.state l.retry.state;
+  reached : (gs : List GlobImport) (us : List Uses) → Contains gs l.glob → IsReached gs us 0 l.fn.retry.state l.retry.state;
+  written : l.written ≡ true → (gs : List GlobImport) (us : List Uses) → Contains gs l.glob → IsReached gs us 1 l.fn.retry.state l.retry.state;
 }

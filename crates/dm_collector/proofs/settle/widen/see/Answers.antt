@@ -6,34 +6,34 @@ use Rattle.dm_collector.proofs.ReachLemmas.{reached-by, reached-more, reached-th
 use Rattle.dm_collector.proofs.settle.widen.see.Goals as goal
 
 pub returns-in_err-written-2-clause-reached : goal.returns-in_err-written-2-clause-reached
-returns-in_err-written-2-clause-reached c = λ gs has.
-    subst (λ (r : Retries). IsReached gs 0 c.args.retry.now.state r.state) (sym c.in_err-written-2.ensures.err)
-    (reached-by gs _ _ (SeeType c.args.glob.now c.args.name.now) has c.in_ok-written.ensures.ok)
+returns-in_err-written-2-clause-reached c = λ gs us has.
+    subst (λ (r : Retries). IsReached gs us 0 c.args.retry.now.state r.state) (sym c.in_err-written-2.ensures.err)
+    (reached-by gs us _ _ (SeeType c.args.glob.now c.args.name.now) (has, tt) c.in_ok-written.ensures.ok)
 
 pub returns-in_err-written-3-clause-reached : goal.returns-in_err-written-3-clause-reached
-returns-in_err-written-3-clause-reached c = λ gs has.
-    subst (λ (r : Retries). IsReached gs 0 c.args.retry.now.state r.state) (sym c.in_err-written-3.ensures.err)
-    (reached-more gs 0 _ _ _ (SeeValue c.args.glob.now c.args.name.now) (reached-by gs _ _ (SeeType c.args.glob.now c.args.name.now) has c.in_ok-written.ensures.ok) has c.in_ok-written-2.ensures.ok)
+returns-in_err-written-3-clause-reached c = λ gs us has.
+    subst (λ (r : Retries). IsReached gs us 0 c.args.retry.now.state r.state) (sym c.in_err-written-3.ensures.err)
+    (reached-more gs us 0 _ _ _ (SeeValue c.args.glob.now c.args.name.now) (reached-by gs us _ _ (SeeType c.args.glob.now c.args.name.now) (has, tt) c.in_ok-written.ensures.ok) (has, tt) c.in_ok-written-2.ensures.ok)
 
 pub returns-clause-reached : goal.returns-clause-reached
-returns-clause-reached c = λ gs has.
-    let first = reached-by gs _ _ (SeeType c.args.glob.now c.args.name.now) has c.in_ok-written.ensures.ok in
-    let second = reached-more gs 0 _ _ _ (SeeValue c.args.glob.now c.args.name.now) first has c.in_ok-written-2.ensures.ok in
-    reached-more gs 0 _ _ _ (SeeMacro c.args.glob.now c.args.name.now) second has c.in_ok-written-3.ensures.ok
+returns-clause-reached c = λ gs us has.
+    let first = reached-by gs us _ _ (SeeType c.args.glob.now c.args.name.now) (has, tt) c.in_ok-written.ensures.ok in
+    let second = reached-more gs us 0 _ _ _ (SeeValue c.args.glob.now c.args.name.now) first (has, tt) c.in_ok-written-2.ensures.ok in
+    reached-more gs us 0 _ _ _ (SeeMacro c.args.glob.now c.args.name.now) second (has, tt) c.in_ok-written-3.ensures.ok
 
 pub returns-clause-written : goal.returns-clause-written
-returns-clause-written c = λ some gs has.
+returns-clause-written c = λ some gs us has.
     let g = c.args.glob.now in
     let n = c.args.name.now in
     let one = c.in_ok-written in
     let two = c.in_ok-written-2 in
     let three = c.in_ok-written-3 in
-    let first = reached-by gs _ _ (SeeType g n) has one.ensures.ok in
-    let second = reached-more gs 0 _ _ _ (SeeValue g n) first has two.ensures.ok in
+    let first = reached-by gs us _ _ (SeeType g n) (has, tt) one.ensures.ok in
+    let second = reached-more gs us 0 _ _ _ (SeeValue g n) first (has, tt) two.ensures.ok in
     elim (or_cases (one.written || two.field-0) three.field-0 some) [
-      | inl early ↦ reached-more gs 1 _ _ _ (SeeMacro g n) (elim (or_cases one.written two.field-0 early) [
-        | inl x ↦ reached-more gs 1 _ _ _ (SeeValue g n) (reached-written gs _ _ (SeeType g n) has one.ensures.ok (sym one.ensures.answer ∙ x)) has two.ensures.ok
-        | inr y ↦ reached-then gs 0 1 _ _ _ first (reached-written gs _ _ (SeeValue g n) has two.ensures.ok (sym two.ensures.answer ∙ y))
-      ]) has three.ensures.ok
-      | inr z ↦ reached-then gs 0 1 _ _ _ second (reached-written gs _ _ (SeeMacro g n) has three.ensures.ok (sym three.ensures.answer ∙ z))
+      | inl early ↦ reached-more gs us 1 _ _ _ (SeeMacro g n) (elim (or_cases one.written two.field-0 early) [
+        | inl x ↦ reached-more gs us 1 _ _ _ (SeeValue g n) (reached-written gs us _ _ (SeeType g n) (has, tt) one.ensures.ok (sym one.ensures.answer ∙ x)) (has, tt) two.ensures.ok
+        | inr y ↦ reached-then gs us 0 1 _ _ _ first (reached-written gs us _ _ (SeeValue g n) (has, tt) two.ensures.ok (sym two.ensures.answer ∙ y))
+      ]) (has, tt) three.ensures.ok
+      | inr z ↦ reached-then gs us 0 1 _ _ _ second (reached-written gs us _ _ (SeeMacro g n) (has, tt) three.ensures.ok (sym three.ensures.answer ∙ z))
     ]

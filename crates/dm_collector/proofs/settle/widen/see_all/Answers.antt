@@ -10,7 +10,7 @@ use Rattle.dm_collector.proofs.ReachLemmas.{reached-then}
 use Rattle.dm_collector.proofs.settle.widen.see_all.Goals as goal
 
 pub returns-in_err-written-clause-reached : goal.returns-in_err-written-clause-reached
-returns-in_err-written-clause-reached c = λ gs has. reached-then gs 0 0 _ _ _ (c.loop-name.invariant.reached gs has) (c.in_err-written.ensures.reached gs has)
+returns-in_err-written-clause-reached c = λ gs us has. reached-then gs us 0 0 _ _ _ (c.loop-name.invariant.reached gs us has) (c.in_err-written.ensures.reached gs us has)
 
 pub loop-name-preserved : goal.loop-name-preserved
 loop-name-preserved c =
@@ -23,10 +23,10 @@ loop-name-preserved c =
           let here = subst (λ (r : Retries). SeesNothing r.state c.args.glob.now c.name-item.result) (inv.same parts.0) (own.idle parts.1) in
           All-more (λ (n : Name). SeesNothing c.args.retry.now.state c.args.glob.now n) c.args.names.now c.loop-name.name-index c.name-item.result c.loop-name-test.true (inv.idle parts.0)
           (subst (λ (n : Name). SeesNothing c.args.retry.now.state c.args.glob.now n) c.name-item.is here);
-      reached = λ gs has. reached-then gs 0 0 _ _ _ (inv.reached gs has) (own.reached gs has);
-      written = λ some gs has. elim (or_cases c.loop-name.written c.in_ok-written.field-0 some) [
-        | inl before ↦ reached-then gs 1 0 _ _ _ (inv.written before gs has) (own.reached gs has)
-        | inr here ↦ reached-then gs 0 1 _ _ _ (inv.reached gs has) (own.written here gs has)
+      reached = λ gs us has. reached-then gs us 0 0 _ _ _ (inv.reached gs us has) (own.reached gs us has);
+      written = λ some gs us has. elim (or_cases c.loop-name.written c.in_ok-written.field-0 some) [
+        | inl before ↦ reached-then gs us 1 0 _ _ _ (inv.written before gs us has) (own.reached gs us has)
+        | inr here ↦ reached-then gs us 0 1 _ _ _ (inv.reached gs us has) (own.written here gs us has)
       ];
     }
 

@@ -1,0 +1,271 @@
+//! Where the `macro_use` preludes of crates have their macros from: the roots of other crates.
+ghost use Rattle.std.specs.Prelude.{◌≡◌, ◌++◌, ◌∷◌, [], IfOk, OnOk, slice_get};
+ghost use Rattle.dm_collector.specs.MacroUses as spec;
+
+use crate::macro_preludes::own_map;
+use crate_items::declared_item::DeclaredItem;
+use crate_items::declared_macro::{MacroUse, macro_use};
+use crate_modules::crate_graph::CrateGraph;
+use crate_modules::file_table::FileTable;
+use crate_modules::modules::CrateModules;
+use crate_tables::crate_roots::root_id;
+use crate_tables::extern_crates::ExternCrateRow;
+use dm_base::fields_shape::FieldsShape;
+use dm_base::ids::{Crate, ExternCrateId, FileId, ModuleId};
+use dm_base::item_in_ns::ItemModules;
+use dm_maps::world::World;
+use item_tree::item_kind::ItemKind;
+use std::alloc::{AllocError, Global};
+use std::marker::Model;
+
+/// A root that a crate has macros from.
+#[derive(Drop)]
+pub struct MacroSource {
+    pub root: ModuleId,
+    /// Which of its macros; all of them, where nothing says which.
+    pub macros: Option<MacroUse>,
+    /// The `extern crate` that brings them; those of the prelude's crate no item brings.
+    pub brought_by: Option<ExternCrateId>,
+}
+
+/// A crate, and the roots that it has macros from, in order: of two that bring one name the later counts.
+#[derive(Drop)]
+pub struct MacroUses {
+    krate: Crate,
+    sources: Vec<MacroSource>,
+}
+
+impl Model for MacroUses {
+    ghost use Rattle.dm_collector.specs.MacroUses.{Uses};
+
+    ghost Value = { Uses };
+
+    ghost view = { λ u. record { krate = u.krate; sources = u.sources.items } };
+}
+
+impl MacroUses {
+    pub fn new(krate: Crate, sources: Vec<MacroSource>) -> MacroUses
+        ensures { result ≡ record { krate = krate; sources = sources.items } }
+    {
+        MacroUses { krate, sources }
+    }
+
+    pub fn krate(&self) -> Crate
+        ensures { result ≡ self.now.krate }
+    {
+        self.krate
+    }
+
+    pub fn sources(&self) -> &[MacroSource]
+        ensures { result.now ≡ self.now.sources }
+    {
+        self.sources.as_slice()
+    }
+}
+
+/// The crate that the prelude of a crate is a module of.
+fn library_of(world: &World, krate: Crate) -> Option<Crate>
+    ensures { result ≡ spec.library_of world.now krate }
+{
+    let prelude = world.prelude_of(own_map(krate))?;
+    world.module_krate(prelude)
+}
+
+/// Adds all macros of the crate of the prelude.
+fn push_library(
+    sources: &mut Vec<MacroSource>,
+    krate: Crate,
+    library: Option<Crate>,
+) -> Result<(), AllocError>
+    ensures { OnOk result (sources.new.items ≡ sources.old.items ++ spec.of_library krate library) }
+{
+    let Some(library) = library else {
+        return Ok(());
+    };
+    if library.0 != krate.0 {
+        sources.push(MacroSource {
+            root: root_id(library),
+            macros: None,
+            brought_by: None,
+        })?;
+    }
+    Ok(())
+}
+
+/// The macros that the attributes before the item of a number in a file name.
+fn macro_use_at(
+    alloc: Global,
+    list: &CrateModules,
+    files: &FileTable,
+    file: FileId,
+    item: usize,
+) -> Result<MacroUse, AllocError>
+    ensures { IfOk result (λ used. used ≡ spec.macro_use_at files.now list.now file item) }
+{
+    // Of the item only where it stands is looked at.
+    let placed = DeclaredItem {
+        module: 0,
+        file,
+        item,
+        kind: ItemKind::ExternCrate,
+        name: None,
+        visibility: None,
+        shape: FieldsShape::Record,
+    };
+    let used = macro_use(alloc, list, files, &placed)?;
+    Ok(used)
+}
+
+/// The extern crate of a number.
+fn extern_id(number: usize) -> Option<ExternCrateId>
+    ensures { result ≡ spec.extern_id number }
+{
+    match u32::try_from(number) {
+        Ok(number) => Some(ExternCrateId(number)),
+        Err(_) => None,
+    }
+}
+
+/// Adds the macros that an extern crate brings, of the root that it links.
+fn push_root(
+    sources: &mut Vec<MacroSource>,
+    alloc: Global,
+    list: &CrateModules,
+    files: &FileTable,
+    number: usize,
+    row: &ExternCrateRow,
+) -> Result<(), AllocError>
+    ensures { OnOk result
+        (sources.new.items ≡ sources.old.items ++ spec.of_root files.now list.now number row.now row.now.root) }
+{
+    let Some(root) = row.root else {
+        return Ok(());
+    };
+    if root.0 != row.home.0 {
+        let macros = macro_use_at(alloc, list, files, row.file, row.item)?;
+        sources.push(MacroSource {
+            root,
+            macros: Some(macros),
+            brought_by: extern_id(number),
+        })?;
+    }
+    Ok(())
+}
+
+/// The same, if it stands in the root of a crate.
+fn push_row(
+    sources: &mut Vec<MacroSource>,
+    alloc: Global,
+    krate: Crate,
+    list: &CrateModules,
+    files: &FileTable,
+    number: usize,
+    row: &ExternCrateRow,
+) -> Result<(), AllocError>
+    ensures { OnOk result
+        (sources.new.items ≡ sources.old.items ++ spec.of_row files.now list.now krate number row.now) }
+{
+    if row.home.0 == krate.0 {
+        push_root(sources, alloc, list, files, number, row)
+    } else {
+        Ok(())
+    }
+}
+
+/// Adds the macros that extern crates bring.
+fn push_rows(
+    sources: &mut Vec<MacroSource>,
+    alloc: Global,
+    krate: Crate,
+    list: &CrateModules,
+    files: &FileTable,
+    rows: &[ExternCrateRow],
+) -> Result<(), AllocError>
+    ensures { OnOk result
+        (sources.new.items ≡ sources.old.items ++ spec.of_rows files.now list.now krate 0 rows.now) }
+{
+    for (number, row) in rows.iter().enumerate() {
+        push_row(sources, alloc, krate, list, files, number, row)?;
+    }
+    Ok(())
+}
+
+/// The same by the lists of all crates.
+fn push_rows_in(
+    sources: &mut Vec<MacroSource>,
+    alloc: Global,
+    krate: Crate,
+    lists: &[CrateModules],
+    files: &FileTable,
+    rows: &[ExternCrateRow],
+) -> Result<(), AllocError>
+    ensures { OnOk result (sources.new.items ≡ sources.old.items
+        ++ spec.rows_if files.now rows.now krate (slice_get lists.now krate.0)) }
+{
+    match lists.get(krate.0 as usize) {
+        None => Ok(()),
+        Some(list) => push_rows(sources, alloc, krate, list, files, rows),
+    }
+}
+
+/// A crate with the roots that it has macros from.
+fn uses_of(
+    alloc: Global,
+    world: &World,
+    krate: Crate,
+    lists: &[CrateModules],
+    files: &FileTable,
+    rows: &[ExternCrateRow],
+) -> Result<MacroUses, AllocError>
+    ensures { IfOk result
+        (λ uses. uses ≡ spec.uses_of world.now files.now lists.now rows.now krate) }
+{
+    let mut sources = Vec::new(alloc);
+    push_library(&mut sources, krate, library_of(world, krate))?;
+    push_rows_in(&mut sources, alloc, krate, lists, files, rows)?;
+    Ok(MacroUses::new(krate, sources))
+}
+
+/// Adds a crate with the roots that it has macros from.
+fn push_crate(
+    uses: &mut Vec<MacroUses>,
+    alloc: Global,
+    world: &World,
+    krate: Crate,
+    lists: &[CrateModules],
+    files: &FileTable,
+    rows: &[ExternCrateRow],
+) -> Result<(), AllocError>
+    ensures { OnOk result (uses.new.items ≡ uses.old.items
+        ++ spec.uses_of world.now files.now lists.now rows.now krate ∷ []) }
+{
+    let used = uses_of(alloc, world, krate, lists, files, rows)?;
+    uses.push(used)?;
+    Ok(())
+}
+
+/// The roots that each crate of a graph has macros from: that of the crate which its prelude is a module of, and those that its
+/// own root links by an `extern crate` under `#[macro_use]`. The lists are those of all crates, and the extern crates those
+/// of the world, each at its number.
+///
+/// # Errors
+///
+/// Fails only where memory runs out.
+pub fn macro_uses(
+    alloc: Global,
+    world: &World,
+    graph: &CrateGraph,
+    files: &FileTable,
+    lists: &[CrateModules],
+    rows: &[ExternCrateRow],
+) -> Result<Vec<MacroUses>, AllocError>
+    ensures { IfOk result
+        (λ uses. uses.items ≡ spec.macro_uses world.now files.now lists.now rows.now 0 graph.now) }
+{
+    let mut uses = Vec::new(alloc);
+    for (number, _described) in graph.crates().iter().enumerate() {
+        let krate = graph.crate_at(number);
+        push_crate(&mut uses, alloc, world, krate, lists, files, rows)?;
+    }
+    Ok(uses)
+}
