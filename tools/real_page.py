@@ -164,17 +164,17 @@ def version():
 
 HEAD = """# Compared with rustc over real crates
 
-`tools/real-crates --page` wrote this page: what it ran, what agrees, and how long each side took. The crates are those of
-Debian 12, with their default features, and `core`, `alloc` and `std` of `rust-src`; it is {version} that they are compared with. {crates} crates
-have {imports} named imports and {globs} globs outside macros and bodies. The program was built without proof, by `rt try`'s
-compiler and LLVM at -O2; what is proved of it, [PROGRAM.md](PROGRAM.md) tells.
+`tools/real-crates --page` wrote this page: what it ran, what agrees, and how long each side took. The crates are those
+of Debian 12, with their default features, and `core`, `alloc` and `std` of `rust-src`; it is {version} that they are
+compared with. {crates} crates have {imports} named imports and {globs} globs outside macros and bodies. The program was
+built without proof, by `rt try`'s compiler and LLVM at -O2; what is proved of it, [PROGRAM.md](PROGRAM.md) tells.
 
 Each leaf of each `use`, private ones and globs too, is compared in each namespace by kind and path with what rustc found
 (`-Zunpretty=hir-tree`). Of at most eight modules of each crate, the root and those with globs first, every name is asked
-that `defmap tree` or rustc could bind there, or of more than 400 as many at even distances: a probe in a copy of the crate imports all of them, and both sides tell what
-each import means, so that a name that one side does not bind is absent on the other. *Unknown* is what leads nowhere and a
-macro may bring; how much of each crate that may be stands in `tools/real-crates.shares`. *By macros* are the imports in
-modules that a macro brings.
+that `defmap tree` or rustc could bind there, or of more than 400 as many at even distances: a probe in a copy of the
+crate imports all of them, and both sides tell what each import means, so that a name that one side does not bind is
+absent on the other. *Unknown* is what leads nowhere and a macro may bring; how much of each crate that may be stands in
+`tools/real-crates.shares`. *By macros* are the imports in modules that a macro brings.
 """
 
 TIMES = """## Time and memory
