@@ -10,7 +10,6 @@ import shlex
 import shutil
 import subprocess
 import tempfile
-import time
 from dataclasses import dataclass, field
 
 from judging import Wrong
@@ -159,21 +158,20 @@ class Answer:
     out: str
     told: str
     status: int
-    seconds: float
+    seconds: float  # of a processor
     megabytes: int
 
 
 def asked(program, build, command, *more):
     """What `defmap` says of a crate."""
     words = ["timeout", str(SECONDS), program, command, build.root, *build.options, *more]
-    began = time.monotonic()
     with tempfile.TemporaryFile("w+") as out, tempfile.TemporaryFile("w+") as told:
         child = subprocess.Popen(words, stdout=out, stderr=told)
         _, status, usage = os.wait4(child.pid, 0)
         child.returncode = os.waitstatus_to_exitcode(status)
-        taken = time.monotonic() - began
         out.seek(0)
         told.seek(0)
+        taken = usage.ru_utime + usage.ru_stime
         return Answer(out.read(), told.read(), child.returncode, taken, usage.ru_maxrss // 1024)
 
 

@@ -1,7 +1,7 @@
 """`core`, `alloc` and `std` of Debian's `rust-src`, by Debian's rustc, which is of the same version.
 
-Cargo cannot build them offline: what it would tell of them is written here. The other crates that `std` uses are those of the
-registry, which may be of a later version than those that rustc has.
+Cargo cannot build them offline: what it would tell of them is written here. The other crates that `std` uses are those of
+the registry, which may be of a later version than those that rustc has.
 """
 import glob
 import json

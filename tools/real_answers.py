@@ -94,7 +94,8 @@ def reason_for(where, theirs, ours, known):
 
 def injected(options):
     """What rustc binds in the root of a crate that is compiled with some options: the crate of the standard library."""
-    return {Meant("type", "mod", it) for it in ("compiler_builtins", "core", "std")} if "--edition=2015" in options else set()
+    names = ("compiler_builtins", "core", "std") if "--edition=2015" in options else ()
+    return {Meant("type", "mod", it) for it in names}
 
 
 def is_part(meant, whole):

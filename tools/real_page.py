@@ -12,7 +12,6 @@ from real_answers import BEHIND, INJECTED, PROCEDURAL, TESTS
 
 PAGE = f"{ROOT}/docs/REAL-CRATES.md"
 SHARES = f"{ROOT}/tools/real-crates.shares"
-STAGES = ("reading", "settling")
 
 
 @dataclass
@@ -37,6 +36,7 @@ class Row:
     differing: list = field(default_factory=list)
     statistics: dict = field(default_factory=dict)
     passes: dict = field(default_factory=dict)
+    seconds: float = 0
     megabytes: int = 0
 
     def add_reasons(self, outcome):
@@ -132,13 +132,13 @@ def compared_table(rows):
 
 
 def time_table(rows):
-    heads = ["crate", "lines read", "rounds", *(f"{it} ms" for it in STAGES), "MB", "parse ms", "expand ms", "imports ms", "MB"]
+    heads = ["crate", "lines read", "modules", "rounds", "s", "MB", "parse ms", "expand ms", "imports ms", "MB"]
     cells = []
     for row in rows:
-        ours = [round(row.statistics.get(it, 0) / 1000) for it in STAGES]
         passes = [row.passes.get(it, (0, 0)) for it in PASSES]
-        cells.append([row.name, thousands(row.statistics.get("lines", 0)), row.statistics.get("rounds", 0), *ours,
-                      row.megabytes, *(round(1000 * seconds) for seconds, _ in passes), passes[-1][1]])
+        numbers = [row.statistics.get(it, 0) for it in ("lines", "modules", "rounds")]
+        cells.append([row.name, *map(thousands, numbers), f"{row.seconds:.1f}", row.megabytes,
+                      *(round(1000 * seconds) for seconds, _ in passes), max(size for _, size in passes)])
     return table(heads, cells)
 
 
@@ -164,25 +164,26 @@ def version():
 
 HEAD = """# Compared with rustc over real crates
 
-`tools/real-crates --page` wrote this page: what it ran, what agrees, and how long each side took. The crates are those of
-Debian 12, with their default features, and `core`, `alloc` and `std` of `rust-src`; it is {version} that they are compared with. {crates} crates
-have {imports} named imports and {globs} globs outside macros and bodies. The program was built without proof, by `rt try`'s
-compiler and LLVM at -O2; what is proved of it, [PROGRAM.md](PROGRAM.md) tells.
+`tools/real-crates --page` wrote this page: what it ran, what agrees, and how long each side took. The crates are those
+of Debian 12, with their default features, and `core`, `alloc` and `std` of `rust-src`; it is {version} that they are
+compared with. {crates} crates have {imports} named imports and {globs} globs outside macros and bodies. The program was
+built without proof, by `rt try`'s compiler and LLVM at -O2; what is proved of it, [PROGRAM.md](PROGRAM.md) tells.
 
 Each leaf of each `use`, private ones and globs too, is compared in each namespace by kind and path with what rustc found
 (`-Zunpretty=hir-tree`). Of at most eight modules of each crate, the root and those with globs first, every name is asked
-that `defmap tree` or rustc could bind there, or of more than 400 as many at even distances: a probe in a copy of the crate imports all of them, and both sides tell what
-each import means, so that a name that one side does not bind is absent on the other. *Unknown* is what leads nowhere and a
-macro may bring; how much of each crate that may be stands in `tools/real-crates.shares`. *By macros* are the imports in
-modules that a macro brings.
+that `defmap tree` or rustc could bind there, or of more than 400 as many at even distances: a probe in a copy of the
+crate imports all of them, and both sides tell what each import means, so that a name that one side does not bind is
+absent on the other. *Unknown* is what leads nowhere and a macro may bring; how much of each crate that may be stands in
+`tools/real-crates.shares`. *By macros* are the imports in modules that a macro brings.
 """
 
 TIMES = """## Time and memory
 
-Of one run each, on a machine that others used too, so no ratio is promised. `defmap` reads the sources of the crate, of all
-that it depends on and of `core`, `alloc` and `std`, and settles them together; rustc reads one crate, and of the others what
-it kept when it compiled them. `lines read` are those of all sources; `rounds` are of imports. rustc's times are of its
-passes, its memory what it held after the last of them.
+Of `defmap tree` the seconds of a processor are told, of rustc the time by the clock of its passes `parse_crate`,
+`macro_expand_crate` and `finalize_imports` (`-Ztime-passes`), of one run each, on a machine that others used too: no
+ratio is promised. `defmap` reads the sources of the crate, of all that it depends on and of `core`, `alloc` and `std`,
+and settles them together: lines and modules are those of all of these, rounds are of their imports. rustc reads one
+crate, and of the others what it kept when it compiled them. Its memory is the most that it held after one of the passes.
 """
 
 LIMITS = """## What cannot be right without expansion
@@ -199,6 +200,6 @@ def write_page(rows):
     rows = sorted(rows, key=lambda it: it.name)
     head = HEAD.format(version=version(), crates=len(rows), imports=thousands(sum(it.imports for it in rows)),
                        globs=thousands(sum(it.globs for it in rows)))
-    lines = [wrapped(head), "", *compared_table(rows), "", LIMITS, *limits(rows), "", wrapped(TIMES), "", *time_table(rows)]
+    lines = [wrapped(head), "", *compared_table(rows), "", LIMITS, *limits(rows), "", wrapped(TIMES), "", *time_table([it for it in rows if it.seconds])]
     write(PAGE, "\n".join(lines) + "\n")
     write_shares(rows)

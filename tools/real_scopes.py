@@ -79,7 +79,7 @@ def names_of(said, own, module):
 
 
 def behind_globs(said, own, tree, wanted):
-    """The probes of names that a glob would bring of an import that leads nowhere: `tree` tells such names of its module."""
+    """The probes of names that a glob would bring of an import that leads nowhere: `tree` tells these of its module."""
     found = set()
     for where, (module, name) in wanted.items():
         others = sources_of(said, own, module, set()) - {module}
@@ -153,4 +153,5 @@ def probes_of(said, own, tree):
 def tests_of(said, own):
     """The paths that the functions of a crate may have which attributes as `#[test]` take away."""
     by_file = {file: TEST.findall(read_text(file)) for file in {it.file for it in said.modules.values()}}
-    return {f"{own}{module[len('crate'):]}::{name}" for module, place in said.modules.items() for name in by_file[place.file]}
+    return {f"{own}{module[len('crate'):]}::{name}"
+            for module, place in said.modules.items() for name in by_file[place.file]}
