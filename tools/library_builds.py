@@ -102,5 +102,7 @@ def library(folder, name):
         return "rustc prints nothing of it"
     write(f"{folder}/metadata.json", metadata(name))
     write(f"{folder}/build.json", messages(name))
-    options = ["--metadata", f"{folder}/metadata.json", "--build", f"{folder}/build.json", *compiled_with(words)]
+    write(f"{folder}/cfgs", run([RUSTC, "--print", "cfg"], env={**os.environ, **env}).stdout)
+    options = ["--metadata", f"{folder}/metadata.json", "--build", f"{folder}/build.json", "--cfg-file", f"{folder}/cfgs",
+               *compiled_with(words)]
     return Build(name, SYSROOT, words, env, tree, passes(ran.stderr), options)

@@ -8,7 +8,7 @@ from dataclasses import asdict, dataclass, field
 
 from cargo_builds import PASSES, RUSTC, read_text
 from judging import ROOT
-from real_answers import BEHIND, INJECTED, PROCEDURAL, TESTS
+from real_answers import ATTRIBUTES, BEHIND, INJECTED, PRELUDE, PROCEDURAL, TESTS
 
 PAGE = f"{ROOT}/docs/REAL-CRATES.md"
 SHARES = f"{ROOT}/tools/real-crates.shares"
@@ -144,7 +144,8 @@ def time_table(rows):
 
 def limits(rows):
     """What cannot be right without expansion, or is another thing by decision, with the number of places."""
-    places = {reason: sum(it.reasons.get(reason, 0) for it in rows) for reason in (PROCEDURAL, TESTS, INJECTED, BEHIND)}
+    reasons = (PROCEDURAL, TESTS, INJECTED, BEHIND, PRELUDE, ATTRIBUTES)
+    places = {reason: sum(it.reasons.get(reason, 0) for it in rows) for reason in reasons}
     unknown, brought = sum(it.unknown for it in rows), sum(it.brought for it in rows)
     names, partly = sum(it.unknown_names for it in rows), sum(it.partly + it.partly_names for it in rows)
     return table(["what", "places"], [
@@ -155,6 +156,8 @@ def limits(rows):
         ["functions that are procedural macros, which bind a function and no macro", places[PROCEDURAL]],
         ["functions that an attribute as `#[test]` takes away, which are bound", places[TESTS]],
         ["names that a glob brings of an import that is unknown: told as absent", places[BEHIND]],
+        ["names that a macro by attribute brings or takes, of a module where one stands at a `use`", places[ATTRIBUTES]],
+        ["names that `#[prelude_import]` brings, which rustc has in the prelude alone: bound in the module", places[PRELUDE]],
         ["names of the standard library that rustc binds in roots of edition 2015: absent", places[INJECTED]]])
 
 
@@ -164,10 +167,10 @@ def version():
 
 HEAD = """# Compared with rustc over real crates
 
-`tools/real-crates --page` wrote this page: what it ran, what agrees, and how long each side took. The crates are those
-of Debian 12, with their default features, and `core`, `alloc` and `std` of `rust-src`; it is {version} that they are
-compared with. {crates} crates have {imports} named imports and {globs} globs outside macros and bodies. The program was
-built without proof, by `rt try`'s compiler and LLVM at -O2; what is proved of it, [PROGRAM.md](PROGRAM.md) tells.
+`tools/real-crates --page` wrote this page: what it ran, what agrees, and how long each side took. The crates are of
+Debian 12: of its packages, with their default features, and of its `rust-src`; it is {version} that they are compared
+with. {crates} crates have {imports} named imports and {globs} globs outside macros and bodies. The program was built
+without proof, by `rt try`'s compiler and LLVM at -O2; what is proved of it, [PROGRAM.md](PROGRAM.md) tells.
 
 Each leaf of each `use`, private ones and globs too, is compared in each namespace by kind and path with what rustc found
 (`-Zunpretty=hir-tree`). Of at most eight modules of each crate, the root and those with globs first, every name is asked

@@ -13,6 +13,10 @@ NAMES = 400
 WORD = re.compile(r"\b[A-Za-z_]\w*")
 BOUND = re.compile(r"\b(type|value|macro) pub")
 TEST = re.compile(r"#\[(?:test|bench|test_case)\b[^;{}]*?\bfn (\w+)")
+PRELUDE = re.compile(r"#\[prelude_import\]")
+# A `use` with an attribute that the language has not itself.
+REWRITTEN = re.compile(r"#\[(?!cfg|doc|allow|warn|deny|expect|macro_use|stable|unstable|deprecated|rustc_|prelude_import)"
+                       r"[^\]]*\]\s*(?:pub\b(?:\([^)]*\))?\s*)?use\b")
 KEYWORDS = set("""abstract as async await become box break const continue do dyn else enum extern false final fn for if impl in
     let loop macro match mod move mut override priv pub ref return static struct trait true try type typeof unsafe unsized
     use virtual where while yield""".split())
@@ -155,3 +159,8 @@ def tests_of(said, own):
     by_file = {file: TEST.findall(read_text(file)) for file in {it.file for it in said.modules.values()}}
     return {f"{own}{module[len('crate'):]}::{name}"
             for module, place in said.modules.items() for name in by_file[place.file]}
+
+
+def modules_with(said, pattern):
+    """The modules in whose files a pattern stands."""
+    return {module for module, place in said.modules.items() if pattern.search(read_text(place.file))}
