@@ -1,3 +1,4 @@
 mod AddedLemmas
 pub mod KnownLemmas
 pub mod OpenLemmas
+mod ToldLemmas

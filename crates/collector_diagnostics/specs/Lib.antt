@@ -10,3 +10,4 @@ pub mod ToldPlaces
 pub mod MapDiagnostics
 pub mod UnresolvedImports
 pub mod UnresolvedGlobs
+pub mod ToldLaws

@@ -11,6 +11,7 @@ pub mod macro_meaning;
 pub mod map_diagnostics;
 pub mod open_modules;
 pub mod told_in_maps;
+pub mod told_laws;
 pub mod told_places;
 pub mod unresolved_globs;
 pub mod unresolved_imports;
