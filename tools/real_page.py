@@ -189,7 +189,7 @@ and settles them together: lines and modules are those of all of these, rounds a
 crate, and of the others what it kept when it compiled them. Its memory is the most that it held after one of the passes.
 """
 
-LIMITS = """## What cannot be right without expansion
+LIMITS = """## What cannot be right without expansion, and what is not right yet
 """
 
 
