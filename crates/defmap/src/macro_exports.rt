@@ -95,8 +95,9 @@ fn add_root(
     krate: usize,
 ) -> Result<(), AllocError> {
     let krate = Crate(u32::try_from(krate).unwrap_or(u32::MAX));
-    if settled.world().has_crate(krate) {
-        roots.insert(crate_def_map(settled.world(), krate).root_module_id())?;
+    let world = settled.world();
+    if world.has_crate(krate) {
+        roots.insert(crate_def_map(world, krate).root_module_id())?;
     }
     Ok(())
 }
