@@ -2,6 +2,7 @@
 //! unknown.
 use crate::fixture::Fixture;
 use crate::graph::{files_of, graph_of};
+use crate::in_maps::in_maps;
 use crate::macro_view::{MacroView, calls_of};
 use collector_diagnostics::macro_calls::unresolved_macro_calls;
 use crate_diagnostics::declarations::declaration_faults;
@@ -28,6 +29,9 @@ use std::alloc::{AllocError, Global};
 
 /// How many modules a crate of a fixture may have, and how many rounds its imports may take.
 const LIMIT: u32 = 8_192;
+
+/// How the names of those fixtures begin of which is shown, too, what is told in def maps, and which files are lacking.
+const IN_MAPS: &str = "in maps";
 
 /// The crates of a fixture, settled.
 #[derive(Drop)]
@@ -278,6 +282,9 @@ pub(crate) fn left_by(alloc: Global, fixture: &Fixture<'_>) -> Result<String, Al
             let shown = format!(in alloc; "{}: {count} unknown\n", krate.name)?;
             out.push_str(shown.as_str())?;
         }
+    }
+    if fixture.name.starts_with(IN_MAPS) {
+        out.push_str(in_maps(alloc, settled)?.as_str())?;
     }
     Ok(out)
 }

@@ -3,6 +3,7 @@
 
 mod fixture;
 mod graph;
+mod in_maps;
 mod left;
 mod macro_view;
 

@@ -1,0 +1,238 @@
+//! What is told of the crates of a fixture in their def maps, read back from there; and the files that they lack.
+use crate::left::{Settled, items_of};
+use crate::macro_view::calls_of;
+use collector_diagnostics::item_modules::MappedCrate;
+use collector_diagnostics::macro_calls::unresolved_macro_calls;
+use collector_diagnostics::map_diagnostics::add_diagnostics;
+use collector_diagnostics::told_in_maps::CallPlace;
+use collector_diagnostics::told_places::told_place;
+use collector_diagnostics::unresolved_globs::unresolved_globs;
+use collector_diagnostics::unresolved_imports::unresolved_imports;
+use crate_diagnostics::declarations::declaration_faults;
+use crate_diagnostics::diagnostic::Diagnostic;
+use crate_diagnostics::lines::lines;
+use crate_diagnostics::message::Message;
+use crate_diagnostics::missing_files::missing_files;
+use crate_diagnostics::offsets::place_offset;
+use crate_diagnostics::texts::path_text;
+use crate_diagnostics::unconfigured::unconfigured;
+use crate_modules::crate_graph::CrateGraph;
+use crate_modules::file_table::FileTable;
+use crate_modules::modules::CrateModules;
+use crate_tables::crate_table::CrateTable;
+use dm_base::ids::Crate;
+use dm_collector::collect::Collected;
+use dm_maps::world::World;
+use dm_maps::world::maps_of::{AskWorld, crate_def_map};
+use dm_retry::retry::Retry;
+use dm_scope::diagnostics::{DefDiagnostic, DefDiagnosticKind};
+use std::alloc::{AllocError, Global};
+
+/// Adds more diagnostics.
+fn push_all(found: &mut Vec<Diagnostic>, more: Vec<Diagnostic>) -> Result<(), AllocError> {
+    for diagnostic in more {
+        found.push(diagnostic)?;
+    }
+    Ok(())
+}
+
+/// The number of a crate.
+fn numbered(number: usize) -> Crate {
+    Crate(u32::try_from(number).unwrap_or(u32::MAX))
+}
+
+/// What is told of the crate of a number.
+fn told_of(alloc: Global, settled: &Settled, number: usize) -> Result<Vec<Diagnostic>, AllocError> {
+    let mut found = Vec::new(alloc);
+    let collected = &settled.collected;
+    let (Some(krate), Some(list), Some(table)) = (
+        settled.graph.crates().get(number),
+        collected.lists.get(number),
+        collected.tables.get(number),
+    ) else {
+        return Ok(found);
+    };
+    let files = &settled.files;
+    let items = items_of(alloc, krate, list, files)?;
+    let items = items.as_slice();
+    let deps = krate.dependencies();
+    push_all(
+        &mut found,
+        declaration_faults(alloc, list, files, deps, items)?,
+    )?;
+    push_all(&mut found, unconfigured(alloc, list, items)?)?;
+    let calls = calls_of(alloc, settled, number)?;
+    push_all(&mut found, unresolved_macro_calls(alloc, calls.as_slice())?)?;
+    let uses = table.uses();
+    push_all(
+        &mut found,
+        unresolved_imports(alloc, &collected.retry, uses)?,
+    )?;
+    let globs = collected.globs.as_slice();
+    push_all(
+        &mut found,
+        unresolved_globs(alloc, settled.world(), uses, globs)?,
+    )?;
+    Ok(found)
+}
+
+/// What is told of each crate.
+fn told_of_all(alloc: Global, settled: &Settled) -> Result<Vec<Vec<Diagnostic>>, AllocError> {
+    let mut all = Vec::new(alloc);
+    for number in 0..settled.collected.lists.len() {
+        all.push(told_of(alloc, settled, number)?)?;
+    }
+    Ok(all)
+}
+
+/// Adds diagnostics of a crate to its def map, and rows for its macro calls.
+fn add_to_map(
+    alloc: Global,
+    retry: &mut Retry,
+    calls: &mut Vec<CallPlace>,
+    krate: &MappedCrate<'_>,
+    told: &[Diagnostic],
+) -> Result<(), AllocError> {
+    for call in add_diagnostics(retry, alloc, calls.len(), krate, told)? {
+        calls.push(call)?;
+    }
+    Ok(())
+}
+
+/// Adds what is told of each crate to its def map. Answers with the table of macro calls.
+fn add_to_maps(
+    alloc: Global,
+    retry: &mut Retry,
+    graph: &CrateGraph,
+    lists: &[CrateModules],
+    tables: &[CrateTable],
+    told: &[Vec<Diagnostic>],
+) -> Result<Vec<CallPlace>, AllocError> {
+    let mut calls = Vec::new(alloc);
+    for (number, told) in told.iter().enumerate() {
+        let (Some(krate), Some(list), Some(table)) = (
+            graph.crates().get(number),
+            lists.get(number),
+            tables.get(number),
+        ) else {
+            continue;
+        };
+        let mapped = MappedCrate {
+            krate: numbered(number),
+            edition: krate.edition(),
+            list,
+            ids: table.ids(),
+        };
+        add_to_map(alloc, retry, &mut calls, &mapped, told.as_slice())?;
+    }
+    Ok(calls)
+}
+
+/// What a diagnostic of a def map says.
+fn text_of(alloc: Global, diagnostic: &DefDiagnostic) -> Result<String, AllocError> {
+    let at = diagnostic.in_module.0;
+    match &diagnostic.kind {
+        DefDiagnosticKind::UnresolvedModule { candidates, .. } => {
+            let mut text = format!(in alloc; "module {at}: no module at")?;
+            for path in candidates {
+                text.push(' ')?;
+                text.push_str(path.as_str())?;
+            }
+            Ok(text)
+        }
+        DefDiagnosticKind::UnresolvedExternCrate { .. } => {
+            format!(in alloc; "module {at}: no extern crate")
+        }
+        DefDiagnosticKind::UnresolvedImport { index, .. } => {
+            format!(in alloc; "module {at}: no import, use tree {}", index.0)
+        }
+        DefDiagnosticKind::UnconfiguredCode { cfg, opts, .. } => {
+            format!(in alloc; "module {at}: condition {} under options {}", cfg.0, opts.0)
+        }
+        DefDiagnosticKind::UnresolvedMacroCall { path, .. } => {
+            let path = path_text(alloc, path)?;
+            format!(in alloc; "module {at}: no macro {path}")
+        }
+        _ => format!(in alloc; "module {at}"),
+    }
+}
+
+/// A diagnostic of a def map as a message.
+fn message_of(
+    alloc: Global,
+    list: &CrateModules,
+    calls: &[CallPlace],
+    diagnostic: &DefDiagnostic,
+) -> Result<Option<Message>, AllocError> {
+    let Some(told) = told_place(calls, diagnostic) else {
+        return Ok(None);
+    };
+    Ok(Some(Message {
+        file: told.file,
+        offset: place_offset(alloc, list, told.file, told.place)?,
+        text: text_of(alloc, diagnostic)?,
+    }))
+}
+
+/// Adds what the def map of the crate of a number has.
+fn push_of_map(
+    messages: &mut Vec<Message>,
+    alloc: Global,
+    world: &World,
+    list: &CrateModules,
+    calls: &[CallPlace],
+    number: usize,
+) -> Result<(), AllocError> {
+    let krate = numbered(number);
+    if !world.has_crate(krate) {
+        return Ok(());
+    }
+    for diagnostic in crate_def_map(world, krate).diagnostics() {
+        if let Some(message) = message_of(alloc, list, calls, diagnostic)? {
+            messages.push(message)?;
+        }
+    }
+    Ok(())
+}
+
+/// The paths that a loader has yet to read for a crate.
+fn missing_of(alloc: Global, list: &CrateModules, files: &FileTable) -> Result<String, AllocError> {
+    let mut out = String::new(alloc);
+    let missing = missing_files(alloc, list, files)?;
+    for path in missing.paths() {
+        let path = std::str::from_utf8(path.as_slice()).unwrap_or("?");
+        out.push_str(format!(in alloc; "to be read: {path}\n")?.as_str())?;
+    }
+    Ok(out)
+}
+
+/// What the def maps of the crates have, in lines, and the files that these lack.
+pub(crate) fn in_maps(alloc: Global, settled: Settled) -> Result<String, AllocError> {
+    let told = told_of_all(alloc, &settled)?;
+    let Settled {
+        files,
+        graph,
+        collected,
+    } = settled;
+    let Collected {
+        retry,
+        lists,
+        tables,
+        globs: _globs,
+        is_settled: _is_settled,
+        externs: _externs,
+    } = collected;
+    let mut retry = retry;
+    let (lists, tables, told) = (lists.as_slice(), tables.as_slice(), told.as_slice());
+    let calls = add_to_maps(alloc, &mut retry, &graph, lists, tables, told)?;
+    let mut messages = Vec::new(alloc);
+    let mut missing = String::new(alloc);
+    for (number, list) in lists.iter().enumerate() {
+        let calls = calls.as_slice();
+        push_of_map(&mut messages, alloc, retry.world(), list, calls, number)?;
+        missing.push_str(missing_of(alloc, list, &files)?.as_str())?;
+    }
+    let mut out = lines(alloc, &files, messages)?;
+    out.push_str(missing.as_str())?;
+    Ok(out)
+}
