@@ -219,6 +219,7 @@ pub(crate) fn in_maps(alloc: Global, settled: Settled) -> Result<String, AllocEr
         lists,
         tables,
         globs: _globs,
+        uses: _uses,
         is_settled: _is_settled,
         externs: _externs,
     } = collected;
