@@ -91,10 +91,10 @@ fn is_same(one: Option<usize>, other: Option<usize>) -> bool
 }
 
 /// Whether a module is that of a file, or the inline one of an item in it.
-fn is_module_of(file: FileId, home: Option<usize>, module: &DeclaredModule) -> bool
-    ensures { result ≡ spec.is_module_of file home module.now }
+fn is_module_of(file: FileId, home: Option<usize>, declared: &DeclaredModule) -> bool
+    ensures { result ≡ spec.is_module_of file home declared.now }
 {
-    module.file().0 == file.0 && is_same(module.item(), home)
+    declared.file().0 == file.0 && is_same(declared.item(), home)
 }
 
 /// The number of the first such module.
@@ -103,7 +103,7 @@ fn position_of(modules: &[DeclaredModule], file: FileId, home: Option<usize>) ->
 {
     modules
         .iter()
-        .position(|module| is_module_of(file, home, module))
+        .position(|declared| is_module_of(file, home, declared))
 }
 
 /// The number of the module that an item of a file stands in; of two modules of that file the first.
