@@ -9,7 +9,6 @@ PROCEDURAL = "procedural macros"
 TESTS = "tests"
 INJECTED = "injected crates"
 BEHIND = "unknown names behind globs"
-PRELUDE = "preludes"
 ATTRIBUTES = "attributes of imports"
 
 
@@ -21,7 +20,6 @@ class Known:
     tests: set  # the paths of functions that attributes as `#[test]` take away
     injected: set  # what rustc binds in the root of a crate of edition 2015, though nothing there says so
     rewritten: set  # the modules with a `use` that an attribute macro may rewrite
-    preludes: set  # the modules with a `#[prelude_import]`
     behind: set = field(default_factory=set)  # the probes of names that globs bring of unknown imports
 
 
@@ -83,11 +81,9 @@ def without_constructors(meant, theirs):
     return {it for it in meant if (it.namespace, it.kind) != ("value", "struct") or it in theirs}
 
 
-def reason_by_module(home, theirs, known):
+def reason_by_module(home, known):
     """Why a module has other names by rustc; None where that is not known. A probe stands within the module."""
     modules = {home, home.rpartition("::")[0]}
-    if not theirs and modules & known.preludes:
-        return PRELUDE
     return ATTRIBUTES if modules & known.rewritten else None
 
 
@@ -142,7 +138,7 @@ def compare_leaf(outcome, where, leaf, one, known):
     if one is not None and one.has_more and is_part(meant, leaf.meant):
         outcome.partly += 1
         return
-    reason = reason_for(where, leaf.meant, meant, known) or reason_by_module(leaf.home, leaf.meant, known)
+    reason = reason_for(where, leaf.meant, meant, known) or reason_by_module(leaf.home, known)
     if reason:
         outcome.reasons[reason] = outcome.reasons.get(reason, 0) + 1
         return

@@ -13,7 +13,6 @@ NAMES = 400
 WORD = re.compile(r"\b[A-Za-z_]\w*")
 BOUND = re.compile(r"\b(type|value|macro) pub")
 TEST = re.compile(r"#\[(?:test|bench|test_case)\b[^;{}]*?\bfn (\w+)")
-PRELUDE = re.compile(r"#\[prelude_import\]")
 # A `use` with an attribute that the language has not itself.
 REWRITTEN = re.compile(r"#\[(?!cfg|doc|allow|warn|deny|expect|macro_use|stable|unstable|deprecated|rustc_|prelude_import)"
                        r"[^\]]*\]\s*(?:pub\b(?:\([^)]*\))?\s*)?use\b")

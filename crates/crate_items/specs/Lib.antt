@@ -10,7 +10,6 @@ pub mod ItemAttributes
 pub mod DeclaredMacros
 pub mod MacroCalls
 pub mod CrateAttributes
-pub mod ChildModules
 pub mod ItemRows
 pub mod TextualOrders
 pub mod TextualScopes

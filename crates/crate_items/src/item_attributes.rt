@@ -53,6 +53,29 @@ fn kinds_in(alloc: Global, source: &Source, range: Range) -> Result<Vec<Attribut
     active_kinds(alloc, source.active_conditions(), attributes)
 }
 
+/// What the active attributes say that stand before the item of a number in a file, in order.
+///
+/// # Errors
+///
+/// Fails only where memory runs out.
+pub fn attributes_at(
+    alloc: Global,
+    list: &CrateModules,
+    file: FileId,
+    item: usize,
+) -> Result<Vec<AttributeKind>, AllocError>
+    ensures { IfOk result
+        (λ kinds. kinds.items ≡ spec.kinds_from (source_at list.now.sources file) item) }
+{
+    match list.sources().get(file) {
+        None => Ok(Vec::new(alloc)),
+        Some(source) => match item_at(source, item) {
+            None => Ok(Vec::new(alloc)),
+            Some(read) => kinds_in(alloc, source, outer_attributes(read)),
+        },
+    }
+}
+
 /// What the active attributes say that stand before an item, in order.
 ///
 /// # Errors
@@ -65,13 +88,7 @@ pub fn item_attributes(
 ) -> Result<Vec<AttributeKind>, AllocError>
     ensures { IfOk result (λ kinds. kinds.items ≡ spec.item_attributes list.now item.now) }
 {
-    match list.sources().get(item.file) {
-        None => Ok(Vec::new(alloc)),
-        Some(source) => match item_at(source, item.item) {
-            None => Ok(Vec::new(alloc)),
-            Some(read) => kinds_in(alloc, source, outer_attributes(read)),
-        },
-    }
+    attributes_at(alloc, list, item.file, item.item)
 }
 
 /// What the active attributes say that a file begins with, in order.

@@ -2,7 +2,6 @@
 //! variants and imports. No def map is needed for that.
 #![tactic(auto)]
 
-pub mod child_module;
 pub mod crate_attributes;
 pub mod declared_import;
 pub mod declared_item;

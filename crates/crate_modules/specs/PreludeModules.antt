@@ -1,9 +1,10 @@
 -- The module of a crate that is the standard prelude of an edition.
-use Rattle.std.specs.Prelude.{◌==◌, ◌&&◌, ℕ, Bool, false, List, Option, Some, None, codes}
+use Rattle.std.specs.Prelude.{◌==◌, ◌&&◌, ℕ, Bool, false, List, [], ◌∷◌, Option, Some, None, codes}
 use Rattle.std.specs.List.{position}
 use Rattle.std.specs.Str.{bytes_eq}
 use Rattle.crate_modules.specs.DeclaredModules.{Module}
 use Rattle.crate_modules.specs.declared.declared_module.Declaration.{Declaration}
+use Rattle.dm_ids.specs.Names.{Name}
 use Rattle.dm_ids.specs.declared.source.Edition.{Edition}
 use Rattle.dm_ids.specs.declared.source.Edition.TheVariants as edition
 
@@ -15,6 +16,15 @@ is_declared_in parent name (Some d) = (d.parent == parent) && bytes_eq d.name na
 -- the number of the first module of a name in the one of a number
 abbrev pub child_named : List Module → ℕ → List ℕ → Option ℕ
 child_named ms parent name = position (λ (m : Module). is_declared_in parent name m.declaration) ms
+
+abbrev pub child_of : List Module → Option ℕ → Name → Option ℕ
+child_of ms None name = None
+child_of ms (Some parent) name = child_named ms parent name
+
+-- the module that some names lead down to, one after another
+abbrev pub module_behind : List Module → Option ℕ → List Name → Option ℕ
+module_behind ms at [] = at
+module_behind ms at (n ∷ ns) = module_behind ms (child_of ms at n) ns
 
 -- what an edition calls its prelude
 abbrev pub prelude_name : Edition → List ℕ

@@ -1,9 +1,10 @@
 //! The module of a crate that is the standard prelude of an edition.
-ghost use Rattle.std.specs.Prelude.{◌≡◌};
+ghost use Rattle.std.specs.Prelude.{◌≡◌, Some};
 ghost use Rattle.std.specs.Option.{option_copied};
 ghost use Rattle.crate_modules.specs.PreludeModules as spec;
 
 use crate::declared_module::{Declaration, DeclaredModule};
+use dm_ids::name::Name;
 use dm_ids::source::Edition;
 
 /// Whether something is declared in the module of a number, under a name.
@@ -23,6 +24,27 @@ pub fn child_named(modules: &[DeclaredModule], parent: usize, name: &[u8]) -> Op
     ensures { result ≡ spec.child_named modules.now parent name.now }
 {
     modules.iter().position(|module| is_declared_in(module.declaration(), parent, name))
+}
+
+/// The number of the first module of a name in another, if there is that one.
+fn child_of(modules: &[DeclaredModule], parent: Option<usize>, name: &Name) -> Option<usize>
+    ensures { result ≡ spec.child_of modules.now parent name.now }
+{
+    match parent {
+        None => None,
+        Some(parent) => child_named(modules, parent, name.as_str().as_bytes()),
+    }
+}
+
+/// The number of the module that some names lead down to from the module of a number, one after another.
+pub fn module_behind(modules: &[DeclaredModule], start: usize, names: &[Name]) -> Option<usize>
+    ensures { result ≡ spec.module_behind modules.now (Some start) names.now }
+{
+    let mut reached = Some(start);
+    for name in names {
+        reached = child_of(modules, reached, name);
+    }
+    reached
 }
 
 /// What an edition calls its prelude.

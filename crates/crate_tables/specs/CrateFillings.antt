@@ -1,6 +1,7 @@
 -- The crates of a graph in a builder, with all that they declare.
 use Rattle.std.specs.Prelude.{◌≡◌, ◌+◌, ◌++◌, ◌<◌, ℕ, All, List, [], ◌∷◌, Option, None, Some, length, slice_get}
 use Rattle.std.specs.List.{flat_map}
+use Rattle.std.specs.Option.{option_map}
 use Rattle.crate_items.specs.CrateAttributes.{crate_attributes}
 use Rattle.crate_items.specs.DeclaredItems.{declared_of}
 use Rattle.crate_items.specs.ModuleItems.{AreItemsFrom}
@@ -20,13 +21,15 @@ use Rattle.crate_tables.specs.CrateRoots.{root_id, with_externs, with_roots}
 use Rattle.crate_tables.specs.CrateTables.{IsLeafOf, IsNameOf, Table}
 use Rattle.crate_tables.specs.ExternCrates.{Linked, with_extern_crates}
 use Rattle.crate_tables.specs.NewModules.{CrateView}
-use Rattle.crate_tables.specs.StandardPreludes.{standard_prelude, with_attributes, with_standard_prelude}
+use Rattle.crate_tables.specs.PreludeImports.{Importer, Lists, named_among}
+use Rattle.crate_tables.specs.StandardPreludes.{standard_prelude, unnamed, with_attributes, with_crate_prelude}
 use Rattle.crate_tables.specs.TextualMacros.{with_scopes}
 use Rattle.crate_tables.specs.declared.extern_crates.ExternCrateRow.{ExternCrateRow}
 use Rattle.crate_tables.specs.declared.fill_fault.FillFault.{FillFault}
 use Rattle.crate_tables.specs.declared.fill_fault.FillFault.TheVariants.{NoRootFile, TooManyModules, OutOfNumbers, OutOfMemory}
 use Rattle.dm_ids.specs.declared.ids.Crate.{Crate}
 use Rattle.dm_ids.specs.declared.ids.ModuleId.{ModuleId}
+use Rattle.dm_ids.specs.declared.ids.UseId.{UseId}
 use Rattle.dm_maps.specs.Build.{no_world}
 use Rattle.dm_maps.specs.World.{World}
 use Rattle.dm_maps.specs.declared.build_fault.BuildFault.{BuildFault}
@@ -133,21 +136,34 @@ AreCratesFrom r n (d ∷ ds) c all =
 
 -- ---- Preludes
 
--- The standard prelude of a crate is a module of another one, so it is set where all crates are filled.
-abbrev pub prelude_of : List SourceFile → List Listing → List Table → Data → Option Listing → Option ModuleId
-prelude_of files ls ts d None = None
-prelude_of files ls ts d (Some l) = standard_prelude ls ts d.edition (attributes_of files d l) d.dependencies
+-- A prelude may be a module of another crate, so it is set where all crates are filled. It is the one that a
+-- `#[prelude_import]` names, or else the standard prelude.
+abbrev pub or_standard : Lists → Importer → Option (ModuleId × Option UseId) → Option (ModuleId × Option UseId)
+or_standard c i None = option_map unnamed (standard_prelude c.lists c.tables i.edition i.attributes i.dependencies)
+or_standard c i (Some named) = Some named
+
+abbrev pub importer_of : List SourceFile → Crate → Data → Listing → Importer
+importer_of files k d l =
+    record { krate = k; edition = d.edition; attributes = attributes_of files d l; dependencies = d.dependencies }
+
+abbrev pub prelude_from : Lists → Importer → Listing → Table → Option (ModuleId × Option UseId)
+prelude_from c i l t = or_standard c i (named_among c i l t.leaves None t.uses)
+
+abbrev pub prelude_of : List SourceFile → Lists → Crate → Data → Option Listing → Option Table → Option (ModuleId × Option UseId)
+prelude_of files c k d (Some l) (Some t) = prelude_from c (importer_of files k d l) l t
+prelude_of files c k d _ _ = None
 
 abbrev pub with_prelude_of : List SourceFile → List Listing → List Table → Crate → Data → World → World
-with_prelude_of files ls ts k d w = with_standard_prelude w k (prelude_of files ls ts d (slice_get ls k.0))
+with_prelude_of files ls ts k d w = with_crate_prelude w k
+    (prelude_of files (record { lists = ls; tables = ts }) k d (slice_get ls k.0) (slice_get ts k.0))
 
--- each of some crates, the first of which has this number, gets its standard prelude
+-- each of some crates, the first of which has this number, gets its prelude
 abbrev pub with_preludes_from : List SourceFile → List Listing → List Table → ℕ → Graph → World → World
 with_preludes_from files ls ts n [] w = w
 with_preludes_from files ls ts n (d ∷ ds) w =
     with_preludes_from files ls ts (n + 1) ds (with_prelude_of files ls ts (record { 0 = n }) d w)
 
--- The tables of a graph's crates: each crate is filled, one after another, and then each gets its standard prelude.
+-- The tables of a graph's crates: each crate is filled, one after another, and then each gets its prelude.
 pub record AreFilled (r : Reading) (g : Graph) (made : Crates) : Type 0 where
   pub world : World
   pub crates : AreCratesFrom r 0 g (no_crates (with_roots no_world g)) (record made { world = world })

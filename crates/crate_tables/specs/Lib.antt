@@ -6,6 +6,7 @@ pub mod CrateRoots
 pub mod CrateDefs
 pub mod ExternCrates
 pub mod StandardPreludes
+pub mod PreludeImports
 pub mod CrateMacros
 pub mod CrateFillings
 pub mod DeclaredWorlds

@@ -51,8 +51,12 @@ first_of None other = other
 first_of (Some k) other = Some k
 
 -- The crate that has the preludes: `std`, if that is in the extern prelude, and else `core`. Under `no_std` it is `core`.
+abbrev pub library_in : List CrateAttribute → List Dependency → Option Crate
+library_in attrs ds = first_of (crate_named attrs ds (codes "std")) (crate_named attrs ds (codes "core"))
+
+-- there is none with `no_core`
 abbrev pub library : List CrateAttribute → List Dependency → Option Crate
-library attrs ds = first_of (crate_named attrs ds (codes "std")) (crate_named attrs ds (codes "core"))
+library attrs ds = if list_any is_no_core attrs then None else library_in attrs ds
 
 -- the id of a module, by its number in the list of its crate
 abbrev pub id_of : Option Table → ℕ → Option ModuleId
@@ -71,12 +75,11 @@ abbrev pub prelude_in : List Listing → List Table → Edition → Option Crate
 prelude_in lists tables e None = None
 prelude_in lists tables e (Some k) = prelude_of tables k e (slice_get lists k.0)
 
--- The standard prelude of a crate with these attributes, edition and dependencies: the module for its edition in the crate
--- that has the preludes. There is none with `no_core`, and none where there is no such crate or module. Lists and tables
--- are those of all crates, by their numbers.
+-- The standard prelude of a crate with these attributes, edition and dependencies: the module for its edition in its
+-- library. There is none where there is no such crate or module. Lists and tables are those of all crates, by their
+-- numbers.
 abbrev pub standard_prelude : List Listing → List Table → Edition → List CrateAttribute → List Dependency → Option ModuleId
-standard_prelude lists tables e attrs ds =
-    if list_any is_no_core attrs then None else prelude_in lists tables e (library attrs ds)
+standard_prelude lists tables e attrs ds = prelude_in lists tables e (library attrs ds)
 
 -- no use named it
 abbrev pub unnamed : ModuleId → ModuleId × Option UseId
@@ -86,5 +89,5 @@ unnamed m = (m, None)
 abbrev pub own_map : Crate → MapId
 own_map k = record { krate = k; block = None }
 
-abbrev pub with_standard_prelude : World → Crate → Option ModuleId → World
-with_standard_prelude w k m = with_prelude w (own_map k) (option_map unnamed m)
+abbrev pub with_crate_prelude : World → Crate → Option (ModuleId × Option UseId) → World
+with_crate_prelude w k named = with_prelude w (own_map k) named

@@ -14,6 +14,7 @@ pub mod fill_fault;
 mod item_names;
 pub mod item_place;
 pub mod new_module;
+mod prelude_imports;
 mod set_preludes;
 pub mod standard_prelude;
 pub mod table_parts;

@@ -86,7 +86,7 @@ pub fn set_attributes(
 }
 
 /// The crate of the first dependency that has a name in the extern prelude of a crate with these attributes.
-fn crate_named(
+pub(crate) fn crate_named(
     attributes: &[CrateAttribute],
     dependencies: &[Dependency],
     name: &[u8],
@@ -102,13 +102,24 @@ fn crate_named(
 }
 
 /// The crate that has the preludes: `std`, if that is in the extern prelude, and else `core`.
-fn library(attributes: &[CrateAttribute], dependencies: &[Dependency]) -> Option<Crate>
-    ensures { result ≡ spec.library attributes.now dependencies.now }
+fn library_in(attributes: &[CrateAttribute], dependencies: &[Dependency]) -> Option<Crate>
+    ensures { result ≡ spec.library_in attributes.now dependencies.now }
 {
     match crate_named(attributes, dependencies, b"std") {
         Some(krate) => Some(krate),
         None => crate_named(attributes, dependencies, b"core"),
     }
+}
+
+/// The library of a crate with these attributes and dependencies, which has the preludes and whose macros it has:
+/// `std`, and where that is not in the extern prelude, as under `no_std`, `core`. A crate with `no_core` has none.
+pub fn library(attributes: &[CrateAttribute], dependencies: &[Dependency]) -> Option<Crate>
+    ensures { result ≡ spec.library attributes.now dependencies.now }
+{
+    if any_no_core(attributes) {
+        return None;
+    }
+    library_in(attributes, dependencies)
 }
 
 /// The id of a module, by its number in the list of a crate.
@@ -122,7 +133,7 @@ fn id_of(tables: &[CrateTable], krate: Crate, number: usize) -> Option<ModuleId>
 }
 
 /// The same, if there is a number.
-fn id_in(tables: &[CrateTable], krate: Crate, number: Option<usize>) -> Option<ModuleId>
+pub(crate) fn id_in(tables: &[CrateTable], krate: Crate, number: Option<usize>) -> Option<ModuleId>
     ensures { result ≡ spec.id_in tables.now krate number }
 {
     match number {
@@ -162,8 +173,7 @@ fn prelude_in(
 }
 
 /// The module that is the standard prelude of a crate with these attributes, edition and dependencies: the module for its
-/// edition in the crate that has the preludes. That is `std`, and where `std` is not in the extern prelude, as under
-/// `no_std`, it is `core`. A crate with `no_core` has no prelude. Without such a crate or module there is none.
+/// edition in its library. Without such a crate or module there is none.
 ///
 /// The lists and the tables are those of all crates, each at its number.
 pub fn standard_prelude(
@@ -176,14 +186,11 @@ pub fn standard_prelude(
     ensures { result ≡
         spec.standard_prelude lists.now tables.now edition attributes.now dependencies.now }
 {
-    if any_no_core(attributes) {
-        return None;
-    }
     prelude_in(lists, tables, edition, library(attributes, dependencies))
 }
 
 /// A prelude that no use named.
-fn unnamed(prelude: Option<ModuleId>) -> Option<(ModuleId, Option<UseId>)>
+pub(crate) fn unnamed(prelude: Option<ModuleId>) -> Option<(ModuleId, Option<UseId>)>
     ensures { result ≡ option_map spec.unnamed prelude }
 {
     match prelude {
@@ -192,20 +199,20 @@ fn unnamed(prelude: Option<ModuleId>) -> Option<(ModuleId, Option<UseId>)>
     }
 }
 
-/// Sets the standard prelude of a crate, or none. Takes no memory.
+/// Sets the prelude of a crate, with the use that names it, or none. Takes no memory.
 ///
 /// # Errors
 ///
 /// `NoSuchCrate` of a crate that is not the builder's, which is then as it was.
-pub fn set_standard_prelude(
+pub fn set_crate_prelude(
     builder: &mut WorldBuilder,
     krate: Crate,
-    prelude: Option<ModuleId>,
+    prelude: Option<(ModuleId, Option<UseId>)>,
 ) -> Result<(), BuildFault>
-    ensures world { OnOk result (builder.new ≡ spec.with_standard_prelude builder.old krate prelude) }
+    ensures world { OnOk result (builder.new ≡ spec.with_crate_prelude builder.old krate prelude) }
     ensures grown { IsGrown builder.old builder.new }
     ensures fault { AnswersFree (map_fault builder.old (spec.own_map krate)) result }
 {
     let map = MapId { krate, block: None };
-    builder.set_prelude(map, unnamed(prelude))
+    builder.set_prelude(map, prelude)
 }

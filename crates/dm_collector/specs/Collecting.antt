@@ -9,6 +9,7 @@ use Rattle.crate_tables.specs.DeclaredWorlds.{AreShown}
 use Rattle.crate_tables.specs.declared.extern_crates.ExternCrateRow.{ExternCrateRow}
 use Rattle.dm_collector.specs.Leaves.{globs_of, pendings_of}
 use Rattle.dm_collector.specs.MacroUses.{Uses, macro_uses}
+use Rattle.dm_collector.specs.PreludeGlobs.{unless_named}
 use Rattle.dm_collector.specs.Steps.{IsReached}
 use Rattle.dm_collector.specs.declared.sources.GlobImport.{GlobImport}
 use Rattle.dm_retry.specs.Rounds.{State, marked}
@@ -24,16 +25,16 @@ abbrev pub kept_of : Crates → Kept
 kept_of c = record { lists = c.lists; tables = map emptied c.tables; rows = c.rows }
 
 -- The state in which nothing is imported yet: the tables are those of the crates of a graph, each filled with what it
--- declares; each module binds what is declared in it; each leaf of a use waits as an import, or is one of these globs; and each
--- crate has macros from these roots.
+-- declares; each module binds what is declared in it; each leaf of a use waits as an import, or is one of these globs, unless it
+-- names the prelude of its crate; and each crate has macros from these roots.
 pub record IsBegun (r : Reading) (g : Graph) (k : Kept) (gs : List GlobImport) (us : List Uses) (s : State) : Type 0 where
   pub crates : Crates
   pub filled : AreFilled r g crates
   pub kept : k ≡ kept_of crates
   pub declared : AreShown s.world s.globs (flat_map (λ (t : Table). t.names) crates.tables)
   pub pending : s.pending ≡ map (marked true) (flat_map pendings_of (flat_map (λ (t : Table). t.leaves) crates.tables))
-  pub globs : gs ≡ flat_map globs_of (flat_map (λ (t : Table). t.leaves) crates.tables)
-  pub uses : us ≡ macro_uses s.world r.files crates.lists crates.rows 0 g
+  pub globs : gs ≡ flat_map (unless_named s.world) (flat_map globs_of (flat_map (λ (t : Table). t.leaves) crates.tables))
+  pub uses : us ≡ macro_uses r.files crates.lists crates.rows 0 g
 
 -- from there the state was reached by rounds of imports and by steps of these globs and crates
 pub record IsCollected (r : Reading) (g : Graph) (k : Kept) (gs : List GlobImport) (us : List Uses) (s : State) : Type 0 where

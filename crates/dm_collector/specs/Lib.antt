@@ -3,6 +3,7 @@ pub mod GlobOrders
 pub mod Widening
 pub mod UnnamedTraits
 pub mod MacroUses
+pub mod PreludeGlobs
 pub mod MacroPreludes
 pub mod Steps
 pub mod GlobRows

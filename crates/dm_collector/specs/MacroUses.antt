@@ -1,41 +1,34 @@
 -- Where the `macro_use` preludes of crates have their macros from: the roots of other crates.
 use Rattle.std.specs.Prelude.{◌+◌, ◌++◌, ◌==◌, ℕ, List, [], ◌∷◌, Option, Some, None, nat_lt, slice_get, if◌then◌else◌}
-use Rattle.std.specs.Option.{option_and_then}
 use Rattle.crate_items.specs.DeclaredMacros.{Used, used}
 use Rattle.crate_items.specs.ItemAttributes.{kinds_from}
-use Rattle.crate_modules.specs.CrateGraphs.{Graph}
+use Rattle.crate_modules.specs.CrateGraphs.{Data, Graph}
 use Rattle.crate_modules.specs.Files.{SourceFile, text_of}
 use Rattle.crate_modules.specs.ModuleVisibilities.{lexemes_known}
 use Rattle.crate_modules.specs.Modules.{Listing}
 use Rattle.crate_modules.specs.Sources.{source_at}
+use Rattle.crate_tables.specs.CrateFillings.{attributes_of}
 use Rattle.crate_tables.specs.CrateRoots.{root_id}
-use Rattle.crate_tables.specs.StandardPreludes.{own_map}
+use Rattle.crate_tables.specs.StandardPreludes.{library}
 use Rattle.crate_tables.specs.declared.extern_crates.ExternCrateRow.{ExternCrateRow}
 use Rattle.dm_collector.specs.declared.macro_uses.MacroSource.{MacroSource}
 use Rattle.dm_ids.specs.declared.ids.Crate.{Crate}
 use Rattle.dm_ids.specs.declared.ids.ExternCrateId.{ExternCrateId}
 use Rattle.dm_ids.specs.declared.ids.FileId.{FileId}
 use Rattle.dm_ids.specs.declared.ids.ModuleId.{ModuleId}
-use Rattle.dm_maps.specs.ItemHomes.{homes_of}
-use Rattle.dm_maps.specs.Readings.{prelude_of}
-use Rattle.dm_maps.specs.World.{World}
 
 -- a crate, and the roots that it has macros from, in order: of two that bring one name the later counts
 pub record Uses : Type 0 where
   pub krate : Crate
   pub sources : List MacroSource
 
--- ---- The prelude
+-- ---- The library
 
 -- all macros of another crate, which no item brings
 abbrev pub of_library : Crate → Option Crate → List MacroSource
 of_library k None = []
 of_library k (Some l) =
     if l.0 == k.0 then [] else record { root = root_id l; macros = None; brought_by = None } ∷ []
-
--- the crate that the prelude of a crate is a module of
-abbrev pub library_of : World → Crate → Option Crate
-library_of w k = option_and_then (homes_of w).krate (prelude_of w (own_map k))
 
 -- ---- Extern crates
 
@@ -65,18 +58,18 @@ of_rows files l k n (r ∷ rs) = of_row files l k n r ++ of_rows files l k (n + 
 
 -- ---- All crates
 
--- A crate has macros from the crate of its prelude, and then from its extern crates. Its modules are those of a list.
-abbrev pub rows_if : List SourceFile → List ExternCrateRow → Crate → Option Listing → List MacroSource
-rows_if files rows k None = []
-rows_if files rows k (Some l) = of_rows files l k 0 rows
+-- A crate has macros from its library, `std` or `core`, and then from its extern crates.
+abbrev pub sources_of : List SourceFile → List ExternCrateRow → Crate → Data → Listing → List MacroSource
+sources_of files rows k d l = of_library k (library (attributes_of files d l) d.dependencies) ++ of_rows files l k 0 rows
 
-abbrev pub uses_of : World → List SourceFile → List Listing → List ExternCrateRow → Crate → Uses
-uses_of w files ls rows k = record {
-  krate = k;
-  sources = of_library k (library_of w k) ++ rows_if files rows k (slice_get ls k.0);
-}
+abbrev pub sources_if : List SourceFile → List ExternCrateRow → Crate → Data → Option Listing → List MacroSource
+sources_if files rows k d None = []
+sources_if files rows k d (Some l) = sources_of files rows k d l
+
+abbrev pub uses_of : List SourceFile → List Listing → List ExternCrateRow → Crate → Data → Uses
+uses_of files ls rows k d = record { krate = k; sources = sources_if files rows k d (slice_get ls k.0) }
 
 -- those of some crates, the first of which has this number
-abbrev pub macro_uses : World → List SourceFile → List Listing → List ExternCrateRow → ℕ → Graph → List Uses
-macro_uses w files ls rows n [] = []
-macro_uses w files ls rows n (d ∷ ds) = uses_of w files ls rows (record { 0 = n }) ∷ macro_uses w files ls rows (n + 1) ds
+abbrev pub macro_uses : List SourceFile → List Listing → List ExternCrateRow → ℕ → Graph → List Uses
+macro_uses files ls rows n [] = []
+macro_uses files ls rows n (d ∷ ds) = uses_of files ls rows (record { 0 = n }) d ∷ macro_uses files ls rows (n + 1) ds

@@ -10,6 +10,7 @@ ghost use Rattle.dm_collector.specs.Globs.{IsFilledBySource};
 ghost use Rattle.dm_collector.specs.Leaves.{globs_of, pendings_of};
 ghost use Rattle.dm_collector.specs.MacroPreludes.{HasMacros};
 ghost use Rattle.dm_collector.specs.MacroUses.{macro_uses};
+ghost use Rattle.dm_collector.specs.PreludeGlobs.{unless_named};
 ghost use Rattle.dm_collector.specs.Steps.{IsReached};
 ghost use Rattle.dm_collector.specs.UnnamedTraits.{HasBroughtBySource};
 ghost use Rattle.dm_collector.specs.Widening.{IsWideBySource};
@@ -19,6 +20,7 @@ ghost use Rattle.dm_retry.specs.Settling.{IsFixedPoint};
 use crate::collect_fault::{CollectFault, of_declared, of_filling, of_glob, of_order};
 use crate::leaves::split;
 use crate::macro_uses::{MacroUses, macro_uses};
+use crate::prelude_globs::bringing_names;
 use crate::settle::settle;
 use crate::sources::GlobImport;
 use crate_modules::crate_graph::CrateGraph;
@@ -132,17 +134,18 @@ fn begun(
         (flat_map (λ (t : Table). t.names) tables.items)) }
     ensures pending { IfOk result (λ begun. begun.retry.state.pending ≡
         map (marked true) (flat_map pendings_of (flat_map (λ (t : Table). t.leaves) tables.items))) }
-    ensures globs { IfOk result (λ begun. begun.globs.items ≡
-        flat_map globs_of (flat_map (λ (t : Table). t.leaves) tables.items)) }
+    ensures globs { IfOk result (λ begun. begun.globs.items ≡ flat_map (unless_named begun.retry.state.world)
+        (flat_map globs_of (flat_map (λ (t : Table). t.leaves) tables.items))) }
     ensures rest { IfOk result (λ begun. begun.rest.items ≡ map emptied tables.items) }
 {
     let parts = table_parts(alloc, tables)?;
     let leaves = split(alloc, parts.leaves)?;
     let names = parts.names;
     let retry = declared(alloc, builder, names.as_slice(), leaves.pendings)?;
+    let globs = bringing_names(alloc, retry.world(), leaves.globs)?;
     Ok(Beginning {
         retry,
-        globs: leaves.globs,
+        globs,
         rest: parts.rest,
     })
 }
@@ -169,14 +172,13 @@ fn uses_of(
     alloc: Global,
     graph: &CrateGraph,
     reading: &Reading<'_>,
-    retry: &Retry,
     lists: &[CrateModules],
     rows: &[ExternCrateRow],
 ) -> Result<Vec<MacroUses>, CollectFault>
     ensures { IfOk result (λ uses. uses.items ≡
-        macro_uses retry.now.state.world reading.now.files lists.now rows.now 0 graph.now) }
+        macro_uses reading.now.files lists.now rows.now 0 graph.now) }
 {
-    let uses = macro_uses(alloc, retry.world(), graph, reading.files, lists, rows)?;
+    let uses = macro_uses(alloc, graph, reading.files, lists, rows)?;
     Ok(uses)
 }
 
@@ -198,14 +200,7 @@ fn begin(
         externs,
     } = made;
     let beginning = begun(alloc, builder, tables)?;
-    let uses = uses_of(
-        alloc,
-        graph,
-        reading,
-        &beginning.retry,
-        lists.as_slice(),
-        externs.as_slice(),
-    )?;
+    let uses = uses_of(alloc, graph, reading, lists.as_slice(), externs.as_slice())?;
     Ok(BegunCrates {
         retry: beginning.retry,
         globs: beginning.globs,

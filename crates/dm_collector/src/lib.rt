@@ -9,6 +9,7 @@ pub mod globs;
 pub mod leaves;
 pub mod macro_preludes;
 pub mod macro_uses;
+pub mod prelude_globs;
 pub mod settle;
 pub mod sources;
 pub mod stale;

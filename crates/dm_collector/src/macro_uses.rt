@@ -2,18 +2,18 @@
 ghost use Rattle.std.specs.Prelude.{◌≡◌, ◌++◌, ◌∷◌, [], IfOk, OnOk, slice_get};
 ghost use Rattle.dm_collector.specs.MacroUses as spec;
 
-use crate::macro_preludes::own_map;
+use crate_items::crate_attributes::crate_attributes;
 use crate_items::declared_item::DeclaredItem;
 use crate_items::declared_macro::{MacroUse, macro_use};
+use crate_modules::crate_data::CrateData;
 use crate_modules::crate_graph::CrateGraph;
 use crate_modules::file_table::FileTable;
 use crate_modules::modules::CrateModules;
 use crate_tables::crate_roots::root_id;
 use crate_tables::extern_crates::ExternCrateRow;
+use crate_tables::standard_prelude::library;
 use dm_base::fields_shape::FieldsShape;
 use dm_base::ids::{Crate, ExternCrateId, FileId, ModuleId};
-use dm_base::item_in_ns::ItemModules;
-use dm_maps::world::World;
 use item_tree::item_kind::ItemKind;
 use std::alloc::{AllocError, Global};
 use std::marker::Model;
@@ -24,7 +24,7 @@ pub struct MacroSource {
     pub root: ModuleId,
     /// Which of its macros; all of them, where nothing says which.
     pub macros: Option<MacroUse>,
-    /// The `extern crate` that brings them; those of the prelude's crate no item brings.
+    /// The `extern crate` that brings them; those of its library no item brings.
     pub brought_by: Option<ExternCrateId>,
 }
 
@@ -63,15 +63,7 @@ impl MacroUses {
     }
 }
 
-/// The crate that the prelude of a crate is a module of.
-fn library_of(world: &World, krate: Crate) -> Option<Crate>
-    ensures { result ≡ spec.library_of world.now krate }
-{
-    let prelude = world.prelude_of(own_map(krate))?;
-    world.module_krate(prelude)
-}
-
-/// Adds all macros of the crate of the prelude.
+/// Adds all macros of the library of a crate, unless that is the crate itself.
 fn push_library(
     sources: &mut Vec<MacroSource>,
     krate: Crate,
@@ -190,39 +182,58 @@ fn push_rows(
     Ok(())
 }
 
-/// The same by the lists of all crates.
-fn push_rows_in(
+/// Adds the macros that a crate has, by the list of its modules: those of its library first.
+fn push_sources(
     sources: &mut Vec<MacroSource>,
     alloc: Global,
     krate: Crate,
+    described: &CrateData,
+    list: &CrateModules,
+    files: &FileTable,
+    rows: &[ExternCrateRow],
+) -> Result<(), AllocError>
+    ensures { OnOk result (sources.new.items ≡ sources.old.items
+        ++ spec.sources_of files.now rows.now krate described.now list.now) }
+{
+    let attributes = crate_attributes(alloc, list, files, described.root_file_id())?;
+    let found = library(attributes.as_slice(), described.dependencies());
+    push_library(sources, krate, found)?;
+    push_rows(sources, alloc, krate, list, files, rows)
+}
+
+/// The same by the lists of all crates.
+fn push_sources_in(
+    sources: &mut Vec<MacroSource>,
+    alloc: Global,
+    krate: Crate,
+    described: &CrateData,
     lists: &[CrateModules],
     files: &FileTable,
     rows: &[ExternCrateRow],
 ) -> Result<(), AllocError>
     ensures { OnOk result (sources.new.items ≡ sources.old.items
-        ++ spec.rows_if files.now rows.now krate (slice_get lists.now krate.0)) }
+        ++ spec.sources_if files.now rows.now krate described.now (slice_get lists.now krate.0)) }
 {
     match lists.get(krate.0 as usize) {
         None => Ok(()),
-        Some(list) => push_rows(sources, alloc, krate, list, files, rows),
+        Some(list) => push_sources(sources, alloc, krate, described, list, files, rows),
     }
 }
 
 /// A crate with the roots that it has macros from.
 fn uses_of(
     alloc: Global,
-    world: &World,
     krate: Crate,
+    described: &CrateData,
     lists: &[CrateModules],
     files: &FileTable,
     rows: &[ExternCrateRow],
 ) -> Result<MacroUses, AllocError>
     ensures { IfOk result
-        (λ uses. uses ≡ spec.uses_of world.now files.now lists.now rows.now krate) }
+        (λ uses. uses ≡ spec.uses_of files.now lists.now rows.now krate described.now) }
 {
     let mut sources = Vec::new(alloc);
-    push_library(&mut sources, krate, library_of(world, krate))?;
-    push_rows_in(&mut sources, alloc, krate, lists, files, rows)?;
+    push_sources_in(&mut sources, alloc, krate, described, lists, files, rows)?;
     Ok(MacroUses::new(krate, sources))
 }
 
@@ -230,42 +241,41 @@ fn uses_of(
 fn push_crate(
     uses: &mut Vec<MacroUses>,
     alloc: Global,
-    world: &World,
     krate: Crate,
+    described: &CrateData,
     lists: &[CrateModules],
     files: &FileTable,
     rows: &[ExternCrateRow],
 ) -> Result<(), AllocError>
     ensures { OnOk result (uses.new.items ≡ uses.old.items
-        ++ spec.uses_of world.now files.now lists.now rows.now krate ∷ []) }
+        ++ spec.uses_of files.now lists.now rows.now krate described.now ∷ []) }
 {
-    let used = uses_of(alloc, world, krate, lists, files, rows)?;
+    let used = uses_of(alloc, krate, described, lists, files, rows)?;
     uses.push(used)?;
     Ok(())
 }
 
-/// The roots that each crate of a graph has macros from: that of the crate which its prelude is a module of, and those that its
-/// own root links by an `extern crate` under `#[macro_use]`. The lists are those of all crates, and the extern crates those
-/// of the world, each at its number.
+/// The roots that each crate of a graph has macros from: that of its library (`std`, or `core` under `no_std`), and those
+/// that its own root links by an `extern crate` under `#[macro_use]`. The lists are those of all crates, and the extern
+/// crates those of the world, each at its number.
 ///
 /// # Errors
 ///
 /// Fails only where memory runs out.
 pub fn macro_uses(
     alloc: Global,
-    world: &World,
     graph: &CrateGraph,
     files: &FileTable,
     lists: &[CrateModules],
     rows: &[ExternCrateRow],
 ) -> Result<Vec<MacroUses>, AllocError>
     ensures { IfOk result
-        (λ uses. uses.items ≡ spec.macro_uses world.now files.now lists.now rows.now 0 graph.now) }
+        (λ uses. uses.items ≡ spec.macro_uses files.now lists.now rows.now 0 graph.now) }
 {
     let mut uses = Vec::new(alloc);
-    for (number, _described) in graph.crates().iter().enumerate() {
+    for (number, described) in graph.crates().iter().enumerate() {
         let krate = graph.crate_at(number);
-        push_crate(&mut uses, alloc, world, krate, lists, files, rows)?;
+        push_crate(&mut uses, alloc, krate, described, lists, files, rows)?;
     }
     Ok(uses)
 }

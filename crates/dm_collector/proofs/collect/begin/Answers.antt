@@ -11,5 +11,5 @@ returns c = record {
   pending = c.in_ok-beginning.ensures.pending;
   globs = c.in_ok-beginning.ensures.globs;
   uses = c.in_ok-uses.ensures
-      ∙ (λ i. macro_uses c.in_ok-beginning.beginning.retry.state.world c.args.reading.now.files (c.as_slice.ensures.value i) (c.as_slice-2.ensures.value i) 0 c.args.graph.now);
+      ∙ (λ i. macro_uses c.args.reading.now.files (c.as_slice.ensures.value i) (c.as_slice-2.ensures.value i) 0 c.args.graph.now);
 }

@@ -7,15 +7,14 @@ use Rattle.dm_collector.proofs.macro_uses.macro_uses.Goals as goal
 
 pub loop-number-preserved : goal.loop-number-preserved
 loop-number-preserved c =
-    let w = c.args.world.now in
     let files = c.args.files.now in
     let ls = c.args.lists.now in
     let rows = c.args.rows.now in
     let n = c.loop-number.number in
-    let d = c._described-item.result in
+    let d = c.described-item.result in
     let found = c.loop-number.uses.items in
     let one : c.crate_at-krate.result ≡ record { 0 = n } = λ i. record { 0 = c.crate_at-krate.ensures i } in
-    ap (λ items. items ++ macro_uses w files ls rows (n + 1) (drop (n + 1) c.args.graph.now)) (c.in_ok-push_crate.ensures ∙ ap (λ (k : Crate). found ++ uses_of w files ls rows k ∷ []) one)
+    ap (λ items. items ++ macro_uses files ls rows (n + 1) (drop (n + 1) c.args.graph.now)) (c.in_ok-push_crate.ensures ∙ ap (λ (k : Crate). found ++ uses_of files ls rows k d ∷ []) one)
     ∙ append_assoc found _ _
-    ∙ ap (λ items. found ++ items) (sym (ap (λ (ds : List Data). macro_uses w files ls rows n ds) (next-in c.args.graph.now c.crates-described-items.result.now n d c.crates-described-items.ensures.all c.loop-number-test.true c._described-item.is)))
+    ∙ ap (λ items. found ++ items) (sym (ap (λ (ds : List Data). macro_uses files ls rows n ds) (next-in c.args.graph.now c.crates-described-items.result.now n d c.crates-described-items.ensures.all c.loop-number-test.true c.described-item.is)))
     ∙ c.loop-number.invariant
