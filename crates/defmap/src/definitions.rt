@@ -3,9 +3,8 @@ use crate::settled::Settled;
 use crate::shown::module_path;
 use dm_base::ids::{EnumId, EnumVariantId, ModuleId};
 use dm_base::item_ids::{AdtId, MacroId, ModuleDefId};
-use dm_base::item_in_ns::{ItemInNs, ItemModules};
+use dm_base::item_in_ns::ItemModules;
 use dm_base::name::Name;
-use dm_base::per_ns::PerNs;
 use dm_maps::world::World;
 use dm_scope::item_scope::ItemScope;
 use dm_scope::scope_tables::ScopeTables;
@@ -29,46 +28,47 @@ fn kind_word(def: ModuleDefId) -> &'static str {
     }
 }
 
-/// Whether some items that a module declares are a definition.
-fn declares(items: PerNs, def: ModuleDefId) -> bool {
-    let is_type = match items.types {
-        None => false,
-        Some(item) => item.import.is_none() && item.def == def,
-    };
-    let is_value = match items.values {
-        None => false,
-        Some(item) => item.import.is_none() && item.def == def,
-    };
-    let is_macro = match items.macros {
-        None => false,
-        Some(item) => item.import.is_none() && ModuleDefId::MacroId(item.def) == def,
-    };
-    is_type || is_value || is_macro
+/// The name that a scope declares a definition under as a type.
+fn type_name(scope: &ItemScope, def: ModuleDefId) -> Option<&Name> {
+    let found = scope
+        .types()
+        .find(|(_name, item)| item.import.is_none() && item.def == def)?;
+    Some(found.0)
+}
+
+/// The same as a value.
+fn value_name(scope: &ItemScope, def: ModuleDefId) -> Option<&Name> {
+    let found = scope
+        .values()
+        .find(|(_name, item)| item.import.is_none() && item.def == def)?;
+    Some(found.0)
+}
+
+/// The name that a scope declares a macro under.
+fn own_macro_name(scope: &ItemScope, id: MacroId) -> Option<&Name> {
+    let found = scope
+        .macros()
+        .find(|(_name, item)| item.import.is_none() && item.def == id)?;
+    Some(found.0)
 }
 
 /// The name that a scope declares a definition under.
-fn declared_name<'a>(
-    scope: &'a ItemScope,
-    def: ModuleDefId,
-) -> Result<Option<&'a Name>, AllocError> {
-    for (name, items) in &scope.entries()? {
-        if declares(*items, def) {
-            return Ok(Some(*name));
-        }
+fn declared_name(scope: &ItemScope, def: ModuleDefId) -> Option<&Name> {
+    match def {
+        ModuleDefId::MacroId(id) => own_macro_name(scope, id),
+        _ => match type_name(scope, def) {
+            Some(name) => Some(name),
+            None => value_name(scope, def),
+        },
     }
-    Ok(None)
 }
 
 /// The name of a macro of a module: one that is declared there by text alone, or exported at the crate's root.
-fn macro_name<'a>(
-    world: &'a World,
-    home: ModuleId,
-    id: MacroId,
-) -> Result<Option<&'a Name>, AllocError> {
+fn macro_name(world: &World, home: ModuleId, id: MacroId) -> Option<&Name> {
     if let Some(scope) = world.scope_of(home) {
         for (name, macros) in scope.legacy_macros() {
             if macros.iter().any(|one| *one == id) {
-                return Ok(Some(name));
+                return Some(name);
             }
         }
     }
@@ -76,25 +76,18 @@ fn macro_name<'a>(
         None => home,
         Some(map) => map.root_module_id(),
     };
-    match world.scope_of(root) {
-        None => Ok(None),
-        Some(scope) => declared_name(scope, ModuleDefId::MacroId(id)),
-    }
+    own_macro_name(world.scope_of(root)?, id)
 }
 
 /// The name that a module declares a definition under.
-fn name_in<'a>(
-    world: &'a World,
-    home: ModuleId,
-    def: ModuleDefId,
-) -> Result<Option<&'a Name>, AllocError> {
+fn name_in(world: &World, home: ModuleId, def: ModuleDefId) -> Option<&Name> {
     let own = match world.scope_of(home) {
         None => None,
-        Some(scope) => declared_name(scope, def)?,
+        Some(scope) => declared_name(scope, def),
     };
     match (own, def) {
         (None, ModuleDefId::MacroId(id)) => macro_name(world, home, id),
-        _ => Ok(own),
+        _ => own,
     }
 }
 
@@ -106,7 +99,7 @@ fn path_in(
     def: ModuleDefId,
 ) -> Result<String, AllocError> {
     let path = module_path(alloc, settled, home)?;
-    match name_in(settled.world(), home, def)? {
+    match name_in(settled.world(), home, def) {
         None => Ok(path),
         Some(name) => format!(in alloc; "{path}::{}", name.as_str()),
     }

@@ -4,7 +4,8 @@
 //! names, or one that is itself unknown. An import that leads nowhere is *unknown* where it begins with a crate of the
 //! standard library, which is not given; where the module that its first missing name is looked up in hides names; where
 //! this name is the last, and that module the root of a crate of procedural macros, or of one in which a macro is called
-//! that may export macros; and where an unknown import of that module would bind this name.
+//! that may export macros; and where an unknown import of that module, or of one that it has a glob of, would bind this
+//! name.
 use crate::macro_exports::exporting_roots;
 use crate::macro_homes::MacroHome;
 use crate::meanings::import_meaning;
@@ -45,8 +46,11 @@ pub(crate) struct Hidden<'a> {
     exporting: IndexSet<ModuleId>,
     /// The unknown imports, by their places among the named ones.
     named: IndexMap<usize, Cause>,
-    /// The same, by the modules that they stand in and the names that they would bind.
+    /// The same, by the modules that they stand in and the names that they would bind, and by the modules that have globs
+    /// of these.
     by_name: IndexMap<(ModuleId, &'a str), Cause>,
+    /// The names alone, of each module.
+    names: IndexMap<ModuleId, Vec<&'a str>>,
     /// The globs that hide names, by their places.
     globs: IndexMap<usize, Cause>,
 }
@@ -134,6 +138,17 @@ fn missing_of<'b>(
     })
 }
 
+/// The module that a glob has its names from.
+fn source_module(world: &World, glob: &GlobImport) -> Option<ModuleId> {
+    if !glob.is_known(world) {
+        return None;
+    }
+    match glob.resolved(world)?.from {
+        GlobSource::Module(m) => Some(m),
+        GlobSource::Enum(_enum) => None,
+    }
+}
+
 impl<'a> Hidden<'a> {
     /// What is hidden in the settled world.
     pub(crate) fn of(
@@ -151,6 +166,7 @@ impl<'a> Hidden<'a> {
             exporting: exporting_roots(alloc, settled, homes)?,
             named: IndexMap::new(alloc),
             by_name: IndexMap::new(alloc),
+            names: IndexMap::new(alloc),
             globs: IndexMap::new(alloc),
         };
         for home in homes {
@@ -224,6 +240,54 @@ impl<'a> Hidden<'a> {
         }
     }
 
+    /// Notes that a name of a module is unknown. Tells whether that is new.
+    fn note_name(
+        &mut self,
+        module: ModuleId,
+        name: &'a str,
+        cause: Cause,
+    ) -> Result<bool, AllocError> {
+        if self.by_name.contains_key(&(module, name)) {
+            return Ok(false);
+        }
+        self.by_name.insert((module, name), cause)?;
+        if let Some(names) = self.names.get_mut(&module) {
+            names.push(name)?;
+        } else {
+            let mut names = Vec::new(self.alloc);
+            names.push(name)?;
+            self.names.insert(module, names)?;
+        }
+        Ok(true)
+    }
+
+    /// The unknown names of a module, each with why it is unknown.
+    fn names_in(&self, module: ModuleId) -> Result<Vec<(&'a str, Cause)>, AllocError> {
+        let mut found = Vec::new(self.alloc);
+        if let Some(names) = self.names.get(&module) {
+            for name in names {
+                if let Some(cause) = self.by_name.get(&(module, *name)) {
+                    found.push((*name, *cause))?;
+                }
+            }
+        }
+        Ok(found)
+    }
+
+    /// Notes the unknown names that a glob would bring. Tells whether there is a new one.
+    fn find_brought(&mut self, glob: &GlobImport) -> Result<bool, AllocError> {
+        let Some(from) = source_module(self.settled.world(), glob) else {
+            return Ok(false);
+        };
+        let mut has_new = false;
+        for (name, cause) in self.names_in(from)? {
+            if self.note_name(glob.into, name, cause)? {
+                has_new = true;
+            }
+        }
+        Ok(has_new)
+    }
+
     /// Notes the named imports that are unknown by what is noted. Tells whether there is a new one.
     fn find_named(&mut self, unresolved: &[usize]) -> Result<bool, AllocError> {
         let settled = self.settled;
@@ -237,8 +301,7 @@ impl<'a> Hidden<'a> {
             }
             if let Some(cause) = self.cause_of(pending.origin(), pending.path())? {
                 self.named.insert(*place, cause)?;
-                let bound = (pending.origin(), pending.name().as_str());
-                self.by_name.insert(bound, cause)?;
+                self.note_name(pending.origin(), pending.name().as_str(), cause)?;
                 has_new = true;
             }
         }
@@ -268,13 +331,17 @@ impl<'a> Hidden<'a> {
         }
     }
 
-    /// Notes the globs that are unknown or of modules that hide names. Tells whether there is a new one.
+    /// Notes the globs that are unknown or of modules that hide names, and the unknown names that globs would bring. Tells
+    /// whether there is a new one.
     fn find_globs(&mut self) -> Result<bool, AllocError> {
         let settled = self.settled;
         let mut has_new = false;
         for (place, glob) in settled.collected.globs.iter().enumerate() {
             if self.cause_of_glob(place).is_some() {
                 continue;
+            }
+            if self.find_brought(glob)? {
+                has_new = true;
             }
             if let Some(cause) = self.cause_of_source(glob)? {
                 self.globs.insert(place, cause)?;

@@ -6,11 +6,10 @@ use crate::settled::Settled;
 use crate::shown::outwards;
 use crate_items::declared_item::DeclaredItem;
 use crate_items::macro_call::macro_call_path;
-use dm_base::ids::{Crate, ModuleId};
+use dm_base::ids::ModuleId;
 use dm_base::mod_path::{ModPath, PathKind};
 use dm_base::name::Name;
 use dm_maps::world::World;
-use dm_maps::world::maps_of::crate_def_map;
 use item_tree::item_kind::ItemKind;
 use std::alloc::{AllocError, Global};
 
@@ -30,21 +29,6 @@ fn only_name(path: &ModPath) -> Option<&Name> {
         return None;
     }
     path.segments().first()
-}
-
-/// Whether the root of some crate binds a macro under a name: `#[macro_use]` may bring it.
-fn is_exported(world: &World, crates: usize, name: &Name) -> bool {
-    for number in 0..crates {
-        let krate = Crate(u32::try_from(number).unwrap_or(u32::MAX));
-        if !world.has_crate(krate) {
-            continue;
-        }
-        let root = crate_def_map(world, krate).root_module_id();
-        if world.bound_in(root, name).macros.is_some() {
-            return true;
-        }
-    }
-    false
 }
 
 /// Whether a crate declares a macro under a name, wherever that is in scope.
@@ -91,9 +75,7 @@ fn end_of_name(
     let Some(name) = only_name(&path) else {
         return Ok(CallEnd::Nowhere(path));
     };
-    let is_here = is_textual(world, around.as_slice(), name)
-        || is_declared(settled, call.krate, name);
-    if is_here || is_exported(world, settled.names.len(), name) {
+    if is_textual(world, around.as_slice(), name) || is_declared(settled, call.krate, name) {
         return Ok(CallEnd::Found);
     }
     if !hidden.has_sysroot() {
