@@ -18,7 +18,7 @@ from rustc_tree import read
 REGISTRY = "/usr/share/cargo/registry"
 SYSROOT = os.path.realpath("/usr/lib/rustlib/src/rust/library")
 CARGO, RUSTC = "/usr/bin/cargo", "/usr/bin/rustc"
-SECONDS = 600
+SECONDS = 1_800
 PASS = re.compile(r"^time: +([\d.]+); rss: +\d+MB -> +(\d+)MB .*?\t(\w+)$", re.M)
 PASSES = ("parse_crate", "macro_expand_crate", "finalize_imports")
 RUNNING = re.compile(r"Running `(.*?)`\n", re.S)
