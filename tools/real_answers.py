@@ -29,6 +29,7 @@ class Ours:
 
     meant: set = field(default_factory=set)
     is_unknown: bool = False
+    is_builtin: bool = False  # a builtin type, too
     has_more: bool = False  # perhaps, in other namespaces, by macros
 
 
@@ -66,14 +67,16 @@ def imports(printed, own):
                 one.is_unknown = True
             elif part == "more unknown":
                 one.has_more = True
-            elif " builtin " not in part:
+            elif " builtin " in part:
+                one.is_builtin = True
+            else:
                 one.meant.add(meant_by(part, own))
     return found
 
 
 def unresolved(found):
     """The places of the imports that lead nowhere and are not told as unknown."""
-    return sorted(where for where, one in found.items() if not one.meant and not one.is_unknown)
+    return sorted(where for where, one in found.items() if not (one.meant or one.is_builtin or one.is_unknown))
 
 
 def without_constructors(meant, theirs):

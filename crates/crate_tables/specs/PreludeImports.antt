@@ -87,8 +87,11 @@ written_module c i _ names = None
 abbrev pub is_root_glob : Crate → UseId → UseLeaf → Bool
 is_root_glob k u x = (x.use_.0 == u.0) && ((x.home.0 == k.0) && is_glob x.import.kind)
 
+abbrev pub with_use : UseId → ModuleId → ModuleId × Option UseId
+with_use u m = (m, Some u)
+
 abbrev pub named_by : Lists → Importer → UseId → UseLeaf → Option (ModuleId × Option UseId)
-named_by c i u x = option_map (λ m. (m, Some u)) (written_module c i x.import.path.kind x.import.path.segments)
+named_by c i u x = option_map (with_use u) (written_module c i x.import.path.kind x.import.path.segments)
 
 -- the module that its first glob leads to
 abbrev pub named_by_use : Lists → Importer → List UseLeaf → UseId → Option (ModuleId × Option UseId)

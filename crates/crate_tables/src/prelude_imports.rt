@@ -1,7 +1,7 @@
 //! The preludes that crates name by `#[prelude_import]`.
 ghost use Rattle.std.specs.Prelude.{◌≡◌, IfOk, None, Some, slice_get};
 ghost use Rattle.std.specs.List.{find, list_any};
-ghost use Rattle.std.specs.Option.{option_copied};
+ghost use Rattle.std.specs.Option.{option_copied, option_map};
 ghost use Rattle.crate_tables.specs.PreludeImports as spec;
 
 use crate::crate_table::CrateTable;
@@ -159,6 +159,23 @@ fn written_module(
     }
 }
 
+/// The first of some leaves that is a glob of a use, in the root of a crate.
+fn root_glob(leaves: &[UseLeaf], krate: Crate, use_: UseId) -> Option<&UseLeaf>
+    ensures { option_copied result ≡ find (spec.is_root_glob krate use_) leaves.now }
+{
+    leaves.iter().find(|leaf| is_root_glob(krate, use_, leaf))
+}
+
+/// A prelude that a use names, if there is one.
+fn with_use(prelude: Option<ModuleId>, use_: UseId) -> Option<(ModuleId, Option<UseId>)>
+    ensures { result ≡ option_map (spec.with_use use_) prelude }
+{
+    match prelude {
+        None => None,
+        Some(m) => Some((m, Some(use_))),
+    }
+}
+
 /// The prelude that the glob of a use names, if it leads to a module.
 fn named_by_use(
     crates: &CrateLists<'_>,
@@ -168,13 +185,9 @@ fn named_by_use(
 ) -> Option<(ModuleId, Option<UseId>)>
     ensures { result ≡ spec.named_by_use crates.now importer.now leaves.now use_ }
 {
-    let krate = importer.krate;
-    match leaves.iter().find(|leaf| is_root_glob(krate, use_, leaf)) {
+    match root_glob(leaves, importer.krate, use_) {
         None => None,
-        Some(leaf) => {
-            let m = written_module(crates, importer, &leaf.import.path)?;
-            Some((m, Some(use_)))
-        }
+        Some(leaf) => with_use(written_module(crates, importer, &leaf.import.path), use_),
     }
 }
 

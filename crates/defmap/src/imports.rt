@@ -6,6 +6,7 @@ use crate::meanings::{imported, meant_in};
 use crate::partly::partly_unknown;
 use crate::path_text::path_text;
 use crate::places::{Lines, use_spot};
+use crate::prelude_use::prelude_use;
 use crate::settled::Settled;
 use dm_base::ids::{Crate, ModuleId, UseId, UseTreeIdx};
 use dm_base::item_in_ns::ItemModules;
@@ -127,6 +128,15 @@ impl<'s, 'h, 'l, 'f> Listing<'s, 'h, 'l, 'f> {
         Ok(())
     }
 
+    /// Adds the glob that names the prelude, which is none of the globs that bring names.
+    fn add_prelude(&mut self) -> Result<(), AllocError> {
+        if let Some(found) = prelude_use(self.alloc, self.settled)? {
+            let leaf = (found.use_, found.glob.tree);
+            self.add(found.home, &found.glob.path, leaf, None, "")?;
+        }
+        Ok(())
+    }
+
     fn add_globs(&mut self) -> Result<(), AllocError> {
         let settled = self.settled;
         for (place, glob) in settled.collected.globs.iter().enumerate() {
@@ -141,7 +151,7 @@ impl<'s, 'h, 'l, 'f> Listing<'s, 'h, 'l, 'f> {
     }
 }
 
-/// What each import of the crate that is asked about means, the named ones first.
+/// What each import of the crate that is asked about means, the named ones first, and the one that names its prelude last.
 pub(crate) fn imports_text(
     alloc: Global,
     settled: &Settled,
@@ -160,6 +170,7 @@ pub(crate) fn imports_text(
     };
     listing.add_named()?;
     listing.add_globs()?;
+    listing.add_prelude()?;
     let Listing {
         alloc: _alloc,
         settled: _settled,

@@ -27,6 +27,7 @@ mod partly;
 mod path_text;
 mod places;
 mod plan;
+mod prelude_use;
 mod reading;
 mod resolve;
 mod settled;
