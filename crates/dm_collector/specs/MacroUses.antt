@@ -58,9 +58,12 @@ of_rows files l k n (r ∷ rs) = of_row files l k n r ++ of_rows files l k (n + 
 
 -- ---- All crates
 
+abbrev pub library_of : List SourceFile → Data → Listing → Option Crate
+library_of files d l = library (attributes_of files d l) d.dependencies
+
 -- A crate has macros from its library, `std` or `core`, and then from its extern crates.
 abbrev pub sources_of : List SourceFile → List ExternCrateRow → Crate → Data → Listing → List MacroSource
-sources_of files rows k d l = of_library k (library (attributes_of files d l) d.dependencies) ++ of_rows files l k 0 rows
+sources_of files rows k d l = of_library k (library_of files d l) ++ of_rows files l k 0 rows
 
 abbrev pub sources_if : List SourceFile → List ExternCrateRow → Crate → Data → Option Listing → List MacroSource
 sources_if files rows k d None = []

@@ -182,6 +182,19 @@ fn push_rows(
     Ok(())
 }
 
+/// The library of a crate, by the list of its modules.
+fn library_of(
+    alloc: Global,
+    described: &CrateData,
+    list: &CrateModules,
+    files: &FileTable,
+) -> Result<Option<Crate>, AllocError>
+    ensures { IfOk result (λ found. found ≡ spec.library_of files.now described.now list.now) }
+{
+    let attributes = crate_attributes(alloc, list, files, described.root_file_id())?;
+    Ok(library(attributes.as_slice(), described.dependencies()))
+}
+
 /// Adds the macros that a crate has, by the list of its modules: those of its library first.
 fn push_sources(
     sources: &mut Vec<MacroSource>,
@@ -195,10 +208,10 @@ fn push_sources(
     ensures { OnOk result (sources.new.items ≡ sources.old.items
         ++ spec.sources_of files.now rows.now krate described.now list.now) }
 {
-    let attributes = crate_attributes(alloc, list, files, described.root_file_id())?;
-    let found = library(attributes.as_slice(), described.dependencies());
+    let found = library_of(alloc, described, list, files)?;
     push_library(sources, krate, found)?;
-    push_rows(sources, alloc, krate, list, files, rows)
+    push_rows(sources, alloc, krate, list, files, rows)?;
+    Ok(())
 }
 
 /// The same by the lists of all crates.
