@@ -7,6 +7,8 @@ from dataclasses import dataclass, field
 from itertools import takewhile
 from os.path import normpath
 
+from judging import Wrong
+
 # The words for rustc's kinds of definitions.
 KINDS = {"Mod": "mod", "Struct": "struct", "Union": "union", "Enum": "enum", "Variant": "variant", "Trait": "trait",
          "TraitAlias": "trait", "TyAlias": "type", "ForeignTy": "type", "Fn": "fn", "Const": "const", "Static": "static",
@@ -114,7 +116,9 @@ def read_use(said, name, owner, body, last):
 def read_module(said, path, lines):
     """Reads where a module ends, which the next lines tell."""
     said.declared[path] = set()
-    inner = next(span for span in map(SPAN.search, lines) if span)
+    inner = next((span for span in map(SPAN.search, lines) if span), None)
+    if inner is None:
+        raise Wrong("what rustc printed ends within a module")
     if inner[6] == "0":
         said.modules[path] = Place(normpath(inner[1]), int(inner[4]), int(inner[5]))
 
