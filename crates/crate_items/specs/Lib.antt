@@ -8,6 +8,7 @@ pub mod UsePaths
 pub mod DeclaredImports
 pub mod ItemAttributes
 pub mod DeclaredMacros
+pub mod ProceduralMacros
 pub mod MacroCalls
 pub mod CrateAttributes
 pub mod ItemRows

@@ -43,7 +43,11 @@ fn is_named(kind: LexemeKind) -> bool
 }
 
 /// What a lexeme names.
-fn lexeme_name(alloc: Global, text: &[u8], lexeme: Lexeme) -> Result<Option<Name>, AllocError>
+pub(crate) fn lexeme_name(
+    alloc: Global,
+    text: &[u8],
+    lexeme: Lexeme,
+) -> Result<Option<Name>, AllocError>
     ensures { IfOk result (λ name. name ≡ spec.lexeme_name text.now lexeme) }
 {
     if is_named(lexeme.kind) {

@@ -14,6 +14,7 @@ mod lexeme_names;
 mod lookups;
 pub mod macro_call;
 pub mod module_items;
+pub mod procedural_macro;
 mod shapes;
 pub mod textual_order;
 pub mod textual_scopes;
