@@ -9,8 +9,8 @@ use Rattle.crate_items.specs.declared.declared_variant.DeclaredVariant.{Declared
 use Rattle.crate_modules.specs.Modules.{Listing}
 use Rattle.crate_modules.specs.Sources.{Source, source_at}
 use Rattle.crate_tables.specs.CrateMaps.{Filled}
-use Rattle.crate_tables.specs.CrateTables.{def_at, use_at, with_def_at, with_leaves, with_named, with_use_at}
-use Rattle.crate_tables.specs.NewModules.{CrateView}
+use Rattle.crate_tables.specs.CrateTables.{Table, def_at, use_at, with_def_at, with_leaves, with_named, with_use_at}
+use Rattle.crate_tables.specs.NewModules.{CrateView, is_macro_root}
 use Rattle.crate_tables.specs.Visibilities.{id_at, visibility_of}
 use Rattle.dm_base.specs.PerNs.{of_def}
 use Rattle.dm_base.specs.declared.visibility.Visibility.{Visibility}
@@ -113,10 +113,15 @@ added_in c s x m v =
     if is_use x.kind then used s x m v (declared_imports c.list c.files x)
     else defined_if s x m v (def_kind x.kind) (declared_variants c.options c.list c.files x)
 
+-- whom an item of the module m is shown to
+abbrev pub visibility_in : CrateView → Table → DeclaredItem → ModuleId → Visibility
+visibility_in c t x m =
+    visibility_of (is_macro_root c x.«module») c.krate t.ids m (written_of c.list x) x.visibility
+
 -- an item of a module that was left out is, too
 abbrev pub added_if : CrateView → Filled → DeclaredItem → Option ModuleId → Filled
 added_if c s x None = s
-added_if c s x (Some m) = added_in c s x m (visibility_of c.krate s.table.ids m (written_of c.list x) x.visibility)
+added_if c s x (Some m) = added_in c s x m (visibility_in c s.table x m)
 
 abbrev pub with_declared : CrateView → Filled → DeclaredItem → Filled
 with_declared c s x = added_if c s x (id_at s.table.ids x.«module»)

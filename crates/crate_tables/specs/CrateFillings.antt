@@ -22,6 +22,7 @@ use Rattle.crate_tables.specs.CrateTables.{IsLeafOf, IsNameOf, Table}
 use Rattle.crate_tables.specs.ExternCrates.{Linked, with_extern_crates}
 use Rattle.crate_tables.specs.NewModules.{CrateView}
 use Rattle.crate_tables.specs.PreludeImports.{Importer, Lists, named_among}
+use Rattle.crate_tables.specs.ProceduralMacros.{with_procedural_macros}
 use Rattle.crate_tables.specs.StandardPreludes.{standard_prelude, unnamed, with_attributes, with_crate_prelude}
 use Rattle.crate_tables.specs.TextualMacros.{with_scopes}
 use Rattle.crate_tables.specs.declared.extern_crates.ExternCrateRow.{ExternCrateRow}
@@ -57,10 +58,14 @@ in_scope c made items = record {
 abbrev pub with_macros_in_scope : CrateView → Filled → List DeclaredItem → Filled
 with_macros_in_scope c s items = in_scope c (with_macros c (record { world = s.world; table = s.table; ids = [] }) items) items
 
+-- before these the procedural macros are added
+abbrev pub with_all_macros : CrateView → Filled → List DeclaredItem → Filled
+with_all_macros c s items = with_macros_in_scope c (with_procedural_macros c s items) items
+
 -- macros and other items leave the extern crates as they are
 abbrev pub macros_added : CrateView → Linked → List DeclaredItem → Linked
 macros_added c s items =
-    let made = with_macros_in_scope c (record { world = s.world; table = s.table }) items in
+    let made = with_all_macros c (record { world = s.world; table = s.table }) items in
     record { world = made.world; table = made.table; rows = s.rows }
 
 abbrev pub others_added : CrateView → Linked → List DeclaredItem → Linked
@@ -86,7 +91,14 @@ pub record HasList (c : CrateView) (ds : List Dependency) (w : World) (rows : Li
       (flat_map (declared_of c.edition c.list c.files) items)
 
 abbrev pub view_of : List SourceFile → Crate → Data → Listing → CrateView
-view_of files k d l = record { krate = k; edition = d.edition; options = d.cfg_options; list = l; files = files }
+view_of files k d l = record {
+  krate = k;
+  edition = d.edition;
+  options = d.cfg_options;
+  is_proc_macro = d.is_proc_macro;
+  list = l;
+  files = files;
+}
 
 -- a crate with its attributes: its dependencies are in its extern prelude, and then its map has what they set
 abbrev pub prepared : World → Crate → List CrateAttribute → List Dependency → World

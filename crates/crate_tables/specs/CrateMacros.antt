@@ -2,13 +2,12 @@
 use Rattle.std.specs.Prelude.{◌++◌, List, [], ◌∷◌, Option, None, Some, length, if◌then◌else◌}
 use Rattle.crate_items.specs.DeclaredMacros.{is_macro_exported}
 use Rattle.crate_items.specs.declared.declared_item.DeclaredItem.{DeclaredItem}
+use Rattle.crate_tables.specs.CrateDefs.{visibility_in}
 use Rattle.crate_tables.specs.CrateRoots.{root_id}
 use Rattle.crate_tables.specs.CrateTables.{Table, def_at, with_def_at, with_named}
-use Rattle.crate_tables.specs.ExternCrates.{visibility_in}
 use Rattle.crate_tables.specs.NewModules.{CrateView}
-use Rattle.crate_tables.specs.Visibilities.{id_at}
+use Rattle.crate_tables.specs.Visibilities.{id_at, public_in}
 use Rattle.dm_base.specs.PerNs.{macro_alone}
-use Rattle.dm_base.specs.declared.visibility.Visibility.TheVariants.{Public}
 use Rattle.dm_ids.specs.declared.ids.ModuleId.{ModuleId}
 use Rattle.dm_ids.specs.declared.item_ids.MacroId.{MacroId}
 use Rattle.dm_ids.specs.declared.item_ids.ModuleDefId.TheVariants as def
@@ -37,9 +36,13 @@ macro_loc item.MacroRules = Some (loc.MacroRules by_rules)
 macro_loc item.Macro2 = Some (loc.Macro2 by_rules)
 macro_loc _ = None
 
--- one by `macro_rules!` that is exported is declared in the root of its crate, for all; others of that kind nowhere
+-- one by `macro_rules!` that is exported is declared in the root of its crate, as what is public there; others of that
+-- kind are declared nowhere
 abbrev pub exported : CrateView → Table → DeclaredItem → MacroId → Table
-exported c t x id = if is_macro_exported c.list x then with_named t (root_id c.krate) x.name (macro_alone id Public None) else t
+exported c t x id =
+    if is_macro_exported c.list x
+    then with_named t (root_id c.krate) x.name (macro_alone id (public_in c.is_proc_macro c.krate) None)
+    else t
 
 -- one by `macro` is declared in its module, seen as it is written
 abbrev pub declared_in : CrateView → Table → DeclaredItem → ModuleId → MacroId → Table

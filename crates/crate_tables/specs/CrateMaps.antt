@@ -2,7 +2,7 @@
 use Rattle.std.specs.Prelude.{Bool, true, false, List, [], ◌∷◌, Option, None, Some, drop, if◌then◌else◌}
 use Rattle.crate_modules.specs.DeclaredModules.{Module}
 use Rattle.crate_tables.specs.CrateTables.{Table, left_out, no_table, with_id}
-use Rattle.crate_tables.specs.NewModules.{CrateView, new_module, origin_of}
+use Rattle.crate_tables.specs.NewModules.{CrateView, is_macro_root, new_module, origin_of}
 use Rattle.crate_tables.specs.Visibilities.{id_at, visibility_of}
 use Rattle.crate_tables.specs.declared.new_module.NewModule.{NewModule}
 use Rattle.dm_base.specs.declared.visibility.Visibility.{Visibility}
@@ -37,18 +37,19 @@ with_child e s m p v = record {
 }
 
 -- where the module was left out that it stands in, so is it
-abbrev pub below : Crate → Edition → Filled → NewModule → Option ModuleId → Filled
-below k e s m None = record s { table = left_out s.table }
-below k e s m (Some p) = with_child e s m p (visibility_of k s.table.ids p m.written m.shown)
+abbrev pub below : CrateView → Filled → NewModule → Option ModuleId → Filled
+below v s m None = record s { table = left_out s.table }
+below v s m (Some p) =
+    with_child v.edition s m p (visibility_of (is_macro_root v m.parent) v.krate s.table.ids p m.written m.shown)
 
-abbrev pub with_one : Crate → Edition → Filled → Option NewModule → Filled
-with_one k e s None = record s { table = left_out s.table }
-with_one k e s (Some m) = below k e s m (id_at s.table.ids m.parent)
+abbrev pub with_one : CrateView → Filled → Option NewModule → Filled
+with_one v s None = record s { table = left_out s.table }
+with_one v s (Some m) = below v s m (id_at s.table.ids m.parent)
 
 -- Each module of a list that is no duplicate is added, in order, with its parent, name, origin and visibility.
 abbrev pub with_modules : CrateView → Filled → List Module → Filled
 with_modules v s [] = s
-with_modules v s (m ∷ ms) = with_modules v (with_one v.krate v.edition s (new_module v m)) ms
+with_modules v s (m ∷ ms) = with_modules v (with_one v s (new_module v m)) ms
 
 -- the table of a crate that has its root alone
 abbrev pub root_alone : ModuleId → Table

@@ -7,11 +7,11 @@ use Rattle.crate_items.specs.declared.declared_item.DeclaredItem.{DeclaredItem}
 use Rattle.crate_items.specs.declared.declared_item.LinkedCrate.{LinkedCrate}
 use Rattle.crate_items.specs.declared.declared_item.LinkedCrate.TheVariants.{Itself, Named}
 use Rattle.crate_modules.specs.declared.dependency.Dependency.{Dependency}
-use Rattle.crate_tables.specs.CrateDefs.{written_of}
+use Rattle.crate_tables.specs.CrateDefs.{visibility_in}
 use Rattle.crate_tables.specs.CrateRoots.{root_id}
 use Rattle.crate_tables.specs.CrateTables.{Table, with_named}
 use Rattle.crate_tables.specs.NewModules.{CrateView}
-use Rattle.crate_tables.specs.Visibilities.{id_at, visibility_of}
+use Rattle.crate_tables.specs.Visibilities.{id_at}
 use Rattle.crate_tables.specs.declared.extern_crates.ExternCrateRow.{ExternCrateRow}
 use Rattle.dm_base.specs.PerNs.{type_alone}
 use Rattle.dm_base.specs.declared.per_ns.PerNs.{PerNs}
@@ -84,9 +84,6 @@ entered_if w k x id None = w
 entered_if w k x id (Some root) = entered w k x root id
 
 -- the root is declared under the item's name, seen as the item is
-abbrev pub visibility_in : CrateView → Table → DeclaredItem → ModuleId → Visibility
-visibility_in c t x m = visibility_of c.krate t.ids m (written_of c.list x) x.visibility
-
 abbrev pub declared : CrateView → Table → DeclaredItem → ModuleId → ModuleId → ExternCrateId → Table
 declared c t x m root id = with_named t m x.name (root_name root (visibility_in c t x m) id)
 

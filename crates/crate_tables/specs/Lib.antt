@@ -8,6 +8,7 @@ pub mod ExternCrates
 pub mod StandardPreludes
 pub mod PreludeImports
 pub mod CrateMacros
+pub mod ProceduralMacros
 pub mod CrateFillings
 pub mod DeclaredWorlds
 pub mod TextualMacros

@@ -1,5 +1,5 @@
 -- Modules of a crate, as they are added to a builder.
-use Rattle.std.specs.Prelude.{ℕ, Bool, List, Option, None, Some, codes, nat_eq, option_map, slice_get}
+use Rattle.std.specs.Prelude.{◌==◌, ◌&&◌, ℕ, Bool, List, Option, None, Some, codes, nat_eq, option_map, slice_get}
 use Rattle.std.specs.List.{ends_with}
 use Rattle.crate_modules.specs.DeclaredModules.{Module}
 use Rattle.crate_modules.specs.Files.{SourceFile, path_of, text_of}
@@ -20,13 +20,19 @@ use Rattle.dm_ids.specs.declared.source.HirFileId.TheVariants as file
 use Rattle.dm_ids.specs.declared.source.TreeId.{TreeId}
 use Rattle.item_tree.specs.declared.cfg.CfgAtom.{CfgAtom}
 
--- a crate: its number in the builder, its edition and options, its modules, and the files
+-- a crate: its number in the builder, its edition and options, whether it has procedural macros, its modules, and the
+-- files
 pub record CrateView : Type 0 where
   pub krate : Crate
   pub edition : Edition
   pub options : List CfgAtom
+  pub is_proc_macro : Bool
   pub list : Listing
   pub files : List SourceFile
+
+-- the module of a number is the root of a crate of procedural macros
+abbrev pub is_macro_root : CrateView → ℕ → Bool
+is_macro_root v n = v.is_proc_macro && (n == 0)
 
 -- a file of the name `mod.rs` in some folder
 abbrev pub is_mod_rs : List ℕ → Bool

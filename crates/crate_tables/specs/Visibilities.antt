@@ -1,5 +1,5 @@
 -- Whom a module or an item of a crate is shown to, by the modules of a builder.
-use Rattle.std.specs.Prelude.{◌≡◌, ℕ, IsTrue, List, Option, None, Some, slice_get, unwrap_or}
+use Rattle.std.specs.Prelude.{◌≡◌, ℕ, Bool, IsTrue, List, Option, None, Some, slice_get, unwrap_or, if◌then◌else◌}
 use Rattle.crate_modules.specs.declared.module_visibility.DeclaredVisibility.{DeclaredVisibility}
 use Rattle.crate_modules.specs.declared.module_visibility.DeclaredVisibility.TheVariants as shown
 use Rattle.dm_base.specs.declared.visibility.Visibility.{Visibility}
@@ -40,8 +40,12 @@ abbrev pub within : Crate → ModuleId → RawVisibility → Visibility
 within k m raw.PubCrate = PubCrate k
 within k m written = Module m (explicitness written)
 
+-- What is public is shown to all; in the root of a crate of procedural macros, which is closed, to the crate alone.
+abbrev pub public_in : Bool → Crate → Visibility
+public_in is_closed k = if is_closed then PubCrate k else Public
+
 -- The visibility of what is written so in a module: what leads nowhere is the module's own.
-abbrev pub visibility_of : Crate → Ids → ModuleId → RawVisibility → Option DeclaredVisibility → Visibility
-visibility_of k ids m written None = Module m (explicitness written)
-visibility_of k ids m written (Some shown.Public) = Public
-visibility_of k ids m written (Some (shown.Within n)) = within k (unwrap_or (id_at ids n) m) written
+abbrev pub visibility_of : Bool → Crate → Ids → ModuleId → RawVisibility → Option DeclaredVisibility → Visibility
+visibility_of is_closed k ids m written None = Module m (explicitness written)
+visibility_of is_closed k ids m written (Some shown.Public) = public_in is_closed k
+visibility_of is_closed k ids m written (Some (shown.Within n)) = within k (unwrap_or (id_at ids n) m) written

@@ -279,6 +279,32 @@ fn add_in(
     }
 }
 
+/// Whom an item of a module is shown to.
+pub(crate) fn item_visibility(
+    builder: &WorldBuilder,
+    table: &CrateTable,
+    view: &CrateView<'_>,
+    item: &DeclaredItem,
+    m: ModuleId,
+) -> Visibility
+    requires table { IsTableOf builder.now view.now.krate table.now }
+    requires home { IsTrue (knows builder.now (held.Module m)) }
+    ensures exact { result ≡ spec.visibility_in view.now table.now item.now m }
+    ensures known { KnowsAll builder.now (vis_holds result) }
+{
+    let is_closed = view.is_macro_root(item.module);
+    let written = written_of(view.list, item);
+    known_visibility(
+        builder,
+        is_closed,
+        view.krate,
+        table,
+        m,
+        written,
+        item.visibility,
+    )
+}
+
 /// Adds an item of a crate, unless its module was left out.
 fn add_item(
     builder: &mut WorldBuilder,
@@ -297,15 +323,7 @@ fn add_item(
     match parent_id(builder, view.krate, table, item.module) {
         None => Ok(()),
         Some(m) => {
-            let written = written_of(view.list, &item);
-            let visibility = known_visibility(
-                builder,
-                view.krate,
-                table,
-                m,
-                written,
-                item.visibility,
-            );
+            let visibility = item_visibility(builder, table, view, &item, m);
             add_in(builder, table, alloc, view, item, m, visibility)
         }
     }

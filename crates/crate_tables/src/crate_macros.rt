@@ -3,25 +3,28 @@ ghost use Rattle.std.specs.Prelude.{◌≡◌, ◌++◌, ◌∷◌, [], None, So
 ghost use Rattle.crate_tables.specs.CrateMacros as spec;
 ghost use Rattle.crate_tables.specs.CrateMaps.{is_shortage};
 ghost use Rattle.crate_tables.specs.CrateRoots as roots;
-ghost use Rattle.crate_tables.specs.CrateTables.{IsTableOf};
+ghost use Rattle.crate_tables.specs.CrateTables.{IsTableOf, with_named};
+ghost use Rattle.dm_base.specs.PerNs.{macro_alone};
+ghost use Rattle.dm_check.specs.Holding.{vis_holds};
 ghost use Rattle.dm_check.specs.declared.held.HeldId.TheVariants as held;
 ghost use Rattle.dm_maps.specs.Added.{IsGrown};
 ghost use Rattle.dm_maps.specs.BuildItems.{with_macro};
-ghost use Rattle.dm_maps.specs.Known.{knows};
+ghost use Rattle.dm_maps.specs.Known.{knows, KnowsAll};
 
-use crate::crate_defs::written_of;
+use crate::crate_defs::item_visibility;
 use crate::crate_maps::parent_id;
 use crate::crate_roots::root_id;
 use crate::crate_table::CrateTable;
 use crate::item_names::name_of;
 use crate::item_place::DefPlace;
 use crate::new_module::CrateView;
-use crate::visibilities::known_visibility;
+use crate::visibilities::known_public;
 use crate_items::declared_item::DeclaredItem;
 use crate_items::declared_macro::is_macro_exported;
-use dm_base::ids::ModuleId;
+use dm_base::ids::{Crate, ModuleId};
 use dm_base::item_ids::{MacroId, ModuleDefId};
 use dm_base::macros::{MacroCallStyles, MacroExpander, MacroLoc};
+use dm_base::name::Name;
 use dm_base::per_ns::PerNs;
 use dm_base::visibility::Visibility;
 use dm_maps::build_fault::BuildFault;
@@ -57,6 +60,30 @@ fn push_id(ids: &mut Vec<Option<MacroId>>, id: Option<MacroId>) -> Result<(), Al
     Ok(())
 }
 
+/// Declares a macro in a module, seen so.
+pub(crate) fn declare_seen(
+    builder: &WorldBuilder,
+    table: &mut CrateTable,
+    krate: Crate,
+    m: ModuleId,
+    name: Option<Name>,
+    id: MacroId,
+    visibility: Visibility,
+) -> Result<(), BuildFault>
+    requires table { IsTableOf builder.now krate table.old }
+    requires home { IsTrue (knows builder.now (held.Module m)) }
+    requires id { IsTrue (knows builder.now (held.Macro id)) }
+    requires seen { KnowsAll builder.now (vis_holds visibility) }
+    ensures table { OnOk result
+        (table.new ≡ with_named table.old m name (macro_alone id visibility None)) }
+    ensures kept { OnOk result (IsTableOf builder.now krate table.new) }
+    ensures fault { IfErr result (λ fault. is_shortage fault ≡ true) }
+{
+    let _world = builder;
+    table.push_named(m, name, PerNs::macros(id, visibility, None))?;
+    Ok(())
+}
+
 /// Declares a macro in the root of its crate, if it is exported.
 fn export(
     builder: &WorldBuilder,
@@ -73,12 +100,11 @@ fn export(
     ensures kept { OnOk result (IsTableOf builder.now view.now.krate table.new) }
     ensures fault { IfErr result (λ fault. is_shortage fault ≡ true) }
 {
-    let _world = builder;
     if is_macro_exported(alloc, view.list, item)? {
         let name = name_of(alloc, item)?;
-        let items = PerNs::macros(id, Visibility::Public, None);
-        table.push_named(root_id(view.krate), name, items)?;
-        Ok(())
+        let krate = view.krate;
+        let visibility = known_public(builder, view.is_proc_macro, krate, table);
+        declare_seen(builder, table, krate, root_id(krate), name, id, visibility)
     } else {
         Ok(())
     }
@@ -101,11 +127,9 @@ fn declare_in(
     ensures kept { OnOk result (IsTableOf builder.now view.now.krate table.new) }
     ensures fault { IfErr result (λ fault. is_shortage fault ≡ true) }
 {
-    let written = written_of(view.list, item);
-    let visibility = known_visibility(builder, view.krate, table, m, written, item.visibility);
+    let visibility = item_visibility(builder, table, view, item, m);
     let name = name_of(alloc, item)?;
-    table.push_named(m, name, PerNs::macros(id, visibility, None))?;
-    Ok(())
+    declare_seen(builder, table, view.krate, m, name, id, visibility)
 }
 
 /// Declares a macro where its kind is declared.
@@ -224,8 +248,8 @@ fn add_one(
 }
 
 /// Adds the macros among the items of a crate, as `declared_items` gives them, each in its module. One by `macro` is
-/// declared there under its name; one by `macro_rules!` only where it is exported, and then in the root of the crate, for
-/// all. Answers for each item the macro that it is.
+/// declared there under its name; one by `macro_rules!` only where it is exported, and then in the root of the crate,
+/// as what is public there. Answers for each item the macro of these that it is: a procedural macro is none.
 ///
 /// # Errors
 ///

@@ -135,34 +135,34 @@ fn add_one(
     builder: &mut WorldBuilder,
     table: &mut CrateTable,
     alloc: Global,
-    krate: Crate,
-    edition: Edition,
+    view: &CrateView<'_>,
     new: Option<NewModule>,
 ) -> Result<(), BuildFault>
-    requires { IsTableOf builder.old krate table.old }
-    ensures world { OnOk result (builder.new ≡ (spec.with_one krate edition
+    requires { IsTableOf builder.old view.now.krate table.old }
+    ensures world { OnOk result (builder.new ≡ (spec.with_one view.now
         (record { world = builder.old; table = table.old }) new).world) }
-    ensures table { OnOk result (table.new ≡ (spec.with_one krate edition
+    ensures table { OnOk result (table.new ≡ (spec.with_one view.now
         (record { world = builder.old; table = table.old }) new).table) }
-    ensures kept { OnOk result (IsTableOf builder.new krate table.new) }
+    ensures kept { OnOk result (IsTableOf builder.new view.now.krate table.new) }
     ensures grown { IsGrown builder.old builder.new }
     ensures fault { IfErr result (λ fault. spec.is_shortage fault ≡ true) }
 {
     let Some(new) = new else {
-        return leave_out(builder, krate, table);
+        return leave_out(builder, view.krate, table);
     };
-    match parent_id(builder, krate, table, new.parent) {
-        None => leave_out(builder, krate, table),
+    match parent_id(builder, view.krate, table, new.parent) {
+        None => leave_out(builder, view.krate, table),
         Some(parent) => {
             let visibility = known_visibility(
                 builder,
-                krate,
+                view.is_macro_root(new.parent),
+                view.krate,
                 table,
                 parent,
                 new.written,
                 new.shown,
             );
-            add_seen(builder, table, alloc, edition, new, parent, visibility)
+            add_seen(builder, table, alloc, view.edition, new, parent, visibility)
         }
     }
 }
@@ -177,14 +177,14 @@ fn add_declared(
 ) -> Result<(), BuildFault>
     requires { IsTableOf builder.old view.now.krate table.old }
     ensures filled { OnOk result ((record { world = builder.new; table = table.new }) ≡
-        spec.with_one view.now.krate view.now.edition (record { world = builder.old; table = table.old })
+        spec.with_one view.now (record { world = builder.old; table = table.old })
         (new_module view.now declared.now)) }
     ensures kept { OnOk result (IsTableOf builder.new view.now.krate table.new) }
     ensures grown { IsGrown builder.old builder.new }
     ensures fault { IfErr result (λ fault. spec.is_shortage fault ≡ true) }
 {
     let new = view.new_module(alloc, declared)?;
-    add_one(builder, table, alloc, view.krate, view.edition, new)
+    add_one(builder, table, alloc, view, new)
 }
 
 /// The modules of a list but its first, the root.

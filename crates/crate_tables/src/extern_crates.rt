@@ -9,13 +9,12 @@ ghost use Rattle.dm_ids.specs.declared.ids.Crate.{Crate};
 ghost use Rattle.dm_maps.specs.Added.{IsGrown};
 ghost use Rattle.dm_maps.specs.Known.{knows, KnowsAll};
 
-use crate::crate_defs::written_of;
+use crate::crate_defs::item_visibility;
 use crate::crate_maps::parent_id;
 use crate::crate_roots::root_id;
 use crate::crate_table::CrateTable;
 use crate::item_names::name_of;
 use crate::new_module::CrateView;
-use crate::visibilities::known_visibility;
 use crate_items::declared_item::{DeclaredItem, LinkedCrate, linked_crate};
 use crate_modules::dependency::Dependency;
 use dm_base::ids::{Crate, ExternCrateId, FileId, ModuleId};
@@ -170,8 +169,7 @@ fn declare_root(
     ensures kept { OnOk result (IsTableOf builder.now view.now.krate table.new) }
     ensures fault { IfErr result (λ fault. is_shortage fault ≡ true) }
 {
-    let written = written_of(view.list, item);
-    let visibility = known_visibility(builder, view.krate, table, m, written, item.visibility);
+    let visibility = item_visibility(builder, table, view, item, m);
     let import = ImportOrExternCrate::ExternCrate(id);
     let items = PerNs::types(ModuleDefId::ModuleId(root), visibility, Some(import));
     let name = name_of(alloc, item)?;

@@ -1,6 +1,7 @@
 //! The tables of a world, filled from crates: their roots, modules and extern preludes.
 #![tactic(auto)]
 
+mod all_macros;
 pub mod crate_defs;
 pub mod crate_filling;
 pub mod crate_macros;
@@ -15,6 +16,7 @@ mod item_names;
 pub mod item_place;
 pub mod new_module;
 mod prelude_imports;
+pub mod procedural_macros;
 mod set_preludes;
 pub mod standard_prelude;
 pub mod table_parts;

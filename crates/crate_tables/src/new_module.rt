@@ -17,12 +17,14 @@ use item_tree::visibility::RawVisibility;
 use std::alloc::{AllocError, Global};
 use std::marker::Model;
 
-/// A crate: its number in a builder, its edition and options, the modules that it declares, and the files.
+/// A crate: its number in a builder, its edition and options, whether it has procedural macros, the modules that it
+/// declares, and the files.
 #[derive(Drop)]
 pub struct CrateView<'a> {
     pub krate: Crate,
     pub edition: Edition,
     pub options: &'a CfgOptions,
+    pub is_proc_macro: bool,
     pub list: &'a CrateModules,
     pub files: &'a FileTable,
 }
@@ -36,6 +38,7 @@ impl<'a> Model for CrateView<'a> {
       krate = v.krate;
       edition = v.edition;
       options = v.options.now;
+      is_proc_macro = v.is_proc_macro;
       list = v.list.now;
       files = v.files.now;
     } };
@@ -107,6 +110,13 @@ fn own_file(files: &FileTable, id: FileId, item: Option<usize>) -> Option<OwnFil
 }
 
 impl<'a> CrateView<'a> {
+    /// Whether the module of a number is the root of a crate of procedural macros.
+    pub(crate) fn is_macro_root(&self, number: usize) -> bool
+        ensures { result ≡ spec.is_macro_root self.now number }
+    {
+        self.is_proc_macro && number == 0
+    }
+
     /// Whom a declaration shows its module to.
     fn shown(&self, declaration: &Declaration) -> Option<DeclaredVisibility>
         ensures { result ≡ spec.shown_in self.now declaration.now

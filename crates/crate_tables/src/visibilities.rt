@@ -53,19 +53,47 @@ fn id_or(ids: &[Option<ModuleId>], number: usize, m: ModuleId) -> ModuleId
     }
 }
 
+/// The visibility of what is public: in the root of a crate of procedural macros, which is closed, that of the crate.
+fn public_in(is_closed: bool, krate: Crate) -> Visibility
+    ensures { result ≡ spec.public_in is_closed krate }
+{
+    if is_closed {
+        Visibility::PubCrate(krate)
+    } else {
+        Visibility::Public
+    }
+}
+
+/// The same in a builder that has the crate: it names what is the builder's.
+pub(crate) fn known_public(
+    builder: &WorldBuilder,
+    is_closed: bool,
+    krate: Crate,
+    table: &CrateTable,
+) -> Visibility
+    requires { IsTableOf builder.now krate table.now }
+    ensures exact { result ≡ spec.public_in is_closed krate }
+    ensures known { KnowsAll builder.now (vis_holds result) }
+{
+    let _world = builder;
+    let _table = table;
+    public_in(is_closed, krate)
+}
+
 /// The visibility of what is written so in a module. Where it leads nowhere, the module alone sees it.
 fn visibility_of(
+    is_closed: bool,
     krate: Crate,
     ids: &[Option<ModuleId>],
     m: ModuleId,
     written: RawVisibility,
     shown: Option<DeclaredVisibility>,
 ) -> Visibility
-    ensures { result ≡ spec.visibility_of krate ids.now m written shown }
+    ensures { result ≡ spec.visibility_of is_closed krate ids.now m written shown }
 {
     match shown {
         None => Visibility::Module(m, explicitness(written)),
-        Some(DeclaredVisibility::Public) => Visibility::Public,
+        Some(DeclaredVisibility::Public) => public_in(is_closed, krate),
         Some(DeclaredVisibility::Within(number)) => within(krate, id_or(ids, number, m), written),
     }
 }
@@ -73,6 +101,7 @@ fn visibility_of(
 /// The same in a module of a builder, by what a crate has there: it names what is the builder's.
 pub(crate) fn known_visibility(
     builder: &WorldBuilder,
+    is_closed: bool,
     krate: Crate,
     table: &CrateTable,
     m: ModuleId,
@@ -81,9 +110,9 @@ pub(crate) fn known_visibility(
 ) -> Visibility
     requires table { IsTableOf builder.now krate table.now }
     requires home { IsTrue (knows builder.now (held.Module m)) }
-    ensures exact { result ≡ spec.visibility_of krate table.now.ids m written shown }
+    ensures exact { result ≡ spec.visibility_of is_closed krate table.now.ids m written shown }
     ensures known { KnowsAll builder.now (vis_holds result) }
 {
     let _world = builder;
-    visibility_of(krate, table.ids(), m, written, shown)
+    visibility_of(is_closed, krate, table.ids(), m, written, shown)
 }
