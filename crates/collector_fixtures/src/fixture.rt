@@ -2,7 +2,7 @@
 //!
 //! A fixture begins with a line `=== NAME`. A line `//- PATH` begins a file; words behind it make it the root of a crate:
 //! `crate:NAME`, `edition:2018`, `deps:a,name=b` for what is in the extern prelude, `hidden:a` for what `extern crate`
-//! alone finds, and `cfg:a,b`.
+//! alone finds, `cfg:a,b`, and `proc-macro` for a crate of procedural macros.
 use dm_ids::source::Edition;
 use std::alloc::{AllocError, Global};
 
@@ -25,6 +25,8 @@ pub(crate) struct FixtureCrate<'a> {
     pub(crate) hidden: &'a str,
     /// Options that hold in it, with commas between.
     pub(crate) cfgs: &'a str,
+    /// Whether it has procedural macros.
+    pub(crate) is_proc_macro: bool,
 }
 
 /// A small crate graph.
@@ -46,6 +48,12 @@ fn edition_of(word: &str) -> Edition {
 
 /// A crate with what a word says of it.
 fn with_word<'a>(krate: FixtureCrate<'a>, word: &'a str) -> FixtureCrate<'a> {
+    if word == "proc-macro" {
+        return FixtureCrate {
+            is_proc_macro: true,
+            ..krate
+        };
+    }
     match word.split_once(':') {
         Some(("crate", name)) => FixtureCrate { name, ..krate },
         Some(("edition", edition)) => FixtureCrate {
@@ -70,6 +78,7 @@ fn crate_of(rest: &str) -> Option<FixtureCrate<'_>> {
         deps: "",
         hidden: "",
         cfgs: "",
+        is_proc_macro: false,
     };
     for word in words {
         krate = with_word(krate, word);

@@ -107,7 +107,7 @@ pub(crate) fn graph_of(
             root,
             krate.edition,
             options_of(alloc, *krate)?,
-            false,
+            krate.is_proc_macro,
             Vec::new(alloc),
         );
         if graph.knows(&added) {
