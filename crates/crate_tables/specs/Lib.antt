@@ -4,6 +4,7 @@ pub mod NewModules
 pub mod CrateMaps
 pub mod CrateRoots
 pub mod CrateDefs
+pub mod RawVisibilities
 pub mod ExternCrates
 pub mod StandardPreludes
 pub mod PreludeImports
@@ -11,4 +12,5 @@ pub mod CrateMacros
 pub mod CrateFillings
 pub mod DeclaredWorlds
 pub mod TextualMacros
+pub mod ScopeLists
 pub mod Kept

@@ -2,7 +2,7 @@
 ghost use Rattle.std.specs.Prelude.{◌≡◌, ◌++◌, ◌∷◌, ◌<◌, [], All, IfErr, IfOk, IsTrue, OnOk, Some, length, slice_get};
 ghost use Rattle.crate_modules.specs.CrateGraphs.{AreKnown};
 ghost use Rattle.crate_tables.specs.CrateFillings as spec;
-ghost use Rattle.crate_tables.specs.CrateRoots.{KnowsRoots, root_holds, root_id as root_of, with_roots};
+ghost use Rattle.crate_tables.specs.CrateRoots.{KnowsRoots, root_holds, with_roots};
 ghost use Rattle.crate_tables.specs.CrateTables.{IsTableOf};
 ghost use Rattle.crate_tables.specs.ExternCrates.{Linked, linkable};
 ghost use Rattle.crate_tables.specs.DeclaredWorlds.{BindNothing};
@@ -13,21 +13,18 @@ ghost use Rattle.dm_maps.specs.Added.{IsGrown};
 ghost use Rattle.dm_maps.specs.Build.{no_world};
 ghost use Rattle.dm_maps.specs.Known.{knows, KnowsAll};
 
-use crate::crate_defs::add_items;
-use crate::crate_macros::add_macros;
+use crate::all_items::add_all_items;
 use crate::crate_maps::add_modules;
 use crate::crate_roots::{add_externs, crate_roots, root_id};
 use crate::crate_table::CrateTable;
-use crate::extern_crates::{ExternCrateRow, add_extern_crates};
+use crate::extern_crates::ExternCrateRow;
 use crate::fill_fault::FillFault;
 use crate::new_module::CrateView;
 use crate::set_preludes::set_preludes;
 use crate::standard_prelude::set_attributes;
-use crate::textual_macros::add_textual_macros;
 use crate_items::crate_attributes::{CrateAttribute, crate_attributes};
-use crate_items::declared_item::{DeclaredItem, declared_items};
+use crate_items::declared_item::declared_items;
 use crate_items::module_items::module_items;
-use crate_items::textual_scopes::textual_scopes;
 use crate_modules::crate_data::CrateData;
 use crate_modules::crate_graph::CrateGraph;
 use crate_modules::dependency::Dependency;
@@ -84,67 +81,6 @@ fn listed(
         Err(ModulesError::TooManyModules) => Err(FillFault::TooManyModules(krate)),
         Err(ModulesError::OutOfMemory) => Err(FillFault::OutOfMemory),
     }
-}
-
-/// Adds the macros among the items of a crate, and gives each module those that are in its textual scope.
-fn add_macros_in_scope(
-    builder: &mut WorldBuilder,
-    table: &mut CrateTable,
-    alloc: Global,
-    view: &CrateView<'_>,
-    items: &[DeclaredItem],
-) -> Result<(), BuildFault>
-    requires table { IsTableOf builder.old view.now.krate table.old }
-    requires root { IsTrue (knows builder.old (held.Module (root_of view.now.krate))) }
-    ensures added { OnOk result ((record { world = builder.new; table = table.new }) ≡
-        spec.with_macros_in_scope view.now (record { world = builder.old; table = table.old }) items.now) }
-    ensures kept { OnOk result (IsTableOf builder.new view.now.krate table.new) }
-    ensures stays { IsKept builder.old builder.new }
-{
-    let macros = add_macros(builder, table, alloc, view, items)?;
-    let scopes = textual_scopes(alloc, view.list, items)?;
-    add_textual_macros(
-        builder,
-        alloc,
-        view.krate,
-        table,
-        items,
-        macros.as_slice(),
-        scopes.as_slice(),
-    )?;
-    Ok(())
-}
-
-/// Adds the items of a crate: its extern crates first, then its macros, and then all others.
-fn add_all_items(
-    builder: &mut WorldBuilder,
-    table: &mut CrateTable,
-    externs: &mut Vec<ExternCrateRow>,
-    alloc: Global,
-    view: &CrateView<'_>,
-    dependencies: &[Dependency],
-    items: Vec<DeclaredItem>,
-) -> Result<(), BuildFault>
-    requires table { IsTableOf builder.old view.now.krate table.old }
-    requires roots { KnowsAll builder.old (linkable view.now.krate dependencies.now) }
-    ensures added { OnOk result ((record { world = builder.new; table = table.new; rows = externs.new.items }) ≡
-        spec.with_all_items view.now dependencies.now
-        (record { world = builder.old; table = table.old; rows = externs.old.items }) items.items) }
-    ensures kept { OnOk result (IsTableOf builder.new view.now.krate table.new) }
-    ensures stays { IsKept builder.old builder.new }
-{
-    add_extern_crates(
-        builder,
-        table,
-        externs,
-        alloc,
-        view,
-        dependencies,
-        items.as_slice(),
-    )?;
-    add_macros_in_scope(builder, table, alloc, view, items.as_slice())?;
-    add_items(builder, table, alloc, view, items)?;
-    Ok(())
 }
 
 /// Adds the modules of a crate's list, and their items.

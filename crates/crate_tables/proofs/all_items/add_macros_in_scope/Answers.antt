@@ -1,5 +1,5 @@
 use Rattle.crate_tables.proofs.KeptLemmas.{kept-further, kept-grown, kept-textual}
-use Rattle.crate_tables.proofs.crate_filling.add_macros_in_scope.Goals as goal
+use Rattle.crate_tables.proofs.all_items.add_macros_in_scope.Goals as goal
 
 pub returns-in_err-macros-clause-stays : goal.returns-in_err-macros-clause-stays
 returns-in_err-macros-clause-stays c = kept-grown _ _ c.in_err-macros.ensures.grown
