@@ -1,6 +1,8 @@
 -- The variants of enums.
 use Rattle.std.specs.Prelude.{◌&&◌, ℕ, Bool, List, [], ◌∷◌, Option, Some, None, slice_get, if◌then◌else◌}
 use Rattle.std.specs.List.{flat_map}
+use Rattle.crate_items.specs.DeclaredFields.{fields_in}
+use Rattle.crate_items.specs.DeclaredItems.{written}
 use Rattle.crate_items.specs.LexemeNames.{name_at}
 use Rattle.crate_items.specs.Shapes.{as_shape}
 use Rattle.crate_items.specs.declared.declared_item.DeclaredItem.{DeclaredItem}
@@ -8,6 +10,7 @@ use Rattle.crate_items.specs.declared.declared_variant.DeclaredVariant.{Declared
 use Rattle.crate_modules.specs.Files.{SourceFile, text_of}
 use Rattle.crate_modules.specs.Modules.{Listing}
 use Rattle.crate_modules.specs.Sources.{Source, source_at}
+use Rattle.dm_base.specs.declared.visibility.RawVisibility.{RawVisibility}
 use Rattle.dm_ids.specs.Names.{Name}
 use Rattle.item_tree.specs.ItemAttributes.{is_cfg_enabled}
 use Rattle.item_tree.specs.Members.{members_of}
@@ -18,33 +21,37 @@ use Rattle.item_tree.specs.declared.items.Item.{Item}
 use Rattle.item_tree.specs.declared.items.Range.{Range}
 use Rattle.item_tree.specs.declared.members.Member.{Member}
 use Rattle.item_tree.specs.declared.members.MemberKind.TheVariants as members
+use Rattle.item_tree.specs.declared.visibility.RawVisibility.{RawVisibility as Written}
 
 -- a member has a name, and each `cfg` that stands before it may hold
 abbrev pub is_left : List CfgAtom → List ℕ → Source → Member → Bool
 is_left options text s m =
     m.named && is_cfg_enabled options text s.active (record { first = m.first; behind = m.visibility }) s.attributes
 
-abbrev pub of_name : Member → Option Name → List DeclaredVariant
-of_name m None = []
-of_name m (Some name) = record { name = name; shape = as_shape m.fields.shape; place = m.name } ∷ []
+abbrev pub of_name : Member → Option Name → List RawVisibility → List DeclaredVariant
+of_name m None fields = []
+of_name m (Some name) fields = record { name = name; shape = as_shape m.fields.shape; fields = fields; place = m.name } ∷ []
 
--- the variant that a member is, if the crate has it
-abbrev pub variant_of : List CfgAtom → List ℕ → Source → Member → List DeclaredVariant
-variant_of options text s m = if is_left options text s m then of_name m (name_at text s.lexemes m.name) else []
+-- the variant that a member is, if the crate has it: its fields are seen as the enum, before which that is written
+abbrev pub variant_of : List CfgAtom → List ℕ → Source → Written → Member → List DeclaredVariant
+variant_of options text s outer m =
+    if is_left options text s m
+    then of_name m (name_at text s.lexemes m.name) (fields_in options text s (Some outer) m.fields)
+    else []
 
-abbrev pub variants_in_body : List CfgAtom → List ℕ → Source → Option Range → List DeclaredVariant
-variants_in_body options text s None = []
-variants_in_body options text s (Some body) =
-    flat_map (variant_of options text s) (members_of members.Variant s.lexemes s.partners body)
+abbrev pub variants_in_body : List CfgAtom → List ℕ → Source → Written → Option Range → List DeclaredVariant
+variants_in_body options text s outer None = []
+variants_in_body options text s outer (Some body) =
+    flat_map (variant_of options text s outer) (members_of members.Variant s.lexemes s.partners body)
 
 -- an enum alone has variants
-abbrev pub variants_of_item : List CfgAtom → List ℕ → Source → ItemKind → Option Range → List DeclaredVariant
-variants_of_item options text s item.Enum body = variants_in_body options text s body
-variants_of_item options text s _ body = []
+abbrev pub variants_of_item : List CfgAtom → List ℕ → Source → Item → ItemKind → List DeclaredVariant
+variants_of_item options text s x item.Enum = variants_in_body options text s (written s.lexemes x) x.body
+variants_of_item options text s x _ = []
 
 abbrev pub variants_in : List CfgAtom → List ℕ → Source → Option Item → List DeclaredVariant
 variants_in options text s None = []
-variants_in options text s (Some x) = variants_of_item options text s x.kind x.body
+variants_in options text s (Some x) = variants_of_item options text s x x.kind
 
 abbrev pub variants_from : List CfgAtom → List ℕ → Option Source → ℕ → List DeclaredVariant
 variants_from options text None n = []

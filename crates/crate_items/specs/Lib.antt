@@ -3,8 +3,10 @@ pub mod ModuleItems
 pub mod LexemeNames
 pub mod Shapes
 pub mod DeclaredItems
-pub mod DeclaredVariants
 pub mod UsePaths
+pub mod RawVisibilities
+pub mod DeclaredFields
+pub mod DeclaredVariants
 pub mod DeclaredImports
 pub mod ItemAttributes
 pub mod DeclaredMacros

@@ -100,7 +100,7 @@ fn bound_name(
 }
 
 /// The visibility that is written before an item.
-fn written(lexemes: &[Lexeme], item: Item) -> RawVisibility
+pub(crate) fn written(lexemes: &[Lexeme], item: Item) -> RawVisibility
     ensures { result ≡ spec.written lexemes.now item }
 {
     let range = Range {

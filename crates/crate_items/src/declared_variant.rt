@@ -3,19 +3,22 @@ ghost use Rattle.std.specs.Prelude.{◌≡◌, ◌++◌, IfOk, OnOk};
 ghost use Rattle.std.specs.List.{flat_map};
 ghost use Rattle.crate_items.specs.DeclaredVariants as spec;
 
-use crate::declared_item::DeclaredItem;
+use crate::declared_field::{FieldVisibilities, fields_in};
+use crate::declared_item::{DeclaredItem, written};
 use crate::lexeme_names::name_at;
 use crate::lookups::{item_at, text_of};
 use crate::shapes::as_shape;
 use crate_modules::file_table::FileTable;
 use crate_modules::modules::CrateModules;
 use crate_modules::source::Source;
+use dm_base::visibility::RawVisibility;
 use dm_ids::fields_shape::FieldsShape;
 use dm_ids::name::Name;
 use item_tree::cfg::CfgOptions;
 use item_tree::item_kind::ItemKind;
 use item_tree::items::{Item, Range};
 use item_tree::members::{Member, MemberKind, members};
+use item_tree::visibility;
 use std::alloc::{AllocError, Global};
 
 /// A variant of an enum.
@@ -24,6 +27,8 @@ pub struct DeclaredVariant {
     /// Its name, without the `r#` of a raw one.
     pub name: Name,
     pub shape: FieldsShape,
+    /// The visibilities of the fields that the crate has, in order: each is seen as the enum.
+    pub fields: FieldVisibilities,
     /// The lexeme of its name, by its number in the file.
     pub place: usize,
 }
@@ -42,13 +47,15 @@ fn is_left(options: &CfgOptions, text: &[u8], source: &Source, member: Member) -
             .is_cfg_enabled(options, text, source.active_conditions(), outer)
 }
 
-/// Adds a member of this name, if there is one.
+/// Adds a member of this name with these fields, if there is a name.
 fn push_named(
     found: &mut Vec<DeclaredVariant>,
     member: Member,
     name: Option<Name>,
+    fields: Vec<RawVisibility>,
 ) -> Result<(), AllocError>
-    ensures { OnOk result (found.new.items ≡ found.old.items ++ spec.of_name member name) }
+    ensures { OnOk result
+        (found.new.items ≡ found.old.items ++ spec.of_name member name fields.items) }
 {
     match name {
         None => Ok(()),
@@ -56,6 +63,7 @@ fn push_named(
             found.push(DeclaredVariant {
                 name,
                 shape: as_shape(member.fields.shape),
+                fields: FieldVisibilities::new(fields),
                 place: member.name,
             })?;
             Ok(())
@@ -70,14 +78,16 @@ fn push_variant(
     options: &CfgOptions,
     text: &[u8],
     source: &Source,
+    outer: visibility::RawVisibility,
     member: Member,
 ) -> Result<(), AllocError>
     ensures { OnOk result (found.new.items ≡ found.old.items
-        ++ spec.variant_of options.now text.now source.now member) }
+        ++ spec.variant_of options.now text.now source.now outer member) }
 {
     if is_left(options, text, source, member) {
         let name = name_at(alloc, text, source.lexemes(), member.name)?;
-        push_named(found, member, name)?;
+        let fields = fields_in(alloc, options, text, source, Some(outer), member.fields)?;
+        push_named(found, member, name, fields)?;
     }
     Ok(())
 }
@@ -88,35 +98,37 @@ fn variants_among(
     options: &CfgOptions,
     text: &[u8],
     source: &Source,
+    outer: visibility::RawVisibility,
     members: &[Member],
 ) -> Result<Vec<DeclaredVariant>, AllocError>
     ensures { IfOk result (λ found. found.items ≡
-        flat_map (spec.variant_of options.now text.now source.now) members.now) }
+        flat_map (spec.variant_of options.now text.now source.now outer) members.now) }
 {
     let mut found = Vec::new(alloc);
     for member in members {
-        push_variant(&mut found, alloc, options, text, source, *member)?;
+        push_variant(&mut found, alloc, options, text, source, outer, *member)?;
     }
     Ok(found)
 }
 
-/// The variants in the body of an enum.
+/// The variants in the body of an enum of this visibility.
 fn variants_in_body(
     alloc: Global,
     options: &CfgOptions,
     text: &[u8],
     source: &Source,
+    outer: visibility::RawVisibility,
     body: Option<Range>,
 ) -> Result<Vec<DeclaredVariant>, AllocError>
     ensures { IfOk result (λ found. found.items ≡
-        spec.variants_in_body options.now text.now source.now body) }
+        spec.variants_in_body options.now text.now source.now outer body) }
 {
     match body {
         None => Ok(Vec::new(alloc)),
         Some(range) => {
             let kind = MemberKind::Variant;
             let all = members(alloc, source.lexemes(), source.partners(), range, kind)?;
-            variants_among(alloc, options, text, source, all.as_slice())
+            variants_among(alloc, options, text, source, outer, all.as_slice())
         }
     }
 }
@@ -130,16 +142,19 @@ fn variants_of_item(
     item: Item,
 ) -> Result<Vec<DeclaredVariant>, AllocError>
     ensures { IfOk result (λ found. found.items ≡
-        spec.variants_of_item options.now text.now source.now item.kind item.body) }
+        spec.variants_of_item options.now text.now source.now item item.kind) }
 {
     match item.kind {
-        ItemKind::Enum => variants_in_body(alloc, options, text, source, item.body),
+        ItemKind::Enum => {
+            let outer = written(source.lexemes(), item);
+            variants_in_body(alloc, options, text, source, outer, item.body)
+        }
         _ => Ok(Vec::new(alloc)),
     }
 }
 
-/// The variants of an enum that the crate has, by its options, in order: each with its name and the shape of its
-/// fields. What is no enum has none.
+/// The variants of an enum that the crate has, by its options, in order: each with its name, and the shape of its fields
+/// and their visibilities. What is no enum has none.
 ///
 /// # Errors
 ///

@@ -3,6 +3,7 @@
 #![tactic(auto)]
 
 pub mod crate_attributes;
+pub mod declared_field;
 pub mod declared_import;
 pub mod declared_item;
 pub mod declared_macro;
@@ -15,6 +16,7 @@ mod lookups;
 pub mod macro_call;
 pub mod module_items;
 pub mod procedural_macro;
+pub mod raw_visibilities;
 mod shapes;
 pub mod textual_order;
 pub mod textual_scopes;

@@ -48,7 +48,11 @@ fn push_segment(
 }
 
 /// The places of the segments of a path that begins at one, and before them that of the colons which it begins with.
-fn segments_of(alloc: Global, first: usize, own: &[Lexeme]) -> Result<Vec<usize>, AllocError>
+pub(crate) fn segments_of(
+    alloc: Global,
+    first: usize,
+    own: &[Lexeme],
+) -> Result<Vec<usize>, AllocError>
     requires { first < 2 ^ 63 }
     ensures { IfOk result (λ places. places.items ≡ segments_from first 0 own.now) }
 {

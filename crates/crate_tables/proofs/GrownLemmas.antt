@@ -14,6 +14,8 @@ use Rattle.dm_ids.specs.Names.{Name}
 use Rattle.dm_ids.specs.declared.ids.Crate.{Crate}
 use Rattle.dm_ids.specs.declared.ids.ExternCrateId.{ExternCrateId}
 use Rattle.dm_maps.specs.BuildMaps.{locals_with, with_extern_of}
+use Rattle.dm_def_map.specs.ItemTables.{ItemTables}
+use Rattle.dm_maps.proofs.SetLemmas.{set-tables}
 use Rattle.dm_maps.specs.Known.{KnowsAll}
 
 pub grown-same : (w : World) → IsGrown w w
@@ -70,3 +72,7 @@ grown-beside w ls = record {
 
 pub grown-extern : (w v : World) (k : Crate) (n : Name) (m : ModuleId) (x : Option ExternCrateId) → v ≡ with_extern_of w k n m x → IsGrown w v
 grown-extern w v k n m x same = subst (IsGrown w) (sym same) (grown-beside w (locals_with w.local_maps k.0 (λ L. with_extern L n m x)))
+
+-- so are tables that belong to no map
+pub grown-tables : (w v : World) (t : ItemTables) → v ≡ record w { item_tables = t } → IsGrown w v
+grown-tables w v t same = subst (IsGrown w) (sym same) (set-tables w t)

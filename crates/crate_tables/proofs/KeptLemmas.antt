@@ -8,7 +8,9 @@ use Rattle.crate_tables.specs.TextualMacros.{AllStayShown, StaysKnown}
 use Rattle.dm_base.specs.Tree.{same_module}
 use Rattle.dm_ids.specs.Names.{Name}
 use Rattle.dm_ids.specs.declared.ids.ModuleId.{ModuleId}
+use Rattle.dm_ids.specs.declared.ids.ConstId.{ConstId}
 use Rattle.dm_ids.specs.declared.item_ids.MacroId.{MacroId}
+use Rattle.dm_ids.specs.declared.item_ids.ModuleDefId.{ModuleDefId}
 use Rattle.dm_maps.specs.Added.{IsGrown, IsScoped}
 use Rattle.dm_maps.specs.World.{World, scope_of}
 use Rattle.dm_scope.specs.Flags.{Globs}
@@ -35,18 +37,27 @@ nothing-fresh w empty g m s = subst (λ x. Shows x g m []) (sym (empty m)) s
 pub nothing-kept : (w v : World) → IsKept w v → BindNothing w → BindNothing v
 nothing-kept w v kept nothing g m s = kept.shown g m [] (nothing g m s)
 
--- a scope with other textual macros shows the same
-shows-legacy : (s : Scope) (l : List (Name × List MacroId)) (g : Globs) (m : ModuleId) (ps : List ScopePush) → Shows s g m ps → Shows (record s { legacy_macros = l }) g m ps
-shows-legacy s l g m ps h = record { types = h.types; values = h.values; macros = h.macros; unresolved = h.unresolved }
-
--- so where the scope of one module has other textual macros, each shows what it showed
-pub scoped-shown : (w v : World) (m : ModuleId) (l : List (Name × List MacroId)) → IsScoped w v m (record (scope_of w m) { legacy_macros = l }) → AllStayShown w v
-scoped-shown w v m l is g k ps h = by (same_module m k) refl
+-- where the scope of one module shows what it showed, and the others stay, each shows what it showed
+scoped-by : (w v : World) (m : ModuleId) (t : Scope) → ((g : Globs) (k : ModuleId) (ps : List ScopePush) → Shows (scope_of w m) g k ps → Shows t g k ps) → IsScoped w v m t → AllStayShown w v
+scoped-by w v m t same is g k ps h = by (same_module m k) refl
   where
     by : (b : Bool) → same_module m k ≡ b → Shows (scope_of v k) g k ps
-    by true t =
-        let e = eqb-true m.0 k.0 t in
+    by true same_one =
+        let e = eqb-true m.0 k.0 same_one in
         let one : m ≡ k = λ i. record { 0 = e i } in
         subst (λ (x : ModuleId). Shows (scope_of w x) g x ps → Shows (scope_of v x) g x ps) one
-        (λ own. subst (λ s. Shows s g m ps) (sym is.own) (shows-legacy (scope_of w m) l g m ps own)) h
-    by false t = subst (λ s. Shows s g k ps) (sym (is.others k t)) h
+        (λ own. subst (λ s. Shows s g m ps) (sym is.own) (same g m ps own)) h
+    by false other = subst (λ s. Shows s g k ps) (sym (is.others k other)) h
+
+-- a scope with other textual macros, declarations or unnamed constants shows the same
+pub scoped-shown : (w v : World) (m : ModuleId) (l : List (Name × List MacroId)) → IsScoped w v m (record (scope_of w m) { legacy_macros = l }) → AllStayShown w v
+scoped-shown w v m l is =
+    scoped-by w v m (record (scope_of w m) { legacy_macros = l }) (λ g k ps h. record { types = h.types; values = h.values; macros = h.macros; unresolved = h.unresolved }) is
+
+pub scoped-declared : (w v : World) (m : ModuleId) (l : List ModuleDefId) → IsScoped w v m (record (scope_of w m) { declarations = l }) → AllStayShown w v
+scoped-declared w v m l is =
+    scoped-by w v m (record (scope_of w m) { declarations = l }) (λ g k ps h. record { types = h.types; values = h.values; macros = h.macros; unresolved = h.unresolved }) is
+
+pub scoped-unnamed : (w v : World) (m : ModuleId) (l : List ConstId) → IsScoped w v m (record (scope_of w m) { unnamed_consts = l }) → AllStayShown w v
+scoped-unnamed w v m l is =
+    scoped-by w v m (record (scope_of w m) { unnamed_consts = l }) (λ g k ps h. record { types = h.types; values = h.values; macros = h.macros; unresolved = h.unresolved }) is

@@ -11,3 +11,7 @@ next-in {X} xs ys i x same l is = subst (λ (zs : List X). drop i zs ≡ x ∷ d
 -- a list with one element more
 pub one-more : {X : Type 0} (xs : List X) (x : X) (n : ℕ) → length xs ≡ n → length (xs ++ x ∷ []) ≡ n + 1
 one-more xs x n l = omega (arith, length-append xs (x ∷ []), l)
+
+-- the same of elements that are copied
+pub next-copied : {X : Type 0} (xs : List X) (i : ℕ) (d : X) → i < length xs → drop i xs ≡ get_or xs i d ∷ drop (i + 1) xs
+next-copied xs i d l = rw (add-one, drop-cons xs i d l) refl

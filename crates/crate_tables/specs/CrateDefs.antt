@@ -23,8 +23,10 @@ use Rattle.dm_ids.specs.declared.item_ids.ItemKind.{ItemKind as Kind}
 use Rattle.dm_ids.specs.declared.item_ids.ItemKind.TheVariants as kind
 use Rattle.dm_ids.specs.declared.item_ids.ModuleDefId.{ModuleDefId}
 use Rattle.dm_ids.specs.declared.item_ids.ModuleDefId.TheVariants as def
+use Rattle.dm_ids.specs.declared.item_ids.VariantId.TheVariants.{EnumVariantId}
 use Rattle.dm_maps.specs.Build.{item_def, with_item}
-use Rattle.dm_maps.specs.BuildItems.{next_use, with_use, with_variant}
+use Rattle.dm_maps.specs.BuildItems.{next_use, next_variant, with_use, with_variant}
+use Rattle.dm_maps.specs.BuildTables.{with_fields}
 use Rattle.dm_maps.specs.ItemFaults.{has_variant}
 use Rattle.dm_maps.specs.World.{World}
 use Rattle.item_tree.specs.declared.item_kind.ItemKind.{ItemKind}
@@ -61,9 +63,13 @@ def_kind item.Trait = Some kind.Trait
 def_kind item.TypeAlias = Some kind.TypeAlias
 def_kind _ = None
 
+-- a variant is added to an enum, and the visibilities of its fields are set
+abbrev pub with_new_variant : World → EnumId → DeclaredVariant → World
+with_new_variant w e v = with_fields (with_variant w e v.name v.shape) (EnumVariantId (next_variant w)) v.fields
+
 -- an enum gets its variants, of each name the first
 abbrev pub with_variant_of : World → EnumId → DeclaredVariant → World
-with_variant_of w e v = if has_variant w e v.name then w else with_variant w e v.name v.shape
+with_variant_of w e v = if has_variant w e v.name then w else with_new_variant w e v
 
 abbrev pub with_variants : World → EnumId → List DeclaredVariant → World
 with_variants w e [] = w

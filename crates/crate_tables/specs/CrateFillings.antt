@@ -1,5 +1,5 @@
 -- The crates of a graph in a builder, with all that they declare.
-use Rattle.std.specs.Prelude.{◌≡◌, ◌+◌, ◌++◌, ◌<◌, ℕ, All, List, [], ◌∷◌, Option, None, Some, length, slice_get}
+use Rattle.std.specs.Prelude.{◌≡◌, ◌+◌, ◌++◌, ◌<◌, ℕ, All, List, [], ◌∷◌, Option, None, Some, length, map, slice_get}
 use Rattle.std.specs.List.{flat_map}
 use Rattle.std.specs.Option.{option_map}
 use Rattle.crate_items.specs.CrateAttributes.{crate_attributes}
@@ -14,7 +14,6 @@ use Rattle.crate_modules.specs.Files.{SourceFile}
 use Rattle.crate_modules.specs.Modules.{AreMore, Listing, declared_in, root_module}
 use Rattle.crate_modules.specs.Sources.{AreSourcesOf}
 use Rattle.crate_modules.specs.declared.dependency.Dependency.{Dependency}
-use Rattle.crate_tables.specs.CrateDefs.{with_items}
 use Rattle.crate_tables.specs.CrateMacros.{WithMacros, with_macros}
 use Rattle.crate_tables.specs.CrateMaps.{Filled, with_crate_modules}
 use Rattle.crate_tables.specs.CrateRoots.{root_id, with_externs, with_roots}
@@ -23,6 +22,8 @@ use Rattle.crate_tables.specs.ExternCrates.{Linked, with_extern_crates}
 use Rattle.crate_tables.specs.NewModules.{CrateView}
 use Rattle.crate_tables.specs.PreludeImports.{Importer, Lists, named_among}
 use Rattle.crate_tables.specs.ProceduralMacros.{with_procedural_macros}
+use Rattle.crate_tables.specs.RawVisibilities.{with_written_items}
+use Rattle.crate_tables.specs.ScopeLists.{outline, with_scope_lists}
 use Rattle.crate_tables.specs.StandardPreludes.{standard_prelude, unnamed, with_attributes, with_crate_prelude}
 use Rattle.crate_tables.specs.TextualMacros.{with_scopes}
 use Rattle.crate_tables.specs.declared.extern_crates.ExternCrateRow.{ExternCrateRow}
@@ -58,9 +59,9 @@ in_scope c made items = record {
 abbrev pub with_macros_in_scope : CrateView → Filled → List DeclaredItem → Filled
 with_macros_in_scope c s items = in_scope c (with_macros c (record { world = s.world; table = s.table; ids = [] }) items) items
 
--- before these the procedural macros are added
+-- behind these the procedural macros are added
 abbrev pub with_all_macros : CrateView → Filled → List DeclaredItem → Filled
-with_all_macros c s items = with_macros_in_scope c (with_procedural_macros c s items) items
+with_all_macros c s items = with_procedural_macros c (with_macros_in_scope c s items) items
 
 -- macros and other items leave the extern crates as they are
 abbrev pub macros_added : CrateView → Linked → List DeclaredItem → Linked
@@ -70,12 +71,17 @@ macros_added c s items =
 
 abbrev pub others_added : CrateView → Linked → List DeclaredItem → Linked
 others_added c s items =
-    let made = with_items c (record { world = s.world; table = s.table }) items in
+    let made = with_written_items c (record { world = s.world; table = s.table }) items in
     record { world = made.world; table = made.table; rows = s.rows }
 
--- The extern crates among the items are added first, then the macros and their scopes, and then all others.
+-- definitions come into the lists of their modules
+abbrev pub listed : CrateView → Linked → List DeclaredItem → Linked
+listed c s items = record s { world = with_scope_lists c.list.modules s.table s.world (map outline items) }
+
+-- The extern crates among the items are added first, then the macros and their scopes, and then all others. Then the
+-- lists of scopes are filled.
 abbrev pub with_all_items : CrateView → List Dependency → Linked → List DeclaredItem → Linked
-with_all_items c ds s items = others_added c (macros_added c (with_extern_crates c ds s items) items) items
+with_all_items c ds s items = listed c (others_added c (macros_added c (with_extern_crates c ds s items) items) items) items
 
 -- ---- Crates
 

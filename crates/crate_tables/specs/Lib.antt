@@ -4,6 +4,7 @@ pub mod NewModules
 pub mod CrateMaps
 pub mod CrateRoots
 pub mod CrateDefs
+pub mod RawVisibilities
 pub mod ExternCrates
 pub mod StandardPreludes
 pub mod PreludeImports
@@ -12,4 +13,5 @@ pub mod ProceduralMacros
 pub mod CrateFillings
 pub mod DeclaredWorlds
 pub mod TextualMacros
+pub mod ScopeLists
 pub mod Kept

@@ -47,7 +47,7 @@ fn add_macros_in_scope(
     Ok(())
 }
 
-/// Adds the macros among the items of a crate: first the procedural ones, which are in no textual scope.
+/// Adds the macros among the items of a crate, and behind these the procedural ones, which are in no textual scope.
 pub(crate) fn add_all_macros(
     builder: &mut WorldBuilder,
     table: &mut CrateTable,
@@ -62,7 +62,7 @@ pub(crate) fn add_all_macros(
     ensures kept { OnOk result (IsTableOf builder.new view.now.krate table.new) }
     ensures stays { IsKept builder.old builder.new }
 {
-    add_procedural_macros(builder, table, alloc, view, items)?;
     add_macros_in_scope(builder, table, alloc, view, items)?;
+    add_procedural_macros(builder, table, alloc, view, items)?;
     Ok(())
 }

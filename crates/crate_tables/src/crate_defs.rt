@@ -17,6 +17,7 @@ use crate::crate_maps::parent_id;
 use crate::crate_table::CrateTable;
 use crate::item_place::{DefPlace, UsePlace};
 use crate::new_module::CrateView;
+use crate::raw_visibilities::set_fields;
 use crate::visibilities::known_visibility;
 use crate_items::declared_import::declared_imports;
 use crate_items::declared_item::DeclaredItem;
@@ -25,7 +26,7 @@ use crate_modules::modules::CrateModules;
 use crate_modules::source::Source;
 use dm_base::fields_shape::FieldsShape;
 use dm_base::ids::{EnumId, ModuleId};
-use dm_base::item_ids::{AdtId, ItemKind, ModuleDefId};
+use dm_base::item_ids::{AdtId, ItemKind, ModuleDefId, VariantId};
 use dm_base::per_ns::PerNs;
 use dm_base::visibility::Visibility;
 use dm_maps::build_fault::BuildFault;
@@ -62,7 +63,7 @@ pub(crate) fn written_of(list: &CrateModules, item: &DeclaredItem) -> RawVisibil
 }
 
 /// The kind of the items that a builder numbers.
-fn def_kind(kind: item_kind::ItemKind) -> Option<ItemKind>
+pub(crate) fn def_kind(kind: item_kind::ItemKind) -> Option<ItemKind>
     ensures { result ≡ spec.def_kind kind }
 {
     match kind {
@@ -94,7 +95,7 @@ fn is_taken(fault: BuildFault) -> bool
     }
 }
 
-/// Adds a variant to an enum, unless that has one of its name.
+/// Adds a variant to an enum, with the visibilities of its fields, unless that has one of its name.
 fn add_variant(
     builder: &mut WorldBuilder,
     e: EnumId,
@@ -107,7 +108,14 @@ fn add_variant(
     ensures fault { IfErr result (λ fault. is_shortage fault ≡ true) }
 {
     match builder.add_variant(e, variant.name, variant.shape) {
-        Ok(_id) => Ok(()),
+        Ok(id) => {
+            set_fields(
+                builder,
+                VariantId::EnumVariantId(id),
+                variant.fields.into_vec(),
+            )?;
+            Ok(())
+        }
         Err(fault) => { if is_taken(fault) { Ok(()) } else { Err(fault) } }
     }
 }

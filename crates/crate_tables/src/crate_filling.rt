@@ -13,18 +13,17 @@ ghost use Rattle.dm_maps.specs.Added.{IsGrown};
 ghost use Rattle.dm_maps.specs.Build.{no_world};
 ghost use Rattle.dm_maps.specs.Known.{knows, KnowsAll};
 
-use crate::all_macros::add_all_macros;
-use crate::crate_defs::add_items;
+use crate::all_items::add_all_items;
 use crate::crate_maps::add_modules;
 use crate::crate_roots::{add_externs, crate_roots, root_id};
 use crate::crate_table::CrateTable;
-use crate::extern_crates::{ExternCrateRow, add_extern_crates};
+use crate::extern_crates::ExternCrateRow;
 use crate::fill_fault::FillFault;
 use crate::new_module::CrateView;
 use crate::set_preludes::set_preludes;
 use crate::standard_prelude::set_attributes;
 use crate_items::crate_attributes::{CrateAttribute, crate_attributes};
-use crate_items::declared_item::{DeclaredItem, declared_items};
+use crate_items::declared_item::declared_items;
 use crate_items::module_items::module_items;
 use crate_modules::crate_data::CrateData;
 use crate_modules::crate_graph::CrateGraph;
@@ -82,38 +81,6 @@ fn listed(
         Err(ModulesError::TooManyModules) => Err(FillFault::TooManyModules(krate)),
         Err(ModulesError::OutOfMemory) => Err(FillFault::OutOfMemory),
     }
-}
-
-/// Adds the items of a crate: its extern crates first, then its macros, and then all others.
-fn add_all_items(
-    builder: &mut WorldBuilder,
-    table: &mut CrateTable,
-    externs: &mut Vec<ExternCrateRow>,
-    alloc: Global,
-    view: &CrateView<'_>,
-    dependencies: &[Dependency],
-    items: Vec<DeclaredItem>,
-) -> Result<(), BuildFault>
-    requires table { IsTableOf builder.old view.now.krate table.old }
-    requires roots { KnowsAll builder.old (linkable view.now.krate dependencies.now) }
-    ensures added { OnOk result ((record { world = builder.new; table = table.new; rows = externs.new.items }) ≡
-        spec.with_all_items view.now dependencies.now
-        (record { world = builder.old; table = table.old; rows = externs.old.items }) items.items) }
-    ensures kept { OnOk result (IsTableOf builder.new view.now.krate table.new) }
-    ensures stays { IsKept builder.old builder.new }
-{
-    add_extern_crates(
-        builder,
-        table,
-        externs,
-        alloc,
-        view,
-        dependencies,
-        items.as_slice(),
-    )?;
-    add_all_macros(builder, table, alloc, view, items.as_slice())?;
-    add_items(builder, table, alloc, view, items)?;
-    Ok(())
 }
 
 /// Adds the modules of a crate's list, and their items.

@@ -42,7 +42,7 @@ fn by_rules() -> MacroExpander
 }
 
 /// What a macro is, by the kind of its item.
-fn macro_loc(kind: ItemKind) -> Option<MacroLoc>
+pub(crate) fn macro_loc(kind: ItemKind) -> Option<MacroLoc>
     ensures { result ≡ spec.macro_loc kind }
 {
     match kind {

@@ -1,6 +1,7 @@
 //! The tables of a world, filled from crates: their roots, modules and extern preludes.
 #![tactic(auto)]
 
+mod all_items;
 mod all_macros;
 pub mod crate_defs;
 pub mod crate_filling;
@@ -13,10 +14,13 @@ pub mod declared_world;
 pub mod extern_crates;
 pub mod fill_fault;
 mod item_names;
+mod item_outline;
 pub mod item_place;
 pub mod new_module;
 mod prelude_imports;
 pub mod procedural_macros;
+pub mod raw_visibilities;
+mod scope_lists;
 mod set_preludes;
 pub mod standard_prelude;
 pub mod table_parts;

@@ -5,4 +5,4 @@ use Rattle.crate_items.proofs.declared_variant.variants_among.Given as goal
 
 abbrev pub invariant-loop-member : goal.invariant-loop-member
 invariant-loop-member l =
-    l.found.items ++ flat_map (variant_of l.options l.text l.source) (drop l.member-index l.members) ≡ flat_map (variant_of l.options l.text l.source) l.members
+    l.found.items ++ flat_map (variant_of l.options l.text l.source l.outer) (drop l.member-index l.members) ≡ flat_map (variant_of l.options l.text l.source l.outer) l.members

@@ -1,0 +1,58 @@
+//! All items of a crate, added to a builder.
+ghost use Rattle.std.specs.Prelude.{◌≡◌, IsTrue, OnOk};
+ghost use Rattle.crate_tables.specs.CrateFillings as spec;
+ghost use Rattle.crate_tables.specs.CrateRoots.{root_id as root_of};
+ghost use Rattle.crate_tables.specs.CrateTables.{IsTableOf};
+ghost use Rattle.crate_tables.specs.ExternCrates.{linkable};
+ghost use Rattle.crate_tables.specs.Kept.{IsKept};
+ghost use Rattle.dm_check.specs.declared.held.HeldId.TheVariants as held;
+ghost use Rattle.dm_maps.specs.Known.{knows, KnowsAll};
+
+use crate::all_macros::add_all_macros;
+use crate::crate_table::CrateTable;
+use crate::extern_crates::{ExternCrateRow, add_extern_crates};
+use crate::item_outline::outlines;
+use crate::new_module::CrateView;
+use crate::raw_visibilities::add_written_items;
+use crate::scope_lists::list_definitions;
+use crate_items::declared_item::DeclaredItem;
+use crate_modules::dependency::Dependency;
+use dm_maps::build_fault::BuildFault;
+use dm_maps::builder::WorldBuilder;
+use std::alloc::Global;
+
+/// Adds the items of a crate: its extern crates first, then its macros, and then all others. Its definitions come into the
+/// lists of their modules behind that.
+pub(crate) fn add_all_items(
+    builder: &mut WorldBuilder,
+    table: &mut CrateTable,
+    externs: &mut Vec<ExternCrateRow>,
+    alloc: Global,
+    view: &CrateView<'_>,
+    dependencies: &[Dependency],
+    items: Vec<DeclaredItem>,
+) -> Result<(), BuildFault>
+    requires table { IsTableOf builder.old view.now.krate table.old }
+    requires roots { KnowsAll builder.old (linkable view.now.krate dependencies.now) }
+    ensures added { OnOk result ((record { world = builder.new; table = table.new; rows = externs.new.items }) ≡
+        spec.with_all_items view.now dependencies.now
+        (record { world = builder.old; table = table.old; rows = externs.old.items }) items.items) }
+    ensures kept { OnOk result (IsTableOf builder.new view.now.krate table.new) }
+    ensures stays { IsKept builder.old builder.new }
+{
+    let made = outlines(alloc, items.as_slice())?;
+    add_extern_crates(
+        builder,
+        table,
+        externs,
+        alloc,
+        view,
+        dependencies,
+        items.as_slice(),
+    )?;
+    add_all_macros(builder, table, alloc, view, items.as_slice())?;
+    add_written_items(builder, table, alloc, view, items)?;
+    let modules = view.list.modules();
+    list_definitions(builder, modules, view.krate, table, made.as_slice())?;
+    Ok(())
+}
