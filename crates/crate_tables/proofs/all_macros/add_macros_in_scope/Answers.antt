@@ -1,9 +1,5 @@
 use Rattle.crate_tables.proofs.KeptLemmas.{kept-further, kept-grown, kept-textual}
-<<<<<<<< HEAD:crates/crate_tables/proofs/all_macros/add_macros_in_scope/Answers.antt
 use Rattle.crate_tables.proofs.all_macros.add_macros_in_scope.Goals as goal
-========
-use Rattle.crate_tables.proofs.all_items.add_macros_in_scope.Goals as goal
->>>>>>>> 38631112f46b5ca184ff8f175a3755f2ff8b2328:crates/crate_tables/proofs/all_items/add_macros_in_scope/Answers.antt
 
 pub returns-in_err-macros-clause-stays : goal.returns-in_err-macros-clause-stays
 returns-in_err-macros-clause-stays c = kept-grown _ _ c.in_err-macros.ensures.grown
