@@ -13,4 +13,5 @@ pub mod CrateFillings
 pub mod DeclaredWorlds
 pub mod TextualMacros
 pub mod ScopeLists
+pub mod ExternLists
 pub mod Kept
