@@ -9,6 +9,7 @@ use Rattle.dm_base.specs.Tree.{same_module}
 use Rattle.dm_ids.specs.Names.{Name}
 use Rattle.dm_ids.specs.declared.ids.ModuleId.{ModuleId}
 use Rattle.dm_ids.specs.declared.ids.ConstId.{ConstId}
+use Rattle.dm_ids.specs.declared.ids.ExternCrateId.{ExternCrateId}
 use Rattle.dm_ids.specs.declared.item_ids.MacroId.{MacroId}
 use Rattle.dm_ids.specs.declared.item_ids.ModuleDefId.{ModuleDefId}
 use Rattle.dm_maps.specs.Added.{IsGrown, IsScoped}
@@ -49,7 +50,7 @@ scoped-by w v m t same is g k ps h = by (same_module m k) refl
         (λ own. subst (λ s. Shows s g m ps) (sym is.own) (same g m ps own)) h
     by false other = subst (λ s. Shows s g k ps) (sym (is.others k other)) h
 
--- a scope with other textual macros, declarations or unnamed constants shows the same
+-- a scope with other textual macros, or other lists, shows the same
 pub scoped-shown : (w v : World) (m : ModuleId) (l : List (Name × List MacroId)) → IsScoped w v m (record (scope_of w m) { legacy_macros = l }) → AllStayShown w v
 scoped-shown w v m l is =
     scoped-by w v m (record (scope_of w m) { legacy_macros = l }) (λ g k ps h. record { types = h.types; values = h.values; macros = h.macros; unresolved = h.unresolved }) is
@@ -61,3 +62,7 @@ scoped-declared w v m l is =
 pub scoped-unnamed : (w v : World) (m : ModuleId) (l : List ConstId) → IsScoped w v m (record (scope_of w m) { unnamed_consts = l }) → AllStayShown w v
 scoped-unnamed w v m l is =
     scoped-by w v m (record (scope_of w m) { unnamed_consts = l }) (λ g k ps h. record { types = h.types; values = h.values; macros = h.macros; unresolved = h.unresolved }) is
+
+pub scoped-externs : (w v : World) (m : ModuleId) (l : List ExternCrateId) → IsScoped w v m (record (scope_of w m) { extern_crate_decls = l }) → AllStayShown w v
+scoped-externs w v m l is =
+    scoped-by w v m (record (scope_of w m) { extern_crate_decls = l }) (λ g k ps h. record { types = h.types; values = h.values; macros = h.macros; unresolved = h.unresolved }) is

@@ -19,11 +19,12 @@ use Rattle.crate_tables.specs.CrateMaps.{Filled, with_crate_modules}
 use Rattle.crate_tables.specs.CrateRoots.{root_id, with_externs, with_roots}
 use Rattle.crate_tables.specs.CrateTables.{IsLeafOf, IsNameOf, Table}
 use Rattle.crate_tables.specs.ExternCrates.{Linked, with_extern_crates}
+use Rattle.crate_tables.specs.ExternLists.{with_all_lists}
 use Rattle.crate_tables.specs.NewModules.{CrateView}
 use Rattle.crate_tables.specs.PreludeImports.{Importer, Lists, named_among}
 use Rattle.crate_tables.specs.ProceduralMacros.{with_procedural_macros}
 use Rattle.crate_tables.specs.RawVisibilities.{with_written_items}
-use Rattle.crate_tables.specs.ScopeLists.{outline, with_scope_lists}
+use Rattle.crate_tables.specs.ScopeLists.{outline}
 use Rattle.crate_tables.specs.StandardPreludes.{standard_prelude, unnamed, with_attributes, with_crate_prelude}
 use Rattle.crate_tables.specs.TextualMacros.{with_scopes}
 use Rattle.crate_tables.specs.declared.extern_crates.ExternCrateRow.{ExternCrateRow}
@@ -74,14 +75,15 @@ others_added c s items =
     let made = with_written_items c (record { world = s.world; table = s.table }) items in
     record { world = made.world; table = made.table; rows = s.rows }
 
--- definitions come into the lists of their modules
-abbrev pub listed : CrateView → Linked → List DeclaredItem → Linked
-listed c s items = record s { world = with_scope_lists c.list.modules s.table s.world (map outline items) }
+-- definitions come into the lists of their modules, and so do the extern crates behind so many others of the world
+abbrev pub listed : CrateView → Linked → ℕ → List DeclaredItem → Linked
+listed c s n items = record s { world = with_all_lists c.list.modules s.table s.world (map outline items) n s.rows }
 
 -- The extern crates among the items are added first, then the macros and their scopes, and then all others. Then the
 -- lists of scopes are filled.
 abbrev pub with_all_items : CrateView → List Dependency → Linked → List DeclaredItem → Linked
-with_all_items c ds s items = listed c (others_added c (macros_added c (with_extern_crates c ds s items) items) items) items
+with_all_items c ds s items =
+    listed c (others_added c (macros_added c (with_extern_crates c ds s items) items) items) (length s.rows) items
 
 -- ---- Crates
 

@@ -14,4 +14,5 @@ pub mod CrateFillings
 pub mod DeclaredWorlds
 pub mod TextualMacros
 pub mod ScopeLists
+pub mod ExternLists
 pub mod Kept

@@ -11,18 +11,18 @@ ghost use Rattle.dm_maps.specs.Known.{knows, KnowsAll};
 use crate::all_macros::add_all_macros;
 use crate::crate_table::CrateTable;
 use crate::extern_crates::{ExternCrateRow, add_extern_crates};
+use crate::extern_lists::fill_lists;
 use crate::item_outline::outlines;
 use crate::new_module::CrateView;
 use crate::raw_visibilities::add_written_items;
-use crate::scope_lists::list_definitions;
 use crate_items::declared_item::DeclaredItem;
 use crate_modules::dependency::Dependency;
 use dm_maps::build_fault::BuildFault;
 use dm_maps::builder::WorldBuilder;
 use std::alloc::Global;
 
-/// Adds the items of a crate: its extern crates first, then its macros, and then all others. Its definitions come into the
-/// lists of their modules behind that.
+/// Adds the items of a crate: its extern crates first, then its macros, and then all others. Its definitions and
+/// its extern crates come into the lists of their modules behind that.
 pub(crate) fn add_all_items(
     builder: &mut WorldBuilder,
     table: &mut CrateTable,
@@ -41,6 +41,7 @@ pub(crate) fn add_all_items(
     ensures stays { IsKept builder.old builder.new }
 {
     let made = outlines(alloc, items.as_slice())?;
+    let first = externs.len();
     add_extern_crates(
         builder,
         table,
@@ -53,6 +54,14 @@ pub(crate) fn add_all_items(
     add_all_macros(builder, table, alloc, view, items.as_slice())?;
     add_written_items(builder, table, alloc, view, items)?;
     let modules = view.list.modules();
-    list_definitions(builder, modules, view.krate, table, made.as_slice())?;
+    fill_lists(
+        builder,
+        modules,
+        view.krate,
+        table,
+        made.as_slice(),
+        externs.as_slice(),
+        first,
+    )?;
     Ok(())
 }

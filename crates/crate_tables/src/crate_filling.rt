@@ -154,6 +154,25 @@ fn fill_listed(
     Ok(table)
 }
 
+/// A crate, as what fills its tables sees it.
+fn view_of<'a>(
+    krate: Crate,
+    described: &'a CrateData,
+    list: &'a CrateModules,
+    files: &'a FileTable,
+) -> CrateView<'a>
+    ensures { result ≡ spec.view_of files.now krate described.now list.now }
+{
+    CrateView {
+        krate,
+        edition: described.edition(),
+        options: described.cfg_options(),
+        is_proc_macro: described.is_proc_macro(),
+        list,
+        files,
+    }
+}
+
 /// Fills a crate by the list of its modules.
 fn fill_by(
     builder: &mut WorldBuilder,
@@ -172,14 +191,7 @@ fn fill_by(
     ensures stays { IsKept builder.old builder.new }
 {
     let attributes = crate_attributes(alloc, list, files, described.root_file_id())?;
-    let view = CrateView {
-        krate,
-        edition: described.edition(),
-        options: described.cfg_options(),
-        is_proc_macro: described.is_proc_macro(),
-        list,
-        files,
-    };
+    let view = view_of(krate, described, list, files);
     let table = fill_listed(
         builder,
         externs,

@@ -12,6 +12,7 @@ pub mod crate_table;
 pub mod declared_name;
 pub mod declared_world;
 pub mod extern_crates;
+mod extern_lists;
 pub mod fill_fault;
 mod item_names;
 mod item_outline;

@@ -1,4 +1,4 @@
-use Rattle.crate_tables.proofs.KeptLemmas.{kept-further, kept-grown, kept-textual}
+use Rattle.crate_tables.proofs.KeptLemmas.{kept-further, kept-grown}
 use Rattle.crate_tables.proofs.all_items.add_all_items.Goals as goal
 use Rattle.crate_tables.specs.CrateRoots.{root_id}
 use Rattle.dm_check.specs.declared.held.HeldId.TheVariants as held
@@ -17,16 +17,16 @@ returns-in_err-add_written_items-clause-stays c =
     kept-further _ _ _ (kept-further _ _ _ (kept-grown _ _ c.in_ok-add_extern_crates.ensures.grown) c.in_ok-add_all_macros.ensures.stays)
     (kept-grown _ _ c.in_err-add_written_items.ensures.grown)
 
-pub returns-in_err-list_definitions-clause-stays : goal.returns-in_err-list_definitions-clause-stays
-returns-in_err-list_definitions-clause-stays c =
+pub returns-in_err-fill_lists-clause-stays : goal.returns-in_err-fill_lists-clause-stays
+returns-in_err-fill_lists-clause-stays c =
     kept-further _ _ _
     (kept-further _ _ _ (kept-further _ _ _ (kept-grown _ _ c.in_ok-add_extern_crates.ensures.grown) c.in_ok-add_all_macros.ensures.stays)
     (kept-grown _ _ c.in_ok-add_written_items.ensures.grown))
-    (kept-textual _ _ c.in_err-list_definitions.ensures.stays c.in_err-list_definitions.ensures.shown)
+    c.in_err-fill_lists.ensures.stays
 
 pub returns-clause-stays : goal.returns-clause-stays
 returns-clause-stays c =
     kept-further _ _ _
     (kept-further _ _ _ (kept-further _ _ _ (kept-grown _ _ c.in_ok-add_extern_crates.ensures.grown) c.in_ok-add_all_macros.ensures.stays)
     (kept-grown _ _ c.in_ok-add_written_items.ensures.grown))
-    (kept-textual _ _ c.in_ok-list_definitions.ensures.stays c.in_ok-list_definitions.ensures.shown)
+    c.in_ok-fill_lists.ensures.stays
