@@ -1,11 +1,10 @@
 """What `defmap` says of the imports of a crate, and where rustc says otherwise."""
-from dataclasses import dataclass, field
+from dataclasses import dataclass, field, replace
 from os.path import normpath
 
 from rustc_tree import Meant
 
 # Why a leaf may mean something else by rustc than by `defmap`, or nothing that `defmap` can know.
-PROCEDURAL = "procedural macros"
 TESTS = "tests"
 INJECTED = "injected crates"
 BEHIND = "unknown names behind globs"
@@ -84,6 +83,12 @@ def without_constructors(meant, theirs):
     return {it for it in meant if (it.namespace, it.kind) != ("value", "struct") or it in theirs}
 
 
+def by_crates(meant, procedural):
+    """Procedural macros by their crates alone: of a derive rustc tells the function, and not the name."""
+    return {replace(it, path=it.path.split("::")[0]) if it.kind == "macro" and it.path.split("::")[0] in procedural else it
+            for it in meant}
+
+
 def reason_by_module(home, known):
     """Why a module has other names by rustc; None where that is not known. A probe stands within the module."""
     modules = {home, home.rpartition("::")[0]}
@@ -92,10 +97,6 @@ def reason_by_module(home, known):
 
 def reason_for(where, theirs, ours, known):
     """Why rustc's meaning is known to be another one; None where that is not known."""
-    of_macros = {it for it in theirs if it.kind == "macro" and it.path.split("::")[0] in known.procedural}
-    shadowed = {it for it in ours if it.kind == "fn" and it.path.split("::")[0] in known.procedural}
-    if (of_macros or shadowed) and theirs - of_macros == ours - shadowed:
-        return PROCEDURAL
     if not ours and where in known.behind:
         return BEHIND
     if not ours and theirs and theirs <= known.injected:
@@ -135,16 +136,17 @@ def compare(leaves, ours, known, is_brought=lambda leaf: False):
 def compare_leaf(outcome, where, leaf, one, known):
     """Compares a leaf that is known."""
     outcome.compared += 1
-    meant = without_constructors(one.meant, leaf.meant) if one else set()
-    if one is not None and meant == leaf.meant:
+    theirs = by_crates(leaf.meant, known.procedural)
+    meant = by_crates(without_constructors(one.meant, leaf.meant), known.procedural) if one else set()
+    if one is not None and meant == theirs:
         return
-    if one is not None and one.has_more and is_part(meant, leaf.meant):
+    if one is not None and one.has_more and is_part(meant, theirs):
         outcome.partly += 1
         return
-    reason = reason_for(where, leaf.meant, meant, known) or reason_by_module(leaf.home, known)
+    reason = reason_for(where, theirs, meant, known) or reason_by_module(leaf.home, known)
     if reason:
         outcome.reasons[reason] = outcome.reasons.get(reason, 0) + 1
         return
     more, less = (sorted(f"{it.namespace} {it.kind} {it.path}" for it in them)
-                  for them in (leaf.meant - meant, meant - leaf.meant))
+                  for them in (theirs - meant, meant - theirs))
     outcome.differing.append(f"{shown(where)} {leaf.name or '*'}: {more} and not {less}{'' if one else ', not listed'}")

@@ -8,7 +8,7 @@ from dataclasses import asdict, dataclass, field
 
 from cargo_builds import PASSES, RUSTC, read_text
 from judging import ROOT
-from real_answers import ATTRIBUTES, BEHIND, INJECTED, PROCEDURAL, TESTS
+from real_answers import ATTRIBUTES, BEHIND, INJECTED, TESTS
 
 PAGE = f"{ROOT}/docs/REAL-CRATES.md"
 SHARES = f"{ROOT}/tools/real-crates.shares"
@@ -144,7 +144,7 @@ def time_table(rows):
 
 def limits(rows):
     """What cannot be right without expansion, or is another thing by decision, with the number of places."""
-    reasons = (PROCEDURAL, TESTS, INJECTED, BEHIND, ATTRIBUTES)
+    reasons = (TESTS, INJECTED, BEHIND, ATTRIBUTES)
     places = {reason: sum(it.reasons.get(reason, 0) for it in rows) for reason in reasons}
     unknown, brought = sum(it.unknown for it in rows), sum(it.brought for it in rows)
     names, partly = sum(it.unknown_names for it in rows), sum(it.partly + it.partly_names for it in rows)
@@ -153,7 +153,6 @@ def limits(rows):
         ["imports in modules that a macro brings, as those of `cfg_if!`: not read", brought],
         ["names of the modules asked about that a macro may bring: `unknown`", names],
         ["imports and names that mean more in another namespace, by a macro: `more unknown`", partly],
-        ["functions that are procedural macros, which bind a function and no macro", places[PROCEDURAL]],
         ["functions that an attribute as `#[test]` takes away, which are bound", places[TESTS]],
         ["names that a glob brings of an import that is unknown: told as absent", places[BEHIND]],
         ["names that a macro by attribute brings or takes, of a module where one stands at a `use`", places[ATTRIBUTES]],
