@@ -26,7 +26,6 @@ pub(crate) struct ExternWord<'a> {
 }
 
 /// The words of the command line, read.
-#[derive(Drop)]
 pub(crate) struct Arguments<'a> {
     pub(crate) wish: Wish<'a>,
     /// The file of the crate's root; `-` is the standard input.
@@ -45,23 +44,102 @@ pub(crate) struct Arguments<'a> {
     pub(crate) has_stats: bool,
 }
 
+/// A hand-written `Drop`, to keep proofs small: what drops one has one call to prove.
+impl<'a> Drop for Arguments<'a> {
+    fn drop(self) {
+        let Arguments {
+            wish: _wish,
+            root: _root,
+            edition: _edition,
+            cfgs: _cfgs,
+            cfg_file: _cfg_file,
+            externs: _externs,
+            sysroot: _sysroot,
+            metadata: _metadata,
+            build: _build,
+            limit: _limit,
+            has_stats: _has_stats,
+        } = self;
+    }
+}
+
 /// How many modules a crate may have where nothing else is said.
 const LIMIT: u32 = 65_536;
 
-fn value<'a>(alloc: Global, id: &'a str, shown: &'a str, help: &'a str) -> Arg<'a> {
-    Arg::new(alloc, id)
-        .long(id)
-        .value_name(shown)
-        .help(help)
-        .action(ArgAction::Set)
+/// An option that takes a value: its name, what the value is called, and what it says.
+struct ValueOption {
+    id: &'static str,
+    shown: &'static str,
+    help: &'static str,
+    action: ArgAction,
 }
 
-fn values<'a>(alloc: Global, id: &'a str, shown: &'a str, help: &'a str) -> Arg<'a> {
-    Arg::new(alloc, id)
-        .long(id)
-        .value_name(shown)
-        .help(help)
-        .action(ArgAction::Append)
+/// Those of every subcommand, in the order in which help lists them.
+const OPTIONS: [ValueOption; 8] = [
+    ValueOption {
+        id: "edition",
+        shown: "EDITION",
+        help: "2015, 2018, 2021 or 2024; 2021 where nothing is said",
+        action: ArgAction::Set,
+    },
+    ValueOption {
+        id: "cfg",
+        shown: "NAME[=\"VALUE\"]",
+        help: "One more option that the crate is compiled with",
+        action: ArgAction::Append,
+    },
+    ValueOption {
+        id: "cfg-file",
+        shown: "FILE",
+        help: "What `rustc --print cfg` prints, in place of a table for Linux on x86-64",
+        action: ArgAction::Set,
+    },
+    ValueOption {
+        id: "extern",
+        shown: "NAME[@EDITION]=ROOT.rs",
+        help: "A crate that the crate knows, which itself knows those given before it",
+        action: ArgAction::Append,
+    },
+    ValueOption {
+        id: "sysroot",
+        shown: "DIR",
+        help: "The folder with the folders of core, alloc and std",
+        action: ArgAction::Set,
+    },
+    ValueOption {
+        id: "metadata",
+        shown: "FILE",
+        help: "What `cargo metadata --format-version 1` prints",
+        action: ArgAction::Set,
+    },
+    ValueOption {
+        id: "build",
+        shown: "FILE",
+        help: "What `cargo check --message-format json` prints, beside --metadata: the options that build scripts set",
+        action: ArgAction::Set,
+    },
+    ValueOption {
+        id: "limit",
+        shown: "NUMBER",
+        help: "How many modules a crate may have; 65536 where nothing is said",
+        action: ArgAction::Set,
+    },
+];
+
+/// The option of `resolve` alone.
+const HOME: ValueOption = ValueOption {
+    id: "in",
+    shown: "MODULE",
+    help: "The module that the path stands in; crate where nothing is said",
+    action: ArgAction::Set,
+};
+
+fn value<'a>(alloc: Global, option: &'static ValueOption) -> Arg<'a> {
+    Arg::new(alloc, option.id)
+        .long(option.id)
+        .value_name(option.shown)
+        .help(option.help)
+        .action(option.action)
 }
 
 fn position<'a>(alloc: Global, id: &'a str, shown: &'a str, help: &'a str) -> Arg<'a> {
@@ -81,78 +159,17 @@ fn with_root<'a>(alloc: Global, command: Command<'a>) -> Result<Command<'a>, All
     ))
 }
 
-/// A command with the options on how the crate is compiled.
-fn with_cfgs<'a>(alloc: Global, command: Command<'a>) -> Result<Command<'a>, AllocError> {
-    command
-        .arg(value(
-            alloc,
-            "edition",
-            "EDITION",
-            "2015, 2018, 2021 or 2024; 2021 where nothing is said",
-        ))?
-        .arg(values(
-            alloc,
-            "cfg",
-            "NAME[=\"VALUE\"]",
-            "One more option that the crate is compiled with",
-        ))?
-        .arg(value(
-            alloc,
-            "cfg-file",
-            "FILE",
-            "What `rustc --print cfg` prints, in place of a table for Linux on x86-64",
-        ))
-}
-
-/// A command with the options on the crates that the crate knows.
-fn with_crates<'a>(alloc: Global, command: Command<'a>) -> Result<Command<'a>, AllocError> {
-    command
-        .arg(values(
-            alloc,
-            "extern",
-            "NAME[@EDITION]=ROOT.rs",
-            "A crate that the crate knows, which itself knows those given before it",
-        ))?
-        .arg(value(
-            alloc,
-            "sysroot",
-            "DIR",
-            "The folder with the folders of core, alloc and std",
-        ))?
-        .arg(value(
-            alloc,
-            "metadata",
-            "FILE",
-            "What `cargo metadata --format-version 1` prints",
-        ))?
-        .arg(value(
-            alloc,
-            "build",
-            "FILE",
-            "What `cargo check --message-format json` prints, beside --metadata: the options that build scripts set",
-        ))
-}
-
-/// A command with the options on the run.
-fn with_run<'a>(alloc: Global, command: Command<'a>) -> Result<Command<'a>, AllocError> {
+/// A command with the options that each subcommand has.
+fn with_options<'a>(alloc: Global, command: Command<'a>) -> Result<Command<'a>, AllocError> {
+    let mut command = command;
+    for option in &OPTIONS {
+        command = command.arg(value(alloc, option))?;
+    }
     let stats = Arg::new(alloc, "stats")
         .long("stats")
         .help("Tells on standard error what was read, and how long each stage took")
         .action(ArgAction::SetTrue);
-    command
-        .arg(value(
-            alloc,
-            "limit",
-            "NUMBER",
-            "How many modules a crate may have; 65536 where nothing is said",
-        ))?
-        .arg(stats)
-}
-
-fn with_options<'a>(alloc: Global, command: Command<'a>) -> Result<Command<'a>, AllocError> {
-    let command = with_cfgs(alloc, command)?;
-    let command = with_crates(alloc, command)?;
-    with_run(alloc, command)
+    command.arg(stats)
 }
 
 fn tree_command<'a>(alloc: Global) -> Result<Command<'a>, AllocError> {
@@ -180,12 +197,7 @@ fn resolve_command<'a>(alloc: Global) -> Result<Command<'a>, AllocError> {
     let command = Command::new(alloc, "resolve").about(about);
     let command = with_root(alloc, command)?
         .arg(position(alloc, "path", "PATH", "The path, as a::b::C"))?
-        .arg(value(
-            alloc,
-            "in",
-            "MODULE",
-            "The module that the path stands in; crate where nothing is said",
-        ))?;
+        .arg(value(alloc, &HOME))?;
     with_options(alloc, command)
 }
 
@@ -231,23 +243,30 @@ fn known_limit(alloc: Global, word: &str) -> Result<u32, Failure> {
     }
 }
 
+/// The name of a crate, and its edition where `@` parts one from it.
+fn name_and_edition<'a>(
+    alloc: Global,
+    known: &'a str,
+) -> Result<(&'a str, Option<Edition>), Failure> {
+    match known.split_once('@') {
+        None => Ok((known, None)),
+        Some((name, edition)) => Ok((name, Some(known_edition(alloc, edition)?))),
+    }
+}
+
+fn no_file<T>(alloc: Global, word: &str) -> Result<T, Failure> {
+    misused(format!(in alloc; "--extern {word} names no file: give it as NAME=ROOT.rs")?)
+}
+
 /// What a word of `--extern` says.
 fn extern_word<'a>(alloc: Global, word: &'a str) -> Result<ExternWord<'a>, Failure> {
     let Some((known, root)) = word.split_once('=') else {
-        return misused(format!(in alloc;
-            "--extern {word} names no file: give it as NAME=ROOT.rs"
-        )?);
+        return no_file(alloc, word);
     };
-    let Some((name, edition)) = known.split_once('@') else {
-        return Ok(ExternWord {
-            name: known,
-            edition: None,
-            root,
-        });
-    };
+    let (name, edition) = name_and_edition(alloc, known)?;
     Ok(ExternWord {
         name,
-        edition: Some(known_edition(alloc, edition)?),
+        edition,
         root,
     })
 }

@@ -33,12 +33,18 @@ pub(crate) enum Cause {
     Standard,
 }
 
+/// Why an import of a name is unknown, and the place of the last name that was noted before of the same module.
+#[derive(Clone, Copy)]
+struct NotedName {
+    cause: Cause,
+    before: Option<usize>,
+}
+
 /// What is hidden in a world.
-#[derive(Drop)]
 pub(crate) struct Hidden<'a> {
     alloc: Global,
     settled: &'a Settled,
-    /// The crates of the standard library that are not given.
+    /// Whether the crates of the standard library are given.
     has_sysroot: bool,
     by_macros: IndexSet<ModuleId>,
     by_standard: IndexSet<ModuleId>,
@@ -48,11 +54,29 @@ pub(crate) struct Hidden<'a> {
     named: IndexMap<usize, Cause>,
     /// The same, by the modules that they stand in and the names that they would bind, and by the modules that have globs
     /// of these.
-    by_name: IndexMap<(ModuleId, &'a str), Cause>,
-    /// The names alone, of each module.
-    names: IndexMap<ModuleId, Vec<&'a str>>,
+    by_name: IndexMap<(ModuleId, &'a str), NotedName>,
+    /// Where among these the last name of a module stands.
+    last_names: IndexMap<ModuleId, usize>,
     /// The globs that hide names, by their places.
     globs: IndexMap<usize, Cause>,
+}
+
+/// A hand-written `Drop`, to keep proofs small: what drops one has one call to prove.
+impl<'a> Drop for Hidden<'a> {
+    fn drop(self) {
+        let Hidden {
+            alloc: _alloc,
+            settled: _settled,
+            has_sysroot: _has_sysroot,
+            by_macros: _by_macros,
+            by_standard: _by_standard,
+            exporting: _exporting,
+            named: _named,
+            by_name: _by_name,
+            last_names: _last_names,
+            globs: _globs,
+        } = self;
+    }
 }
 
 /// The name that is missing of a path, and the module that it is looked up in.
@@ -149,6 +173,15 @@ fn source_module(world: &World, glob: &GlobImport) -> Option<ModuleId> {
     }
 }
 
+/// The modules that macro calls stand in.
+fn modules_of(alloc: Global, homes: &[MacroHome]) -> Result<IndexSet<ModuleId>, AllocError> {
+    let mut modules = IndexSet::new(alloc);
+    for home in homes {
+        modules.insert(home.module)?;
+    }
+    Ok(modules)
+}
+
 impl<'a> Hidden<'a> {
     /// What is hidden in the settled world.
     pub(crate) fn of(
@@ -157,30 +190,33 @@ impl<'a> Hidden<'a> {
         has_sysroot: bool,
         homes: &[MacroHome],
     ) -> Result<Hidden<'a>, AllocError> {
+        let unresolved = settled.collected.retry.unresolved()?;
         let mut hidden = Hidden {
             alloc,
             settled,
             has_sysroot,
-            by_macros: IndexSet::new(alloc),
+            by_macros: modules_of(alloc, homes)?,
             by_standard: IndexSet::new(alloc),
             exporting: exporting_roots(alloc, settled, homes)?,
             named: IndexMap::new(alloc),
             by_name: IndexMap::new(alloc),
-            names: IndexMap::new(alloc),
+            last_names: IndexMap::new(alloc),
             globs: IndexMap::new(alloc),
         };
-        for home in homes {
-            hidden.by_macros.insert(home.module)?;
-        }
-        let unresolved = settled.collected.retry.unresolved()?;
+        hidden.find_all(unresolved.as_slice())?;
+        Ok(hidden)
+    }
+
+    /// Notes what is unknown, until there is nothing new.
+    fn find_all(&mut self, unresolved: &[usize]) -> Result<(), AllocError> {
         for _round in 0..u32::MAX {
-            let named = hidden.find_named(unresolved.as_slice())?;
-            let globs = hidden.find_globs()?;
+            let named = self.find_named(unresolved)?;
+            let globs = self.find_globs()?;
             if !named && !globs {
                 break;
             }
         }
-        Ok(hidden)
+        Ok(())
     }
 
     pub(crate) fn settled(&self) -> &'a Settled {
@@ -208,7 +244,10 @@ impl<'a> Hidden<'a> {
 
     /// Why the import of a module that would bind a name is unknown, if it is.
     fn cause_by_name(&self, module: ModuleId, name: &Name) -> Option<Cause> {
-        self.by_name.get(&(module, name.as_str())).copied()
+        match self.by_name.get(&(module, name.as_str())) {
+            None => None,
+            Some(noted) => Some(noted.cause),
+        }
     }
 
     /// Whether a macro may bring a name of a module.
@@ -250,26 +289,28 @@ impl<'a> Hidden<'a> {
         if self.by_name.contains_key(&(module, name)) {
             return Ok(false);
         }
-        self.by_name.insert((module, name), cause)?;
-        if let Some(names) = self.names.get_mut(&module) {
-            names.push(name)?;
-        } else {
-            let mut names = Vec::new(self.alloc);
-            names.push(name)?;
-            self.names.insert(module, names)?;
-        }
+        let noted = NotedName {
+            cause,
+            before: self.last_names.get(&module).copied(),
+        };
+        self.last_names.insert(module, self.by_name.len())?;
+        self.by_name.insert((module, name), noted)?;
         Ok(true)
     }
 
     /// The unknown names of a module, each with why it is unknown.
     fn names_in(&self, module: ModuleId) -> Result<Vec<(&'a str, Cause)>, AllocError> {
         let mut found = Vec::new(self.alloc);
-        if let Some(names) = self.names.get(&module) {
-            for name in names {
-                if let Some(cause) = self.by_name.get(&(module, *name)) {
-                    found.push((*name, *cause))?;
-                }
-            }
+        let mut next = self.last_names.get(&module).copied();
+        for _name in 0..self.by_name.len() {
+            let Some(place) = next else {
+                break;
+            };
+            let Some((named, noted)) = self.by_name.get_index(place) else {
+                break;
+            };
+            found.push((named.1, noted.cause))?;
+            next = noted.before;
         }
         Ok(found)
     }

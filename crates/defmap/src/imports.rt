@@ -47,7 +47,6 @@ fn meant_words(alloc: Global, settled: &Settled, found: PerNs) -> Result<String,
 }
 
 /// What lists imports.
-#[derive(Drop)]
 struct Listing<'s, 'h, 'l, 'f> {
     alloc: Global,
     settled: &'s Settled,
@@ -56,6 +55,20 @@ struct Listing<'s, 'h, 'l, 'f> {
     /// The named imports that may mean more.
     partly: IndexSet<usize>,
     out: String,
+}
+
+/// A hand-written `Drop`, to keep proofs small: what drops one has one call to prove.
+impl<'s, 'h, 'l, 'f> Drop for Listing<'s, 'h, 'l, 'f> {
+    fn drop(self) {
+        let Listing {
+            alloc: _alloc,
+            settled: _settled,
+            hidden: _hidden,
+            lines: _lines,
+            partly: _partly,
+            out: _out,
+        } = self;
+    }
 }
 
 impl<'s, 'h, 'l, 'f> Listing<'s, 'h, 'l, 'f> {
@@ -137,6 +150,24 @@ impl<'s, 'h, 'l, 'f> Listing<'s, 'h, 'l, 'f> {
         Ok(())
     }
 
+    fn into_text(self) -> String {
+        let Listing {
+            alloc: _alloc,
+            settled: _settled,
+            hidden: _hidden,
+            lines: _lines,
+            partly: _partly,
+            out,
+        } = self;
+        out
+    }
+
+    fn add_all(&mut self) -> Result<(), AllocError> {
+        self.add_named()?;
+        self.add_globs()?;
+        self.add_prelude()
+    }
+
     fn add_globs(&mut self) -> Result<(), AllocError> {
         let settled = self.settled;
         for (place, glob) in settled.collected.globs.iter().enumerate() {
@@ -151,6 +182,20 @@ impl<'s, 'h, 'l, 'f> Listing<'s, 'h, 'l, 'f> {
     }
 }
 
+/// What each import of the crate means, where it is known what is hidden.
+fn listed(lines: &Lines<'_>, hidden: &Hidden<'_>) -> Result<String, AllocError> {
+    let mut listing = Listing {
+        alloc: hidden.alloc(),
+        settled: hidden.settled(),
+        hidden,
+        lines,
+        partly: partly_unknown(hidden)?,
+        out: String::new(hidden.alloc()),
+    };
+    listing.add_all()?;
+    Ok(listing.into_text())
+}
+
 /// What each import of the crate that is asked about means, the named ones first, and the one that names its prelude last.
 pub(crate) fn imports_text(
     alloc: Global,
@@ -160,24 +205,5 @@ pub(crate) fn imports_text(
 ) -> Result<String, AllocError> {
     let homes = macro_homes(alloc, settled)?;
     let hidden = Hidden::of(alloc, settled, has_sysroot, homes.as_slice())?;
-    let mut listing = Listing {
-        alloc,
-        settled,
-        hidden: &hidden,
-        lines,
-        partly: partly_unknown(&hidden)?,
-        out: String::new(alloc),
-    };
-    listing.add_named()?;
-    listing.add_globs()?;
-    listing.add_prelude()?;
-    let Listing {
-        alloc: _alloc,
-        settled: _settled,
-        hidden: _hidden,
-        lines: _lines,
-        partly: _partly,
-        out,
-    } = listing;
-    Ok(out)
+    listed(lines, &hidden)
 }

@@ -9,6 +9,7 @@ use crate_tables::crate_filling::Reading;
 use dm_base::ids::{Crate, UseId};
 use dm_collector::collect::{Collected, collect};
 use dm_collector::collect_fault::CollectFault;
+use dm_collector::glob_fault::GlobFault;
 use dm_collector::settle::settle;
 use dm_collector::unresolved_names::list_unresolved;
 use dm_maps::world::World;
@@ -20,7 +21,6 @@ use std::alloc::{AllocError, Global};
 const TURNS: u32 = 1_000_000;
 
 /// Crates, settled, with what tells where their items stand.
-#[derive(Drop)]
 pub(crate) struct Settled {
     pub(crate) files: FileTable,
     items: Vec<Vec<DeclaredItem>>,
@@ -30,6 +30,20 @@ pub(crate) struct Settled {
     pub(crate) names: Vec<String>,
     /// Whether each crate is one of procedural macros.
     procedural: Vec<bool>,
+}
+
+/// A hand-written `Drop`, to keep proofs small: what drops one has one call to prove.
+impl Drop for Settled {
+    fn drop(self) {
+        let Settled {
+            files: _files,
+            items: _items,
+            uses: _uses,
+            collected: _collected,
+            names: _names,
+            procedural: _procedural,
+        } = self;
+    }
 }
 
 /// Why there is no settled world.
@@ -89,7 +103,8 @@ fn settle_all(
         match settle(&mut collected.retry, globs, uses, 1, alloc) {
             Ok(true) => return Ok(()),
             Ok(false) => {}
-            Err(_fault) => return Err(NotSettled::Unfit),
+            Err(GlobFault::Unknown) => return Err(NotSettled::Unfit),
+            Err(GlobFault::OutOfMemory) => return Err(NotSettled::OutOfMemory),
         }
     }
     Err(NotSettled::Unsettled)

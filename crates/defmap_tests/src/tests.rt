@@ -16,6 +16,9 @@ mod base;
 mod scopes;
 mod worlds;
 
+use dm_base::name::Name;
+use dm_base::symbol::Symbol;
+use std::alloc::{AllocError, Global};
 use std::fmt::Debug;
 use std::process::Abort;
 use std::test::Fail;
@@ -23,6 +26,16 @@ use std::test::Fail;
 /// Fails a test where two values differ. The prover takes seconds for this, and would for each `assert_eq!` in a test.
 fn same<T: PartialEq + Debug>(rt: &impl Abort, found: &T, wanted: &T) {
     assert_eq!(rt; found, wanted);
+}
+
+/// A name, made again where that fails.
+fn a_name(alloc: Global, text: &str) -> Result<Name, AllocError> {
+    again!(Name::new(alloc, text))
+}
+
+/// A symbol, made again where that fails.
+fn a_symbol(alloc: Global, text: &str) -> Result<Symbol, AllocError> {
+    again!(Symbol::new(alloc, text))
 }
 
 /// Fails a test where a call fails, and where it answers something else.

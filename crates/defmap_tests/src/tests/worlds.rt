@@ -14,8 +14,8 @@ mod visibilities;
 
 use dm_base::fields_shape::FieldsShape;
 use dm_base::ids::{
-    BlockId, Crate, EnumId, EnumVariantId, FileAstId, FileId, FunctionId, ImplId, MacroCallId,
-    MacroRulesId, MapId, ModuleId, ProcMacroId, StructId, TraitId, UseId, UseTreeIdx,
+    BlockId, Crate, EnumId, FileAstId, FileId, FunctionId, ImplId, MacroCallId, MacroRulesId,
+    MapId, ModuleId, ProcMacroId, StructId, TraitId, UseId, UseTreeIdx,
 };
 use dm_base::imports::{ImportId, ImportOrExternCrate};
 use dm_base::item_ids::{
@@ -224,6 +224,22 @@ struct Checked {
 impl Drop for Checked {
     fn drop(self) {
         let Checked { world: _world } = self;
+    }
+}
+
+/// A checked world, and the flags of globs.
+struct Bound {
+    world: World,
+    globs: PerNsGlobImports,
+}
+
+/// A hand-written `Drop`, as for a builder.
+impl Drop for Bound {
+    fn drop(self) {
+        let Bound {
+            world: _world,
+            globs: _globs,
+        } = self;
     }
 }
 
@@ -457,6 +473,18 @@ impl Building {
     fn world(self) -> Option<Checked> {
         match self.checked() {
             Ok(checked) => Some(checked),
+            Err(_fault) => None,
+        }
+    }
+
+    /// The world, if there is one, and the flags.
+    fn bound(self) -> Option<Bound> {
+        let Building { builder, globs } = self;
+        match outcome(builder.check()) {
+            Ok(checked) => Some(Bound {
+                world: checked.into_world(),
+                globs,
+            }),
             Err(_fault) => None,
         }
     }

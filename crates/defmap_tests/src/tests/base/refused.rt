@@ -3,22 +3,20 @@
 //! With enough memory none fails. `tools/refusals` injects faults: it runs this test with every allocation failing in
 //! turn. Whichever it is, the call made again answers as it would have.
 use super::builtins::first_other_of_all;
-use crate::tests::gives;
-use dm_base::name::Name;
-use dm_base::symbol::Symbol;
+use crate::tests::{a_name, a_symbol, gives};
 use std::alloc::{AllocError, Global};
 use std::test::Fail;
 
 /// Whether a text is the same after one copy as a name.
 fn is_copied_as_name(alloc: Global, text: &str) -> Result<bool, AllocError> {
-    let name = again!(Name::new(alloc, text))?;
+    let name = a_name(alloc, text)?;
     let copy = again!(name.copy(alloc))?;
     Ok(copy == name && copy.as_str() == text)
 }
 
 /// Whether it is the same after one copy as a symbol.
 fn is_copied_as_symbol(alloc: Global, text: &str) -> Result<bool, AllocError> {
-    let symbol = again!(Symbol::new(alloc, text))?;
+    let symbol = a_symbol(alloc, text)?;
     let copy = again!(symbol.copy(alloc))?;
     Ok(copy == symbol && copy.as_str() == text)
 }

@@ -6,7 +6,7 @@ ghost use Rattle.std.specs.Iterator.{IsFinite};
 
 use super::told::told;
 use super::{Filled, GLOB, HERE, ast, function, import, import_id, structure, typed, valued};
-use crate::tests::{gives, same};
+use crate::tests::{a_name, gives, same};
 use defmap_callers::modules::Modules;
 use defmap_callers::scopes::say_the_same;
 use dm_base::ids::{
@@ -279,9 +279,9 @@ fn are_same(one: &Seen, other: &Seen) -> bool {
 /// The three names.
 fn names(alloc: Global) -> Result<[Name; 3], AllocError> {
     Ok([
-        again!(Name::new(alloc, "A"))?,
-        again!(Name::new(alloc, "B"))?,
-        again!(Name::new(alloc, "x"))?,
+        a_name(alloc, "A")?,
+        a_name(alloc, "B")?,
+        a_name(alloc, "x")?,
     ])
 }
 

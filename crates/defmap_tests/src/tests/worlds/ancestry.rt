@@ -109,10 +109,13 @@ fn above(world: &World, m: ModuleId) -> Option<ModuleId> {
 fn climbs(world: &World, a: u32, m: u32) -> bool {
     let mut at = Some(ModuleId(m));
     for _step in 0..MODULES {
-        if at == Some(ModuleId(a)) {
+        let Some(here) = at else {
+            return false;
+        };
+        if here == ModuleId(a) {
             return true;
         }
-        at = at.and_then(|m| above(world, m));
+        at = above(world, here);
     }
     false
 }
@@ -126,24 +129,48 @@ fn contained(world: &World, a: u32, m: u32) -> bool {
 /// Whether the ladders (jump pointers) say of two modules what the climb says.
 fn agree(world: &World, a: u32, m: u32) -> bool {
     let climbed = climbs(world, a, m);
-    let moves = counted(world, a, m).map(|(contains, _moves)| contains);
-    moves == Some(climbed) && contained(world, a, m) == climbed
+    match counted(world, a, m) {
+        None => false,
+        Some((contains, _moves)) => contains == climbed && contained(world, a, m) == climbed,
+    }
+}
+
+/// Whether the ladders say of a module, and each other, what the climb says.
+fn all_agree(world: &World, m: u32) -> bool {
+    for a in 0..MODULES {
+        if !agree(world, a, m) {
+            return false;
+        }
+    }
+    true
 }
 
 /// How many modules a climb from a module meets.
-fn chain_length(world: &World, m: u32) -> usize {
-    (0..MODULES).filter(|a| climbs(world, *a, m)).count()
+fn chain_length(world: &World, m: u32) -> u32 {
+    let mut length = 0u32;
+    for a in 0..MODULES {
+        if climbs(world, a, m) {
+            length = length.saturating_add(1);
+        }
+    }
+    length
 }
 
 /// Whether ladders say of each two modules what the climb says, and the length of the longest climb.
-fn compared(world: &World) -> (bool, Option<usize>) {
-    let all_agree = (0..MODULES).all(|m| (0..MODULES).all(|a| agree(world, a, m)));
-    let longest = (0..MODULES).map(|m| chain_length(world, m)).max();
-    (all_agree, longest)
+fn compared(world: &World) -> (bool, u32) {
+    let (mut agree, mut longest) = (true, 0u32);
+    for m in 0..MODULES {
+        agree = agree && all_agree(world, m);
+        let length = chain_length(world, m);
+        if length > longest {
+            longest = length;
+        }
+    }
+    (agree, longest)
 }
 
 /// The same, of the mixed world.
-fn mixed(alloc: Global) -> Result<Option<(bool, Option<usize>)>, BuildFault> {
+fn mixed(alloc: Global) -> Result<Option<(bool, u32)>, BuildFault> {
     match Building::mixed(alloc)?.world() {
         None => Ok(None),
         Some(checked) => Ok(Some(compared(&checked.world))),
@@ -152,5 +179,5 @@ fn mixed(alloc: Global) -> Result<Option<(bool, Option<usize>)>, BuildFault> {
 
 #[test]
 fn ladders_say_what_the_climb_says(rt: HostRuntime) -> Result<(), Fail> {
-    gives(&rt, mixed(rt.alloc()), Some((true, Some(20))))
+    gives(&rt, mixed(rt.alloc()), Some((true, 20)))
 }

@@ -5,7 +5,7 @@ mod built;
 mod later;
 mod pushed;
 
-use super::{Building, FILE, structure};
+use super::{Bound, Building, FILE, structure};
 use crate::tests::gives;
 use defmap_callers::finding::{dumped, is_exported, meaning_in_block, offered};
 use defmap_callers::maps::bring_by_glob;
@@ -21,10 +21,8 @@ use dm_base::per_ns::PerNs;
 use dm_base::source::Edition;
 use dm_base::visibility::Visibility;
 use dm_maps::build_fault::BuildFault;
-use dm_maps::builder::WorldBuilder;
 use dm_maps::world::World;
 use dm_maps::world::maps_of::local_def_map;
-use dm_scope::glob_imports::PerNsGlobImports;
 use dm_scope::scope_tables::ScopeTables;
 use std::alloc::{AllocError, Global};
 use std::test::Fail;
@@ -90,31 +88,37 @@ fn completion_bodies_and_dumps_read_a_small_world(rt: HostRuntime) -> Result<(),
     gives(&rt, Ok::<_, AllocError>(told(rt.alloc())), wanted)
 }
 
-/// The world of a crate with a struct and a `use` in its root.
-fn world_with_use(alloc: Global) -> Option<World> {
+/// The tables of a crate with a struct and a `use` in its root.
+fn tables_with_use(alloc: Global) -> Result<Building, BuildFault> {
     let root = ModuleId(0);
-    let mut builder = WorldBuilder::new(alloc);
-    builder.add_crate(Edition::Edition2021, FILE).ok()?;
-    builder.add_item(ItemKind::Struct, root).ok()?;
-    builder.add_use(root).ok()?;
-    builder.check().ok()
+    let mut building = Building::new(alloc);
+    building.builder.add_crate(Edition::Edition2021, FILE)?;
+    building.builder.add_item(ItemKind::Struct, root)?;
+    building.builder.add_use(root)?;
+    Ok(building)
+}
+
+/// The glob import of that `use`.
+const GLOB: GlobId = GlobId {
+    use_: UseId(0),
+    idx: UseTreeIdx(0),
+};
+
+impl Bound {
+    /// Pushes the struct by the glob; whether that wrote something.
+    fn bring_struct(&mut self, alloc: Global) -> Option<bool> {
+        let lookup = (ModuleId(0), Name::new(alloc, "brought").ok()?);
+        let items = structure(0, Visibility::Public, None);
+        bring_by_glob(&mut self.world, &mut self.globs, lookup, items, GLOB).ok()
+    }
 }
 
 /// What two pushes by one glob answer, under a name that nothing else binds.
 fn brought(alloc: Global) -> Option<[bool; 2]> {
-    let mut world = world_with_use(alloc)?;
-    let mut globs = PerNsGlobImports::new(alloc);
-    let glob = GlobId {
-        use_: UseId(0),
-        idx: UseTreeIdx(0),
-    };
-    let mut written = [false; 2];
-    for answer in &mut written {
-        let lookup = (ModuleId(0), Name::new(alloc, "brought").ok()?);
-        let items = structure(0, Visibility::Public, None);
-        *answer = bring_by_glob(&mut world, &mut globs, lookup, items, glob).ok()?;
-    }
-    Some(written)
+    let mut bound = tables_with_use(alloc).ok()?.bound()?;
+    let first = bound.bring_struct(alloc)?;
+    let second = bound.bring_struct(alloc)?;
+    Some([first, second])
 }
 
 #[test]

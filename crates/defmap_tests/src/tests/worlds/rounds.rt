@@ -3,8 +3,9 @@ mod collected;
 mod refused;
 mod settled;
 
-use super::{Building, Checked, FILE};
+use super::{Bound, Building, Checked, FILE};
 use crate::tests::gives;
+use defmap_callers::maps::declare_type;
 use dm_base::ids::{ModuleId, StructId, UseId, UseTreeIdx};
 use dm_base::imports::ImportId;
 use dm_base::item_ids::{AdtId, ItemKind, ModuleDefId};
@@ -76,6 +77,33 @@ impl Building {
         building.push(alloc, (ROOT, "a"), child, None)?;
         building.push(alloc, (CHILD, "S"), the_struct(), None)?;
         Ok(building)
+    }
+}
+
+impl Building {
+    /// A crate with two modules of these names and a use, in its root.
+    fn with_modules(alloc: Global, names: [&str; 2]) -> Result<Building, BuildFault> {
+        let mut building = Building::new(alloc);
+        building.builder.add_crate(Edition::Edition2021, FILE)?;
+        building.put_module(alloc, 0, names[0])?;
+        building.put_module(alloc, 0, names[1])?;
+        building.builder.add_use(ROOT)?;
+        Ok(building)
+    }
+}
+
+impl Bound {
+    /// Declares a type in a module.
+    fn declare(&mut self, alloc: Global, m: ModuleId, name: &str, def: ModuleDefId) -> Option<()> {
+        let lookup = (m, Name::new(alloc, name).ok()?);
+        declare_type(&mut self.world, &mut self.globs, lookup, def).ok()?;
+        Some(())
+    }
+
+    /// Unresolved imports in the world, if they are taken.
+    fn waiting(self, pendings: Vec<Pending>) -> Option<Waiting> {
+        let Bound { world, globs } = self;
+        outcome(Retry::new(world, globs, pendings)).ok()
     }
 }
 

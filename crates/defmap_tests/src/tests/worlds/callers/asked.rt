@@ -16,26 +16,33 @@ use dm_maps::world::World;
 use std::alloc::{AllocError, Global};
 use std::test::Fail;
 
+/// Enables two features.
+fn enable(builder: &mut WorldBuilder, alloc: Global) -> Option<()> {
+    let first = Symbol::new(alloc, "first").ok()?;
+    let second = Symbol::new(alloc, "second").ok()?;
+    enable_both(builder, alloc, Crate(0), first, second).ok()
+}
+
 /// The tables of a crate with two features and a prelude module.
 fn tables(alloc: Global) -> Option<WorldBuilder> {
     let mut builder = one_crate(alloc, FILE).ok()?;
-    let first = Symbol::new(alloc, "first").ok()?;
-    let second = Symbol::new(alloc, "second").ok()?;
-    enable_both(&mut builder, alloc, Crate(0), first, second).ok()?;
+    enable(&mut builder, alloc)?;
     set_prelude_of(&mut builder, CRATE_MAP, ModuleId(0)).ok()?;
     Some(builder)
+}
+
+/// Whether a feature is enabled.
+fn is_enabled(alloc: Global, world: &World, feature: &str) -> Option<bool> {
+    let feature = Symbol::new(alloc, feature).ok()?;
+    let map = world.map_of(ModuleId(0))?;
+    Some(map.features().is_enabled(&feature))
 }
 
 /// Whether both features are enabled, and no import is refused in an empty list.
 fn built(alloc: Global) -> Option<[bool; 3]> {
     let world = rechecked(tables(alloc)?.check().ok()?);
-    let map = world.map_of(ModuleId(0))?;
-    let first = map
-        .features()
-        .is_enabled(&Symbol::new(alloc, "first").ok()?);
-    let second = map
-        .features()
-        .is_enabled(&Symbol::new(alloc, "second").ok()?);
+    let first = is_enabled(alloc, &world, "first")?;
+    let second = is_enabled(alloc, &world, "second")?;
     Some([first, second, refused_import(&world, &[]).is_none()])
 }
 

@@ -1,7 +1,7 @@
 //! More callers of docs/USING.md: modules that are built in a loop, and tables that are written before their check.
 use super::DECLARED;
 use crate::tests::gives;
-use crate::tests::worlds::{EXPANDED, FILE, ast};
+use crate::tests::worlds::{Building, EXPANDED, FILE, ast};
 use defmap_callers::building::{crate_of_modules, declared};
 use defmap_callers::maps::{editions_of, one_crate};
 use defmap_callers::scopes::bound_type;
@@ -10,9 +10,7 @@ use dm_base::ids::{BlockId, ModuleId};
 use dm_base::item_ids::ModuleDefId;
 use dm_base::name::Name;
 use dm_base::source::Edition;
-use dm_base::visibility::Visibility;
 use dm_maps::build_fault::BuildFault;
-use dm_maps::builder::WorldBuilder;
 use dm_maps::world::World;
 use dm_scope::glob_imports::PerNsGlobImports;
 use dm_scope::scope_tables::ScopeTables;
@@ -74,20 +72,26 @@ fn modules_of_a_list_bind_what_is_declared(rt: HostRuntime) -> Result<(), Fail> 
     gives(&rt, declared_there(rt.alloc()), wanted)
 }
 
+impl Building {
+    /// Declares the root as `x` in the first module.
+    fn declare_root(&mut self, alloc: Global) -> Result<(), BuildFault> {
+        let lookup = (FIRST, Name::new(alloc, "x")?);
+        let root = ModuleDefId::ModuleId(ROOT);
+        declare_in_tables(&mut self.builder, &mut self.globs, lookup, root)?;
+        Ok(())
+    }
+}
+
 /// The tables of a crate with a module, where `x` is the root, and a block.
-fn written_tables(alloc: Global) -> Result<WorldBuilder, BuildFault> {
-    let mut globs = PerNsGlobImports::new(alloc);
-    let (a, x) = (Name::new(alloc, "a")?, Name::new(alloc, "x")?);
-    let mut builder = one_crate(alloc, FILE)?;
-    let m = builder.add_module(ROOT, a, EXPANDED, Visibility::Public)?;
-    declare_in_tables(
-        &mut builder,
-        &mut globs,
-        (m, x),
-        ModuleDefId::ModuleId(ROOT),
-    )?;
-    builder.add_block(m, ast(0))?;
-    Ok(builder)
+fn written_tables(alloc: Global) -> Result<Building, BuildFault> {
+    let mut building = Building {
+        builder: one_crate(alloc, FILE)?,
+        globs: PerNsGlobImports::new(alloc),
+    };
+    building.put_module(alloc, ROOT.0, "a")?;
+    building.declare_root(alloc)?;
+    building.builder.add_block(FIRST, ast(0))?;
+    Ok(building)
 }
 
 /// The editions of the block and of its crate.
@@ -100,8 +104,9 @@ fn editions(world: &World) -> Option<(Edition, Edition)> {
 
 /// What `x` is in the module, and both editions.
 fn written(alloc: Global) -> Option<(Option<ModuleDefId>, Option<(Edition, Edition)>)> {
-    let world = written_tables(alloc).ok()?.check().ok()?;
-    Some((meaning_of_x(alloc, &world, FIRST), editions(&world)))
+    let checked = written_tables(alloc).ok()?.world()?;
+    let world = &checked.world;
+    Some((meaning_of_x(alloc, world, FIRST), editions(world)))
 }
 
 #[test]

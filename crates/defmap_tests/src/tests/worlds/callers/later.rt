@@ -27,8 +27,6 @@ fn in_preludes(
     world: &mut World,
     path: &ModPath,
 ) -> Result<Option<ModuleDefId>, AllocError> {
-    let mut globs = PerNsGlobImports::new(alloc);
-    let lookup = (PRELUDE, Name::new(alloc, "y")?);
     let items = PerNs::types(STRUCT, Visibility::Public, None);
     if !world.has_crate(KRATE) || !world.has(ROOT) || !world.knows_path(path) {
         return Ok(None);
@@ -36,6 +34,8 @@ fn in_preludes(
     if world.krate(ROOT) != KRATE || !world.knows_res(PRELUDE, &items, None) {
         return Ok(None);
     }
+    let lookup = (PRELUDE, Name::new(alloc, "y")?);
+    let mut globs = PerNsGlobImports::new(alloc);
     let answer = in_preludes_after(world, &mut globs, KRATE, ROOT, path, lookup, items)?;
     Ok(answer.resolved_def.take_types())
 }
@@ -46,8 +46,6 @@ fn visibility(
     world: &mut World,
     path: ModPath,
 ) -> Result<Option<Visibility>, AllocError> {
-    let mut globs = PerNsGlobImports::new(alloc);
-    let lookup = (ROOT, Name::new(alloc, "p")?);
     let items = module(PRELUDE.0, Visibility::Public);
     if !world.has_crate(KRATE) || !world.knows_path(&path) {
         return Ok(None);
@@ -56,6 +54,8 @@ fn visibility(
         return Ok(None);
     }
     let written = RawVisibility::Module(path, VisibilityExplicitness::Explicit);
+    let lookup = (ROOT, Name::new(alloc, "p")?);
+    let mut globs = PerNsGlobImports::new(alloc);
     visibility_after(world, &mut globs, KRATE, ROOT, &written, lookup, items)
 }
 

@@ -50,9 +50,7 @@ const IMPORT: ImportId = ImportId {
 
 /// Brings what `x` means in the root into it as `y`; whether that wrote something.
 fn bring(alloc: Global, world: &mut World, path: &ModPath) -> Result<Option<bool>, AllocError> {
-    let mut globs = PerNsGlobImports::new(alloc);
     let local = LocalDefMap::new(alloc);
-    let lookup = (ROOT, Name::new(alloc, "y")?);
     if !world.has(ROOT) || !world.knows_local(&local) || !world.knows_path(path) {
         return Ok(None);
     }
@@ -60,6 +58,8 @@ fn bring(alloc: Global, world: &mut World, path: &ModPath) -> Result<Option<bool
     if !world.knows_res(ROOT, &PerNs::none(), by) {
         return Ok(None);
     }
+    let lookup = (ROOT, Name::new(alloc, "y")?);
+    let mut globs = PerNsGlobImports::new(alloc);
     let written = bring_in(world, &mut globs, &local, path, lookup, IMPORT)?;
     Ok(Some(written))
 }
@@ -81,9 +81,6 @@ fn an_import_brings_what_its_path_means(rt: HostRuntime) -> Result<(), Fail> {
 
 /// What `crate` means in the prelude module before and after a push into that.
 fn around(alloc: Global, world: &mut World) -> Result<Option<[PerNs; 2]>, AllocError> {
-    let mut globs = PerNsGlobImports::new(alloc);
-    let path = ModPath::from_segments(PathKind::Crate, Vec::new(alloc));
-    let lookup = (PRELUDE, Name::new(alloc, "y")?);
     let items = PerNs::types(STRUCT, Visibility::Public, None);
     if !world.has_crate(KRATE) || !world.has(PRELUDE) {
         return Ok(None);
@@ -91,6 +88,9 @@ fn around(alloc: Global, world: &mut World) -> Result<Option<[PerNs; 2]>, AllocE
     if !world.knows_res(PRELUDE, &items, None) {
         return Ok(None);
     }
+    let lookup = (PRELUDE, Name::new(alloc, "y")?);
+    let path = ModPath::from_segments(PathKind::Crate, Vec::new(alloc));
+    let mut globs = PerNsGlobImports::new(alloc);
     let (before, after) = before_and_after(
         world, &mut globs, KRATE, PRELUDE, &path, lookup, items,
     )?;

@@ -4,8 +4,8 @@
 //! turn. Before each call, and where it fails, the tables are checked, which allocates nothing, and the world tells all
 //! that a call could have changed; the call made again then does what it would have done.
 use super::super::{Building, CRATE_MAP, FILE, RULES, STRUCT, ast, in_crate, map_at, structure};
-use crate::tests::gives;
 use crate::tests::scopes::told::tell_scope;
+use crate::tests::{a_name, a_symbol, gives};
 use dm_base::fields_shape::FieldsShape;
 use dm_base::ids::{Crate, EnumId, FunctionId, ModuleId, ProcMacroId, TraitId, UseId};
 use dm_base::item_ids::{AssocItemId, ItemContainerId, ItemKind, MacroId, ModuleDefId, VariantId};
@@ -113,11 +113,11 @@ impl Drop for Words {
 impl Words {
     fn new(alloc: Global) -> Result<Words, AllocError> {
         Ok(Words {
-            macro_use: again!(Name::new(alloc, "mu"))?,
-            prelude: again!(Name::new(alloc, "dep"))?,
-            raw: again!(Name::new(alloc, "type"))?,
-            variant: again!(Name::new(alloc, "W"))?,
-            feature: again!(Symbol::new(alloc, "register_tool"))?,
+            macro_use: a_name(alloc, "mu")?,
+            prelude: a_name(alloc, "dep")?,
+            raw: a_name(alloc, "type")?,
+            variant: a_name(alloc, "W")?,
+            feature: a_symbol(alloc, "register_tool")?,
         })
     }
 }

@@ -2,8 +2,8 @@
 //!
 //! With enough memory none fails. `tools/refusals` injects faults: it runs this test with every allocation failing in
 //! turn.
-use crate::tests::gives;
 use crate::tests::worlds::{Building, map_at};
+use crate::tests::{a_symbol, gives};
 use dm_base::ids::{Crate, FunctionId, ProcMacroId};
 use dm_base::symbol::Symbol;
 use dm_maps::build_fault::BuildFault;
@@ -113,7 +113,7 @@ fn told_at(world: &World, root: u32, feature: &Symbol) -> Option<(Told, bool)> {
 
 /// What the map with a root answers after all was set.
 fn data(alloc: Global, at_once: bool, root: u32) -> Result<Option<(Told, bool)>, BuildFault> {
-    let feature = again!(Symbol::new(alloc, "register_tool"))?;
+    let feature = a_symbol(alloc, "register_tool")?;
     let mut building = Building::new(alloc);
     building.put_modules(alloc)?;
     building.put_items(alloc)?;

@@ -2,7 +2,7 @@
 //!
 //! With enough memory none fails. `tools/refusals` injects faults: it runs this test with every allocation failing in
 //! turn. Whichever it is, a failed call leaves the map unchanged, and the call made again puts its entry.
-use crate::tests::gives;
+use crate::tests::{a_name, gives};
 use dm_base::ids::{ExternCrateId, ModuleId};
 use dm_base::name::Name;
 use dm_maps::local_def_map::LocalDefMap;
@@ -62,10 +62,7 @@ fn insist(
 
 /// The map in the end, and whether each failure left it unchanged.
 fn filled(alloc: Global) -> Result<(Seen, bool), AllocError> {
-    let names = [
-        again!(Name::new(alloc, "a"))?,
-        again!(Name::new(alloc, "b"))?,
-    ];
+    let names = [a_name(alloc, "a")?, a_name(alloc, "b")?];
     let mut map = LocalDefMap::new(alloc);
     let mut is_left = true;
     for entry in ENTRIES {

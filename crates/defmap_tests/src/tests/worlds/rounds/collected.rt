@@ -1,23 +1,18 @@
 //! A collector's rounds: a glob and what shadows it, a chain of re-exports, a circle, and an import that leads nowhere.
-use super::{CHILD, ROOT, import, pending, typed};
+use super::{CHILD, ROOT, Waiting, import, pending, typed};
 use crate::tests::gives;
-use crate::tests::worlds::{EXPANDED, FILE};
+use crate::tests::worlds::{Bound, Building};
 use defmap_callers::collecting::{Glob, collected};
-use defmap_callers::maps::declare_type;
 use dm_base::ids::{ModuleId, StructId, UseId, UseTreeIdx};
 use dm_base::imports::GlobId;
 use dm_base::item_ids::{AdtId, ItemKind, ModuleDefId};
 use dm_base::mod_path::{ModPath, PathKind};
 use dm_base::name::Name;
 use dm_base::per_ns::PerNs;
-use dm_base::source::Edition;
-use dm_base::visibility::Visibility;
-use dm_maps::builder::WorldBuilder;
-use dm_maps::world::World;
+use dm_maps::build_fault::BuildFault;
 use dm_retry::import_kind::ImportKind;
 use dm_retry::pending::Pending;
 use dm_retry::retry::Retry;
-use dm_scope::glob_imports::PerNsGlobImports;
 use std::alloc::{AllocError, Global};
 use std::test::Fail;
 
@@ -39,19 +34,11 @@ fn a_struct(id: u32) -> ModuleDefId {
 }
 
 /// A crate with the modules `a` and `b`, a struct in the first and one in the root, and a use.
-fn tables(alloc: Global) -> Option<World> {
-    let mut builder = WorldBuilder::new(alloc);
-    builder.add_crate(Edition::Edition2021, FILE).ok()?;
-    for name in ["a", "b"] {
-        let name = Name::new(alloc, name).ok()?;
-        builder
-            .add_module(ROOT, name, EXPANDED, Visibility::Public)
-            .ok()?;
-    }
-    builder.add_use(ROOT).ok()?;
-    builder.add_item(ItemKind::Struct, CHILD).ok()?;
-    builder.add_item(ItemKind::Struct, ROOT).ok()?;
-    builder.check().ok()
+fn tables(alloc: Global) -> Result<Building, BuildFault> {
+    let mut building = Building::with_modules(alloc, ["a", "b"])?;
+    building.builder.add_item(ItemKind::Struct, CHILD)?;
+    building.builder.add_item(ItemKind::Struct, ROOT)?;
+    Ok(building)
 }
 
 /// What is declared, each in its module: `a` has `S` and `T`, and the root has a `T` of its own.
@@ -66,14 +53,12 @@ fn declarations() -> [(ModuleId, &'static str, ModuleDefId); 5] {
 }
 
 /// The crate's world with its declarations.
-fn declared(alloc: Global) -> Option<(World, PerNsGlobImports)> {
-    let mut world = tables(alloc)?;
-    let mut globs = PerNsGlobImports::new(alloc);
+fn declared(alloc: Global) -> Option<Bound> {
+    let mut bound = tables(alloc).ok()?.bound()?;
     for (m, name, def) in declarations() {
-        let lookup = (m, Name::new(alloc, name).ok()?);
-        declare_type(&mut world, &mut globs, lookup, def).ok()?;
+        bound.declare(alloc, m, name, def)?;
     }
-    Some((world, globs))
+    Some(bound)
 }
 
 fn path(alloc: Global, kind: PathKind, names: &[&str]) -> Result<ModPath, AllocError> {
@@ -105,12 +90,27 @@ fn leading_nowhere(alloc: Global) -> Result<Pending, AllocError> {
     pending(alloc, ROOT, "N", path, 5)
 }
 
+impl Waiting {
+    /// Adds the last of the imports.
+    fn add_last(&mut self, alloc: Global) -> Option<()> {
+        let last = leading_nowhere(alloc).ok()?;
+        self.retry.add(last).ok()
+    }
+}
+
 /// The imports of the world, the last of which is added afterwards.
-fn waiting(alloc: Global) -> Option<Retry> {
-    let (world, globs) = declared(alloc)?;
-    let mut retry = Retry::new(world, globs, imports(alloc).ok()?).ok()?;
-    retry.add(leading_nowhere(alloc).ok()?).ok()?;
-    Some(retry)
+fn waiting(alloc: Global) -> Option<Waiting> {
+    let mut waiting = declared(alloc)?.waiting(imports(alloc).ok()?)?;
+    waiting.add_last(alloc)?;
+    Some(waiting)
+}
+
+impl Waiting {
+    /// Settles all; how many imports are unresolved then.
+    fn count_collected(&mut self, alloc: Global) -> Option<usize> {
+        let places = collected(&mut self.retry, &[GLOB], 8, alloc).ok()??;
+        Some(places.len())
+    }
 }
 
 /// What the root binds under a name.
@@ -125,20 +125,16 @@ fn bound_in_root(retry: &Retry, alloc: Global, name: &str) -> Option<PerNs> {
 type Left = (usize, [Option<bool>; 3], bool, Option<PerNs>);
 
 fn left(alloc: Global) -> Option<Left> {
-    let mut retry = waiting(alloc)?;
-    let places = collected(&mut retry, &[GLOB], 8, alloc).ok()??;
+    let mut waiting = waiting(alloc)?;
+    let count = waiting.count_collected(alloc)?;
+    let retry = &waiting.retry;
     let which = [
         retry.is_unresolved(2),
         retry.is_unresolved(3),
         retry.is_unresolved(5),
     ];
     let listed = retry.waits_for(import(5));
-    Some((
-        places.len(),
-        which,
-        listed,
-        bound_in_root(&retry, alloc, "T"),
-    ))
+    Some((count, which, listed, bound_in_root(retry, alloc, "T")))
 }
 
 #[test]

@@ -6,7 +6,7 @@ mod between;
 mod changed;
 
 use super::{ROOT, STRUCT, Waiting, import, taken, the_struct, two_imports};
-use crate::tests::gives;
+use crate::tests::{a_name, gives};
 use dm_base::imports::ImportOrExternCrate;
 use dm_base::item_ids::{AdtId, ModuleDefId};
 use dm_base::name::Name;
@@ -73,10 +73,7 @@ impl Waiting {
 
 /// Whether rounds of a kind come to the fixed point, and the state then.
 fn ended(alloc: Global, all: bool) -> Result<Option<(bool, Option<End>)>, BuildFault> {
-    let names = [
-        again!(Name::new(alloc, "X"))?,
-        again!(Name::new(alloc, "Y"))?,
-    ];
+    let names = [a_name(alloc, "X")?, a_name(alloc, "Y")?];
     match taken(alloc, again!(two_imports(alloc))?)? {
         Err(_) => Ok(None),
         Ok(mut waiting) => {

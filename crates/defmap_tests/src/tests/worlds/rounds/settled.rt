@@ -1,8 +1,8 @@
 //! Rounds until a fixed point, what is unresolved then, a push between rounds, and an import that never settles.
 use super::{CHILD, ROOT, STRUCT, Waiting, import, pending, plain_path, taken, two_imports};
 use crate::tests::gives;
-use crate::tests::worlds::{EXPANDED, FILE};
-use defmap_callers::maps::{bring_by_glob, declare_type};
+use crate::tests::worlds::{Bound, Building};
+use defmap_callers::maps::bring_by_glob;
 use defmap_callers::rounds::{declare_between, is_settled, rest, settled};
 use dm_base::ids::{ModuleId, UseId, UseTreeIdx};
 use dm_base::imports::GlobId;
@@ -10,14 +10,9 @@ use dm_base::item_ids::{AdtId, ModuleDefId};
 use dm_base::mod_path::{ModPath, PathKind};
 use dm_base::name::Name;
 use dm_base::per_ns::PerNs;
-use dm_base::source::Edition;
 use dm_base::visibility::Visibility;
 use dm_maps::build_fault::BuildFault;
-use dm_maps::builder::WorldBuilder;
-use dm_maps::world::World;
 use dm_retry::pending::Pending;
-use dm_retry::retry::Retry;
-use dm_scope::glob_imports::PerNsGlobImports;
 use std::alloc::{AllocError, Global};
 use std::test::Fail;
 
@@ -116,36 +111,31 @@ fn a_declaration_between_rounds_resolves_an_import(rt: HostRuntime) -> Result<()
     )
 }
 
-/// A crate with two modules and a use in its root.
-fn two_modules(alloc: Global) -> Option<World> {
-    let mut builder = WorldBuilder::new(alloc);
-    builder.add_crate(Edition::Edition2021, FILE).ok()?;
-    for name in ["p", "q"] {
-        let name = Name::new(alloc, name).ok()?;
-        builder
-            .add_module(ROOT, name, EXPANDED, Visibility::Public)
-            .ok()?;
+/// A glob import of the root.
+const GLOB: GlobId = GlobId {
+    use_: UseId(0),
+    idx: UseTreeIdx(1),
+};
+
+impl Bound {
+    /// Brings the first module into the root as `a`, by the glob.
+    fn bring_child(&mut self, alloc: Global) -> Option<()> {
+        let items = PerNs::types(ModuleDefId::ModuleId(CHILD), Visibility::Public, None);
+        let lookup = (ROOT, Name::new(alloc, "a").ok()?);
+        bring_by_glob(&mut self.world, &mut self.globs, lookup, items, GLOB).ok()?;
+        Some(())
     }
-    builder.add_use(ROOT).ok()?;
-    builder.check().ok()
 }
 
-/// The same, where the modules have each other as `b`, and a glob brought the first into the root as `a`.
-fn circle(alloc: Global) -> Option<(World, PerNsGlobImports)> {
-    let mut world = two_modules(alloc)?;
-    let mut globs = PerNsGlobImports::new(alloc);
+/// A crate with two modules, which have each other as `b`, and a glob brought the first into the root as `a`.
+fn circle(alloc: Global) -> Option<Bound> {
+    let building = Building::with_modules(alloc, ["p", "q"]).ok()?;
+    let mut bound = building.bound()?;
     for (m, other) in [(CHILD, ModuleId(2)), (ModuleId(2), CHILD)] {
-        let lookup = (m, Name::new(alloc, "b").ok()?);
-        declare_type(&mut world, &mut globs, lookup, ModuleDefId::ModuleId(other)).ok()?;
+        bound.declare(alloc, m, "b", ModuleDefId::ModuleId(other))?;
     }
-    let glob = GlobId {
-        use_: UseId(0),
-        idx: UseTreeIdx(1),
-    };
-    let items = PerNs::types(ModuleDefId::ModuleId(CHILD), Visibility::Public, None);
-    let lookup = (ROOT, Name::new(alloc, "a").ok()?);
-    bring_by_glob(&mut world, &mut globs, lookup, items, glob).ok()?;
-    Some((world, globs))
+    bound.bring_child(alloc)?;
+    Some(bound)
 }
 
 /// `use a::b as a;`, in the root.
@@ -161,10 +151,9 @@ fn turning(alloc: Global) -> Result<Vec<Pending>, AllocError> {
 
 /// Whether it settles within ten rounds, and whether it is due then.
 fn turned(alloc: Global) -> Option<(bool, Option<bool>)> {
-    let (world, globs) = circle(alloc)?;
-    let mut retry = Retry::new(world, globs, turning(alloc).ok()?).ok()?;
-    let settled = retry.settle(10).ok()?;
-    Some((settled, retry.due(0)))
+    let mut waiting = circle(alloc)?.waiting(turning(alloc).ok()?)?;
+    let settled = waiting.retry.settle(10).ok()?;
+    Some((settled, waiting.retry.due(0)))
 }
 
 #[test]

@@ -1,10 +1,8 @@
 //! Fault injection: an import as `_`, and what else changes a world between rounds, each made again where an allocation
 //! fails. What failed has changed nothing.
-use crate::tests::gives;
-use crate::tests::worlds::rounds::{
-    CHILD, ROOT, Waiting, import, outcome, pending, two_imports, typed,
-};
+use crate::tests::worlds::rounds::{CHILD, ROOT, Waiting, pending, two_imports, typed};
 use crate::tests::worlds::{Building, CRATE_MAP, RULES, ast};
+use crate::tests::{a_name, gives};
 use dm_base::ids::{TraitId, UseTreeIdx};
 use dm_base::item_ids::{ItemKind, ModuleDefId};
 use dm_base::macros::{MacroCallStyles, MacroExpander, MacroLoc};
@@ -14,9 +12,7 @@ use dm_base::visibility::Visibility;
 use dm_maps::build_fault::BuildFault;
 use dm_retry::import_kind::ImportKind;
 use dm_retry::pending::Pending;
-use dm_retry::retry::Retry;
 use dm_scope::diagnostics::DefDiagnostic;
-use dm_scope::glob_imports::PerNsGlobImports;
 use std::alloc::{AllocError, Global};
 use std::test::Fail;
 
@@ -123,7 +119,7 @@ impl Waiting {
 
     /// Makes a change, again where that fails: whether it was made, and a failure left all as it was.
     fn insist_on_change(&mut self, change: Change, alloc: Global) -> Result<bool, BuildFault> {
-        let name = again!(Name::new(alloc, "Y"))?;
+        let name = a_name(alloc, "Y")?;
         let before = self.seen(&name);
         match self.make(change, alloc) {
             Ok(made) => Ok(made),
@@ -138,13 +134,11 @@ impl Waiting {
 
 /// The three imports in that crate, if it has a world.
 fn waiting(alloc: Global) -> Result<Option<Waiting>, BuildFault> {
-    let Some(checked) = again!(Building::with_trait(alloc))?.world() else {
-        return Ok(None);
-    };
-    let world = checked.into_world();
     let pendings = again!(three_imports(alloc))?;
-    let globs = PerNsGlobImports::new(alloc);
-    Ok(outcome(Retry::new(world, globs, pendings)).ok())
+    match again!(Building::with_trait(alloc))?.bound() {
+        None => Ok(None),
+        Some(bound) => Ok(bound.waiting(pendings)),
+    }
 }
 
 /// Whether rounds settle, the three changes are made, and what there is to be seen then.
@@ -158,7 +152,7 @@ fn changes(alloc: Global) -> Result<Option<([bool; 4], Option<Seen>)>, BuildFaul
         waiting.insist_on_change(Change::UnnamedTrait, alloc)?,
         waiting.insist_on_change(Change::Diagnostic, alloc)?,
     ];
-    let name = again!(Name::new(alloc, "Y"))?;
+    let name = a_name(alloc, "Y")?;
     Ok(Some((made, waiting.seen(&name))))
 }
 
