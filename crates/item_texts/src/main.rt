@@ -48,6 +48,7 @@ fn print_read(
     match heading.kind {
         "items" => items::print_items(alloc, out, text, read),
         "visibilities" => items::print_visibilities(alloc, out, read),
+        "implementations" => items::print_implementations(alloc, out, text, read),
         "members" => members::print_members(alloc, out, text, read),
         "uses" => uses::print_uses(alloc, out, text, read),
         "errors" => errors::print_errors(alloc, out, text, read),

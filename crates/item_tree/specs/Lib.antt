@@ -26,6 +26,7 @@ pub mod Visibilities
 pub mod UseTrees
 pub mod UseGrammar
 pub mod UseLeaves
+pub mod Implementations
 pub mod Imports
 pub mod Covers
 pub mod Members

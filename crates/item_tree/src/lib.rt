@@ -18,6 +18,7 @@ pub mod expected;
 pub mod fields;
 mod head;
 pub mod ids;
+pub mod implementations;
 pub mod imports;
 pub mod item_attributes;
 pub mod item_end;
