@@ -21,7 +21,6 @@ use crate_modules::file_table::FileTable;
 use crate_modules::modules::CrateModules;
 use crate_tables::crate_table::CrateTable;
 use dm_base::ids::Crate;
-use dm_collector::collect::Collected;
 use dm_maps::world::World;
 use dm_maps::world::maps_of::{AskWorld, crate_def_map};
 use dm_retry::retry::Retry;
@@ -207,33 +206,26 @@ fn missing_of(alloc: Global, list: &CrateModules, files: &FileTable) -> Result<S
 }
 
 /// What the def maps of the crates have, in lines, and the files that these lack.
-pub(crate) fn in_maps(alloc: Global, settled: Settled) -> Result<String, AllocError> {
-    let told = told_of_all(alloc, &settled)?;
-    let Settled {
-        files,
-        graph,
-        collected,
-    } = settled;
-    let Collected {
-        retry,
+pub(crate) fn in_maps(alloc: Global, settled: &mut Settled) -> Result<String, AllocError> {
+    let told = told_of_all(alloc, settled)?;
+    let lists = settled.collected.lists.as_slice();
+    let calls = add_to_maps(
+        alloc,
+        &mut settled.collected.retry,
+        &settled.graph,
         lists,
-        tables,
-        globs: _globs,
-        uses: _uses,
-        is_settled: _is_settled,
-        externs: _externs,
-    } = collected;
-    let mut retry = retry;
-    let (lists, tables, told) = (lists.as_slice(), tables.as_slice(), told.as_slice());
-    let calls = add_to_maps(alloc, &mut retry, &graph, lists, tables, told)?;
+        settled.collected.tables.as_slice(),
+        told.as_slice(),
+    )?;
+    let world = settled.collected.retry.world();
     let mut messages = Vec::new(alloc);
     let mut missing = String::new(alloc);
     for (number, list) in lists.iter().enumerate() {
         let calls = calls.as_slice();
-        push_of_map(&mut messages, alloc, retry.world(), list, calls, number)?;
-        missing.push_str(missing_of(alloc, list, &files)?.as_str())?;
+        push_of_map(&mut messages, alloc, world, list, calls, number)?;
+        missing.push_str(missing_of(alloc, list, &settled.files)?.as_str())?;
     }
-    let mut out = lines(alloc, &files, messages)?;
+    let mut out = lines(alloc, &settled.files, messages)?;
     out.push_str(missing.as_str())?;
     Ok(out)
 }

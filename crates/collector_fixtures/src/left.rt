@@ -3,6 +3,7 @@
 use crate::fixture::Fixture;
 use crate::graph::{files_of, graph_of};
 use crate::in_maps::in_maps;
+use crate::lists::scope_lists;
 use crate::macro_view::{MacroView, calls_of};
 use collector_diagnostics::macro_calls::unresolved_macro_calls;
 use crate_diagnostics::declarations::declaration_faults;
@@ -33,12 +34,25 @@ const LIMIT: u32 = 8_192;
 /// How the names of those fixtures begin of which is shown, too, what is told in def maps, and which files are lacking.
 const IN_MAPS: &str = "in maps";
 
+/// How the names of those begin of which the lists of scopes are shown, too.
+const LISTS: &str = "lists of scopes";
+
 /// The crates of a fixture, settled.
-#[derive(Drop)]
 pub(crate) struct Settled {
     pub(crate) files: FileTable,
     pub(crate) graph: CrateGraph,
     pub(crate) collected: Collected,
+}
+
+/// A hand-written `Drop`, to keep proofs small: what drops one has one call to prove.
+impl Drop for Settled {
+    fn drop(self) {
+        let Settled {
+            files: _files,
+            graph: _graph,
+            collected: _collected,
+        } = self;
+    }
 }
 
 /// What is told, and how much is unknown in each crate.
@@ -265,7 +279,7 @@ fn dump_of(alloc: Global, world: &World, number: usize) -> Result<String, AllocE
 /// What a fixture leaves, under its name.
 pub(crate) fn left_by(alloc: Global, fixture: &Fixture<'_>) -> Result<String, AllocError> {
     let mut out = format!(in alloc; "=== {}\n", fixture.name)?;
-    let Some(settled) = settled_by(alloc, fixture)? else {
+    let Some(mut settled) = settled_by(alloc, fixture)? else {
         out.push_str("failed\n")?;
         return Ok(out);
     };
@@ -283,8 +297,11 @@ pub(crate) fn left_by(alloc: Global, fixture: &Fixture<'_>) -> Result<String, Al
             out.push_str(shown.as_str())?;
         }
     }
+    if fixture.name.starts_with(LISTS) {
+        out.push_str(scope_lists(alloc, &settled)?.as_str())?;
+    }
     if fixture.name.starts_with(IN_MAPS) {
-        out.push_str(in_maps(alloc, settled)?.as_str())?;
+        out.push_str(in_maps(alloc, &mut settled)?.as_str())?;
     }
     Ok(out)
 }

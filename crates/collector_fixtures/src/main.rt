@@ -5,6 +5,7 @@ mod fixture;
 mod graph;
 mod in_maps;
 mod left;
+mod lists;
 mod macro_view;
 
 use crate::fixture::fixtures;

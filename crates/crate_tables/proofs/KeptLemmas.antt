@@ -9,7 +9,9 @@ use Rattle.dm_base.specs.Tree.{same_module}
 use Rattle.dm_ids.specs.Names.{Name}
 use Rattle.dm_ids.specs.declared.ids.ModuleId.{ModuleId}
 use Rattle.dm_ids.specs.declared.ids.ConstId.{ConstId}
+use Rattle.dm_ids.specs.declared.ids.ExternBlockId.{ExternBlockId}
 use Rattle.dm_ids.specs.declared.ids.ExternCrateId.{ExternCrateId}
+use Rattle.dm_ids.specs.declared.ids.ImplId.{ImplId}
 use Rattle.dm_ids.specs.declared.item_ids.MacroId.{MacroId}
 use Rattle.dm_ids.specs.declared.item_ids.ModuleDefId.{ModuleDefId}
 use Rattle.dm_maps.specs.Added.{IsGrown, IsScoped}
@@ -66,3 +68,11 @@ scoped-unnamed w v m l is =
 pub scoped-externs : (w v : World) (m : ModuleId) (l : List ExternCrateId) → IsScoped w v m (record (scope_of w m) { extern_crate_decls = l }) → AllStayShown w v
 scoped-externs w v m l is =
     scoped-by w v m (record (scope_of w m) { extern_crate_decls = l }) (λ g k ps h. record { types = h.types; values = h.values; macros = h.macros; unresolved = h.unresolved }) is
+
+pub scoped-impls : (w v : World) (m : ModuleId) (l : List (ImplId × Bool)) → IsScoped w v m (record (scope_of w m) { impls = l }) → AllStayShown w v
+scoped-impls w v m l is =
+    scoped-by w v m (record (scope_of w m) { impls = l }) (λ g k ps h. record { types = h.types; values = h.values; macros = h.macros; unresolved = h.unresolved }) is
+
+pub scoped-blocks : (w v : World) (m : ModuleId) (l : List ExternBlockId) → IsScoped w v m (record (scope_of w m) { extern_blocks = l }) → AllStayShown w v
+scoped-blocks w v m l is =
+    scoped-by w v m (record (scope_of w m) { extern_blocks = l }) (λ g k ps h. record { types = h.types; values = h.values; macros = h.macros; unresolved = h.unresolved }) is

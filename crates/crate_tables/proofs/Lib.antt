@@ -12,3 +12,4 @@ pub mod DeclaredLemmas
 pub mod TextualLemmas
 pub mod KeptLemmas
 pub mod PlaceLemmas
+pub mod BlockLemmas

@@ -14,6 +14,8 @@ use Rattle.crate_modules.specs.Files.{SourceFile}
 use Rattle.crate_modules.specs.Modules.{AreMore, Listing, declared_in, root_module}
 use Rattle.crate_modules.specs.Sources.{AreSourcesOf}
 use Rattle.crate_modules.specs.declared.dependency.Dependency.{Dependency}
+use Rattle.crate_tables.specs.BlockLists.{with_all_blocks}
+use Rattle.crate_tables.specs.Blocks.{with_blocks}
 use Rattle.crate_tables.specs.CrateMacros.{WithMacros, with_macros}
 use Rattle.crate_tables.specs.CrateMaps.{Filled, with_crate_modules}
 use Rattle.crate_tables.specs.CrateRoots.{root_id, with_externs, with_roots}
@@ -79,11 +81,15 @@ others_added c s items =
 abbrev pub listed : CrateView → Linked → ℕ → List DeclaredItem → Linked
 listed c s n items = record s { world = with_all_lists c.list.modules s.table s.world (map outline items) n s.rows }
 
--- The extern crates among the items are added first, then the macros and their scopes, and then all others. Then the
--- lists of scopes are filled.
-abbrev pub with_all_items : CrateView → List Dependency → Linked → List DeclaredItem → Linked
+-- the blocks among the items come into the table
+abbrev pub blocks_added : CrateView → Linked → List DeclaredItem → Linked
+blocks_added c s items = record s { table = with_blocks c.list s.table items }
+
+-- Behind the blocks the extern crates among the items are added, then the macros and their scopes, and then all others.
+-- Then the lists of scopes are filled.
+unfoldable pub with_all_items : CrateView → List Dependency → Linked → List DeclaredItem → Linked
 with_all_items c ds s items =
-    listed c (others_added c (macros_added c (with_extern_crates c ds s items) items) items) (length s.rows) items
+    listed c (others_added c (macros_added c (with_extern_crates c ds (blocks_added c s items) items) items) items) (length s.rows) items
 
 -- ---- Crates
 
@@ -183,11 +189,13 @@ with_preludes_from files ls ts n [] w = w
 with_preludes_from files ls ts n (d ∷ ds) w =
     with_preludes_from files ls ts (n + 1) ds (with_prelude_of files ls ts (record { 0 = n }) d w)
 
--- The tables of a graph's crates: each crate is filled, one after another, and then each gets its prelude.
+-- The tables of a graph's crates: each crate is filled, one after another, then each gets its prelude, and then the blocks of
+-- all come into the lists of their modules.
 pub record AreFilled (r : Reading) (g : Graph) (made : Crates) : Type 0 where
   pub world : World
   pub crates : AreCratesFrom r 0 g (no_crates (with_roots no_world g)) (record made { world = world })
-  pub preludes : made.world ≡ with_preludes_from r.files made.lists made.tables 0 g world
+  pub lists : made.world ≡
+      with_all_blocks (with_preludes_from r.files made.lists made.tables 0 g world) made.tables
 
 -- all that a table holds is the builder's
 pub record IsKnownTable (w : World) (t : Table) : Type 0 where

@@ -1,10 +1,11 @@
--- What a crate has in a builder: the ids of its modules, the names that they declare, what they import, and where all that
--- is written.
+-- What a crate has in a builder: the ids of its modules, the names that they declare, what they import, its blocks, and where
+-- all that is written.
 use Rattle.std.specs.Prelude.{◌++◌, All, IsTrue, List, [], ◌∷◌, Option, None, Some, map}
 use Rattle.crate_tables.specs.Visibilities.{AreIdsOf, Ids}
 use Rattle.crate_items.specs.declared.declared_import.DeclaredImport.{DeclaredImport}
 use Rattle.crate_items.specs.declared.declared_item.DeclaredItem.{DeclaredItem}
 use Rattle.crate_tables.specs.declared.declared_name.DeclaredName.{DeclaredName}
+use Rattle.crate_tables.specs.declared.item_place.BlockPlace.{BlockPlace}
 use Rattle.crate_tables.specs.declared.item_place.DefPlace.{DefPlace}
 use Rattle.crate_tables.specs.declared.item_place.UsePlace.{UsePlace}
 use Rattle.crate_tables.specs.declared.use_leaf.UseLeaf.{UseLeaf}
@@ -23,17 +24,18 @@ use Rattle.dm_ids.specs.declared.item_ids.ModuleDefId.TheVariants as def
 use Rattle.dm_maps.specs.Known.{knows, KnowsAll}
 use Rattle.dm_maps.specs.World.{World}
 
--- for each module of the crate's list its id, unless it was left out; names with what they are; imports; and where each use
--- and each definition is written
+-- for each module of the crate's list its id, unless it was left out; names with what they are; imports; and where each use,
+-- each definition and each block is written
 pub record Table : Type 0 where
   pub ids : Ids
   pub names : List DeclaredName
   pub leaves : List UseLeaf
   pub uses : List UsePlace
   pub defs : List DefPlace
+  pub blocks : List BlockPlace
 
 abbrev pub no_table : Table
-no_table = record { ids = []; names = []; leaves = []; uses = []; defs = [] }
+no_table = record { ids = []; names = []; leaves = []; uses = []; defs = []; blocks = [] }
 
 -- with a name more
 abbrev pub with_name : Table → DeclaredName → Table
@@ -68,6 +70,10 @@ def_at d x = record { def = d; file = x.file; item = x.item }
 
 abbrev pub with_def_at : Table → DefPlace → Table
 with_def_at t p = record t { defs = t.defs ++ p ∷ [] }
+
+-- with a block more
+abbrev pub with_block_at : Table → BlockPlace → Table
+with_block_at t p = record t { blocks = t.blocks ++ p ∷ [] }
 
 -- without names and imports: what is left where these were taken
 abbrev pub emptied : Table → Table

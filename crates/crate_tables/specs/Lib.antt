@@ -10,6 +10,8 @@ pub mod StandardPreludes
 pub mod PreludeImports
 pub mod CrateMacros
 pub mod ProceduralMacros
+pub mod Blocks
+pub mod BlockLists
 pub mod CrateFillings
 pub mod DeclaredWorlds
 pub mod TextualMacros

@@ -9,6 +9,7 @@ ghost use Rattle.dm_check.specs.declared.held.HeldId.TheVariants as held;
 ghost use Rattle.dm_maps.specs.Known.{knows, KnowsAll};
 
 use crate::all_macros::add_all_macros;
+use crate::blocks::add_blocks;
 use crate::crate_table::CrateTable;
 use crate::extern_crates::{ExternCrateRow, add_extern_crates};
 use crate::extern_lists::fill_lists;
@@ -21,8 +22,9 @@ use dm_maps::build_fault::BuildFault;
 use dm_maps::builder::WorldBuilder;
 use std::alloc::Global;
 
-/// Adds the items of a crate: its extern crates first, then its macros, and then all others. Its definitions and
-/// its extern crates come into the lists of their modules behind that.
+/// Adds the items of a crate: its table gets its blocks, and then its extern crates come, its macros, and all others. Its
+/// definitions and its extern crates come into the lists of their modules behind that.
+#[tactic(auto, unfolding(crate::specs::CrateFillings::with_all_items))]
 pub(crate) fn add_all_items(
     builder: &mut WorldBuilder,
     table: &mut CrateTable,
@@ -41,6 +43,7 @@ pub(crate) fn add_all_items(
     ensures stays { IsKept builder.old builder.new }
 {
     let made = outlines(alloc, items.as_slice())?;
+    add_blocks(table, alloc, view.list, items.as_slice())?;
     let first = externs.len();
     add_extern_crates(
         builder,

@@ -1,6 +1,7 @@
 //! The crates of a graph, added to a builder with all that they declare.
 ghost use Rattle.std.specs.Prelude.{◌≡◌, ◌++◌, ◌∷◌, ◌<◌, [], All, IfErr, IfOk, IsTrue, OnOk, Some, length, slice_get};
 ghost use Rattle.crate_modules.specs.CrateGraphs.{AreKnown};
+ghost use Rattle.crate_tables.specs.BlockLists.{with_all_blocks};
 ghost use Rattle.crate_tables.specs.CrateFillings as spec;
 ghost use Rattle.crate_tables.specs.CrateRoots.{KnowsRoots, root_holds, with_roots};
 ghost use Rattle.crate_tables.specs.CrateTables.{IsTableOf};
@@ -14,6 +15,7 @@ ghost use Rattle.dm_maps.specs.Build.{no_world};
 ghost use Rattle.dm_maps.specs.Known.{knows, KnowsAll};
 
 use crate::all_items::add_all_items;
+use crate::block_lists::list_blocks;
 use crate::crate_maps::add_modules;
 use crate::crate_roots::{add_externs, crate_roots, root_id};
 use crate::crate_table::CrateTable;
@@ -396,6 +398,23 @@ fn filled_alone(
     }
 }
 
+/// Sets the preludes of crates that are filled, and puts their blocks into the lists of their modules.
+fn finish(
+    builder: &mut WorldBuilder,
+    alloc: Global,
+    lists: &[CrateModules],
+    tables: &[CrateTable],
+    graph: &CrateGraph,
+    files: &FileTable,
+) -> Result<(), BuildFault>
+    ensures world { OnOk result (builder.new ≡ with_all_blocks
+        (spec.with_preludes_from files.now lists.now tables.now 0 graph.now builder.old) tables.now) }
+    ensures stays { IsKept builder.old builder.new }
+{
+    set_preludes(builder, alloc, lists, tables, graph, files)?;
+    list_blocks(builder, tables)
+}
+
 /// The tables of a graph's crates, each filled with what it declares, and what each has there. Crates have the numbers
 /// that they have in the graph. No module binds anything yet.
 ///
@@ -422,7 +441,7 @@ pub fn filled(
         externs,
     } = made;
     let mut builder = alone;
-    match set_preludes(
+    match finish(
         &mut builder,
         alloc,
         lists.as_slice(),

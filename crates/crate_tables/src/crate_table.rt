@@ -5,7 +5,7 @@ ghost use Rattle.dm_maps.specs.World.{World};
 ghost use Rattle.crate_tables.specs.CrateTables as spec;
 
 use crate::declared_name::DeclaredName;
-use crate::item_place::{DefPlace, UsePlace};
+use crate::item_place::{BlockPlace, DefPlace, UsePlace};
 use crate::use_leaf::UseLeaf;
 use crate_items::declared_import::DeclaredImport;
 use dm_base::ids::{ModuleId, UseId};
@@ -17,7 +17,7 @@ use std::alloc::{AllocError, Global};
 use std::marker::Model;
 
 /// What a crate has in a builder: for each module of its list the id, unless it was left out, the names that its modules
-/// declare, what they import, and where each use and each definition is written.
+/// declare, what they import, and where each use, each definition and each block is written.
 #[derive(Drop)]
 pub struct CrateTable {
     ids: Vec<Option<ModuleId>>,
@@ -25,6 +25,7 @@ pub struct CrateTable {
     leaves: Vec<UseLeaf>,
     uses: Vec<UsePlace>,
     defs: Vec<DefPlace>,
+    blocks: Vec<BlockPlace>,
 }
 
 impl Model for CrateTable {
@@ -38,6 +39,7 @@ impl Model for CrateTable {
       leaves = t.leaves.items;
       uses = t.uses.items;
       defs = t.defs.items;
+      blocks = t.blocks.items;
     } };
 }
 
@@ -52,6 +54,7 @@ impl CrateTable {
             leaves: Vec::new(alloc),
             uses: Vec::new(alloc),
             defs: Vec::new(alloc),
+            blocks: Vec::new(alloc),
         }
     }
 
@@ -90,6 +93,13 @@ impl CrateTable {
         self.defs.as_slice()
     }
 
+    /// Its `impl` and `extern` blocks, in the order of its items, with where they are written.
+    pub fn blocks(&self) -> &[BlockPlace]
+        ensures { result.now ≡ self.now.blocks }
+    {
+        self.blocks.as_slice()
+    }
+
     /// The names and the imports, and the table without them.
     pub fn into_parts(self, alloc: Global) -> (Vec<DeclaredName>, Vec<UseLeaf>, CrateTable)
         ensures names { result.0.items ≡ self.names }
@@ -102,6 +112,7 @@ impl CrateTable {
             leaves,
             uses,
             defs,
+            blocks,
         } = self;
         let rest = CrateTable {
             ids,
@@ -109,6 +120,7 @@ impl CrateTable {
             leaves: Vec::new(alloc),
             uses,
             defs,
+            blocks,
         };
         (names, leaves, rest)
     }
@@ -202,6 +214,15 @@ impl CrateTable {
         ensures kept { (w : World) (k : Crate) → spec.IsTableOf w k self.old → OnOk result (spec.IsTableOf w k self.new) }
     {
         self.defs.push(place)?;
+        Ok(())
+    }
+
+    /// Lists a block.
+    pub(crate) fn push_block(&mut self, place: BlockPlace) -> Result<(), AllocError>
+        ensures exact { OnOk result (self.new ≡ spec.with_block_at self.old place) }
+        ensures kept { (w : World) (k : Crate) → spec.IsTableOf w k self.old → OnOk result (spec.IsTableOf w k self.new) }
+    {
+        self.blocks.push(place)?;
         Ok(())
     }
 }

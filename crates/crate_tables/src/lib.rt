@@ -3,6 +3,8 @@
 
 mod all_items;
 mod all_macros;
+pub mod block_lists;
+mod blocks;
 pub mod crate_defs;
 pub mod crate_filling;
 pub mod crate_macros;

@@ -39,7 +39,6 @@ use dm_scope::glob_imports::PerNsGlobImports;
 use std::alloc::Global;
 
 /// Crates, collected. The crates of the graph have their numbers in the world, too.
-#[derive(Drop)]
 pub struct Collected {
     /// The world, its glob table and its unresolved imports.
     pub retry: Retry,
@@ -56,6 +55,21 @@ pub struct Collected {
     pub tables: Vec<CrateTable>,
     /// The extern crates of all crates, by their numbers.
     pub externs: Vec<ExternCrateRow>,
+}
+
+/// A hand-written `Drop`, to keep proofs small: what drops one has one call to prove.
+impl Drop for Collected {
+    fn drop(self) {
+        let Collected {
+            retry: _retry,
+            globs: _globs,
+            uses: _uses,
+            is_settled: _is_settled,
+            lists: _lists,
+            tables: _tables,
+            externs: _externs,
+        } = self;
+    }
 }
 
 /// A state in which nothing is imported yet, with the globs, and the tables without names and imports.

@@ -1,0 +1,55 @@
+-- `impl` and `extern` blocks in the lists of scopes, numbered over all crates.
+use Rattle.std.specs.Prelude.{◌+◌, ◌++◌, ℕ, Bool, true, false, List, [], ◌∷◌, Option, None, Some, if◌then◌else◌}
+use Rattle.std.specs.List.{flat_map}
+use Rattle.crate_tables.specs.CrateTables.{Table}
+use Rattle.crate_tables.specs.declared.item_place.BlockKind.{BlockKind}
+use Rattle.crate_tables.specs.declared.item_place.BlockKind.TheVariants.{TraitImpl, InherentImpl, Extern}
+use Rattle.crate_tables.specs.declared.item_place.BlockPlace.{BlockPlace}
+use Rattle.dm_check.specs.declared.held.HeldId.TheVariants as held
+use Rattle.dm_ids.specs.declared.ids.ExternBlockId.{ExternBlockId}
+use Rattle.dm_ids.specs.declared.ids.ImplId.{ImplId}
+use Rattle.dm_ids.specs.declared.ids.ModuleId.{ModuleId}
+use Rattle.dm_maps.specs.Known.{knows}
+use Rattle.dm_maps.specs.World.{World, scope_if_known, with_scope}
+use Rattle.dm_scope.specs.Scope.{Scope}
+
+-- an `impl` is the last of a module
+abbrev pub with_impl_in : World → ModuleId → ImplId → Bool → Option Scope → World
+with_impl_in w m i b None = w
+with_impl_in w m i b (Some s) = with_scope w m (record s { impls = s.impls ++ (i, b) ∷ [] })
+
+abbrev pub with_impl : World → ModuleId → ImplId → Bool → World
+with_impl w m i b = with_impl_in w m i b (scope_if_known w m)
+
+-- an `extern` block is the last of a module
+abbrev pub with_extern_block_in : World → ModuleId → ExternBlockId → Option Scope → World
+with_extern_block_in w m x None = w
+with_extern_block_in w m x (Some s) = with_scope w m (record s { extern_blocks = s.extern_blocks ++ x ∷ [] })
+
+abbrev pub with_extern_block : World → ModuleId → ExternBlockId → World
+with_extern_block w m x = with_extern_block_in w m x (scope_if_known w m)
+
+-- a block of a number stands in its module; an `impl` is listed with whether it is one of a trait
+abbrev pub with_block_of : World → ModuleId → ℕ → BlockKind → World
+with_block_of w m n TraitImpl = with_impl w m (record { 0 = n }) true
+with_block_of w m n InherentImpl = with_impl w m (record { 0 = n }) false
+with_block_of w m n Extern = with_extern_block w m (record { 0 = n })
+
+abbrev pub with_known_block : World → ℕ → BlockPlace → World
+with_known_block w n b = with_block_of w b.home n b.kind
+
+abbrev pub with_block : World → ℕ → BlockPlace → World
+with_block w n b = if knows w (held.Module b.home) then with_known_block w n b else w
+
+-- blocks from a number on, in order
+abbrev pub with_blocks_from : World → ℕ → List BlockPlace → World
+with_blocks_from w n [] = w
+with_blocks_from w n (b ∷ bs) = with_blocks_from (with_block w n b) (n + 1) bs
+
+-- the blocks of some crates, in order
+abbrev pub blocks_of : List Table → List BlockPlace
+blocks_of ts = flat_map (λ (t : Table). t.blocks) ts
+
+-- The number of a block is its place among those of all crates, and each is listed in its module.
+abbrev pub with_all_blocks : World → List Table → World
+with_all_blocks w ts = with_blocks_from w 0 (blocks_of ts)

@@ -1,0 +1,153 @@
+//! `impl` and `extern` blocks in the lists of scopes, numbered over all crates.
+ghost use Rattle.std.specs.Prelude.{◌≡◌, ◌+◌, IfErr, IfOk, IsTrue, OnOk, length, slice_get, true};
+ghost use Rattle.crate_tables.specs.BlockLists as spec;
+ghost use Rattle.crate_tables.specs.CrateMaps.{is_shortage};
+ghost use Rattle.crate_tables.specs.TextualMacros.{AllStayShown, StaysKnown};
+ghost use Rattle.dm_check.specs.declared.held.HeldId.TheVariants as held;
+ghost use Rattle.dm_maps.specs.Known.{knows};
+
+use crate::crate_table::CrateTable;
+use crate::item_place::{BlockKind, BlockPlace};
+use dm_base::ids::{ExternBlockId, ImplId, ModuleId};
+use dm_check::held::HeldId;
+use dm_check::known_ids::KnownIds;
+use dm_maps::build_fault::BuildFault;
+use dm_maps::builder::WorldBuilder;
+
+/// The number behind another.
+fn behind(number: u32) -> Result<u32, BuildFault>
+    ensures exact { IfOk result (λ next. next ≡ number + 1) }
+    ensures fault { IfErr result (λ fault. is_shortage fault ≡ true) }
+{
+    match number.checked_add(1) {
+        Some(next) => Ok(next),
+        None => Err(BuildFault::OutOfNumbers),
+    }
+}
+
+/// Lists an `impl` in a module, behind the others.
+fn define_impl(
+    builder: &mut WorldBuilder,
+    m: ModuleId,
+    id: ImplId,
+    is_of_trait: bool,
+) -> Result<(), BuildFault>
+    requires { IsTrue (knows builder.old (held.Module m)) }
+    ensures world { OnOk result (builder.new ≡ spec.with_impl builder.old m id is_of_trait) }
+    ensures stays { StaysKnown builder.old builder.new }
+    ensures shown { AllStayShown builder.old builder.new }
+    ensures fault { IfErr result (λ fault. is_shortage fault ≡ true) }
+{
+    builder.scope_facts_of(m);
+    let Some(scope) = builder.scope_mut(m) else {
+        return Ok(());
+    };
+    scope.define_impl(id, is_of_trait)?;
+    Ok(())
+}
+
+/// Lists an `extern` block in a module, behind the others.
+fn define_extern(
+    builder: &mut WorldBuilder,
+    m: ModuleId,
+    id: ExternBlockId,
+) -> Result<(), BuildFault>
+    requires { IsTrue (knows builder.old (held.Module m)) }
+    ensures world { OnOk result (builder.new ≡ spec.with_extern_block builder.old m id) }
+    ensures stays { StaysKnown builder.old builder.new }
+    ensures shown { AllStayShown builder.old builder.new }
+    ensures fault { IfErr result (λ fault. is_shortage fault ≡ true) }
+{
+    builder.scope_facts_of(m);
+    let Some(scope) = builder.scope_mut(m) else {
+        return Ok(());
+    };
+    scope.define_extern_block(id)?;
+    Ok(())
+}
+
+/// Lists a block of a number in its module.
+fn define(builder: &mut WorldBuilder, block: BlockPlace, number: u32) -> Result<(), BuildFault>
+    requires { IsTrue (knows builder.old (held.Module block.home)) }
+    ensures world { OnOk result (builder.new ≡ spec.with_known_block builder.old number block) }
+    ensures stays { StaysKnown builder.old builder.new }
+    ensures shown { AllStayShown builder.old builder.new }
+    ensures fault { IfErr result (λ fault. is_shortage fault ≡ true) }
+{
+    match block.kind {
+        BlockKind::TraitImpl => define_impl(builder, block.home, ImplId(number), true),
+        BlockKind::InherentImpl => define_impl(builder, block.home, ImplId(number), false),
+        BlockKind::Extern => define_extern(builder, block.home, ExternBlockId(number)),
+    }
+}
+
+/// The same, if the builder has that module. Gives the number of the next block.
+fn list_block(builder: &mut WorldBuilder, block: BlockPlace, number: u32) -> Result<u32, BuildFault>
+    ensures world { OnOk result (builder.new ≡ spec.with_block builder.old number block) }
+    ensures number { IfOk result (λ next. next ≡ number + 1) }
+    ensures stays { StaysKnown builder.old builder.new }
+    ensures shown { AllStayShown builder.old builder.new }
+    ensures fault { IfErr result (λ fault. is_shortage fault ≡ true) }
+{
+    let next = behind(number)?;
+    if builder.knows(HeldId::Module(block.home)) {
+        define(builder, block, number)?;
+    }
+    Ok(next)
+}
+
+/// Lists the blocks of a crate, the first of which has a number. Gives the number of the next block.
+fn list_blocks_of(
+    builder: &mut WorldBuilder,
+    blocks: &[BlockPlace],
+    first: u32,
+) -> Result<u32, BuildFault>
+    ensures world { OnOk result (builder.new ≡ spec.with_blocks_from builder.old first blocks.now) }
+    ensures number { IfOk result (λ next. next ≡ first + length blocks.now) }
+    ensures stays { StaysKnown builder.old builder.new }
+    ensures shown { AllStayShown builder.old builder.new }
+    ensures fault { IfErr result (λ fault. is_shortage fault ≡ true) }
+{
+    let mut number = first;
+    for block in blocks {
+        number = list_block(builder, *block, number)?;
+    }
+    Ok(number)
+}
+
+/// Puts the `impl` and `extern` blocks of some crates into the lists of their modules, in order. The number of a block is its
+/// place among those of all crates. Nothing else of a scope changes.
+///
+/// # Errors
+///
+/// Fails only where memory runs out, and with `OutOfNumbers` at the 4,294,967,296th block. What was listed before stays.
+pub(crate) fn list_blocks(
+    builder: &mut WorldBuilder,
+    tables: &[CrateTable],
+) -> Result<(), BuildFault>
+    ensures world { OnOk result (builder.new ≡ spec.with_all_blocks builder.old tables.now) }
+    ensures stays { StaysKnown builder.old builder.new }
+    ensures shown { AllStayShown builder.old builder.new }
+    ensures fault { IfErr result (λ fault. is_shortage fault ≡ true) }
+{
+    let mut number: u32 = 0;
+    for table in tables {
+        number = list_blocks_of(builder, table.blocks(), number)?;
+    }
+    Ok(())
+}
+
+/// The block of a number, among those of all crates.
+pub fn numbered_block(tables: &[CrateTable], number: u32) -> Option<BlockPlace>
+    ensures { result ≡ slice_get (spec.blocks_of tables.now) number }
+{
+    let mut at = number as usize;
+    for table in tables {
+        let blocks = table.blocks();
+        if at < blocks.len() {
+            return Some(blocks[at]);
+        }
+        at -= blocks.len();
+    }
+    None
+}
