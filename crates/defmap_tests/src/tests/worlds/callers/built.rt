@@ -10,6 +10,8 @@ use dm_base::ids::{BlockId, ModuleId};
 use dm_base::item_ids::ModuleDefId;
 use dm_base::name::Name;
 use dm_base::source::Edition;
+use dm_check::held::HeldId;
+use dm_check::known_ids::KnownIds;
 use dm_maps::build_fault::BuildFault;
 use dm_maps::world::World;
 use dm_scope::glob_imports::PerNsGlobImports;
@@ -77,7 +79,9 @@ impl Building {
     fn declare_root(&mut self, alloc: Global) -> Result<(), BuildFault> {
         let lookup = (FIRST, Name::new(alloc, "x")?);
         let root = ModuleDefId::ModuleId(ROOT);
-        declare_in_tables(&mut self.builder, &mut self.globs, lookup, root)?;
+        if self.builder.knows(HeldId::Module(FIRST)) {
+            declare_in_tables(&mut self.builder, &mut self.globs, lookup, root)?;
+        }
         Ok(())
     }
 }
