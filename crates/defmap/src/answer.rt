@@ -7,7 +7,7 @@ use crate::inputs::read_inputs;
 use crate::places::Lines;
 use crate::resolve::{Teller, module_at};
 use crate::settled::Settled;
-use crate::settling::settle_inputs;
+use crate::settling::{SettledInputs, settle_inputs};
 use crate::stats::{Stopwatch, count_lines};
 use crate::tree::tree_text;
 use crate::unresolved::{UnknownCount, Unresolved, find_unresolved, message_lines, nothing};
@@ -16,12 +16,22 @@ use std::alloc::{AllocError, Global};
 use std::rt::{Clock, Files};
 
 /// What the program prints, and the status that it ends with.
-#[derive(Drop)]
 pub(crate) struct Answer {
     pub(crate) out: String,
     /// What goes to the standard error.
     pub(crate) told: String,
     pub(crate) status: Status,
+}
+
+/// A hand-written `Drop`, to keep proofs small: what drops one has one call to prove.
+impl Drop for Answer {
+    fn drop(self) {
+        let Answer {
+            out: _out,
+            told: _told,
+            status: _status,
+        } = self;
+    }
 }
 
 /// Lines, each of which ends.
@@ -172,6 +182,10 @@ fn imports_answer(
     })
 }
 
+fn or_failed(answered: Result<Answer, AllocError>) -> Result<Answer, Failure> {
+    Ok(answered?)
+}
+
 /// The answer to a wish.
 fn wished(
     alloc: Global,
@@ -180,11 +194,40 @@ fn wished(
     complaints: &Complaints,
 ) -> Result<Answer, Failure> {
     match given.wish {
-        Wish::Tree => Ok(tree_answer(alloc, settled, complaints)?),
-        Wish::Unresolved => Ok(unresolved_answer(alloc, settled, given, complaints)?),
-        Wish::Imports => Ok(imports_answer(alloc, settled, given, complaints)?),
+        Wish::Tree => or_failed(tree_answer(alloc, settled, complaints)),
+        Wish::Unresolved => or_failed(unresolved_answer(alloc, settled, given, complaints)),
+        Wish::Imports => or_failed(imports_answer(alloc, settled, given, complaints)),
         Wish::Resolve { path, home } => resolve_answer(alloc, settled, path, home, complaints),
     }
+}
+
+/// Adds what was read and done, and how long each stage took.
+fn add_stats(
+    answered: &mut Answer,
+    alloc: Global,
+    made: &SettledInputs,
+    watch: &Stopwatch,
+) -> Result<(), AllocError> {
+    let counts = count_lines(alloc, &made.settled, made.effort)?;
+    answered.told.push_str(counts.as_str())?;
+    answered.told.push_str(watch.lines(alloc)?.as_str())?;
+    Ok(())
+}
+
+/// The answer by the settled crates.
+fn answer_by<R: AllocGlobal + Clock>(
+    rt: &R,
+    given: &Arguments<'_>,
+    made: &SettledInputs,
+    watch: &mut Stopwatch,
+) -> Result<Answer, Failure> {
+    let alloc = rt.alloc();
+    let mut answered = wished(alloc, &made.settled, given, &made.complaints)?;
+    watch.end(rt, "answering")?;
+    if given.has_stats {
+        add_stats(&mut answered, alloc, made, watch)?;
+    }
+    Ok(answered)
 }
 
 /// Reads what the command line names, and answers what it asks.
@@ -192,18 +235,10 @@ pub(crate) fn give_answer<R: Files + Input + AllocGlobal + Clock>(
     rt: &R,
     given: &Arguments<'_>,
 ) -> Result<Answer, Failure> {
-    let alloc = rt.alloc();
     let mut watch = Stopwatch::start(rt);
     let inputs = read_inputs(rt, given)?;
     watch.end(rt, "reading")?;
-    let made = settle_inputs(alloc, inputs, given.limit)?;
+    let made = settle_inputs(rt.alloc(), inputs, given.limit)?;
     watch.end(rt, "settling")?;
-    let mut answered = wished(alloc, &made.settled, given, &made.complaints)?;
-    watch.end(rt, "answering")?;
-    if given.has_stats {
-        let counts = count_lines(alloc, &made.settled, made.effort)?;
-        answered.told.push_str(counts.as_str())?;
-        answered.told.push_str(watch.lines(alloc)?.as_str())?;
-    }
-    Ok(answered)
+    answer_by(rt, given, &made, &mut watch)
 }

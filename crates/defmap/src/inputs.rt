@@ -137,23 +137,40 @@ fn first_complaint(alloc: Global, complaints: &Complaints) -> Result<Failure, Al
     Ok(Failure::Told(Status::Unreadable, line))
 }
 
+/// Reads the files of all plans' crates. Answers with those of their roots. Fails where the first of these is not read.
+fn read_roots<R: Files + Input + AllocGlobal>(
+    rt: &R,
+    loader: &mut Loader,
+    plans: &[CratePlan],
+    cfgs: &str,
+    limit: u32,
+) -> Result<Vec<Option<FileId>>, Failure> {
+    let mut roots = Vec::new(rt.alloc());
+    for plan in plans {
+        let root = read_plan(rt, loader, plan, cfgs, limit)?;
+        if root.is_none() && roots.is_empty() {
+            return Err(first_complaint(rt.alloc(), &loader.complaints)?);
+        }
+        roots.push(root)?;
+    }
+    Ok(roots)
+}
+
 /// Reads all that the command line names. Fails where the root of the crate that is asked about is not read.
 pub(crate) fn read_inputs<R: Files + Input + AllocGlobal>(
     rt: &R,
     given: &Arguments<'_>,
 ) -> Result<Inputs, Failure> {
-    let alloc = rt.alloc();
     let cfgs = shared_cfgs(rt, given)?;
     let plans = plans_of(rt, given, cfgs.as_str())?;
-    let mut loader = Loader::new(alloc);
-    let mut roots = Vec::new(alloc);
-    for plan in &plans {
-        let root = read_plan(rt, &mut loader, plan, cfgs.as_str(), given.limit)?;
-        if root.is_none() && roots.is_empty() {
-            return Err(first_complaint(alloc, &loader.complaints)?);
-        }
-        roots.push(root)?;
-    }
+    let mut loader = Loader::new(rt.alloc());
+    let roots = read_roots(
+        rt,
+        &mut loader,
+        plans.as_slice(),
+        cfgs.as_str(),
+        given.limit,
+    )?;
     Ok(Inputs {
         cfgs,
         plans,

@@ -8,10 +8,19 @@ use item_tree::span::{name_text, string_text};
 use std::alloc::{AllocError, Global};
 
 /// A module whose items stand in a file of its own, and where that is looked for.
-#[derive(Drop)]
 pub(crate) struct Outline {
     pub(crate) name: Name,
     pub(crate) candidates: Vec<Candidate>,
+}
+
+/// A hand-written `Drop`, to keep proofs small: what drops one has one call to prove.
+impl Drop for Outline {
+    fn drop(self) {
+        let Outline {
+            name: _name,
+            candidates: _candidates,
+        } = self;
+    }
 }
 
 /// The modules of a file, as they are gone over.

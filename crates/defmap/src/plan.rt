@@ -3,7 +3,6 @@ use dm_ids::source::Edition;
 use std::alloc::{AllocError, Global};
 
 /// A crate that a crate depends on, by its number among the plans.
-#[derive(Drop)]
 pub(crate) struct DependencyPlan {
     pub(crate) name: String,
     pub(crate) krate: usize,
@@ -11,8 +10,18 @@ pub(crate) struct DependencyPlan {
     pub(crate) prelude: bool,
 }
 
+/// A hand-written `Drop`, to keep proofs small: what drops one has one call to prove.
+impl Drop for DependencyPlan {
+    fn drop(self) {
+        let DependencyPlan {
+            name: _name,
+            krate: _krate,
+            prelude: _prelude,
+        } = self;
+    }
+}
+
 /// A crate that is to be collected.
-#[derive(Drop)]
 pub(crate) struct CratePlan {
     pub(crate) name: String,
     pub(crate) root: String,
@@ -21,6 +30,20 @@ pub(crate) struct CratePlan {
     pub(crate) cfgs: String,
     pub(crate) is_proc_macro: bool,
     pub(crate) dependencies: Vec<DependencyPlan>,
+}
+
+/// A hand-written `Drop`, to keep proofs small: what drops one has one call to prove.
+impl Drop for CratePlan {
+    fn drop(self) {
+        let CratePlan {
+            name: _name,
+            root: _root,
+            edition: _edition,
+            cfgs: _cfgs,
+            is_proc_macro: _is_proc_macro,
+            dependencies: _dependencies,
+        } = self;
+    }
 }
 
 /// The name of a crate by that of its target.
