@@ -86,25 +86,35 @@ fn list_names(alloc: Global, collected: &mut Collected) -> Result<bool, AllocErr
     }
 }
 
+/// Collects the crates of a fixture, and settles them. None where that fails.
+fn collected_by(
+    alloc: Global,
+    files: &FileTable,
+    graph: &CrateGraph,
+) -> Result<Option<Collected>, AllocError> {
+    let reading = Reading {
+        files,
+        limit: LIMIT,
+    };
+    let Ok(mut collected) = collect(alloc, graph, &reading, LIMIT) else {
+        return Ok(None);
+    };
+    let is_settled = collected.is_settled && list_names(alloc, &mut collected)?;
+    Ok(if is_settled { Some(collected) } else { None })
+}
+
 /// Reads and settles the crates of a fixture. None where that fails.
 fn settled_by(alloc: Global, fixture: &Fixture<'_>) -> Result<Option<Settled>, AllocError> {
     let files = files_of(alloc, fixture)?;
     let graph = graph_of(alloc, fixture, &files)?;
-    let reading = Reading {
-        files: &files,
-        limit: LIMIT,
-    };
-    let Ok(mut collected) = collect(alloc, &graph, &reading, LIMIT) else {
-        return Ok(None);
-    };
-    if !collected.is_settled || !list_names(alloc, &mut collected)? {
-        return Ok(None);
+    match collected_by(alloc, &files, &graph)? {
+        None => Ok(None),
+        Some(collected) => Ok(Some(Settled {
+            files,
+            graph,
+            collected,
+        })),
     }
-    Ok(Some(Settled {
-        files,
-        graph,
-        collected,
-    }))
 }
 
 /// Whether the path of a glob means no module and no enum.
@@ -276,32 +286,79 @@ fn dump_of(alloc: Global, world: &World, number: usize) -> Result<String, AllocE
     }
 }
 
-/// What a fixture leaves, under its name.
-pub(crate) fn left_by(alloc: Global, fixture: &Fixture<'_>) -> Result<String, AllocError> {
-    let mut out = format!(in alloc; "=== {}\n", fixture.name)?;
-    let Some(mut settled) = settled_by(alloc, fixture)? else {
-        out.push_str("failed\n")?;
-        return Ok(out);
-    };
+/// Adds the def map of each crate.
+fn push_dumps(
+    out: &mut String,
+    alloc: Global,
+    world: &World,
+    fixture: &Fixture<'_>,
+) -> Result<(), AllocError> {
     for (number, krate) in fixture.crates.iter().enumerate() {
-        let dump = dump_of(alloc, settled.world(), number)?;
+        let dump = dump_of(alloc, world, number)?;
         let shown = format!(in alloc; "# {}\n{dump}", krate.name)?;
         out.push_str(shown.as_str())?;
     }
-    let found = settled.found(alloc)?;
-    out.push_str(lines(alloc, &settled.files, found.messages)?.as_str())?;
+    Ok(())
+}
+
+/// Adds how much is unknown in each crate.
+fn push_unknown(
+    out: &mut String,
+    alloc: Global,
+    unknown: &[u32],
+    fixture: &Fixture<'_>,
+) -> Result<(), AllocError> {
     for (number, krate) in fixture.crates.iter().enumerate() {
-        let count = found.unknown.get(number).copied().unwrap_or(0);
+        let count = unknown.get(number).copied().unwrap_or(0);
         if count > 0 {
             let shown = format!(in alloc; "{}: {count} unknown\n", krate.name)?;
             out.push_str(shown.as_str())?;
         }
     }
-    if fixture.name.starts_with(LISTS) {
-        out.push_str(scope_lists(alloc, &settled)?.as_str())?;
+    Ok(())
+}
+
+/// Adds what is told of the crates.
+fn push_told(
+    out: &mut String,
+    alloc: Global,
+    settled: &Settled,
+    fixture: &Fixture<'_>,
+) -> Result<(), AllocError> {
+    let Found { messages, unknown } = settled.found(alloc)?;
+    out.push_str(lines(alloc, &settled.files, messages)?.as_str())?;
+    push_unknown(out, alloc, unknown.as_slice(), fixture)
+}
+
+/// Adds what is shown of some fixtures alone.
+fn push_more(
+    out: &mut String,
+    alloc: Global,
+    settled: &mut Settled,
+    name: &str,
+) -> Result<(), AllocError> {
+    if name.starts_with(LISTS) {
+        out.push_str(scope_lists(alloc, settled)?.as_str())?;
     }
-    if fixture.name.starts_with(IN_MAPS) {
-        out.push_str(in_maps(alloc, &mut settled)?.as_str())?;
+    if name.starts_with(IN_MAPS) {
+        out.push_str(in_maps(alloc, settled)?.as_str())?;
     }
+    Ok(())
+}
+
+/// Adds what a fixture leaves.
+fn push_left(out: &mut String, alloc: Global, fixture: &Fixture<'_>) -> Result<(), AllocError> {
+    let Some(mut settled) = settled_by(alloc, fixture)? else {
+        return out.push_str("failed\n");
+    };
+    push_dumps(out, alloc, settled.world(), fixture)?;
+    push_told(out, alloc, &settled, fixture)?;
+    push_more(out, alloc, &mut settled, fixture.name)
+}
+
+/// What a fixture leaves, under its name.
+pub(crate) fn left_by(alloc: Global, fixture: &Fixture<'_>) -> Result<String, AllocError> {
+    let mut out = format!(in alloc; "=== {}\n", fixture.name)?;
+    push_left(&mut out, alloc, fixture)?;
     Ok(out)
 }
