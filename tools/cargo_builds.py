@@ -102,7 +102,9 @@ def built(folder, target, name, version):
     if ran.returncode or not words or not os.path.exists(tree):
         return "it does not build"
     home = f"{REGISTRY}/{name}-{version}"
-    made = Build(name.replace("-", "_"), home, words, env, tree, passes(ran.stderr))
+    made = Build(words[words.index("--crate-name") + 1], home, words, env, tree, passes(ran.stderr))
+    if not read_text(made.root).strip():
+        return "its root is empty"
     made.options = ["--metadata", f"{folder}/metadata.json", "--build", f"{folder}/build.json", *compiled_with(words)]
     return made
 

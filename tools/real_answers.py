@@ -119,12 +119,12 @@ def shown(where):
     return ":".join(map(str, where))
 
 
-def compare(leaves, ours, known, is_brought=lambda leaf: False):
+def compare(leaves, ours, known, is_brought=lambda where, leaf: False):
     """Compares leaves, by where they begin, with what `defmap` says of them."""
     outcome = Outcome()
     for where, leaf in sorted(leaves.items()):
         one = ours.get(where)
-        if one is None and is_brought(leaf):
+        if one is None and is_brought(where, leaf):
             outcome.brought += 1
         elif one is not None and not one.meant and one.is_unknown:
             outcome.unknown += 1

@@ -150,12 +150,12 @@ def limits(rows):
     names, partly = sum(it.unknown_names for it in rows), sum(it.partly + it.partly_names for it in rows)
     return table(["what", "places"], [
         ["imports that lead nowhere, where a macro that is called may bring what they name: `unknown`", unknown],
-        ["imports in modules that a macro brings, as those of `cfg_if!`: not read", brought],
+        ["imports in modules that a macro brings, as those of `cfg_if!`, or in the text of its call, or in what `include!` reads: not read", brought],
         ["names of the modules asked about that a macro may bring: `unknown`", names],
         ["imports and names that mean more in another namespace, by a macro: `more unknown`", partly],
         ["functions that an attribute as `#[test]` takes away, which are bound", places[TESTS]],
         ["names that a glob brings of an import that is unknown: told as absent", places[BEHIND]],
-        ["names that a macro by attribute brings or takes, of a module where one stands at a `use`", places[ATTRIBUTES]],
+        ["names that a macro by attribute brings or takes, of a module where one stands at a `use` or an `extern` block", places[ATTRIBUTES]],
         ["names of the standard library that rustc binds in roots of edition 2015: absent", places[INJECTED]]])
 
 

@@ -13,9 +13,9 @@ NAMES = 400
 WORD = re.compile(r"\b[A-Za-z_]\w*")
 BOUND = re.compile(r"\b(type|value|macro) pub")
 TEST = re.compile(r"#\[(?:test|bench|test_case)\b[^;{}]*?\bfn (\w+)")
-# A `use` with an attribute that the language has not itself.
-REWRITTEN = re.compile(r"#\[(?!cfg|doc|allow|warn|deny|expect|macro_use|stable|unstable|deprecated|rustc_|prelude_import)"
-                       r"[^\]]*\]\s*(?:pub\b(?:\([^)]*\))?\s*)?use\b")
+# A `use` or an `extern` block with an attribute that the language has not itself.
+REWRITTEN = re.compile(r"#\[(?!cfg|doc|allow|warn|deny|expect|macro_use|stable|unstable|deprecated|rustc_|prelude_import|link)"
+                       r"[^\]]*\]\s*(?:(?:pub\b(?:\([^)]*\))?\s*)?use\b|(?:unsafe\s+)?extern\s*(?:\"[^\"]*\"\s*)?\{)")
 KEYWORDS = set("""abstract as async await become box break const continue do dyn else enum extern false final fn for if impl in
     let loop macro match mod move mut override priv pub ref return static struct trait true try type typeof unsafe unsized
     use virtual where while yield""".split())
