@@ -1,6 +1,8 @@
 -- Items that are easy to read wrongly, and how they are read.
-use Rattle.std.specs.Prelude.{◌+◌, ◌-◌, ℕ, List, [], ◌∷◌, Option, Some, None, length}
+use Rattle.std.specs.Prelude.{◌+◌, ◌-◌, ℕ, Bool, List, [], ◌∷◌, Option, Some, None, length}
 use Rattle.item_tree.specs.Delimiters.{partners_of}
+use Rattle.item_tree.specs.Heads.{nothing}
+use Rattle.item_tree.specs.Implementations.{names_trait}
 use Rattle.item_tree.specs.ItemParts.{first_item}
 use Rattle.item_tree.specs.Items.{level_of}
 use Rattle.item_tree.specs.UseGrammar.{Nothing, Behind, Written, Name, Renamed, Glob, List_, WrittenList, Last, More}
@@ -180,3 +182,24 @@ written_list =
 
 abbrev pub written_use : Written
 written_use = List_ (Behind Nothing (at 0 name) (at 1 (Mark 58)) (at 2 (Mark 58))) (at 3 (Open Brace)) written_list
+
+-- whether an implementation is one of a trait
+abbrev pub of_a_trait : List LexemeKind → Bool
+of_a_trait ks = names_trait nothing 0 (trees_at 0 ks)
+
+-- impl name for for < 'a > fn (..) {..}
+abbrev pub for_a_function : Bool
+for_a_function = of_a_trait (Word word.Impl ∷ name ∷ Word word.For ∷ Word word.For ∷ Mark 60 ∷ Lifetime ∷ Mark 62 ∷ Word word.Fn ∷ Open Parenthesis ∷ Open Brace ∷ [])
+
+-- impl name ( .. ) - > name for name {..}
+abbrev pub behind_an_arrow : Bool
+behind_an_arrow = of_a_trait (Word word.Impl ∷ name ∷ Open Parenthesis ∷ Mark 45 ∷ Mark 62 ∷ name ∷ Word word.For ∷ name ∷ Open Brace ∷ [])
+
+-- impl < name : for < 'a > name > name where for < 'a > name : name {..}
+abbrev pub for_in_bounds : Bool
+for_in_bounds =
+    of_a_trait (Word word.Impl ∷ Mark 60 ∷ name ∷ Mark 58 ∷ Word word.For ∷ Mark 60 ∷ Lifetime ∷ Mark 62 ∷ name ∷ Mark 62 ∷ name ∷ Word word.Where ∷ Word word.For ∷ Mark 60 ∷ Lifetime ∷ Mark 62 ∷ name ∷ Mark 58 ∷ name ∷ Open Brace ∷ [])
+
+-- impl dyn name + for < 'a > name {..}
+abbrev pub for_behind_plus : Bool
+for_behind_plus = of_a_trait (Word word.Impl ∷ Word word.Dyn ∷ name ∷ Mark 43 ∷ Word word.For ∷ Mark 60 ∷ Lifetime ∷ Mark 62 ∷ name ∷ Open Brace ∷ [])

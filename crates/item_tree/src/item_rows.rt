@@ -1,5 +1,5 @@
 //! What the definitions of partners, items and use trees say of texts that are easy to read wrongly.
-ghost use Rattle.std.specs.Prelude.{◌≡◌, Some, None, [], ◌∷◌};
+ghost use Rattle.std.specs.Prelude.{◌≡◌, Some, None, [], ◌∷◌, false, true};
 ghost use Rattle.item_tree.specs.ItemRows as rows;
 ghost use Rattle.item_tree.specs.declared.expected.Expected.TheVariants as expected;
 ghost use Rattle.item_tree.specs.UseGrammar.{IsUseTree, leaves, lexemes_of};
@@ -19,6 +19,14 @@ pub fn difficult_items()
     ensures call { rows.call ≡ rows.parts item.MacroCall 0 0 0 None 8 }
     ensures inner { rows.inner ≡ rows.parts item.InnerAttribute 0 0 0 None 3 }
     ensures attributes_alone { rows.attributes_alone ≡ rows.parts item.Error 2 2 2 None 2 }
+{}
+
+/// Implementations with a `for` that stands between a trait and its type, or begins a type.
+pub fn difficult_implementations()
+    ensures for_a_function { rows.for_a_function ≡ true }
+    ensures behind_an_arrow { rows.behind_an_arrow ≡ true }
+    ensures for_in_bounds { rows.for_in_bounds ≡ false }
+    ensures for_behind_plus { rows.for_behind_plus ≡ false }
 {}
 
 /// Items that miss their end, and end where another begins.
