@@ -5,7 +5,8 @@ from functools import lru_cache
 from cargo_builds import read_text
 
 # Comments, strings, characters and delimiters: a delimiter within one of the former counts for nothing.
-PIECE = re.compile(r"//[^\n]*|/\*.*?\*/|\bb?r(#*)\".*?\"\1|\"(?:\\.|[^\"\\])*\"|'(?:\\.[^'\n]*|[^\\'\n])'|[{}()\[\]]", re.S)
+PIECE = re.compile(r"//[^\n]*|/\*.*?\*/|\bb?r(#*)\".*?\"\1|\"(?:\\.|[^\"\\])*\""
+                   r"|'(?:\\.[^'\n]*|[^\\'\n])'|[{}()\[\]]", re.S)
 # What stands before the delimiter of a call.
 CALL = re.compile(r"\b(?!macro_rules\b)\w+\s*!\s*$")
 
