@@ -3,6 +3,8 @@ use crate::left::Settled;
 use crate_tables::block_lists::numbered_block;
 use crate_tables::crate_table::CrateTable;
 use dm_base::ids::{Crate, ModuleId};
+use dm_base::item_ids::ModuleDefId;
+use dm_def_map::def_map::DefMap;
 use dm_maps::world::World;
 use dm_maps::world::maps_of::{AskWorld, crate_def_map};
 use dm_scope::item_scope::ItemScope;
@@ -38,6 +40,44 @@ fn block_text(
     }
 }
 
+/// The procedural macro that a function of a module is, if it is one.
+fn macro_text(
+    alloc: Global,
+    map: &DefMap,
+    m: ModuleId,
+    def: ModuleDefId,
+) -> Result<Option<String>, AllocError> {
+    let ModuleDefId::FunctionId(function) = def else {
+        return Ok(None);
+    };
+    match map.fn_as_proc_macro(function) {
+        None => Ok(None),
+        Some(made) => {
+            let text = format!(in alloc;
+                "module {}: function {} is procedural macro {}\n",
+                m.0, function.0, made.0
+            )?;
+            Ok(Some(text))
+        }
+    }
+}
+
+/// Adds the procedural macros that functions of a module are.
+fn push_macros(
+    out: &mut String,
+    alloc: Global,
+    map: &DefMap,
+    m: ModuleId,
+    scope: &ItemScope,
+) -> Result<(), AllocError> {
+    for def in scope.declarations() {
+        if let Some(text) = macro_text(alloc, map, m, def)? {
+            out.push_str(text.as_str())?;
+        }
+    }
+    Ok(())
+}
+
 /// Adds the lists of a module.
 fn push_lists(
     out: &mut String,
@@ -70,8 +110,10 @@ fn push_crate(
     if !world.has_crate(krate) {
         return Ok(());
     }
-    for (m, data) in crate_def_map(world, krate).modules().iter() {
+    let map = crate_def_map(world, krate);
+    for (m, data) in map.modules().iter() {
         push_lists(out, alloc, tables, m, data.scope())?;
+        push_macros(out, alloc, map, m, data.scope())?;
     }
     Ok(())
 }

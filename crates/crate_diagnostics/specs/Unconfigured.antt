@@ -42,9 +42,10 @@ abbrev pub of_items_from : FileId → List Standing → ℕ → List Item → Li
 of_items_from f ss n [] = []
 of_items_from f ss n (x ∷ xs) = of_item_at f ss n x ++ of_items_from f ss (n + 1) xs
 
+-- of a file that begins with a `cfg` that does not hold, as the root of a crate may, no item is told of
 abbrev pub of_source : FileId → Option Source → List Diagnostic
 of_source f None = []
-of_source f (Some s) = of_items_from f s.standings 0 s.items
+of_source f (Some s) = if s.is_enabled then of_items_from f s.standings 0 s.items else []
 
 -- an inline module is in the file of another one
 abbrev pub of_file : Listing → FileId → Option ℕ → List Diagnostic

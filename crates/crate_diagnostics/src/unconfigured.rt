@@ -97,7 +97,7 @@ fn push_file(
         spec.of_file list.now outer.now.file outer.now.item) }
 {
     match (outer.item(), list.sources().get(outer.file())) {
-        (None, Some(source)) => push_items(found, outer.file(), source),
+        (None, Some(source)) if source.is_enabled() => push_items(found, outer.file(), source),
         _ => Ok(()),
     }
 }
@@ -154,7 +154,7 @@ fn push_mods(
 
 /// What is told of the items that `cfg` takes away: of each file of a module those whose own `cfg`s do not hold, in the
 /// order of its tree, but not what stands in them; and behind these the `mod` items, among those of the crate, whose file
-/// begins with a `cfg` that does not hold.
+/// begins with a `cfg` that does not hold. Of the root nothing is told if its file does.
 ///
 /// # Errors
 ///

@@ -145,6 +145,7 @@ Arms =
       };
       active = [];
       items = arms;
+      is_enabled = true;
     })
     ≡ stands None None true
     ∷ stands None (Some 1) true

@@ -32,8 +32,14 @@ pub record Source : Type 0 where
   pub is_enabled : Bool
 
 abbrev pub view_of : List CfgAtom → List ℕ → Source → View
-view_of options text s =
-    record { options = options; text = text; attributes = s.attributes; active = s.active; items = s.items }
+view_of options text s = record {
+  options = options;
+  text = text;
+  attributes = s.attributes;
+  active = s.active;
+  items = s.items;
+  is_enabled = s.is_enabled;
+}
 
 -- the lexemes are those of the text, since only one list of tokens is that of a text
 abbrev pub AreLexemesOf : Edition → List ℕ → List Lexeme → Type 0

@@ -14,4 +14,4 @@ chosen_before v n = chosen_through v None 0 (take n v.items)
 -- each item that stands behind the one that it is in stands as that one tells
 abbrev pub StandingsGoByParents : Type 0
 StandingsGoByParents = (v : View) (n : ℕ) (x : Item) → slice_get v.items n ≡ Some x → IfSome x.parent (λ p. p < n)
-    → slice_get (standings v) n ≡ Some (standing_of (chosen_before v n) n x (holds v n x) (around (standings v) x.parent))
+    → slice_get (standings v) n ≡ Some (standing_of (chosen_before v n) n x (holds v n x) (around v (standings v) x.parent))

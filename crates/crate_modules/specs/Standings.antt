@@ -11,13 +11,15 @@ use Rattle.item_tree.specs.declared.item_kind.ItemKind.TheVariants as item
 use Rattle.item_tree.specs.declared.items.Item.{Item}
 use Rattle.item_tree.specs.declared.items.Range.{Range}
 
--- a file as a crate reads it: the crate's options, the text, the attributes, their active conditions, and the items
+-- a file as a crate reads it: the crate's options, the text, the attributes, their active conditions, the items, and
+-- whether each `cfg` may hold that the file begins with
 pub record View : Type 0 where
   pub options : List CfgAtom
   pub text : List ℕ
   pub attributes : Table
   pub active : List Bool
   pub items : List Item
+  pub is_enabled : Bool
 
 -- each `cfg` that begins in a range may hold
 abbrev pub may_stand : View → Range → Bool
@@ -42,17 +44,18 @@ is_part_of_cfg_if _ = false
 abbrev pub inner_module : ItemKind → ℕ → Option ℕ → Option ℕ
 inner_module kind n around = if is_part_of_cfg_if kind then around else Some n
 
--- how the item stands that an item is in; the module of the file has all at the top level
-abbrev pub of_file : Standing
-of_file = record { home = None; inner = None; is_configured = true }
+-- how the item stands that an item is in; the module of the file has all at the top level, and a file that begins with a
+-- `cfg` that does not hold has nothing
+abbrev pub of_file : View → Standing
+of_file v = record { home = None; inner = None; is_configured = v.is_enabled }
 
-abbrev pub or_of_file : Option Standing → Standing
-or_of_file None = of_file
-or_of_file (Some s) = s
+abbrev pub or_of_file : View → Option Standing → Standing
+or_of_file v None = of_file v
+or_of_file v (Some s) = s
 
-abbrev pub around : List Standing → Option ℕ → Standing
-around before None = of_file
-around before (Some p) = or_of_file (slice_get before p)
+abbrev pub around : View → List Standing → Option ℕ → Standing
+around v before None = of_file v
+around v before (Some p) = or_of_file v (slice_get before p)
 
 -- two arms of one `cfg_if!`
 abbrev pub are_same : Option ℕ → Option ℕ → Bool
@@ -81,7 +84,7 @@ standing_of chosen n x h outer =
 abbrev pub standings_from : View → List Standing → Option ℕ → ℕ → List Item → List Standing
 standings_from v before chosen n [] = before
 standings_from v before chosen n (x ∷ xs) =
-    standings_from v (before ++ standing_of chosen n x (holds v n x) (around before x.parent) ∷ [])
+    standings_from v (before ++ standing_of chosen n x (holds v n x) (around v before x.parent) ∷ [])
     (chosen_behind chosen x (holds v n x)) (n + 1) xs
 
 -- how each item of a file stands

@@ -70,12 +70,15 @@ impl Source {
         let tree = item_tree(alloc, lexemes.as_slice(), partners.as_slice())?;
         let attributes = read_attributes(alloc, text, lexemes.as_slice())?;
         let active = attributes.active_conditions(alloc, options, text)?;
+        let own = inner_attributes(0, tree.top_level_items());
+        let is_enabled = attributes.is_cfg_enabled(options, text, active.as_slice(), own);
         let view = View {
             options,
             text,
             attributes: &attributes,
             active: active.as_slice(),
             items: tree.items.as_slice(),
+            is_enabled,
         };
         let standings = standings(alloc, &view)?;
         let mods = mod_items(
@@ -85,7 +88,6 @@ impl Source {
             standings.as_slice(),
             tree.items.as_slice(),
         )?;
-        let is_enabled = view.may_stand(inner_attributes(0, tree.top_level_items()));
         Ok(Source {
             lexemes,
             partners,

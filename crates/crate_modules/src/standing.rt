@@ -33,6 +33,8 @@ pub(crate) struct View<'a> {
     /// The conditions that are active, by the options.
     pub(crate) active: &'a [bool],
     pub(crate) items: &'a [Item],
+    /// Whether each `cfg` may hold that the file begins with.
+    pub(crate) is_enabled: bool,
 }
 
 impl<'a> Model for View<'a> {
@@ -46,6 +48,7 @@ impl<'a> Model for View<'a> {
       attributes = v.attributes.now;
       active = v.active.now;
       items = v.items.now;
+      is_enabled = v.is_enabled;
     } };
 }
 
@@ -107,13 +110,13 @@ fn inner_module(kind: ItemKind, number: usize, around: Option<usize>) -> Option<
 }
 
 /// How the item stands that an item is in.
-fn around(before: &[Standing], parent: Option<usize>) -> Standing
-    ensures { result ≡ spec.around before.now parent }
+fn around(view: &View<'_>, before: &[Standing], parent: Option<usize>) -> Standing
+    ensures { result ≡ spec.around view.now before.now parent }
 {
     let of_file = Standing {
         home: None,
         inner: None,
-        is_configured: true,
+        is_configured: view.is_enabled,
     };
     match parent {
         None => of_file,
@@ -182,7 +185,7 @@ pub(crate) fn standings(alloc: Global, view: &View<'_>) -> Result<Vec<Standing>,
     let mut chosen = None;
     for (number, item) in view.items.iter().enumerate() {
         let holds = view.holds(number, *item);
-        let outer = around(found.as_slice(), item.parent);
+        let outer = around(view, found.as_slice(), item.parent);
         found.push(standing_of(chosen, number, *item, holds, outer))?;
         chosen = chosen_behind(chosen, *item, holds);
     }

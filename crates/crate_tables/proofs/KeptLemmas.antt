@@ -4,16 +4,14 @@ use Rattle.std.proofs.lemmas.Bool.{eqb-true}
 use Rattle.crate_tables.proofs.TextualLemmas.{all-stay}
 use Rattle.crate_tables.specs.DeclaredWorlds.{BindNothing}
 use Rattle.crate_tables.specs.Kept.{IsKept}
+use Rattle.crate_tables.specs.ScopeEntries.{entered}
 use Rattle.crate_tables.specs.TextualMacros.{AllStayShown, StaysKnown}
+use Rattle.crate_tables.specs.declared.scope_entry.ScopeEntry.{ScopeEntry}
+use Rattle.crate_tables.specs.declared.scope_entry.ScopeEntry.TheVariants as entry
 use Rattle.dm_base.specs.Tree.{same_module}
 use Rattle.dm_ids.specs.Names.{Name}
 use Rattle.dm_ids.specs.declared.ids.ModuleId.{ModuleId}
-use Rattle.dm_ids.specs.declared.ids.ConstId.{ConstId}
-use Rattle.dm_ids.specs.declared.ids.ExternBlockId.{ExternBlockId}
-use Rattle.dm_ids.specs.declared.ids.ExternCrateId.{ExternCrateId}
-use Rattle.dm_ids.specs.declared.ids.ImplId.{ImplId}
 use Rattle.dm_ids.specs.declared.item_ids.MacroId.{MacroId}
-use Rattle.dm_ids.specs.declared.item_ids.ModuleDefId.{ModuleDefId}
 use Rattle.dm_maps.specs.Added.{IsGrown, IsScoped}
 use Rattle.dm_maps.specs.World.{World, scope_of}
 use Rattle.dm_scope.specs.Flags.{Globs}
@@ -52,27 +50,18 @@ scoped-by w v m t same is g k ps h = by (same_module m k) refl
         (λ own. subst (λ s. Shows s g m ps) (sym is.own) (same g m ps own)) h
     by false other = subst (λ s. Shows s g k ps) (sym (is.others k other)) h
 
--- a scope with other textual macros, or other lists, shows the same
+-- a scope with other textual macros shows the same
 pub scoped-shown : (w v : World) (m : ModuleId) (l : List (Name × List MacroId)) → IsScoped w v m (record (scope_of w m) { legacy_macros = l }) → AllStayShown w v
 scoped-shown w v m l is =
     scoped-by w v m (record (scope_of w m) { legacy_macros = l }) (λ g k ps h. record { types = h.types; values = h.values; macros = h.macros; unresolved = h.unresolved }) is
 
-pub scoped-declared : (w v : World) (m : ModuleId) (l : List ModuleDefId) → IsScoped w v m (record (scope_of w m) { declarations = l }) → AllStayShown w v
-scoped-declared w v m l is =
-    scoped-by w v m (record (scope_of w m) { declarations = l }) (λ g k ps h. record { types = h.types; values = h.values; macros = h.macros; unresolved = h.unresolved }) is
+-- so does one with one more in one of its lists
+entered-shows : (s : Scope) (e : ScopeEntry) (g : Globs) (k : ModuleId) (ps : List ScopePush) → Shows s g k ps → Shows (entered s e) g k ps
+entered-shows s (entry.Declaration d) g k ps h = record { types = h.types; values = h.values; macros = h.macros; unresolved = h.unresolved }
+entered-shows s (entry.UnnamedConst c) g k ps h = record { types = h.types; values = h.values; macros = h.macros; unresolved = h.unresolved }
+entered-shows s (entry.ExternCrate c) g k ps h = record { types = h.types; values = h.values; macros = h.macros; unresolved = h.unresolved }
+entered-shows s (entry.Impl i b) g k ps h = record { types = h.types; values = h.values; macros = h.macros; unresolved = h.unresolved }
+entered-shows s (entry.ExternBlock b) g k ps h = record { types = h.types; values = h.values; macros = h.macros; unresolved = h.unresolved }
 
-pub scoped-unnamed : (w v : World) (m : ModuleId) (l : List ConstId) → IsScoped w v m (record (scope_of w m) { unnamed_consts = l }) → AllStayShown w v
-scoped-unnamed w v m l is =
-    scoped-by w v m (record (scope_of w m) { unnamed_consts = l }) (λ g k ps h. record { types = h.types; values = h.values; macros = h.macros; unresolved = h.unresolved }) is
-
-pub scoped-externs : (w v : World) (m : ModuleId) (l : List ExternCrateId) → IsScoped w v m (record (scope_of w m) { extern_crate_decls = l }) → AllStayShown w v
-scoped-externs w v m l is =
-    scoped-by w v m (record (scope_of w m) { extern_crate_decls = l }) (λ g k ps h. record { types = h.types; values = h.values; macros = h.macros; unresolved = h.unresolved }) is
-
-pub scoped-impls : (w v : World) (m : ModuleId) (l : List (ImplId × Bool)) → IsScoped w v m (record (scope_of w m) { impls = l }) → AllStayShown w v
-scoped-impls w v m l is =
-    scoped-by w v m (record (scope_of w m) { impls = l }) (λ g k ps h. record { types = h.types; values = h.values; macros = h.macros; unresolved = h.unresolved }) is
-
-pub scoped-blocks : (w v : World) (m : ModuleId) (l : List ExternBlockId) → IsScoped w v m (record (scope_of w m) { extern_blocks = l }) → AllStayShown w v
-scoped-blocks w v m l is =
-    scoped-by w v m (record (scope_of w m) { extern_blocks = l }) (λ g k ps h. record { types = h.types; values = h.values; macros = h.macros; unresolved = h.unresolved }) is
+pub scoped-entered : (w v : World) (m : ModuleId) (e : ScopeEntry) → IsScoped w v m (entered (scope_of w m) e) → AllStayShown w v
+scoped-entered w v m e is = scoped-by w v m (entered (scope_of w m) e) (entered-shows (scope_of w m) e) is

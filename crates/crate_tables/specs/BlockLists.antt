@@ -1,39 +1,22 @@
 -- `impl` and `extern` blocks in the lists of scopes, numbered over all crates.
-use Rattle.std.specs.Prelude.{◌+◌, ◌++◌, ℕ, Bool, true, false, List, [], ◌∷◌, Option, None, Some, if◌then◌else◌}
+use Rattle.std.specs.Prelude.{◌+◌, ℕ, true, false, List, [], ◌∷◌, if◌then◌else◌}
 use Rattle.std.specs.List.{flat_map}
 use Rattle.crate_tables.specs.CrateTables.{Table}
+use Rattle.crate_tables.specs.ScopeEntries.{with_entry}
 use Rattle.crate_tables.specs.declared.item_place.BlockKind.{BlockKind}
 use Rattle.crate_tables.specs.declared.item_place.BlockKind.TheVariants.{TraitImpl, InherentImpl, Extern}
 use Rattle.crate_tables.specs.declared.item_place.BlockPlace.{BlockPlace}
+use Rattle.crate_tables.specs.declared.scope_entry.ScopeEntry.TheVariants as entry
 use Rattle.dm_check.specs.declared.held.HeldId.TheVariants as held
-use Rattle.dm_ids.specs.declared.ids.ExternBlockId.{ExternBlockId}
-use Rattle.dm_ids.specs.declared.ids.ImplId.{ImplId}
 use Rattle.dm_ids.specs.declared.ids.ModuleId.{ModuleId}
 use Rattle.dm_maps.specs.Known.{knows}
-use Rattle.dm_maps.specs.World.{World, scope_if_known, with_scope}
-use Rattle.dm_scope.specs.Scope.{Scope}
-
--- an `impl` is the last of a module
-abbrev pub with_impl_in : World → ModuleId → ImplId → Bool → Option Scope → World
-with_impl_in w m i b None = w
-with_impl_in w m i b (Some s) = with_scope w m (record s { impls = s.impls ++ (i, b) ∷ [] })
-
-abbrev pub with_impl : World → ModuleId → ImplId → Bool → World
-with_impl w m i b = with_impl_in w m i b (scope_if_known w m)
-
--- an `extern` block is the last of a module
-abbrev pub with_extern_block_in : World → ModuleId → ExternBlockId → Option Scope → World
-with_extern_block_in w m x None = w
-with_extern_block_in w m x (Some s) = with_scope w m (record s { extern_blocks = s.extern_blocks ++ x ∷ [] })
-
-abbrev pub with_extern_block : World → ModuleId → ExternBlockId → World
-with_extern_block w m x = with_extern_block_in w m x (scope_if_known w m)
+use Rattle.dm_maps.specs.World.{World}
 
 -- a block of a number stands in its module; an `impl` is listed with whether it is one of a trait
 abbrev pub with_block_of : World → ModuleId → ℕ → BlockKind → World
-with_block_of w m n TraitImpl = with_impl w m (record { 0 = n }) true
-with_block_of w m n InherentImpl = with_impl w m (record { 0 = n }) false
-with_block_of w m n Extern = with_extern_block w m (record { 0 = n })
+with_block_of w m n TraitImpl = with_entry w m (entry.Impl (record { 0 = n }) true)
+with_block_of w m n InherentImpl = with_entry w m (entry.Impl (record { 0 = n }) false)
+with_block_of w m n Extern = with_entry w m (entry.ExternBlock (record { 0 = n }))
 
 abbrev pub with_known_block : World → ℕ → BlockPlace → World
 with_known_block w n b = with_block_of w b.home n b.kind

@@ -79,7 +79,7 @@ others_added c s items =
 
 -- definitions come into the lists of their modules, and so do the extern crates behind so many others of the world
 abbrev pub listed : CrateView → Linked → ℕ → List DeclaredItem → Linked
-listed c s n items = record s { world = with_all_lists c.list.modules s.table s.world (map outline items) n s.rows }
+listed c s n items = record s { world = with_all_lists c.krate c.list.modules s.table s.world (map outline items) n s.rows }
 
 -- the blocks among the items come into the table
 abbrev pub blocks_added : CrateView → Linked → List DeclaredItem → Linked

@@ -15,6 +15,10 @@ pub mod BlockLists
 pub mod CrateFillings
 pub mod DeclaredWorlds
 pub mod TextualMacros
+pub mod ScopeEntries
+pub mod DefParts
+pub mod ModuleIndexes
 pub mod ScopeLists
+pub mod ProceduralPairs
 pub mod ExternLists
 pub mod Kept

@@ -23,7 +23,8 @@ use dm_maps::builder::WorldBuilder;
 use std::alloc::Global;
 
 /// Adds the items of a crate: its table gets its blocks, and then its extern crates come, its macros, and all others. Its
-/// definitions and its extern crates come into the lists of their modules behind that.
+/// definitions and its extern crates come into the lists of their modules behind that, and its def map is told which
+/// functions are procedural macros.
 #[tactic(auto, unfolding(crate::specs::CrateFillings::with_all_items))]
 pub(crate) fn add_all_items(
     builder: &mut WorldBuilder,
@@ -59,6 +60,7 @@ pub(crate) fn add_all_items(
     let modules = view.list.modules();
     fill_lists(
         builder,
+        alloc,
         modules,
         view.krate,
         table,

@@ -8,7 +8,8 @@ ghost use Rattle.dm_maps.specs.Known.{knows};
 
 use crate::crate_table::CrateTable;
 use crate::item_place::{BlockKind, BlockPlace};
-use dm_base::ids::{ExternBlockId, ImplId, ModuleId};
+use crate::scope_entry::{ScopeEntry, list_entry};
+use dm_base::ids::{ExternBlockId, ImplId};
 use dm_check::held::HeldId;
 use dm_check::known_ids::KnownIds;
 use dm_maps::build_fault::BuildFault;
@@ -25,47 +26,6 @@ fn behind(number: u32) -> Result<u32, BuildFault>
     }
 }
 
-/// Lists an `impl` in a module, behind the others.
-fn define_impl(
-    builder: &mut WorldBuilder,
-    m: ModuleId,
-    id: ImplId,
-    is_of_trait: bool,
-) -> Result<(), BuildFault>
-    requires { IsTrue (knows builder.old (held.Module m)) }
-    ensures world { OnOk result (builder.new ≡ spec.with_impl builder.old m id is_of_trait) }
-    ensures stays { StaysKnown builder.old builder.new }
-    ensures shown { AllStayShown builder.old builder.new }
-    ensures fault { IfErr result (λ fault. is_shortage fault ≡ true) }
-{
-    builder.scope_facts_of(m);
-    let Some(scope) = builder.scope_mut(m) else {
-        return Ok(());
-    };
-    scope.define_impl(id, is_of_trait)?;
-    Ok(())
-}
-
-/// Lists an `extern` block in a module, behind the others.
-fn define_extern(
-    builder: &mut WorldBuilder,
-    m: ModuleId,
-    id: ExternBlockId,
-) -> Result<(), BuildFault>
-    requires { IsTrue (knows builder.old (held.Module m)) }
-    ensures world { OnOk result (builder.new ≡ spec.with_extern_block builder.old m id) }
-    ensures stays { StaysKnown builder.old builder.new }
-    ensures shown { AllStayShown builder.old builder.new }
-    ensures fault { IfErr result (λ fault. is_shortage fault ≡ true) }
-{
-    builder.scope_facts_of(m);
-    let Some(scope) = builder.scope_mut(m) else {
-        return Ok(());
-    };
-    scope.define_extern_block(id)?;
-    Ok(())
-}
-
 /// Lists a block of a number in its module.
 fn define(builder: &mut WorldBuilder, block: BlockPlace, number: u32) -> Result<(), BuildFault>
     requires { IsTrue (knows builder.old (held.Module block.home)) }
@@ -74,11 +34,12 @@ fn define(builder: &mut WorldBuilder, block: BlockPlace, number: u32) -> Result<
     ensures shown { AllStayShown builder.old builder.new }
     ensures fault { IfErr result (λ fault. is_shortage fault ≡ true) }
 {
-    match block.kind {
-        BlockKind::TraitImpl => define_impl(builder, block.home, ImplId(number), true),
-        BlockKind::InherentImpl => define_impl(builder, block.home, ImplId(number), false),
-        BlockKind::Extern => define_extern(builder, block.home, ExternBlockId(number)),
-    }
+    let entry = match block.kind {
+        BlockKind::TraitImpl => ScopeEntry::Impl(ImplId(number), true),
+        BlockKind::InherentImpl => ScopeEntry::Impl(ImplId(number), false),
+        BlockKind::Extern => ScopeEntry::ExternBlock(ExternBlockId(number)),
+    };
+    list_entry(builder, block.home, entry)
 }
 
 /// The same, if the builder has that module. Gives the number of the next block.

@@ -1,4 +1,4 @@
-//! Extern crates in the lists of scopes, behind definitions.
+//! What the lists of scopes have, extern crates behind definitions, and the def map of each procedural macro.
 ghost use Rattle.std.specs.Prelude.{◌≡◌, true, IfErr, IfOk, IsTrue, OnOk, drop};
 ghost use Rattle.crate_tables.specs.CrateMaps.{is_shortage};
 ghost use Rattle.crate_tables.specs.CrateTables.{IsTableOf};
@@ -11,13 +11,16 @@ ghost use Rattle.dm_maps.specs.Known.{knows};
 use crate::crate_table::CrateTable;
 use crate::extern_crates::ExternCrateRow;
 use crate::item_outline::ItemOutline;
+use crate::procedural_pairs::pair_procedural_macros;
+use crate::scope_entry::{ScopeEntry, list_entry};
 use crate::scope_lists::list_definitions;
 use crate_modules::declared_module::DeclaredModule;
-use dm_base::ids::{Crate, ExternCrateId, ModuleId};
+use dm_base::ids::{Crate, ExternCrateId};
 use dm_check::held::HeldId;
 use dm_check::known_ids::KnownIds;
 use dm_maps::build_fault::BuildFault;
 use dm_maps::builder::WorldBuilder;
+use std::alloc::Global;
 
 /// The extern crate of a number.
 fn numbered(number: usize) -> Result<ExternCrateId, BuildFault>
@@ -28,22 +31,6 @@ fn numbered(number: usize) -> Result<ExternCrateId, BuildFault>
         Ok(number) => Ok(ExternCrateId(number)),
         Err(_) => Err(BuildFault::OutOfNumbers),
     }
-}
-
-/// Lists an extern crate in a module, behind the others.
-fn define(builder: &mut WorldBuilder, m: ModuleId, id: ExternCrateId) -> Result<(), BuildFault>
-    requires { IsTrue (knows builder.old (held.Module m)) }
-    ensures world { OnOk result (builder.new ≡ spec.with_extern_decl builder.old m id) }
-    ensures stays { StaysKnown builder.old builder.new }
-    ensures shown { AllStayShown builder.old builder.new }
-    ensures fault { IfErr result (λ fault. is_shortage fault ≡ true) }
-{
-    builder.scope_facts_of(m);
-    let Some(scope) = builder.scope_mut(m) else {
-        return Ok(());
-    };
-    scope.define_extern_crate_decl(id)?;
-    Ok(())
 }
 
 /// Lists the extern crate of a row in its module.
@@ -59,7 +46,7 @@ fn list_row(
 {
     let id = numbered(number)?;
     if builder.knows(HeldId::Module(row.home)) {
-        define(builder, row.home, id)
+        list_entry(builder, row.home, ScopeEntry::ExternCrate(id))
     } else {
         Ok(())
     }
@@ -89,9 +76,11 @@ fn list_extern_crates(
     Ok(())
 }
 
-/// Puts the definitions of a crate and its extern crates, whose rows begin at a number, into the lists of their modules.
+/// Puts the definitions of a crate and its extern crates, whose rows begin at a number, into the lists of their modules,
+/// and tells its def map which functions are procedural macros.
 pub(crate) fn fill_lists(
     builder: &mut WorldBuilder,
+    alloc: Global,
     modules: &[DeclaredModule],
     krate: Crate,
     table: &CrateTable,
@@ -101,11 +90,12 @@ pub(crate) fn fill_lists(
 ) -> Result<(), BuildFault>
     requires { IsTableOf builder.old krate table.now }
     ensures world { OnOk result (builder.new ≡
-        spec.with_all_lists modules.now table.now builder.old outlines.now from rows.now) }
+        spec.with_all_lists krate modules.now table.now builder.old outlines.now from rows.now) }
     ensures stays { IsKept builder.old builder.new }
     ensures kept { OnOk result (IsTableOf builder.new krate table.now) }
 {
-    list_definitions(builder, modules, krate, table, outlines)?;
+    list_definitions(builder, alloc, modules, krate, table, outlines)?;
     list_extern_crates(builder, rows, from)?;
+    pair_procedural_macros(builder, alloc, krate, table, outlines)?;
     Ok(())
 }

@@ -51,7 +51,7 @@ fn settings_of(
 }
 
 /// Sets what these say for a crate.
-fn set_all(
+pub(crate) fn set_all(
     builder: &mut WorldBuilder,
     krate: Crate,
     settings: Vec<CrateSetting>,

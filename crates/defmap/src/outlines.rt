@@ -83,7 +83,7 @@ pub(crate) fn outlines_of(
         inner: IndexMap::new(alloc),
         found: Vec::new(alloc),
     };
-    if source.is_enabled() && items.iter().any(|item| item.is_outline) {
+    if items.iter().any(|item| item.is_outline) {
         for item in items {
             walk.meet(*item)?;
         }
