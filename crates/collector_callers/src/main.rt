@@ -8,16 +8,21 @@ use crate::text_to_answer::{meaning_in_first, world_of};
 use dm_base::mod_path::{ModPath, PathKind};
 use dm_base::name::Name;
 use dm_collector::collect_fault::CollectFault;
-use std::alloc::Global;
+use std::alloc::{AllocError, Global};
 use std::io::{Read, Write};
 use std::process::ExitCode;
+
+/// The path `S`.
+fn asked(alloc: Global) -> Result<ModPath, AllocError> {
+    let mut segments = Vec::new(alloc);
+    segments.push(Name::new(alloc, "S")?)?;
+    Ok(ModPath::from_segments(PathKind::Plain, segments))
+}
 
 /// What is printed of a text.
 fn printed(alloc: Global, text: Vec<u8>) -> Result<String, CollectFault> {
     let made = world_of(alloc, text)?;
-    let mut segments = Vec::new(alloc);
-    segments.push(Name::new(alloc, "S")?)?;
-    let path = ModPath::from_segments(PathKind::Plain, segments);
+    let path = asked(alloc)?;
     let found = meaning_in_first(made.retry.world(), &path);
     let text = format!(in alloc;
         "settled: {}\ntypes: {}\nvalues: {}\nmacros: {}\n",
