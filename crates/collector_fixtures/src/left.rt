@@ -254,6 +254,37 @@ impl Settled {
         push_messages(&mut found.messages, alloc, list, told.as_slice())
     }
 
+    /// Adds what is told of the declarations of the crate of a number.
+    fn add_declared(
+        &self,
+        messages: &mut Vec<Message>,
+        alloc: Global,
+        number: usize,
+        list: &CrateModules,
+    ) -> Result<(), AllocError> {
+        let Some(krate) = self.graph.crates().get(number) else {
+            return Ok(());
+        };
+        let items = items_of(alloc, krate, list, &self.files)?;
+        self.add_declarations(messages, alloc, krate, list, items.as_slice())
+    }
+
+    /// Adds what is told of the crates, import by import and call by call.
+    fn add_crates(
+        &self,
+        found: &mut Found,
+        alloc: Global,
+        view: &MacroView,
+    ) -> Result<(), AllocError> {
+        for (number, list) in self.collected.lists.iter().enumerate() {
+            found.unknown.push(0)?;
+            self.add_declared(&mut found.messages, alloc, number, list)?;
+            self.add_calls(found, alloc, view, number, list)?;
+        }
+        self.add_imports(found, alloc, view)?;
+        self.add_globs(found, alloc, view)
+    }
+
     /// What is told of the crates.
     fn found(&self, alloc: Global) -> Result<Found, AllocError> {
         let view = MacroView::new(alloc, self)?;
@@ -261,16 +292,7 @@ impl Settled {
             messages: Vec::new(alloc),
             unknown: Vec::new(alloc),
         };
-        for (number, list) in self.collected.lists.iter().enumerate() {
-            found.unknown.push(0)?;
-            if let Some(krate) = self.graph.crates().get(number) {
-                let items = items_of(alloc, krate, list, &self.files)?;
-                self.add_declarations(&mut found.messages, alloc, krate, list, items.as_slice())?;
-            }
-            self.add_calls(&mut found, alloc, &view, number, list)?;
-        }
-        self.add_imports(&mut found, alloc, &view)?;
-        self.add_globs(&mut found, alloc, &view)?;
+        self.add_crates(&mut found, alloc, &view)?;
         Ok(found)
     }
 }

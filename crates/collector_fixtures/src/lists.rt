@@ -40,6 +40,61 @@ fn block_text(
     }
 }
 
+/// Adds a block of a module.
+fn push_block(
+    out: &mut String,
+    alloc: Global,
+    tables: &[CrateTable],
+    m: ModuleId,
+    kind: &str,
+    number: u32,
+) -> Result<(), AllocError> {
+    let text = block_text(alloc, tables, m, kind, number)?;
+    out.push_str(text.as_str())
+}
+
+/// Adds the implementations of traits in a module.
+fn push_trait_impls(
+    out: &mut String,
+    alloc: Global,
+    tables: &[CrateTable],
+    m: ModuleId,
+    scope: &ItemScope,
+) -> Result<(), AllocError> {
+    for id in scope.trait_impls() {
+        push_block(out, alloc, tables, m, "impl of a trait", id.0)?;
+    }
+    Ok(())
+}
+
+/// Adds the inherent implementations in a module.
+fn push_inherent_impls(
+    out: &mut String,
+    alloc: Global,
+    tables: &[CrateTable],
+    m: ModuleId,
+    scope: &ItemScope,
+) -> Result<(), AllocError> {
+    for id in scope.inherent_impls() {
+        push_block(out, alloc, tables, m, "inherent impl", id.0)?;
+    }
+    Ok(())
+}
+
+/// Adds the `extern` blocks of a module.
+fn push_extern_blocks(
+    out: &mut String,
+    alloc: Global,
+    tables: &[CrateTable],
+    m: ModuleId,
+    scope: &ItemScope,
+) -> Result<(), AllocError> {
+    for id in scope.extern_blocks() {
+        push_block(out, alloc, tables, m, "extern block", id.0)?;
+    }
+    Ok(())
+}
+
 /// The procedural macro that a function of a module is, if it is one.
 fn macro_text(
     alloc: Global,
@@ -86,17 +141,11 @@ fn push_lists(
     m: ModuleId,
     scope: &ItemScope,
 ) -> Result<(), AllocError> {
-    out.push_str(counts_text(alloc, m, scope)?.as_str())?;
-    for id in scope.trait_impls() {
-        out.push_str(block_text(alloc, tables, m, "impl of a trait", id.0)?.as_str())?;
-    }
-    for id in scope.inherent_impls() {
-        out.push_str(block_text(alloc, tables, m, "inherent impl", id.0)?.as_str())?;
-    }
-    for id in scope.extern_blocks() {
-        out.push_str(block_text(alloc, tables, m, "extern block", id.0)?.as_str())?;
-    }
-    Ok(())
+    let counts = counts_text(alloc, m, scope)?;
+    out.push_str(counts.as_str())?;
+    push_trait_impls(out, alloc, tables, m, scope)?;
+    push_inherent_impls(out, alloc, tables, m, scope)?;
+    push_extern_blocks(out, alloc, tables, m, scope)
 }
 
 /// Adds the lists of the modules of a crate.
