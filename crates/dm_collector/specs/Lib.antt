@@ -1,6 +1,7 @@
 pub mod Globs
 pub mod GlobOrders
 pub mod Widening
+pub mod GlobTasks
 pub mod UnnamedTraits
 pub mod MacroUses
 pub mod PreludeGlobs

@@ -13,6 +13,7 @@ ghost use Rattle.dm_collector.specs.declared.sources.GlobImport.{GlobImport as G
 
 mod bring;
 mod fill;
+mod tasks;
 mod use_macros;
 mod widen;
 
@@ -20,12 +21,10 @@ use crate::glob_fault::GlobFault;
 use crate::glob_order::in_order;
 use crate::macro_uses::MacroUses;
 use crate::sources::GlobImport;
-use bring::bring_all;
 use dm_retry::retry::Retry;
-use fill::fill_all;
 use std::alloc::{AllocError, Global};
+use tasks::{GlobTask, do_all};
 use use_macros::use_all;
-use widen::widen_all;
 
 /// Settles the imports, fills the globs, brings the unnamed traits of their sources, widens what they bound, and gives
 /// crates the macros that they use, in turn, at most `limit` times, until nothing changes. Answers whether that was
@@ -151,12 +150,12 @@ fn write_globs(retry: &mut Retry, globs: &[&GlobImport], alloc: Global) -> Resul
     ensures unknown { IfErr result
         (λ fault. fault ≡ faults.Unknown → HasUnknown retry.new.state.world (behind globs.now)) }
 {
-    if fill_all(retry, globs, alloc)? {
+    if do_all(retry, globs, alloc, GlobTask::Fill)? {
         return Ok(true);
     }
-    if bring_all(retry, globs)? {
+    if do_all(retry, globs, alloc, GlobTask::Bring)? {
         return Ok(true);
     }
-    let widened = widen_all(retry, globs, alloc)?;
+    let widened = do_all(retry, globs, alloc, GlobTask::Widen)?;
     Ok(widened)
 }

@@ -3,8 +3,7 @@ ghost use Rattle.std.specs.Prelude.{◌≡◌, false, is_some, true, All, Contai
 ghost use Rattle.dm_check.specs.declared.held.HeldId.TheVariants as held;
 ghost use Rattle.dm_check.specs.Holding.{vis_holds};
 ghost use Rattle.dm_maps.specs.Known.{knows, KnowsAll};
-ghost use Rattle.dm_collector.specs.GlobOrders.{behind};
-ghost use Rattle.dm_collector.specs.Globs.{glob_holds, HasUnknown, resolved};
+ghost use Rattle.dm_collector.specs.Globs.{glob_holds, resolved};
 ghost use Rattle.dm_collector.specs.MacroUses.{Uses};
 ghost use Rattle.dm_collector.specs.declared.glob_fault.GlobFault.TheVariants as faults;
 ghost use Rattle.dm_collector.specs.Steps.{after_step, Bring, brought, IsReached, writes};
@@ -17,26 +16,8 @@ use crate::sources::{GlobImport, known};
 use crate::unnamed_traits::{missing_trait, unnamed_count};
 use dm_retry::retry::Retry;
 
-/// Brings the unnamed traits of the source of each glob once. Answers whether one had any to bring.
-pub(crate) fn bring_all(retry: &mut Retry, globs: &[&GlobImport]) -> Result<bool, GlobFault>
-    ensures same { IfOk result (λ written. written ≡ false → retry.new ≡ retry.old) }
-    ensures brought { IfOk result
-        (λ written. written ≡ false → All (HasBroughtBySource retry.old.state.world) (behind globs.now)) }
-    ensures reached { (us : List Uses) → IsReached (behind globs.now) us 0 retry.old.state retry.new.state }
-    ensures written { IfOk result
-        (λ written. written ≡ true → (us : List Uses) → IsReached (behind globs.now) us 1 retry.old.state retry.new.state) }
-    ensures unknown { IfErr result
-        (λ fault. fault ≡ faults.Unknown → HasUnknown retry.new.state.world (behind globs.now)) }
-{
-    let mut written = false;
-    for glob in globs {
-        written |= bring(retry, *glob)?;
-    }
-    Ok(written)
-}
-
 /// Brings the unnamed traits that a glob has yet to bring. Answers whether there were any.
-fn bring(retry: &mut Retry, glob: &GlobImport) -> Result<bool, GlobFault>
+pub(crate) fn bring(retry: &mut Retry, glob: &GlobImport) -> Result<bool, GlobFault>
     ensures same { IfOk result (λ written. written ≡ false → retry.new ≡ retry.old) }
     ensures brought { IfOk result
         (λ written. written ≡ false → HasBroughtBySource retry.old.state.world glob.now) }

@@ -4,8 +4,7 @@ ghost use Rattle.dm_check.specs.declared.held.HeldId.TheVariants as held;
 ghost use Rattle.dm_check.specs.Holding.{vis_holds};
 ghost use Rattle.dm_base.specs.PerNs.{is_empty};
 ghost use Rattle.dm_maps.specs.Known.{knows, KnowsAll};
-ghost use Rattle.dm_collector.specs.GlobOrders.{behind};
-ghost use Rattle.dm_collector.specs.Globs.{glob_holds, HasUnknown, IsFilledBySource, missing};
+ghost use Rattle.dm_collector.specs.Globs.{glob_holds, IsFilledBySource, missing};
 ghost use Rattle.dm_collector.specs.MacroUses.{Uses};
 ghost use Rattle.dm_collector.specs.declared.glob_fault.GlobFault.TheVariants as faults;
 ghost use Rattle.dm_collector.specs.Steps.{after_step, Bind, bound, IsReached, writes};
@@ -19,30 +18,8 @@ use dm_base::name::Name;
 use dm_retry::retry::Retry;
 use std::alloc::Global;
 
-/// Fills each glob once. Answers whether one had anything to bind.
-pub(crate) fn fill_all(
-    retry: &mut Retry,
-    globs: &[&GlobImport],
-    alloc: Global,
-) -> Result<bool, GlobFault>
-    ensures same { IfOk result (λ written. written ≡ false → retry.new ≡ retry.old) }
-    ensures filled { IfOk result
-        (λ written. written ≡ false → All (IsFilledBySource retry.old.state.world) (behind globs.now)) }
-    ensures reached { (us : List Uses) → IsReached (behind globs.now) us 0 retry.old.state retry.new.state }
-    ensures written { IfOk result
-        (λ written. written ≡ true → (us : List Uses) → IsReached (behind globs.now) us 1 retry.old.state retry.new.state) }
-    ensures unknown { IfErr result
-        (λ fault. fault ≡ faults.Unknown → HasUnknown retry.new.state.world (behind globs.now)) }
-{
-    let mut written = false;
-    for glob in globs {
-        written |= fill(retry, *glob, alloc)?;
-    }
-    Ok(written)
-}
-
 /// Binds what a glob has yet to bind. Answers whether there was anything.
-fn fill(retry: &mut Retry, glob: &GlobImport, alloc: Global) -> Result<bool, GlobFault>
+pub(crate) fn fill(retry: &mut Retry, glob: &GlobImport, alloc: Global) -> Result<bool, GlobFault>
     ensures same { IfOk result (λ written. written ≡ false → retry.new ≡ retry.old) }
     ensures filled { IfOk result
         (λ written. written ≡ false → IsFilledBySource retry.old.state.world glob.now) }

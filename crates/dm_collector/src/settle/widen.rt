@@ -1,8 +1,7 @@
 //! What globs bound is widened.
 ghost use Rattle.std.specs.Prelude.{◌≡◌, false, true, All, Contains, IfErr, IfOk, List, OnErr, OnOk};
 ghost use Rattle.dm_maps.specs.Known.{KnowsAll};
-ghost use Rattle.dm_collector.specs.GlobOrders.{behind};
-ghost use Rattle.dm_collector.specs.Globs.{glob_holds, HasUnknown};
+ghost use Rattle.dm_collector.specs.Globs.{glob_holds};
 ghost use Rattle.dm_collector.specs.MacroUses.{Uses};
 ghost use Rattle.dm_collector.specs.declared.glob_fault.GlobFault.TheVariants as faults;
 ghost use Rattle.dm_collector.specs.Steps.{after_step, IsReached, SeeMacro, SeesNothing, SeeType, SeeValue, writes};
@@ -16,31 +15,9 @@ use dm_base::name::Name;
 use dm_retry::retry::Retry;
 use std::alloc::Global;
 
-/// Widens what each glob bound. Answers whether there was anything to widen.
-pub(crate) fn widen_all(
-    retry: &mut Retry,
-    globs: &[&GlobImport],
-    alloc: Global,
-) -> Result<bool, GlobFault>
-    ensures same { IfOk result (λ written. written ≡ false → retry.new ≡ retry.old) }
-    ensures wide { IfOk result
-        (λ written. written ≡ false → All (IsWideBySource retry.old.state.world) (behind globs.now)) }
-    ensures reached { (us : List Uses) → IsReached (behind globs.now) us 0 retry.old.state retry.new.state }
-    ensures written { IfOk result
-        (λ written. written ≡ true → (us : List Uses) → IsReached (behind globs.now) us 1 retry.old.state retry.new.state) }
-    ensures unknown { IfErr result
-        (λ fault. fault ≡ faults.Unknown → HasUnknown retry.new.state.world (behind globs.now)) }
-{
-    let mut written = false;
-    for glob in globs {
-        written |= widen(retry, *glob, alloc)?;
-    }
-    Ok(written)
-}
-
 /// Gives the bindings of a glob's module the visibilities that the glob has yet to give. Answers whether there were
 /// any.
-fn widen(retry: &mut Retry, glob: &GlobImport, alloc: Global) -> Result<bool, GlobFault>
+pub(crate) fn widen(retry: &mut Retry, glob: &GlobImport, alloc: Global) -> Result<bool, GlobFault>
     ensures same { IfOk result (λ written. written ≡ false → retry.new ≡ retry.old) }
     ensures wide { IfOk result
         (λ written. written ≡ false → IsWideBySource retry.old.state.world glob.now) }

@@ -4,12 +4,12 @@ use Rattle.std.proofs.lemmas.List.{take_all}
 use Rattle.std.proofs.lemmas.List.Elements.{All-map, All-more}
 use Rattle.std.specs.List.{All}
 use Rattle.dm_retry.specs.Retries.{Retries}
-use Rattle.dm_collector.specs.Globs.{IsFilledBySource}
+use Rattle.dm_collector.specs.GlobTasks.{IsDone}
 use Rattle.dm_collector.specs.declared.sources.GlobImport.{GlobImport}
 use Rattle.dm_collector.specs.GlobOrders.{behind}
 use Rattle.dm_collector.proofs.OrderLemmas.{listed}
 use Rattle.dm_collector.proofs.ReachLemmas.{reached-then, unknown-passed}
-use Rattle.dm_collector.proofs.settle.fill.fill_all.Goals as goal
+use Rattle.dm_collector.proofs.settle.tasks.do_all.Goals as goal
 
 pub returns-in_err-written-clause-reached : goal.returns-in_err-written-clause-reached
 returns-in_err-written-clause-reached c = λ us.
@@ -33,9 +33,9 @@ loop-glob-preserved c =
       idle = λ none.
           let parts = or_parts c.loop-glob.written c.in_ok-written.field-0 none in
           let before = inv.idle parts.0 in
-          let P : Bor GlobImport → Type 0 = λ g. IsFilledBySource c.args.retry.now.state.world g.now in
-          let Q : Retries → Type 0 = λ r. IsFilledBySource r.state.world c.glob-item.result.now in
-          let here : P c.glob-item.result = subst Q before.0 (own.filled parts.1) in (
+          let P : Bor GlobImport → Type 0 = λ g. IsDone c.args.task c.args.retry.now.state.world g.now in
+          let Q : Retries → Type 0 = λ r. IsDone c.args.task r.state.world c.glob-item.result.now in
+          let here : P c.glob-item.result = subst Q before.0 (own.done parts.1) in (
             own.same parts.1 ∙ before.0,
             All-more P gs c.loop-glob.glob-index c.glob-item.result c.loop-glob-test.true before.1 (subst P c.glob-item.is here),
           );
@@ -46,8 +46,8 @@ loop-glob-preserved c =
       ];
     }
 
-pub returns-clause-filled : goal.returns-clause-filled
-returns-clause-filled c = λ none.
-    let P : GlobImport → Type 0 = IsFilledBySource c.args.retry.now.state.world in
+pub returns-clause-done : goal.returns-clause-done
+returns-clause-done c = λ none.
+    let P : GlobImport → Type 0 = IsDone c.args.task c.args.retry.now.state.world in
     let Q : Bor GlobImport → Type 0 = λ g. P g.now in
     All-map P (λ g. g.now) c.args.globs.now (subst (All Q) (take_all _ _ c.loop-glob-test.false) (c.loop-glob.invariant.idle none).1)
