@@ -1,5 +1,5 @@
 -- The names that items take, each in a namespace of a module.
-use Rattle.std.specs.Prelude.{◌&&◌, ◌==◌, ℕ, Bool, true, List, [], ◌∷◌, Option, None, Some, map, if◌then◌else◌}
+use Rattle.std.specs.Prelude.{◌&&◌, ◌==◌, ℕ, Bool, true, List, [], ◌∷◌, Option, None, Some, fold, map, if◌then◌else◌}
 use Rattle.std.specs.List.{list_any}
 use Rattle.crate_diagnostics.specs.DeclaredMods.{has}
 use Rattle.crate_diagnostics.specs.declared.taken_names.TakenName.{TakenName}

@@ -1,4 +1,4 @@
-use Rattle.std.proofs.Common.{rules}
+use Rattle.std.proofs.Common.{◌≡◌, rules}
 use Rattle.std.proofs.lemmas.List.Sorted.{answers_always}
 use Rattle.crate_diagnostics.specs.Lines.{place_of}
 use Rattle.crate_diagnostics.proofs.lines.in_order.Goals as goal

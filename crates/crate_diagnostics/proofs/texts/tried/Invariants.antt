@@ -1,5 +1,5 @@
 use Rattle.std.proofs.Common.{◌≡◌, ◌++◌, drop}
-use Rattle.std.specs.Prelude.{map, string_bytes}
+use Rattle.std.specs.Prelude.{codes, map, string_bytes}
 use Rattle.crate_diagnostics.specs.CandidatePaths.{bytes_of}
 use Rattle.crate_diagnostics.specs.Texts.{tried, tried_from}
 use Rattle.crate_diagnostics.proofs.texts.tried.Given as goal
