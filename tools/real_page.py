@@ -167,8 +167,8 @@ HEAD = """# Compared with rustc over real crates
 
 `tools/real-crates --page` wrote this page: what it ran, what agrees, and how long each side took. The crates are of
 Debian 12: of its packages, with their default features, and of its `rust-src`; it is {version} that they are compared
-with. {crates} crates have {imports} named imports and {globs} globs outside macros and bodies. The program is proved,
-and built by the flags of `rt ci`; what is proved of it, [PROGRAM.md](PROGRAM.md) tells.
+with. {crates} crates have {imports} named imports and {globs} globs outside macros and bodies. Of which build the
+program was, and what is proved of it, [PROGRAM.md](PROGRAM.md) tells.
 
 Each leaf of each `use`, private ones and globs too, is compared in each namespace by kind and path with what rustc found
 (`-Zunpretty=hir-tree`). Of at most eight modules of each crate, the root and those with globs first, every name is asked
