@@ -1,14 +1,14 @@
--- The items of the modules from a number on.
+-- The items of the homes from a number on.
 use Rattle.std.proofs.Common.{◌≡◌, ◌+◌, ◌-◌, ◌++◌, ◌∙◌, ◌<◌, ◌≤◌, ℕ, List, [], ◌∷◌, length, drop, get_or, map, refl, ap, sym, subst, arith}
 use Rattle.std.specs.Prelude.{◌&&◌, All, None, Option, Some, nat_le, nat_lt, not}
 use Rattle.std.specs.Ordering.{is_lt, nat_cmp}
 use Rattle.std.proofs.lemmas.List.{drop_all, drop_more}
 use Rattle.std.proofs.lemmas.List.Elements.{All-append, All-cons, All-map, All-nil}
 use Rattle.crate_items.specs.FileItems.{rank_of}
-use Rattle.crate_items.specs.ModuleItems.{AreItemsFrom, AreItemsOf, IsBelow, row_of}
+use Rattle.crate_items.specs.ModuleItems.{AreItemsIn, AreItemsOf, IsBelow, row_of}
+use Rattle.crate_items.specs.declared.module_items.ItemHome.{ItemHome}
 use Rattle.crate_items.specs.declared.module_items.ModuleItem.{ModuleItem}
 use Rattle.crate_items.specs.declared.file_items.Homed.{Homed}
-use Rattle.crate_modules.specs.DeclaredModules.{Module}
 use Rattle.crate_modules.specs.Modules.{is_same}
 use Rattle.crate_modules.specs.Sources.{Source}
 
@@ -27,29 +27,28 @@ same_ties None (Some n) = grind arith
 same_ties (Some m) None = grind arith
 same_ties (Some m) (Some n) = grind arith
 
-pub none_left : (table : List (Option Source)) (n : ℕ) (ms : List Module) → length ms ≤ n → AreItemsFrom table n (drop n ms) []
-none_left table n ms h = subst (λ (left : List Module). AreItemsFrom table n left []) (sym (drop_all n ms h)) refl
+pub none_left : (table : List (Option Source)) (n : ℕ) (hs : List ItemHome) → length hs ≤ n → AreItemsIn table n (drop n hs) []
+none_left table n hs past = subst (λ (left : List ItemHome). AreItemsIn table n left []) (sym (drop_all n hs past)) refl
 
-pub one_before : (table : List (Option Source)) (n : ℕ) (ms : List Module) (m : Module) (own : List Homed) (rest : List ModuleItem)
-    → n < length ms → m ≡ get_or ms n m
-    → AreItemsOf table m own
-    → AreItemsFrom table (n + 1) (drop (n + 1) ms) rest
-    → AreItemsFrom table n (drop n ms) (map (row_of n m) own ++ rest)
-one_before table n ms m own rest h is order more =
-    let next : drop n ms ≡ m ∷ drop (n + 1) ms = drop_more ms n m h ∙ ap (λ x. x ∷ drop (n + 1) ms) (sym is) in
-    subst (λ (left : List Module). AreItemsFrom table n left (map (row_of n m) own ++ rest)) (sym next)
+pub one_before : (table : List (Option Source)) (n : ℕ) (hs : List ItemHome) (h : ItemHome) (own : List Homed) (rest : List ModuleItem)
+    → drop n hs ≡ h ∷ drop (n + 1) hs
+    → AreItemsOf table h own
+    → AreItemsIn table (n + 1) (drop (n + 1) hs) rest
+    → AreItemsIn table n (drop n hs) (map (row_of n h) own ++ rest)
+one_before table n hs h own rest next order more =
+    subst (λ (left : List ItemHome). AreItemsIn table n left (map (row_of n h) own ++ rest)) (sym next)
     (own, rest, order, more, refl)
 
-each_below : (k n : ℕ) (m : Module) (own : List Homed) → n < k → All (λ (x : Homed). IsBelow k (row_of n m x)) own
-each_below k n m [] h = All-nil (λ (x : Homed). IsBelow k (row_of n m x))
-each_below k n m (x ∷ xs) h = All-cons (λ (y : Homed). IsBelow k (row_of n m y)) x xs h (each_below k n m xs h)
+each_below : (k n : ℕ) (h : ItemHome) (own : List Homed) → n < k → All (λ (x : Homed). IsBelow k (row_of n h x)) own
+each_below k n h [] less = All-nil (λ (x : Homed). IsBelow k (row_of n h x))
+each_below k n h (x ∷ xs) less = All-cons (λ (y : Homed). IsBelow k (row_of n h y)) x xs less (each_below k n h xs less)
 
-pub all_below : (table : List (Option Source)) (k n : ℕ) (ms : List Module) (rows : List ModuleItem)
-    → n + length ms ≡ k → AreItemsFrom table n ms rows → All (IsBelow k) rows
+pub all_below : (table : List (Option Source)) (k n : ℕ) (hs : List ItemHome) (rows : List ModuleItem)
+    → n + length hs ≡ k → AreItemsIn table n hs rows → All (IsBelow k) rows
 all_below table k n [] rows e are = subst (All (IsBelow k)) (sym are) (All-nil (IsBelow k))
-all_below table k n (m ∷ ms) rows e (own, rest, order, more, is) =
+all_below table k n (h ∷ hs) rows e (own, rest, order, more, is) =
     let less : n < k = omega arith in
-    let behind : (n + 1) + length ms ≡ k = omega arith in
+    let behind : (n + 1) + length hs ≡ k = omega arith in
     subst (All (IsBelow k)) (sym is)
-    (All-append (IsBelow k) (map (row_of n m) own) rest (All-map (IsBelow k) (row_of n m) own (each_below k n m own less))
-    (all_below table k (n + 1) ms rest behind more))
+    (All-append (IsBelow k) (map (row_of n h) own) rest (All-map (IsBelow k) (row_of n h) own (each_below k n h own less))
+    (all_below table k (n + 1) hs rest behind more))

@@ -10,6 +10,7 @@ pub mod DeclaredVariants
 pub mod DeclaredImports
 pub mod ItemAttributes
 pub mod DeclaredMacros
+pub mod BuiltinMacros
 pub mod ProceduralMacros
 pub mod MacroCalls
 pub mod CrateAttributes

@@ -2,6 +2,7 @@
 //! variants and imports. No def map is needed for that.
 #![tactic(auto)]
 
+pub mod builtin_macro;
 pub mod crate_attributes;
 pub mod declared_field;
 pub mod declared_import;

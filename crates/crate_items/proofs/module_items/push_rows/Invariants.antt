@@ -5,4 +5,4 @@ use Rattle.crate_items.proofs.module_items.push_rows.Given as goal
 
 abbrev pub invariant-loop-homed : goal.invariant-loop-homed
 invariant-loop-homed l =
-    l.rows.items ++ map (row_of l.number l.outer) (drop l.homed-index l.items) ≡ l.fn.rows.items ++ map (row_of l.number l.outer) l.items
+    l.rows.items ++ map (row_of l.number l.home) (drop l.homed-index l.items) ≡ l.fn.rows.items ++ map (row_of l.number l.home) l.items
