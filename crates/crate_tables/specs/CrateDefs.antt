@@ -88,7 +88,7 @@ constructor_vis shape v = if has_constructor shape then Some v else None
 abbrev pub defined_as : Filled → DeclaredItem → ModuleId → Visibility → Kind → ModuleDefId → List DeclaredVariant → Filled
 defined_as s x m v k d vs = record {
   world = with_variants_of (with_item s.world k m) d vs;
-  table = with_def_at (with_named s.table m x.name (of_def d v (constructor_vis x.shape v) None)) (def_at d x);
+  table = with_def_at (with_named s.table m x.name (of_def d v (constructor_vis x.shape v) None)) (def_at d m x);
 }
 
 abbrev pub defined : Filled → DeclaredItem → ModuleId → Visibility → Kind → List DeclaredVariant → Filled

@@ -14,6 +14,7 @@ use Rattle.crate_modules.specs.Files.{SourceFile}
 use Rattle.crate_modules.specs.Modules.{AreMore, Listing, declared_in, root_module}
 use Rattle.crate_modules.specs.Sources.{AreSourcesOf}
 use Rattle.crate_modules.specs.declared.dependency.Dependency.{Dependency}
+use Rattle.crate_tables.specs.AllLists.{with_all_lists}
 use Rattle.crate_tables.specs.BlockLists.{with_all_blocks}
 use Rattle.crate_tables.specs.Blocks.{with_blocks}
 use Rattle.crate_tables.specs.CrateMacros.{WithMacros, with_macros}
@@ -21,7 +22,6 @@ use Rattle.crate_tables.specs.CrateMaps.{Filled, with_crate_modules}
 use Rattle.crate_tables.specs.CrateRoots.{root_id, with_externs, with_roots}
 use Rattle.crate_tables.specs.CrateTables.{IsLeafOf, IsNameOf, Table}
 use Rattle.crate_tables.specs.ExternCrates.{Linked, with_extern_crates}
-use Rattle.crate_tables.specs.ExternLists.{with_all_lists}
 use Rattle.crate_tables.specs.NewModules.{CrateView}
 use Rattle.crate_tables.specs.PreludeImports.{Importer, Lists, named_among}
 use Rattle.crate_tables.specs.ProceduralMacros.{with_procedural_macros}

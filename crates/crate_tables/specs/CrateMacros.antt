@@ -1,5 +1,6 @@
 -- The macros of a crate in a builder, and which names they get.
-use Rattle.std.specs.Prelude.{◌++◌, List, [], ◌∷◌, Option, None, Some, length, if◌then◌else◌}
+use Rattle.std.specs.Prelude.{◌++◌, Bool, true, false, List, [], ◌∷◌, Option, None, Some, length, if◌then◌else◌}
+use Rattle.crate_items.specs.BuiltinMacros.{macro_expander}
 use Rattle.crate_items.specs.DeclaredMacros.{is_macro_exported}
 use Rattle.crate_items.specs.declared.declared_item.DeclaredItem.{DeclaredItem}
 use Rattle.crate_tables.specs.CrateDefs.{visibility_in}
@@ -12,7 +13,6 @@ use Rattle.dm_ids.specs.declared.ids.ModuleId.{ModuleId}
 use Rattle.dm_ids.specs.declared.item_ids.MacroId.{MacroId}
 use Rattle.dm_ids.specs.declared.item_ids.ModuleDefId.TheVariants as def
 use Rattle.dm_ids.specs.declared.macros.MacroExpander.{MacroExpander}
-use Rattle.dm_ids.specs.declared.macros.MacroExpander.TheVariants as expander
 use Rattle.dm_ids.specs.declared.macros.MacroLoc.{MacroLoc}
 use Rattle.dm_ids.specs.declared.macros.MacroLoc.TheVariants as loc
 use Rattle.dm_maps.specs.BuildItems.{macro_id, with_macro}
@@ -26,15 +26,20 @@ pub record WithMacros : Type 0 where
   pub table : Table
   pub ids : List (Option MacroId)
 
--- each is read by its rules, and is called as a function: no macro is expanded, so which are builtin is not known
-abbrev pub by_rules : MacroExpander
-by_rules = expander.Declarative (record { 0 = 1 })
-
 -- the items that are macros
-abbrev pub macro_loc : ItemKind → Option MacroLoc
-macro_loc item.MacroRules = Some (loc.MacroRules by_rules)
-macro_loc item.Macro2 = Some (loc.Macro2 by_rules)
-macro_loc _ = None
+abbrev pub is_macro : ItemKind → Bool
+is_macro item.MacroRules = true
+is_macro item.Macro2 = true
+is_macro _ = false
+
+-- what a macro is, by the kind of its item and by how it is expanded
+abbrev pub loc_of : ItemKind → MacroExpander → Option MacroLoc
+loc_of item.MacroRules e = Some (loc.MacroRules e)
+loc_of item.Macro2 e = Some (loc.Macro2 e)
+loc_of _ e = None
+
+abbrev pub macro_loc : CrateView → DeclaredItem → Option MacroLoc
+macro_loc c x = loc_of x.kind (macro_expander c.list x)
 
 -- one by `macro_rules!` that is exported is declared in the root of its crate, as what is public there; others of that
 -- kind are declared nowhere
@@ -53,7 +58,7 @@ declared_as c t x m id item.MacroRules = exported c t x id
 declared_as c t x m id _ = declared_in c t x m id
 
 abbrev pub placed_as : CrateView → Table → DeclaredItem → ModuleId → MacroId → Table
-placed_as c t x m id = with_def_at (declared_as c t x m id x.kind) (def_at (def.MacroId id) x)
+placed_as c t x m id = with_def_at (declared_as c t x m id x.kind) (def_at (def.MacroId id) m x)
 
 abbrev pub next_macro : World → MacroLoc → MacroId
 next_macro w l = macro_id l (length w.macros)
@@ -79,7 +84,7 @@ added_by c s x None = passed s
 added_by c s x (Some l) = added_in c s x (id_at s.table.ids x.«module») l
 
 abbrev pub with_macro_item : CrateView → WithMacros → DeclaredItem → WithMacros
-with_macro_item c s x = added_by c s x (macro_loc x.kind)
+with_macro_item c s x = added_by c s x (macro_loc c x)
 
 -- Each macro among the items, in order.
 abbrev pub with_macros : CrateView → WithMacros → List DeclaredItem → WithMacros

@@ -64,9 +64,9 @@ use_at u x = record { use_ = u; file = x.file; item = x.item }
 abbrev pub with_use_at : Table → UsePlace → Table
 with_use_at t p = record t { uses = t.uses ++ p ∷ [] }
 
--- with a definition more, which the item x is
-abbrev pub def_at : ModuleDefId → DeclaredItem → DefPlace
-def_at d x = record { def = d; file = x.file; item = x.item }
+-- with a definition of the module m more, which the item x is
+abbrev pub def_at : ModuleDefId → ModuleId → DeclaredItem → DefPlace
+def_at d m x = record { def = d; home = m; file = x.file; item = x.item }
 
 abbrev pub with_def_at : Table → DefPlace → Table
 with_def_at t p = record t { defs = t.defs ++ p ∷ [] }

@@ -1,15 +1,9 @@
--- What the lists of scopes have, extern crates behind definitions, and the def map of each procedural macro.
-use Rattle.std.specs.Prelude.{◌+◌, ℕ, List, [], ◌∷◌, drop, if◌then◌else◌}
-use Rattle.crate_modules.specs.DeclaredModules.{Module}
-use Rattle.crate_tables.specs.CrateTables.{Table}
-use Rattle.crate_tables.specs.ProceduralPairs.{with_pairs}
+-- Extern crates in the lists of scopes.
+use Rattle.std.specs.Prelude.{◌+◌, ℕ, List, [], ◌∷◌, if◌then◌else◌}
 use Rattle.crate_tables.specs.ScopeEntries.{with_entry}
-use Rattle.crate_tables.specs.ScopeLists.{with_scope_lists}
 use Rattle.crate_tables.specs.declared.extern_crates.ExternCrateRow.{ExternCrateRow}
-use Rattle.crate_tables.specs.declared.item_outline.ItemOutline.{ItemOutline}
 use Rattle.crate_tables.specs.declared.scope_entry.ScopeEntry.TheVariants as entry
 use Rattle.dm_check.specs.declared.held.HeldId.TheVariants as held
-use Rattle.dm_ids.specs.declared.ids.Crate.{Crate}
 use Rattle.dm_maps.specs.Known.{knows}
 use Rattle.dm_maps.specs.World.{World}
 
@@ -21,8 +15,3 @@ with_extern_row w n r = if knows w (held.Module r.home) then with_entry w r.home
 abbrev pub with_extern_rows : World → ℕ → List ExternCrateRow → World
 with_extern_rows w n [] = w
 with_extern_rows w n (r ∷ rs) = with_extern_rows (with_extern_row w n r) (n + 1) rs
-
--- The definitions of a crate come into the lists of their modules, and so do its extern crates, whose rows begin at n. Then
--- its def map gets which functions are procedural macros.
-abbrev pub with_all_lists : Crate → List Module → Table → World → List ItemOutline → ℕ → List ExternCrateRow → World
-with_all_lists k ms t w xs n rows = with_pairs k t (with_extern_rows (with_scope_lists ms t w xs) n (drop n rows)) xs

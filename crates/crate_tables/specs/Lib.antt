@@ -16,9 +16,10 @@ pub mod CrateFillings
 pub mod DeclaredWorlds
 pub mod TextualMacros
 pub mod ScopeEntries
-pub mod DefParts
+pub mod DefIndexes
 pub mod ModuleIndexes
 pub mod ScopeLists
 pub mod ProceduralPairs
 pub mod ExternLists
+pub mod AllLists
 pub mod Kept

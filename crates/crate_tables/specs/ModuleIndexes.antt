@@ -1,5 +1,6 @@
 -- Which module of a crate's list an item declares.
-use Rattle.std.specs.Prelude.{◌≡◌, ◌==◌, ◌&&◌, ◌+◌, ℕ, Bool, false, List, [], ◌∷◌, Option, None, Some, if◌then◌else◌}
+use Rattle.std.specs.Prelude.{◌≡◌, ◌==◌, ◌&&◌, ℕ, Bool, false, List, Option, None, Some}
+use Rattle.std.specs.List.{position_from}
 use Rattle.std.specs.Map.{lookup}
 use Rattle.crate_modules.specs.DeclaredModules.{Module}
 use Rattle.crate_modules.specs.declared.declared_module.Declaration.{Declaration}
@@ -12,8 +13,7 @@ declares x (Some d) = (d.parent == x.home) && (d.item == x.item)
 
 -- the number of the first of some modules that an item declares, where the first of them has this number
 abbrev pub declared_from : ℕ → List Module → ItemOutline → Option ℕ
-declared_from n [] x = None
-declared_from n (m ∷ ms) x = if declares x m.declaration then Some n else declared_from (n + 1) ms x
+declared_from n ms x = position_from (λ (m : Module). declares x m.declaration) n ms
 
 abbrev pub declared_by : List Module → ItemOutline → Option ℕ
 declared_by ms x = declared_from 0 ms x

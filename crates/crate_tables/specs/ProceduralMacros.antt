@@ -32,7 +32,7 @@ next_of w p = next_macro w (loc_of p)
 -- it is declared in the root under its name, for all, beside the function that it is
 abbrev pub placed : Crate → Table → DeclaredItem → Name → MacroId → Table
 placed k t x n id =
-    with_def_at (with_named t (root_id k) (Some n) (macro_alone id Public None)) (def_at (def.MacroId id) x)
+    with_def_at (with_named t (root_id k) (Some n) (macro_alone id Public None)) (def_at (def.MacroId id) (root_id k) x)
 
 -- it is a macro of the root
 abbrev pub added : Crate → Filled → DeclaredItem → ProceduralMacro → Filled

@@ -1,9 +1,9 @@
 -- Which function each procedural macro of a crate is, in its def map.
-use Rattle.std.specs.Prelude.{◌++◌, List, [], ◌∷◌, Option, Some}
+use Rattle.std.specs.Prelude.{false, List, [], ◌∷◌, Option, None, Some}
+use Rattle.std.specs.List.{flat_map}
 use Rattle.crate_tables.specs.CrateTables.{Table}
-use Rattle.crate_tables.specs.DefParts.{Parts, first_def, made_here, parts_behind, parts_of}
-use Rattle.crate_tables.specs.Visibilities.{Ids}
-use Rattle.crate_tables.specs.declared.item_outline.ItemOutline.{ItemOutline}
+use Rattle.crate_tables.specs.DefIndexes.{def_at, key_of}
+use Rattle.crate_tables.specs.declared.item_place.DefPlace.{DefPlace}
 use Rattle.dm_ids.specs.declared.ids.Crate.{Crate}
 use Rattle.dm_ids.specs.declared.ids.FunctionId.{FunctionId}
 use Rattle.dm_ids.specs.declared.item_ids.MacroId.{MacroId}
@@ -24,17 +24,14 @@ abbrev pub of_defs : ModuleDefId → ModuleDefId → List CrateSetting
 of_defs (def.MacroId m) (def.FunctionId f) = macro_and_function m f
 of_defs _ _ = []
 
-abbrev pub of_both : Option ModuleDefId → Option ModuleDefId → List CrateSetting
-of_both (Some m) (Some f) = of_defs m f
-of_both _ _ = []
+abbrev pub of_both : ModuleDefId → Option ModuleDefId → List CrateSetting
+of_both m None = []
+of_both m (Some f) = of_defs m f
 
-abbrev pub pair_here : Parts → ItemOutline → List CrateSetting
-pair_here ps x = of_both (made_here ps.made x) (first_def ps.others)
-
-abbrev pub pairs : Ids → Parts → List ItemOutline → List CrateSetting
-pairs ids ps [] = []
-pairs ids ps (x ∷ xs) = pair_here ps x ++ pairs ids (parts_behind ids ps x) xs
+-- the function that a procedural macro is is written at the macro's place
+abbrev pub pair_of : List DefPlace → DefPlace → List CrateSetting
+pair_of ps p = of_both p.def (def_at false ps (key_of p))
 
 -- The def map of a crate tells of each procedural macro which function it is, and back.
-abbrev pub with_pairs : Crate → Table → World → List ItemOutline → World
-with_pairs k t w xs = with_crate_settings w k (pairs t.ids (parts_of t.defs) xs)
+abbrev pub with_pairs : Crate → Table → World → World
+with_pairs k t w = with_crate_settings w k (flat_map (pair_of t.defs) t.defs)

@@ -3,7 +3,7 @@ use Rattle.std.specs.Prelude.{ℕ, Bool, true, false, List, [], ◌∷◌, Optio
 use Rattle.crate_items.specs.declared.declared_item.DeclaredItem.{DeclaredItem}
 use Rattle.crate_modules.specs.DeclaredModules.{Module}
 use Rattle.crate_tables.specs.CrateTables.{Table}
-use Rattle.crate_tables.specs.DefParts.{Parts, first_def, home_of, is_definition, is_macro, made_here, parts_behind, parts_of}
+use Rattle.crate_tables.specs.DefIndexes.{def_at, key_at}
 use Rattle.crate_tables.specs.ModuleIndexes.{declared_by}
 use Rattle.crate_tables.specs.ScopeEntries.{with_entry}
 use Rattle.crate_tables.specs.Visibilities.{Ids, id_at}
@@ -38,7 +38,7 @@ listed_if w m named (Some d) = listed_as w m named d
 
 -- an item, as lists need it
 abbrev pub outline : DeclaredItem → ItemOutline
-outline x = record { home = x.«module»; item = x.item; kind = x.kind; is_named = is_some x.name }
+outline x = record { home = x.«module»; file = x.file; item = x.item; kind = x.kind; is_named = is_some x.name }
 
 abbrev pub as_module : Option ModuleId → Option ModuleDefId
 as_module None = None
@@ -52,32 +52,25 @@ abbrev pub is_mod : ItemKind → Bool
 is_mod item.Mod = true
 is_mod _ = false
 
--- a `mod` is the module of the list that it declares, unless that was left out; a macro and any other definition is the
--- next that the table has of these
-abbrev pub def_of : List Module → Ids → Parts → ItemOutline → Option ModuleDefId
-def_of ms ids ps x =
-    if is_mod x.kind then module_at ids (declared_by ms x)
-    else if is_macro x.kind then first_def ps.macros
-    else if is_definition x.kind then first_def ps.others
-    else None
+-- a `mod` is the module of the list that it declares, unless that was left out; any other item is the definition that the
+-- table has where it is written, if that is one
+abbrev pub def_of : List Module → Table → ItemOutline → ModuleId → Option ModuleDefId
+def_of ms t x m =
+    if is_mod x.kind then module_at t.ids (declared_by ms x) else def_at false t.defs (key_at m x.file x.item)
 
 -- ---- All of them
 
 -- a procedural macro is declared right before the function that it is
-abbrev pub with_made : World → ModuleId → Option ModuleDefId → World
-with_made w m None = w
-with_made w m (Some d) = with_declaration w m d
+abbrev pub with_macro : World → ModuleId → Option ModuleDefId → World
+with_macro w m None = w
+with_macro w m (Some d) = with_declaration w m d
 
-abbrev pub with_listed : List Module → Ids → World → Parts → ItemOutline → Option ModuleId → World
-with_listed ms ids w ps x None = w
-with_listed ms ids w ps x (Some m) = listed_if (with_made w m (made_here ps.made x)) m x.is_named (def_of ms ids ps x)
-
--- each item comes into the lists of its module, in order
-abbrev pub with_lists : List Module → Ids → World → Parts → List ItemOutline → World
-with_lists ms ids w ps [] = w
-with_lists ms ids w ps (x ∷ xs) =
-    with_lists ms ids (with_listed ms ids w ps x (home_of ids x)) (parts_behind ids ps x) xs
+abbrev pub with_listed : List Module → Table → World → ItemOutline → Option ModuleId → World
+with_listed ms t w x None = w
+with_listed ms t w x (Some m) =
+    listed_if (with_macro w m (def_at true t.defs (key_at m x.file x.item))) m x.is_named (def_of ms t x m)
 
 -- The definitions of a crate's table come into the lists of their modules, in the order of the crate's items.
 abbrev pub with_scope_lists : List Module → Table → World → List ItemOutline → World
-with_scope_lists ms t w xs = with_lists ms t.ids w (parts_of t.defs) xs
+with_scope_lists ms t w [] = w
+with_scope_lists ms t w (x ∷ xs) = with_scope_lists ms t (with_listed ms t w x (id_at t.ids x.home)) xs

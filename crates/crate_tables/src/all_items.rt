@@ -8,11 +8,11 @@ ghost use Rattle.crate_tables.specs.Kept.{IsKept};
 ghost use Rattle.dm_check.specs.declared.held.HeldId.TheVariants as held;
 ghost use Rattle.dm_maps.specs.Known.{knows, KnowsAll};
 
+use crate::all_lists::fill_lists;
 use crate::all_macros::add_all_macros;
 use crate::blocks::add_blocks;
 use crate::crate_table::CrateTable;
 use crate::extern_crates::{ExternCrateRow, add_extern_crates};
-use crate::extern_lists::fill_lists;
 use crate::item_outline::outlines;
 use crate::new_module::CrateView;
 use crate::raw_visibilities::add_written_items;

@@ -15,8 +15,8 @@ use dm_check::known_ids::KnownIds;
 use dm_maps::build_fault::BuildFault;
 use dm_maps::builder::WorldBuilder;
 
-/// The number behind another.
-fn behind(number: u32) -> Result<u32, BuildFault>
+/// The number behind another. `OutOfNumbers` where there is none of 32 bits.
+pub fn behind(number: u32) -> Result<u32, BuildFault>
     ensures exact { IfOk result (λ next. next ≡ number + 1) }
     ensures fault { IfErr result (λ fault. is_shortage fault ≡ true) }
 {

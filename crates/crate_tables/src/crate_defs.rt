@@ -190,6 +190,7 @@ fn define(
     let seen = constructor_vis(item.shape, visibility);
     let place = DefPlace {
         def,
+        home: m,
         file: item.file,
         item: item.item,
     };

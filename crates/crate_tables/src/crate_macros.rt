@@ -19,11 +19,12 @@ use crate::item_names::name_of;
 use crate::item_place::DefPlace;
 use crate::new_module::CrateView;
 use crate::visibilities::known_public;
+use crate_items::builtin_macro::macro_expander;
 use crate_items::declared_item::DeclaredItem;
 use crate_items::declared_macro::is_macro_exported;
 use dm_base::ids::{Crate, ModuleId};
 use dm_base::item_ids::{MacroId, ModuleDefId};
-use dm_base::macros::{MacroCallStyles, MacroExpander, MacroLoc};
+use dm_base::macros::{MacroExpander, MacroLoc};
 use dm_base::name::Name;
 use dm_base::per_ns::PerNs;
 use dm_base::visibility::Visibility;
@@ -32,23 +33,37 @@ use dm_maps::builder::WorldBuilder;
 use item_tree::item_kind::ItemKind;
 use std::alloc::{AllocError, Global};
 
-/// The expander of a macro that is read by its rules, and is called as a function.
-fn by_rules() -> MacroExpander
-    ensures { result ≡ spec.by_rules }
+/// Whether an item is a macro.
+pub(crate) fn is_macro(kind: ItemKind) -> bool
+    ensures { result ≡ spec.is_macro kind }
 {
-    MacroExpander::Declarative {
-        styles: MacroCallStyles::FN_LIKE,
+    matches!(kind, ItemKind::MacroRules | ItemKind::Macro2)
+}
+
+/// What a macro is, by the kind of its item and by how it is expanded.
+fn loc_of(kind: ItemKind, expander: MacroExpander) -> Option<MacroLoc>
+    ensures { result ≡ spec.loc_of kind expander }
+{
+    match kind {
+        ItemKind::MacroRules => Some(MacroLoc::MacroRules(expander)),
+        ItemKind::Macro2 => Some(MacroLoc::Macro2(expander)),
+        _ => None,
     }
 }
 
-/// What a macro is, by the kind of its item.
-pub(crate) fn macro_loc(kind: ItemKind) -> Option<MacroLoc>
-    ensures { result ≡ spec.macro_loc kind }
+/// What an item is, if it is a macro. The attributes of other items are not looked at.
+fn macro_loc(
+    alloc: Global,
+    view: &CrateView<'_>,
+    item: &DeclaredItem,
+) -> Result<Option<MacroLoc>, AllocError>
+    ensures { IfOk result (λ loc. loc ≡ spec.macro_loc view.now item.now) }
 {
-    match kind {
-        ItemKind::MacroRules => Some(MacroLoc::MacroRules(by_rules())),
-        ItemKind::Macro2 => Some(MacroLoc::Macro2(by_rules())),
-        _ => None,
+    if is_macro(item.kind) {
+        let expander = macro_expander(alloc, view.list, item)?;
+        Ok(loc_of(item.kind, expander))
+    } else {
+        Ok(None)
     }
 }
 
@@ -182,6 +197,7 @@ fn add_as(
     declare(builder, table, alloc, view, item, m, id)?;
     table.push_def(DefPlace {
         def: ModuleDefId::MacroId(id),
+        home: m,
         file: item.file,
         item: item.item,
     })?;
@@ -238,7 +254,7 @@ fn add_one(
     ensures grown { IsGrown builder.old builder.new }
     ensures fault { IfErr result (λ fault. is_shortage fault ≡ true) }
 {
-    match macro_loc(item.kind) {
+    match macro_loc(alloc, view, item)? {
         None => {
             push_id(ids, None)?;
             Ok(())

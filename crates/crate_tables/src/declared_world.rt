@@ -11,6 +11,7 @@ ghost use Rattle.dm_ids.specs.declared.ids.ModuleId.{ModuleId};
 ghost use Rattle.dm_maps.specs.Known.{KnowsAll};
 ghost use Rattle.dm_maps.specs.PushRes.{StaysShown};
 ghost use Rattle.dm_maps.specs.World.{scope_of};
+ghost use Rattle.dm_scope.specs.Flags.{no_globs};
 ghost use Rattle.dm_scope.specs.Shows.{ScopePush, Shows};
 
 use crate::declared_name::DeclaredName;
@@ -62,6 +63,10 @@ fn declare(
     declared: &DeclaredName,
 ) -> Result<(), AllocError>
     requires { IsNameOf world.old declared.now }
+    ensures world { OnOk result (world.new ≡ (spec.with_declared
+        (record { world = world.old; globs = globs.old }) declared.now).world) }
+    ensures globs { OnOk result (globs.new ≡ (spec.with_declared
+        (record { world = world.old; globs = globs.old }) declared.now).globs) }
     ensures shown { OnOk result ((ps : List ScopePush) → Shows (scope_of world.old declared.now.home) globs.old declared.now.home ps
         → Shows (scope_of world.new declared.now.home) globs.new declared.now.home
         (ps ++ spec.declared_push declared.now ∷ [])) }
@@ -84,6 +89,8 @@ fn declare_all(
 ) -> Result<(), AllocError>
     requires known { All (IsNameOf world.old) names.now }
     requires empty { spec.AreShown world.old globs.old [] }
+    ensures exact { OnOk result ((record { world = world.new; globs = globs.new }) ≡
+        spec.with_all_declared (record { world = world.old; globs = globs.old }) names.now) }
     ensures shown { OnOk result (spec.AreShown world.new globs.new names.now) }
     ensures stays { (hs : List HeldId) → KnowsAll world.old hs → KnowsAll world.new hs }
 {
@@ -103,8 +110,8 @@ fn world_of(tables: WorldBuilder) -> Result<World, NotDeclared>
     }
 }
 
-/// The world of tables whose modules bind nothing yet, with names declared in it: each module shows what is declared there,
-/// as one push after another.
+/// The world of tables whose modules bind nothing yet, with names declared in it, one push after another: so each module
+/// shows what is declared there, and nothing else of the tables changes.
 ///
 /// # Errors
 ///
@@ -116,6 +123,8 @@ pub fn declared_world(
 ) -> Result<(World, PerNsGlobImports), NotDeclared>
     requires known { All (IsNameOf tables) names.now }
     requires empty { spec.BindNothing tables }
+    ensures exact { IfOk result (λ made. (record { world = made.0; globs = made.1 }) ≡
+        spec.with_all_declared (record { world = tables; globs = no_globs }) names.now) }
     ensures shown { IfOk result (λ made. spec.AreShown made.0 made.1 names.now) }
     ensures stays { IfOk result (λ made. (hs : List HeldId) → KnowsAll tables hs → KnowsAll made.0 hs) }
     ensures refused { IfErr result (spec.IsRefusal tables) }

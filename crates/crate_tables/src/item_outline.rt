@@ -3,6 +3,7 @@ ghost use Rattle.std.specs.Prelude.{◌≡◌, IfOk, map};
 ghost use Rattle.crate_tables.specs.ScopeLists as spec;
 
 use crate_items::declared_item::DeclaredItem;
+use dm_base::ids::FileId;
 use item_tree::item_kind::ItemKind;
 use std::alloc::{AllocError, Global};
 
@@ -11,7 +12,9 @@ use std::alloc::{AllocError, Global};
 pub struct ItemOutline {
     /// The number of the module that it stands in, in the list of the crate.
     pub home: usize,
-    /// The number of the item in the tree of the file of that module.
+    /// The file of that module.
+    pub file: FileId,
+    /// The number of the item in the tree of that file.
     pub item: usize,
     pub kind: ItemKind,
     pub is_named: bool,
@@ -22,6 +25,7 @@ fn outline(item: &DeclaredItem) -> ItemOutline
 {
     ItemOutline {
         home: item.module,
+        file: item.file,
         item: item.item,
         kind: item.kind,
         is_named: item.name.is_some(),

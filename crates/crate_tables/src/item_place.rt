@@ -10,10 +10,11 @@ pub struct UsePlace {
     pub item: usize,
 }
 
-/// Where a definition is written: its file, and the number of the item there.
+/// Where a definition is written: the module that it stands in, its file, and the number of the item there.
 #[derive(Clone, Copy, PartialEq, Eq, Debug)]
 pub struct DefPlace {
     pub def: ModuleDefId,
+    pub home: ModuleId,
     pub file: FileId,
     pub item: usize,
 }

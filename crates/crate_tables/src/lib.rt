@@ -2,6 +2,7 @@
 #![tactic(auto)]
 
 mod all_items;
+mod all_lists;
 mod all_macros;
 pub mod block_lists;
 mod blocks;
@@ -13,7 +14,7 @@ pub mod crate_roots;
 pub mod crate_table;
 pub mod declared_name;
 pub mod declared_world;
-mod def_parts;
+mod def_index;
 pub mod extern_crates;
 mod extern_lists;
 pub mod fill_fault;

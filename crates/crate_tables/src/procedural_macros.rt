@@ -68,6 +68,7 @@ fn place(
     )?;
     table.push_def(DefPlace {
         def: ModuleDefId::MacroId(id),
+        home: root,
         file: item.file,
         item: item.item,
     })?;

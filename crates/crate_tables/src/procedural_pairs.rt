@@ -1,14 +1,14 @@
 //! Which function each procedural macro of a crate is, told to its def map.
+ghost use Rattle.std.specs.List.{flat_map};
 ghost use Rattle.std.specs.Prelude.{◌≡◌, ◌++◌, true, IfErr, IfOk, OnOk};
 ghost use Rattle.crate_tables.specs.CrateMaps.{is_shortage};
 ghost use Rattle.crate_tables.specs.CrateTables.{IsTableOf};
-ghost use Rattle.crate_tables.specs.DefParts.{parts_of};
 ghost use Rattle.crate_tables.specs.ProceduralPairs as spec;
 ghost use Rattle.dm_maps.specs.Added.{IsGrown};
 
 use crate::crate_table::CrateTable;
-use crate::def_parts::{Parts, first_def, made_here, parts_behind, parts_of};
-use crate::item_outline::ItemOutline;
+use crate::def_index::DefIndex;
+use crate::item_place::DefPlace;
 use crate::standard_prelude::set_all;
 use dm_base::ids::Crate;
 use dm_base::item_ids::{MacroId, ModuleDefId};
@@ -34,39 +34,36 @@ fn push_pair(
     }
 }
 
-/// The same of an item, where these are the next definitions, if it is such a function.
-fn push_here(
+/// The same of the function that is written at the macro's place.
+fn push_pair_of(
     settings: &mut Vec<CrateSetting>,
-    parts: &Parts<'_>,
-    outline: ItemOutline,
+    defs: &DefIndex<'_>,
+    place: DefPlace,
 ) -> Result<(), AllocError>
-    ensures { OnOk result (settings.new.items ≡ settings.old.items ++ spec.pair_here parts.now outline) }
+    ensures { OnOk result (settings.new.items ≡ settings.old.items ++ spec.pair_of defs.now place) }
 {
-    match (made_here(parts.made, outline), first_def(parts.others)) {
-        (Some(made), Some(def)) => push_pair(settings, made, def),
-        _ => Ok(()),
+    match defs.def_at(place.home, place.file, place.item) {
+        None => Ok(()),
+        Some(def) => push_pair(settings, place.def, def),
     }
 }
 
-/// What ties the procedural macros of a crate to its functions, among items whose definitions the table has.
+/// What ties procedural macros among some definitions to their functions.
 fn pairs(
     alloc: Global,
-    table: &CrateTable,
-    outlines: &[ItemOutline],
+    defs: &DefIndex<'_>,
+    places: &[DefPlace],
 ) -> Result<Vec<CrateSetting>, AllocError>
-    ensures { IfOk result
-        (λ settings. settings.items ≡ spec.pairs table.now.ids (parts_of table.now.defs) outlines.now) }
+    ensures { IfOk result (λ settings. settings.items ≡ flat_map (spec.pair_of defs.now) places.now) }
 {
     let mut settings = Vec::new(alloc);
-    let mut next = parts_of(table.defs());
-    for outline in outlines {
-        push_here(&mut settings, &next, *outline)?;
-        next = parts_behind(table, &next, *outline);
+    for place in places {
+        push_pair_of(&mut settings, defs, *place)?;
     }
     Ok(settings)
 }
 
-/// Tells the def map of a crate which of its functions are procedural macros. The table has what was added for the items.
+/// Tells the def map of a crate which of its functions are procedural macros. The definitions of its table are indexed.
 ///
 /// # Errors
 ///
@@ -76,13 +73,14 @@ pub(crate) fn pair_procedural_macros(
     alloc: Global,
     krate: Crate,
     table: &CrateTable,
-    outlines: &[ItemOutline],
+    defs: &DefIndex<'_>,
 ) -> Result<(), BuildFault>
-    requires { IsTableOf builder.old krate table.now }
-    ensures world { OnOk result (builder.new ≡ spec.with_pairs krate table.now builder.old outlines.now) }
+    requires table { IsTableOf builder.old krate table.now }
+    requires defs { defs.now ≡ table.now.defs }
+    ensures world { OnOk result (builder.new ≡ spec.with_pairs krate table.now builder.old) }
     ensures grown { IsGrown builder.old builder.new }
     ensures fault { IfErr result (λ fault. is_shortage fault ≡ true) }
 {
-    let settings = pairs(alloc, table, outlines)?;
+    let settings = pairs(alloc, defs, table.defs())?;
     set_all(builder, krate, settings)
 }

@@ -2,7 +2,7 @@
 ghost use Rattle.std.specs.Prelude.{◌≡◌, true, IfErr, IsTrue, OnOk};
 ghost use Rattle.crate_tables.specs.CrateMaps.{is_shortage};
 ghost use Rattle.crate_tables.specs.CrateTables.{IsTableOf};
-ghost use Rattle.crate_tables.specs.DefParts.{home_of};
+ghost use Rattle.crate_tables.specs.Visibilities.{id_at as home_of};
 ghost use Rattle.crate_tables.specs.ScopeLists as spec;
 ghost use Rattle.crate_tables.specs.TextualMacros.{AllStayShown, StaysKnown};
 ghost use Rattle.dm_check.specs.declared.held.HeldId.TheVariants as held;
@@ -10,9 +10,7 @@ ghost use Rattle.dm_maps.specs.Known.{knows};
 
 use crate::crate_maps::parent_id;
 use crate::crate_table::CrateTable;
-use crate::def_parts::{
-    Parts, first_def, is_definition, is_macro, made_here, parts_behind, parts_of,
-};
+use crate::def_index::DefIndex;
 use crate::item_outline::ItemOutline;
 use crate::module_index::ModuleIndex;
 use crate::scope_entry::{ScopeEntry, list_entry};
@@ -67,41 +65,39 @@ fn is_mod(kind: ItemKind) -> bool
     matches!(kind, ItemKind::Mod)
 }
 
-/// The definition that an item is, where these are the next.
+/// The definition that an item of a module is.
 fn def_of(
     index: &ModuleIndex<'_>,
-    ids: &[Option<ModuleId>],
-    parts: &Parts<'_>,
+    defs: &DefIndex<'_>,
+    table: &CrateTable,
     outline: ItemOutline,
+    m: ModuleId,
 ) -> Option<ModuleDefId>
-    ensures { result ≡ spec.def_of index.now ids.now parts.now outline }
+    requires { defs.now ≡ table.now.defs }
+    ensures { result ≡ spec.def_of index.now table.now outline m }
 {
     if is_mod(outline.kind) {
-        module_at(ids, index.declared_by(outline))
-    } else if is_macro(outline.kind) {
-        first_def(parts.macros)
-    } else if is_definition(outline.kind) {
-        first_def(parts.others)
+        module_at(table.ids(), index.declared_by(outline))
     } else {
-        None
+        defs.def_at(m, outline.file, outline.item)
     }
 }
 
 /// Declares the procedural macro that a function is, if it is one.
-fn declare_made(
+fn declare_macro(
     builder: &mut WorldBuilder,
     m: ModuleId,
-    made: Option<ModuleDefId>,
+    id: Option<ModuleDefId>,
 ) -> Result<(), BuildFault>
     requires { IsTrue (knows builder.old (held.Module m)) }
-    ensures world { OnOk result (builder.new ≡ spec.with_made builder.old m made) }
+    ensures world { OnOk result (builder.new ≡ spec.with_macro builder.old m id) }
     ensures stays { StaysKnown builder.old builder.new }
     ensures shown { AllStayShown builder.old builder.new }
     ensures fault { IfErr result (λ fault. is_shortage fault ≡ true) }
 {
-    match made {
+    match id {
         None => Ok(()),
-        Some(made) => list_entry(builder, m, ScopeEntry::Declaration(made)),
+        Some(id) => list_entry(builder, m, ScopeEntry::Declaration(id)),
     }
 }
 
@@ -109,17 +105,17 @@ fn declare_made(
 fn list_both(
     builder: &mut WorldBuilder,
     m: ModuleId,
-    made: Option<ModuleDefId>,
+    id: Option<ModuleDefId>,
     is_named: bool,
     def: Option<ModuleDefId>,
 ) -> Result<(), BuildFault>
     requires { IsTrue (knows builder.old (held.Module m)) }
-    ensures world { OnOk result (builder.new ≡ spec.listed_if (spec.with_made builder.old m made) m is_named def) }
+    ensures world { OnOk result (builder.new ≡ spec.listed_if (spec.with_macro builder.old m id) m is_named def) }
     ensures stays { StaysKnown builder.old builder.new }
     ensures shown { AllStayShown builder.old builder.new }
     ensures fault { IfErr result (λ fault. is_shortage fault ≡ true) }
 {
-    declare_made(builder, m, made)?;
+    declare_macro(builder, m, id)?;
     match def {
         None => Ok(()),
         Some(def) => list_def(builder, m, is_named, def),
@@ -130,14 +126,15 @@ fn list_both(
 fn list_item(
     builder: &mut WorldBuilder,
     index: &ModuleIndex<'_>,
+    defs: &DefIndex<'_>,
     krate: Crate,
     table: &CrateTable,
-    parts: &Parts<'_>,
     outline: ItemOutline,
 ) -> Result<(), BuildFault>
-    requires { IsTableOf builder.old krate table.now }
-    ensures world { OnOk result (builder.new ≡ spec.with_listed index.now table.now.ids builder.old parts.now
-        outline (home_of table.now.ids outline)) }
+    requires table { IsTableOf builder.old krate table.now }
+    requires defs { defs.now ≡ table.now.defs }
+    ensures world { OnOk result (builder.new ≡ spec.with_listed index.now table.now builder.old outline
+        (home_of table.now.ids outline.home)) }
     ensures stays { StaysKnown builder.old builder.new }
     ensures shown { AllStayShown builder.old builder.new }
     ensures fault { IfErr result (λ fault. is_shortage fault ≡ true) }
@@ -145,9 +142,9 @@ fn list_item(
     match parent_id(builder, krate, table, outline.home) {
         None => Ok(()),
         Some(m) => {
-            let made = made_here(parts.made, outline);
-            let def = def_of(index, table.ids(), parts, outline);
-            list_both(builder, m, made, outline.is_named, def)
+            let id = defs.macro_at(m, outline.file, outline.item);
+            let def = def_of(index, defs, table, outline, m);
+            list_both(builder, m, id, outline.is_named, def)
         }
     }
 }
@@ -156,11 +153,13 @@ fn list_item(
 fn list_all(
     builder: &mut WorldBuilder,
     index: &ModuleIndex<'_>,
+    defs: &DefIndex<'_>,
     krate: Crate,
     table: &CrateTable,
     outlines: &[ItemOutline],
 ) -> Result<(), BuildFault>
-    requires { IsTableOf builder.old krate table.now }
+    requires table { IsTableOf builder.old krate table.now }
+    requires defs { defs.now ≡ table.now.defs }
     ensures world { OnOk result
         (builder.new ≡ spec.with_scope_lists index.now table.now builder.old outlines.now) }
     ensures stays { StaysKnown builder.old builder.new }
@@ -168,10 +167,8 @@ fn list_all(
     ensures kept { IsTableOf builder.new krate table.now }
     ensures fault { IfErr result (λ fault. is_shortage fault ≡ true) }
 {
-    let mut next = parts_of(table.defs());
     for outline in outlines {
-        list_item(builder, index, krate, table, &next, *outline)?;
-        next = parts_behind(table, &next, *outline);
+        list_item(builder, index, defs, krate, table, *outline)?;
     }
     Ok(())
 }
@@ -180,7 +177,7 @@ fn list_all(
 /// and a constant without one is listed among the unnamed. A procedural macro is declared right before the function that
 /// it is. Nothing else of a scope changes.
 ///
-/// The table has what was added for these items.
+/// The table has what was added for these items, and its definitions are indexed.
 ///
 /// # Errors
 ///
@@ -191,9 +188,11 @@ pub(crate) fn list_definitions(
     modules: &[DeclaredModule],
     krate: Crate,
     table: &CrateTable,
+    defs: &DefIndex<'_>,
     outlines: &[ItemOutline],
 ) -> Result<(), BuildFault>
-    requires { IsTableOf builder.old krate table.now }
+    requires table { IsTableOf builder.old krate table.now }
+    requires defs { defs.now ≡ table.now.defs }
     ensures world { OnOk result
         (builder.new ≡ spec.with_scope_lists modules.now table.now builder.old outlines.now) }
     ensures stays { StaysKnown builder.old builder.new }
@@ -202,5 +201,5 @@ pub(crate) fn list_definitions(
     ensures fault { IfErr result (λ fault. is_shortage fault ≡ true) }
 {
     let index = ModuleIndex::of(alloc, modules)?;
-    list_all(builder, &index, krate, table, outlines)
+    list_all(builder, &index, defs, krate, table, outlines)
 }

@@ -1,9 +1,10 @@
-use Rattle.std.proofs.Common.{◌≡◌, ◌∙◌, ◌+◌, ◌++◌, ◌∷◌, [], None, ap, subst, sym, take}
+use Rattle.std.proofs.Common.{◌≡◌, ◌∙◌, ◌+◌, ◌++◌, ◌∷◌, [], None, ap, drop, subst, sym, take}
 use Rattle.dm_check.specs.Pushes.{push_holds}
 use Rattle.std.proofs.lemmas.List.{take_more}
 use Rattle.crate_tables.proofs.DeclaredLemmas.{shown-more}
 use Rattle.crate_tables.specs.CrateTables.{IsNameOf}
-use Rattle.crate_tables.specs.DeclaredWorlds.{AreShown}
+use Rattle.crate_tables.proofs.StepLemmas.{next-of}
+use Rattle.crate_tables.specs.DeclaredWorlds.{AreShown, WithGlobs, with_all_declared, with_declared}
 use Rattle.crate_tables.specs.declared.declared_name.DeclaredName.{DeclaredName}
 use Rattle.crate_tables.proofs.declared_world.declare_all.Goals as goal
 
@@ -18,7 +19,17 @@ loop-declared-preserved c =
     let more : take (c.loop-declared.declared-index + 1) c.args.names.now ≡ take c.loop-declared.declared-index c.args.names.now ++ c.declared-item.result ∷ [] =
     take_more c.args.names.now c.loop-declared.declared-index c.declared-item.result c.loop-declared-test.true
     ∙ ap (λ (d : DeclaredName). take c.loop-declared.declared-index c.args.names.now ++ d ∷ []) (sym c.declared-item.is) in
+    let n = c.loop-declared.declared-index in
+    let ds = c.args.names.now in
+    let before : WithGlobs = record { world = c.loop-declared.world; globs = c.loop-declared.globs } in
+    let after : WithGlobs = record { world = c.declare.new.world; globs = c.declare.new.globs } in
+    let step : after ≡ with_declared before c.declared-item.result =
+    λ i. record { world = c.in_ok-declare.ensures.world i; globs = c.in_ok-declare.ensures.globs i } in
     record {
+      exact =
+          ap (λ (s : WithGlobs). with_all_declared s (drop (n + 1) ds)) step
+          ∙ sym (ap (with_all_declared before) (next-of ds n c.declared-item.result c.loop-declared-test.true c.declared-item.is))
+          ∙ c.loop-declared.invariant.exact;
       shown =
           subst (AreShown c.declare.new.world c.declare.new.globs) (sym more)
           (shown-more c.loop-declared.world c.declare.new.world c.loop-declared.globs c.declare.new.globs (take c.loop-declared.declared-index c.args.names.now) c.declared-item.result

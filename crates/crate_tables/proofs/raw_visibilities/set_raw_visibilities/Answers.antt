@@ -16,7 +16,7 @@ loop-place-preserved c =
     record {
       world =
           ap (λ w. with_raw_visibilities view w (drop (n + 1) places)) c.in_ok-set_at.ensures.world
-          ∙ sym (ap (with_raw_visibilities view c.loop-place.builder) (next-copied places n (record { def = def.ModuleId (record { 0 = 0 }); file = record { 0 = 0 }; item = 0 }) c.loop-place-test.true))
+          ∙ sym (ap (with_raw_visibilities view c.loop-place.builder) (next-copied places n (record { def = def.ModuleId (record { 0 = 0 }); home = record { 0 = 0 }; file = record { 0 = 0 }; item = 0 }) c.loop-place-test.true))
           ∙ c.loop-place.invariant.world;
       grown = grown-further _ _ _ c.loop-place.invariant.grown c.in_ok-set_at.ensures.grown;
     }

@@ -1,8 +1,7 @@
-use Rattle.std.proofs.Common.{◌∙◌, ◌+◌, ap, drop, false, get_or, sym}
+use Rattle.std.proofs.Common.{◌∙◌, ◌+◌, ap, drop, false, sym}
 use Rattle.crate_tables.proofs.StepLemmas.{next-copied}
 use Rattle.crate_tables.proofs.TextualLemmas.{table-stays}
-use Rattle.crate_tables.specs.DefParts.{Parts, home_of}
-use Rattle.crate_tables.specs.ScopeLists.{with_listed, with_lists}
+use Rattle.crate_tables.specs.ScopeLists.{with_scope_lists}
 use Rattle.crate_tables.specs.declared.item_outline.ItemOutline.{ItemOutline}
 use Rattle.item_tree.specs.declared.item_kind.ItemKind.TheVariants as item
 use Rattle.crate_tables.proofs.scope_lists.list_all.Goals as goal
@@ -15,20 +14,15 @@ pub loop-outline-preserved : goal.loop-outline-preserved
 loop-outline-preserved c =
     let n = c.loop-outline.outline-index in
     let ms = c.args.index.now in
-    let ids = c.args.table.now.ids in
+    let t = c.args.table.now in
     let w = c.loop-outline.builder in
-    let ps = c.loop-outline.next in
-    let rest = drop (n + 1) c.args.outlines.now in
-    let none : ItemOutline = record { home = 0; item = 0; kind = item.Use; is_named = false } in
-    let x = get_or c.args.outlines.now n none in
-    let v = with_listed ms ids w ps x (home_of ids x) in
+    let none : ItemOutline = record { home = 0; file = record { 0 = 0 }; item = 0; kind = item.Use; is_named = false } in
     record {
       world =
-          ap (λ u. with_lists ms ids u c.parts_behind-next.result rest) c.in_ok-list_item.ensures.world
-          ∙ ap (λ (qs : Parts). with_lists ms ids v qs rest) c.parts_behind-next.ensures
-          ∙ sym (ap (with_lists ms ids w ps) (next-copied c.args.outlines.now n none c.loop-outline-test.true))
+          ap (λ u. with_scope_lists ms t u (drop (n + 1) c.args.outlines.now)) c.in_ok-list_item.ensures.world
+          ∙ sym (ap (with_scope_lists ms t w) (next-copied c.args.outlines.now n none c.loop-outline-test.true))
           ∙ c.loop-outline.invariant.world;
       stays = λ h known. c.in_ok-list_item.ensures.stays h (c.loop-outline.invariant.stays h known);
       shown = λ g k ps s. c.in_ok-list_item.ensures.shown g k ps (c.loop-outline.invariant.shown g k ps s);
-      kept = table-stays w c.list_item.new.builder c.args.krate c.args.table.now c.in_ok-list_item.ensures.stays c.loop-outline.invariant.kept;
+      kept = table-stays w c.list_item.new.builder c.args.krate t c.in_ok-list_item.ensures.stays c.loop-outline.invariant.kept;
     }

@@ -1,6 +1,6 @@
 use Rattle.crate_tables.proofs.KeptLemmas.{kept-further, kept-grown, kept-textual}
 use Rattle.crate_tables.proofs.TextualLemmas.{table-stays}
-use Rattle.crate_tables.proofs.extern_lists.fill_lists.Goals as goal
+use Rattle.crate_tables.proofs.all_lists.fill_lists.Goals as goal
 
 pub returns-in_err-list_definitions-clause-stays : goal.returns-in_err-list_definitions-clause-stays
 returns-in_err-list_definitions-clause-stays c =
@@ -12,8 +12,8 @@ returns-in_err-list_extern_crates-clause-stays c =
     (kept-textual c.args.builder.now c.list_definitions.new.builder c.in_ok-list_definitions.ensures.stays c.in_ok-list_definitions.ensures.shown)
     (kept-textual c.list_definitions.new.builder c.list_extern_crates.new.builder c.in_err-list_extern_crates.ensures.stays c.in_err-list_extern_crates.ensures.shown)
 
-pub pair_procedural_macros-requires : goal.pair_procedural_macros-requires
-pair_procedural_macros-requires c =
+pub pair_procedural_macros-requires-clause-table : goal.pair_procedural_macros-requires-clause-table
+pair_procedural_macros-requires-clause-table c =
     table-stays c.list_definitions.new.builder c.list_extern_crates.new.builder c.args.krate c.args.table.now c.in_ok-list_extern_crates.ensures.stays c.in_ok-list_definitions.ensures.kept
 
 pub returns-in_err-pair_procedural_macros-clause-stays : goal.returns-in_err-pair_procedural_macros-clause-stays
