@@ -1,10 +1,11 @@
 //! Crates, collected into a world: their modules and items, with imports and globs settled to a fixed point.
-ghost use Rattle.std.specs.Prelude.{◌≡◌, ℕ, true, All, IfOk, List, OnOk, map};
+ghost use Rattle.std.specs.Prelude.{◌≡◌, ℕ, [], true, All, IfOk, List, OnOk, map};
 ghost use Rattle.std.specs.List.{flat_map};
+ghost use Rattle.assoc_items.specs.AssocItems.{AreAllAdded};
 ghost use Rattle.crate_modules.specs.CrateGraphs.{IsOrder, rows};
 ghost use Rattle.crate_tables.specs.CrateFillings.{AreFilled, IsKnownTable};
 ghost use Rattle.crate_tables.specs.CrateTables.{IsNameOf, Table, emptied};
-ghost use Rattle.crate_tables.specs.DeclaredWorlds.{AreShown, BindNothing};
+ghost use Rattle.crate_tables.specs.DeclaredWorlds.{AreShown, BindNothing, with_all_declared};
 ghost use Rattle.dm_collector.specs.Collecting as spec;
 ghost use Rattle.dm_collector.specs.Globs.{IsFilledBySource};
 ghost use Rattle.dm_collector.specs.Leaves.{globs_of, pendings_of};
@@ -16,13 +17,15 @@ ghost use Rattle.dm_collector.specs.UnnamedTraits.{HasBroughtBySource};
 ghost use Rattle.dm_collector.specs.Widening.{IsWideBySource};
 ghost use Rattle.dm_retry.specs.Rounds.{marked};
 ghost use Rattle.dm_retry.specs.Settling.{IsFixedPoint};
+ghost use Rattle.dm_scope.specs.Flags.{no_globs};
 
-use crate::collect_fault::{CollectFault, of_declared, of_filling, of_glob, of_order};
+use crate::collect_fault::{CollectFault, of_builder, of_declared, of_filling, of_glob, of_order};
 use crate::leaves::split;
 use crate::macro_uses::{MacroUses, macro_uses};
 use crate::prelude_globs::bringing_names;
 use crate::settle::settle;
 use crate::sources::GlobImport;
+use assoc_items::filling::{AssocPlace, add_assoc_items};
 use crate_modules::crate_graph::CrateGraph;
 use crate_modules::modules::CrateModules;
 use crate_tables::crate_filling::{FilledCrates, Reading, filled};
@@ -55,6 +58,8 @@ pub struct Collected {
     pub tables: Vec<CrateTable>,
     /// The extern crates of all crates, by their numbers.
     pub externs: Vec<ExternCrateRow>,
+    /// Where the associated items of all crates are written.
+    pub assocs: Vec<AssocPlace>,
 }
 
 /// A hand-written `Drop`, to keep proofs small: what drops one has one call to prove.
@@ -68,6 +73,7 @@ impl Drop for Collected {
             lists: _lists,
             tables: _tables,
             externs: _externs,
+            assocs: _assocs,
         } = self;
     }
 }
@@ -89,6 +95,7 @@ struct BegunCrates {
     lists: Vec<CrateModules>,
     tables: Vec<CrateTable>,
     externs: Vec<ExternCrateRow>,
+    assocs: Vec<AssocPlace>,
 }
 
 /// The same, settled.
@@ -108,6 +115,8 @@ fn waiting(
     pendings: Vec<Pending>,
 ) -> Result<Retry, CollectFault>
     requires { AreShown world flags names.now }
+    ensures world { IfOk result (λ retry. retry.state.world ≡ world) }
+    ensures globs { IfOk result (λ retry. retry.state.globs ≡ flags) }
     ensures declared { IfOk result (λ retry. AreShown retry.state.world retry.state.globs names.now) }
     ensures pending { IfOk result (λ retry. retry.state.pending ≡ map (marked true) pendings.items) }
 {
@@ -127,6 +136,8 @@ fn declared(
 ) -> Result<Retry, CollectFault>
     requires known { All (IsNameOf tables) names.now }
     requires empty { BindNothing tables }
+    ensures world { IfOk result (λ retry. (record { world = retry.state.world; globs = retry.state.globs }) ≡
+        with_all_declared (record { world = tables; globs = no_globs }) names.now) }
     ensures declared { IfOk result (λ retry. AreShown retry.state.world retry.state.globs names.now) }
     ensures pending { IfOk result (λ retry. retry.state.pending ≡ map (marked true) pendings.items) }
 {
@@ -144,8 +155,10 @@ fn begun(
 ) -> Result<Beginning, CollectFault>
     requires known { All (IsKnownTable builder) tables.items }
     requires empty { BindNothing builder }
+    ensures world { IfOk result (λ begun. (record { world = begun.retry.state.world; globs = begun.retry.state.globs }) ≡
+        with_all_declared (record { world = builder; globs = no_globs }) (spec.names_of tables.items)) }
     ensures declared { IfOk result (λ begun. AreShown begun.retry.state.world begun.retry.state.globs
-        (flat_map (λ (t : Table). t.names) tables.items)) }
+        (spec.names_of tables.items)) }
     ensures pending { IfOk result (λ begun. begun.retry.state.pending ≡
         map (marked true) (flat_map pendings_of (flat_map (λ (t : Table). t.leaves) tables.items))) }
     ensures globs { IfOk result (λ begun. begun.globs.items ≡ flat_map (unless_named begun.retry.state.world)
@@ -181,6 +194,26 @@ fn tables_of(
     }
 }
 
+/// Adds the associated items of crates that are filled.
+fn add_items(
+    builder: &mut WorldBuilder,
+    alloc: Global,
+    reading: &Reading<'_>,
+    lists: &[CrateModules],
+    tables: &[CrateTable],
+) -> Result<Vec<AssocPlace>, CollectFault>
+    ensures added { IfOk result (λ places. AreAllAdded reading.now.files lists.now 0 0 tables.now
+        (record { world = builder.old; places = [] })
+        (record { world = builder.new; places = places.items })) }
+    ensures known { (t : Table) → IsKnownTable builder.old t → IsKnownTable builder.new t }
+    ensures empty { BindNothing builder.old → BindNothing builder.new }
+{
+    match add_assoc_items(builder, alloc, reading.files, lists, tables) {
+        Ok(places) => Ok(places),
+        Err(fault) => Err(of_builder(fault)),
+    }
+}
+
 /// The roots that each crate of a graph has macros from.
 fn uses_of(
     alloc: Global,
@@ -203,16 +236,28 @@ fn begin(
     reading: &Reading<'_>,
 ) -> Result<BegunCrates, CollectFault>
     ensures { IfOk result (λ begun. spec.IsBegun reading.now graph.now
-        (record { lists = begun.lists.items; tables = begun.tables.items; rows = begun.externs.items })
-        begun.globs.items begun.uses.items begun.retry.state) }
+        (record {
+          lists = begun.lists.items;
+          tables = begun.tables.items;
+          rows = begun.externs.items;
+          assocs = begun.assocs.items;
+        }) begun.globs.items begun.uses.items begun.retry.state) }
 {
     let made = tables_of(alloc, graph, reading)?;
     let FilledCrates {
-        builder,
+        builder: filled,
         lists,
         tables,
         externs,
     } = made;
+    let mut builder = filled;
+    let assocs = add_items(
+        &mut builder,
+        alloc,
+        reading,
+        lists.as_slice(),
+        tables.as_slice(),
+    )?;
     let beginning = begun(alloc, builder, tables)?;
     let uses = uses_of(alloc, graph, reading, lists.as_slice(), externs.as_slice())?;
     Ok(BegunCrates {
@@ -222,6 +267,7 @@ fn begin(
         lists,
         tables: beginning.rest,
         externs,
+        assocs,
     })
 }
 
@@ -286,8 +332,12 @@ pub fn collect(
 
     // The state was reached from that of the crates' own declarations by rounds of imports and steps of globs and crates.
     ensures collected { IfOk result (λ made. spec.IsCollected reading.now graph.now
-        (record { lists = made.lists.items; tables = made.tables.items; rows = made.externs.items })
-        made.globs.items made.uses.items made.retry.state) }
+        (record {
+          lists = made.lists.items;
+          tables = made.tables.items;
+          rows = made.externs.items;
+          assocs = made.assocs.items;
+        }) made.globs.items made.uses.items made.retry.state) }
 
     // Where it is settled, each import and each glob, tried again, would write nothing, and no `macro_use` prelude would get
     // a macro.
@@ -310,6 +360,7 @@ pub fn collect(
         lists,
         tables,
         externs,
+        assocs,
     } = begun;
     let made = settled(alloc, rounds, retry, globs, uses)?;
     Ok(Collected {
@@ -320,5 +371,6 @@ pub fn collect(
         lists,
         tables,
         externs,
+        assocs,
     })
 }

@@ -7,6 +7,7 @@ use crate_modules::crate_order::OrderFault;
 use crate_tables::declared_world::NotDeclared;
 use crate_tables::fill_fault::FillFault;
 use dm_base::ids::Crate;
+use dm_maps::build_fault::BuildFault;
 use dm_maps::fault::WorldFault;
 use std::alloc::AllocError;
 
@@ -41,6 +42,14 @@ pub(crate) fn of_order(fault: OrderFault) -> CollectFault {
     match fault {
         OrderFault::Cycle(crates) => CollectFault::Cycle(crates),
         OrderFault::OutOfMemory => CollectFault::OutOfMemory,
+    }
+}
+
+/// The same of a builder that knows the modules of its items.
+pub(crate) fn of_builder(fault: BuildFault) -> CollectFault {
+    match fault {
+        BuildFault::OutOfMemory => CollectFault::OutOfMemory,
+        _ => CollectFault::OutOfNumbers,
     }
 }
 

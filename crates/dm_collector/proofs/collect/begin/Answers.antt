@@ -1,15 +1,39 @@
-use Rattle.std.proofs.Common.{◌∙◌}
+use Rattle.std.proofs.Common.{◌≡◌, ◌∙◌, [], List, subst}
+use Rattle.std.specs.Prelude.{All}
+use Rattle.assoc_items.specs.AssocItems.{AreAllAdded, Filled}
+use Rattle.crate_modules.specs.Modules.{Listing}
+use Rattle.crate_tables.specs.CrateFillings.{IsKnownTable}
+use Rattle.crate_tables.specs.CrateTables.{Table}
+use Rattle.std.proofs.lemmas.List.Elements.{All-weaker}
 use Rattle.dm_collector.specs.MacroUses.{macro_uses}
 use Rattle.dm_collector.proofs.collect.begin.Goals as goal
 
+pub begun-requires-clause-known : goal.begun-requires-clause-known
+begun-requires-clause-known c =
+    All-weaker (IsKnownTable c.in_ok-made.made.builder) (IsKnownTable c.add_items.new.builder) c.add_items.ensures.known c.in_ok-made.made.tables.items c.in_ok-made.ensures.known
+
+pub begun-requires-clause-empty : goal.begun-requires-clause-empty
+begun-requires-clause-empty c = c.add_items.ensures.empty c.in_ok-made.ensures.empty
+
 pub returns : goal.returns
-returns c = record {
-  crates = record { world = c.in_ok-made.made.builder; lists = c.in_ok-made.made.lists.items; tables = c.in_ok-made.made.tables.items; rows = c.in_ok-made.made.externs.items };
-  filled = c.in_ok-made.ensures.filled;
-  kept = λ i. record { lists = c.in_ok-made.made.lists.items; tables = c.in_ok-beginning.ensures.rest i; rows = c.in_ok-made.made.externs.items };
-  declared = c.in_ok-beginning.ensures.declared;
-  pending = c.in_ok-beginning.ensures.pending;
-  globs = c.in_ok-beginning.ensures.globs;
-  uses = c.in_ok-uses.ensures
-      ∙ (λ i. macro_uses c.args.reading.now.files (c.as_slice.ensures.value i) (c.as_slice-2.ensures.value i) 0 c.args.graph.now);
-}
+returns c =
+    let lists = c.in_ok-made.made.lists.items in
+    let tables = c.in_ok-made.made.tables.items in
+    let places = c.in_ok-assocs.assocs.items in
+    let before : Filled = record { world = c.in_ok-made.made.builder; places = [] } in
+    let whole : Filled = record { world = c.add_items.new.builder; places = places } in
+    record {
+      crates = record { world = c.in_ok-made.made.builder; lists = lists; tables = tables; rows = c.in_ok-made.made.externs.items };
+      filled = c.in_ok-made.ensures.filled;
+      whole = whole;
+      items =
+          subst (λ (both : List Listing × List Table). AreAllAdded c.args.reading.now.files both.0 0 0 both.1 before whole)
+          (λ i. (c.as_slice.ensures.value i, c.as_slice-2.ensures.value i)) c.in_ok-assocs.ensures.added;
+      kept = λ i. record { lists = lists; tables = c.in_ok-beginning.ensures.rest i; rows = c.in_ok-made.made.externs.items; assocs = places };
+      world = c.in_ok-beginning.ensures.world;
+      declared = c.in_ok-beginning.ensures.declared;
+      pending = c.in_ok-beginning.ensures.pending;
+      globs = c.in_ok-beginning.ensures.globs;
+      uses = c.in_ok-uses.ensures
+          ∙ (λ i. macro_uses c.args.reading.now.files (c.as_slice-3.ensures.value i) (c.as_slice-4.ensures.value i) 0 c.args.graph.now);
+    }

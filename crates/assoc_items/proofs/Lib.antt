@@ -1,0 +1,2 @@
+pub mod ContainerLemmas
+pub mod FillLemmas
