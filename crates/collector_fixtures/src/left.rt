@@ -1,5 +1,6 @@
 //! What a fixture leaves: the def map of each of its crates, what is told of them, and how many imports and macro calls are
 //! unknown.
+use crate::assocs::assoc_lines;
 use crate::fixture::Fixture;
 use crate::graph::{files_of, graph_of};
 use crate::in_maps::in_maps;
@@ -361,6 +362,7 @@ fn push_more(
 ) -> Result<(), AllocError> {
     if name.starts_with(LISTS) {
         out.push_str(scope_lists(alloc, settled)?.as_str())?;
+        out.push_str(assoc_lines(alloc, settled)?.as_str())?;
     }
     if name.starts_with(IN_MAPS) {
         out.push_str(in_maps(alloc, settled)?.as_str())?;

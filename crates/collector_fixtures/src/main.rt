@@ -1,6 +1,7 @@
 //! Collects the fixtures of standard input, and prints the def map of each crate and what is told of it.
 #![tactic(auto)]
 
+mod assocs;
 mod fixture;
 mod graph;
 mod in_maps;
