@@ -1,6 +1,7 @@
 //! What a fixture leaves: the def map of each of its crates, what is told of them, and how many imports and macro calls are
 //! unknown.
 use crate::assocs::assoc_lines;
+use crate::called::called;
 use crate::fixture::Fixture;
 use crate::graph::{files_of, graph_of};
 use crate::in_maps::in_maps;
@@ -37,6 +38,9 @@ const IN_MAPS: &str = "in maps";
 
 /// How the names of those begin of which the lists of scopes are shown, too.
 const LISTS: &str = "lists of scopes";
+
+/// How the names of those begin whose first file is also given to the callers of docs/USING.md.
+const CALLED: &str = "called";
 
 /// The crates of a fixture, settled.
 pub(crate) struct Settled {
@@ -370,6 +374,14 @@ fn push_more(
     Ok(())
 }
 
+/// Adds what the callers of docs/USING.md answer of those fixtures that they are given.
+fn push_called(out: &mut String, alloc: Global, fixture: &Fixture<'_>) -> Result<(), AllocError> {
+    if fixture.name.starts_with(CALLED) {
+        out.push_str(called(alloc, fixture)?.as_str())?;
+    }
+    Ok(())
+}
+
 /// Adds what a fixture leaves.
 fn push_left(out: &mut String, alloc: Global, fixture: &Fixture<'_>) -> Result<(), AllocError> {
     let Some(mut settled) = settled_by(alloc, fixture)? else {
@@ -377,7 +389,8 @@ fn push_left(out: &mut String, alloc: Global, fixture: &Fixture<'_>) -> Result<(
     };
     push_dumps(out, alloc, settled.world(), fixture)?;
     push_told(out, alloc, &settled, fixture)?;
-    push_more(out, alloc, &mut settled, fixture.name)
+    push_more(out, alloc, &mut settled, fixture.name)?;
+    push_called(out, alloc, fixture)
 }
 
 /// What a fixture leaves, under its name.

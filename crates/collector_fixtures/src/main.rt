@@ -2,6 +2,7 @@
 #![tactic(auto)]
 
 mod assocs;
+mod called;
 mod fixture;
 mod graph;
 mod in_maps;
