@@ -1,8 +1,8 @@
 -- The items of the homes from a number on.
-use Rattle.std.proofs.Common.{◌≡◌, ◌+◌, ◌-◌, ◌++◌, ◌∙◌, ◌<◌, ◌≤◌, ℕ, List, [], ◌∷◌, length, drop, get_or, map, refl, ap, sym, subst, arith}
+use Rattle.std.proofs.Common.{◌≡◌, ◌+◌, ◌-◌, ◌++◌, ◌<◌, ◌≤◌, ℕ, List, [], ◌∷◌, length, drop, map, refl, sym, subst, arith}
 use Rattle.std.specs.Prelude.{◌&&◌, All, None, Option, Some, nat_le, nat_lt, not}
 use Rattle.std.specs.Ordering.{is_lt, nat_cmp}
-use Rattle.std.proofs.lemmas.List.{drop_all, drop_more}
+use Rattle.std.proofs.lemmas.List.{drop_all}
 use Rattle.std.proofs.lemmas.List.Elements.{All-append, All-cons, All-map, All-nil}
 use Rattle.crate_items.specs.FileItems.{rank_of}
 use Rattle.crate_items.specs.ModuleItems.{AreItemsIn, AreItemsOf, IsBelow, row_of}

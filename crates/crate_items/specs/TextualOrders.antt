@@ -1,9 +1,10 @@
 -- The modules and textual macros of a crate in the order of its text, in which a module stands behind its `mod` item.
 use Rattle.std.specs.Prelude.{◌==◌, ◌&&◌, ◌+◌, ◌++◌, ℕ, Bool, true, false, List, [], ◌∷◌, Option, Some, None, drop, take, if◌then◌else◌}
-use Rattle.std.specs.List.{position}
+use Rattle.std.specs.List.{flat_map, position}
 use Rattle.crate_items.specs.declared.declared_item.DeclaredItem.{DeclaredItem}
 use Rattle.crate_items.specs.declared.textual_order.TextEvent.{TextEvent}
 use Rattle.crate_items.specs.declared.textual_order.TextEvent.TheVariants.{Begins, Ends, Item}
+use Rattle.crate_items.specs.declared.textual_order.TextualItem.{TextualItem}
 use Rattle.crate_modules.specs.DeclaredModules.{Module}
 use Rattle.crate_modules.specs.declared.declared_module.Declaration.{Declaration}
 use Rattle.item_tree.specs.declared.item_kind.ItemKind.{ItemKind}
@@ -15,17 +16,21 @@ is_textual item.Mod = true
 is_textual item.MacroRules = true
 is_textual _ = false
 
--- the item of a number, if it is of the module m
-abbrev pub event_of : ℕ → ℕ → DeclaredItem → List TextEvent
-event_of m n x = if (x.«module» == m) && is_textual x.kind then Item n ∷ [] else []
+-- the items that it knows, with their numbers
+abbrev pub textual_if : ℕ → DeclaredItem → List TextualItem
+textual_if n x = if is_textual x.kind then record { number = n; «module» = x.«module» } ∷ [] else []
 
-abbrev pub events_from : ℕ → ℕ → List DeclaredItem → List TextEvent
-events_from m n [] = []
-events_from m n (x ∷ xs) = event_of m n x ++ events_from m (n + 1) xs
+abbrev pub textual_from : ℕ → List DeclaredItem → List TextualItem
+textual_from n [] = []
+textual_from n (x ∷ xs) = textual_if n x ++ textual_from (n + 1) xs
+
+-- such an item, if it is of the module m
+abbrev pub event_in : ℕ → TextualItem → List TextEvent
+event_in m t = if t.«module» == m then Item t.number ∷ [] else []
 
 -- what stands in the module m: it begins, has its items in order, and ends
-abbrev pub block : List DeclaredItem → ℕ → List TextEvent
-block xs m = Begins m ∷ events_from m 0 xs ++ Ends m ∷ []
+abbrev pub block : List TextualItem → ℕ → List TextEvent
+block ts m = Begins m ∷ flat_map (event_in m) ts ++ Ends m ∷ []
 
 -- the item is what declares a module
 abbrev pub is_declared_by : Declaration → DeclaredItem → Bool
@@ -41,19 +46,22 @@ put_behind events more None = events
 put_behind events more (Some i) = take (i + 1) events ++ more ++ drop (i + 1) events
 
 -- what stands in the module m, behind the item of a number
-abbrev pub put_in : List DeclaredItem → List TextEvent → ℕ → Option ℕ → List TextEvent
-put_in xs events m None = events
-put_in xs events m (Some n) = put_behind events (block xs m) (position (is_item n) events)
+abbrev pub put_in : List TextualItem → List TextEvent → ℕ → Option ℕ → List TextEvent
+put_in ts events m None = events
+put_in ts events m (Some n) = put_behind events (block ts m) (position (is_item n) events)
 
 -- the root is declared nowhere, and stands there already
-abbrev pub with_module : List DeclaredItem → List TextEvent → ℕ → Option Declaration → List TextEvent
-with_module xs events m None = events
-with_module xs events m (Some d) = put_in xs events m (position (is_declared_by d) xs)
+abbrev pub with_module : List DeclaredItem → List TextualItem → List TextEvent → ℕ → Option Declaration → List TextEvent
+with_module xs ts events m None = events
+with_module xs ts events m (Some d) = put_in ts events m (position (is_declared_by d) xs)
 
-abbrev pub ordered_from : List DeclaredItem → List TextEvent → ℕ → List Module → List TextEvent
-ordered_from xs events m [] = events
-ordered_from xs events m (x ∷ ms) = ordered_from xs (with_module xs events m x.declaration) (m + 1) ms
+abbrev pub ordered_from : List DeclaredItem → List TextualItem → List TextEvent → ℕ → List Module → List TextEvent
+ordered_from xs ts events m [] = events
+ordered_from xs ts events m (x ∷ ms) = ordered_from xs ts (with_module xs ts events m x.declaration) (m + 1) ms
+
+abbrev pub ordered : List Module → List DeclaredItem → List TextualItem → List TextEvent
+ordered ms xs ts = ordered_from xs ts (block ts 0) 0 ms
 
 -- First stands what is in the root. What is in each other module is put behind the item that declares it.
 abbrev pub textual_order : List Module → List DeclaredItem → List TextEvent
-textual_order ms xs = ordered_from xs (block xs 0) 0 ms
+textual_order ms xs = ordered ms xs (textual_from 0 xs)

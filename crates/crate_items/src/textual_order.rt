@@ -1,6 +1,6 @@
 //! The modules and textual macros of a crate in the order of its text.
 ghost use Rattle.std.specs.Prelude.{◌≡◌, ◌<◌, ◌+◌, ◌++◌, ◌∷◌, [], IfOk, OnOk, drop, length, take};
-ghost use Rattle.std.specs.List.{position};
+ghost use Rattle.std.specs.List.{flat_map, position};
 ghost use Rattle.crate_items.specs.TextualOrders as spec;
 
 use crate::declared_item::DeclaredItem;
@@ -36,33 +36,64 @@ fn push_event(events: &mut Vec<TextEvent>, event: TextEvent) -> Result<(), Alloc
     Ok(())
 }
 
-/// Adds the item of a number, if it is one of a module.
-fn push_item(
-    events: &mut Vec<TextEvent>,
-    home: usize,
+/// An item that textual scope knows.
+#[derive(Clone, Copy, PartialEq, Eq, Debug)]
+pub struct TextualItem {
+    /// Its number.
+    pub number: usize,
+    /// The number of the module that it is of.
+    pub module: usize,
+}
+
+/// Adds the item of a number, if textual scope knows it.
+fn push_textual(
+    found: &mut Vec<TextualItem>,
     number: usize,
     item: &DeclaredItem,
 ) -> Result<(), AllocError>
-    ensures { OnOk result
-        (events.new.items ≡ events.old.items ++ spec.event_of home number item.now) }
+    ensures { OnOk result (found.new.items ≡ found.old.items ++ spec.textual_if number item.now) }
 {
-    if item.module == home && is_textual(item.kind) {
-        push_event(events, TextEvent::Item(number))?;
+    if is_textual(item.kind) {
+        found.push(TextualItem {
+            number,
+            module: item.module,
+        })?;
     }
     Ok(())
 }
 
-/// Adds the items of a module.
+/// The items that textual scope knows: few of all, so that these alone are gone over for each module.
+fn textual_items(alloc: Global, items: &[DeclaredItem]) -> Result<Vec<TextualItem>, AllocError>
+    ensures { IfOk result (λ found. found.items ≡ spec.textual_from 0 items.now) }
+{
+    let mut found = Vec::new(alloc);
+    for (number, item) in items.iter().enumerate() {
+        push_textual(&mut found, number, item)?;
+    }
+    Ok(found)
+}
+
+/// Adds an item, if it is one of a module.
+fn push_item(events: &mut Vec<TextEvent>, home: usize, item: TextualItem) -> Result<(), AllocError>
+    ensures { OnOk result (events.new.items ≡ events.old.items ++ spec.event_in home item) }
+{
+    if item.module == home {
+        push_event(events, TextEvent::Item(item.number))?;
+    }
+    Ok(())
+}
+
+/// Adds those of a module.
 fn push_items(
     events: &mut Vec<TextEvent>,
     home: usize,
-    items: &[DeclaredItem],
+    textual: &[TextualItem],
 ) -> Result<(), AllocError>
     ensures { OnOk result
-        (events.new.items ≡ events.old.items ++ spec.events_from home 0 items.now) }
+        (events.new.items ≡ events.old.items ++ flat_map (spec.event_in home) textual.now) }
 {
-    for (number, item) in items.iter().enumerate() {
-        push_item(events, home, number, item)?;
+    for item in textual {
+        push_item(events, home, *item)?;
     }
     Ok(())
 }
@@ -71,13 +102,13 @@ fn push_items(
 fn push_block(
     events: &mut Vec<TextEvent>,
     home: usize,
-    items: &[DeclaredItem],
+    textual: &[TextualItem],
 ) -> Result<(), AllocError>
     ensures { OnOk result
-        (events.new.items ≡ events.old.items ++ spec.block items.now home) }
+        (events.new.items ≡ events.old.items ++ spec.block textual.now home) }
 {
     push_event(events, TextEvent::Begins(home))?;
-    push_items(events, home, items)?;
+    push_items(events, home, textual)?;
     push_event(events, TextEvent::Ends(home))?;
     Ok(())
 }
@@ -147,17 +178,17 @@ fn behind(events: &[TextEvent], place: usize) -> &[TextEvent]
 fn spliced(
     alloc: Global,
     events: &[TextEvent],
-    items: &[DeclaredItem],
+    textual: &[TextualItem],
     home: usize,
     place: usize,
 ) -> Result<Vec<TextEvent>, AllocError>
     requires { place < length events.now }
     ensures { IfOk result (λ more. more.items ≡
-        take (place + 1) events.now ++ spec.block items.now home ++ drop (place + 1) events.now) }
+        take (place + 1) events.now ++ spec.block textual.now home ++ drop (place + 1) events.now) }
 {
     let mut more = Vec::new(alloc);
     push_events(&mut more, through(events, place))?;
-    push_block(&mut more, home, items)?;
+    push_block(&mut more, home, textual)?;
     push_events(&mut more, behind(events, place))?;
     Ok(more)
 }
@@ -166,16 +197,16 @@ fn spliced(
 fn put_behind(
     alloc: Global,
     events: Vec<TextEvent>,
-    items: &[DeclaredItem],
+    textual: &[TextualItem],
     home: usize,
     number: usize,
 ) -> Result<Vec<TextEvent>, AllocError>
     ensures { IfOk result (λ more. more.items ≡ spec.put_behind events.items
-        (spec.block items.now home) (position (spec.is_item number) events.items)) }
+        (spec.block textual.now home) (position (spec.is_item number) events.items)) }
 {
     match place_of(events.as_slice(), number) {
         None => Ok(events),
-        Some(place) => spliced(alloc, events.as_slice(), items, home, place),
+        Some(place) => spliced(alloc, events.as_slice(), textual, home, place),
     }
 }
 
@@ -184,15 +215,16 @@ fn with_declared(
     alloc: Global,
     events: Vec<TextEvent>,
     items: &[DeclaredItem],
+    textual: &[TextualItem],
     home: usize,
     declaration: &Declaration,
 ) -> Result<Vec<TextEvent>, AllocError>
-    ensures { IfOk result (λ more. more.items ≡ spec.put_in items.now events.items home
+    ensures { IfOk result (λ more. more.items ≡ spec.put_in textual.now events.items home
         (position (spec.is_declared_by declaration.now) items.now)) }
 {
     match declaring(items, declaration) {
         None => Ok(events),
-        Some(number) => put_behind(alloc, events, items, home, number),
+        Some(number) => put_behind(alloc, events, textual, home, number),
     }
 }
 
@@ -201,21 +233,22 @@ fn with_module(
     alloc: Global,
     events: Vec<TextEvent>,
     items: &[DeclaredItem],
+    textual: &[TextualItem],
     home: usize,
     declared: &DeclaredModule,
 ) -> Result<Vec<TextEvent>, AllocError>
     ensures { IfOk result (λ more. more.items ≡
-        spec.with_module items.now events.items home declared.now.declaration) }
+        spec.with_module items.now textual.now events.items home declared.now.declaration) }
 {
     match declared.declaration() {
         None => Ok(events),
-        Some(declaration) => with_declared(alloc, events, items, home, declaration),
+        Some(declaration) => with_declared(alloc, events, items, textual, home, declaration),
     }
 }
 
 /// The modules and the macros by `macro_rules!` of a crate in the order of its text, by its modules and its items, as
 /// `declared_items` gives these. What stands in a module stands behind the item that declares it. Numbers are places in
-/// the two lists. The time is linear in the number of items for each module.
+/// the two lists. For each module the items are looked through for the one that declares it, and then the events.
 ///
 /// # Errors
 ///
@@ -227,10 +260,12 @@ pub fn textual_order(
 ) -> Result<Vec<TextEvent>, AllocError>
     ensures { IfOk result (λ events. events.items ≡ spec.textual_order modules.now items.now) }
 {
+    let known = textual_items(alloc, items)?;
+    let textual = known.as_slice();
     let mut events = Vec::new(alloc);
-    push_block(&mut events, 0, items)?;
+    push_block(&mut events, 0, textual)?;
     for (home, declared) in modules.iter().enumerate() {
-        events = with_module(alloc, events, items, home, declared)?;
+        events = with_module(alloc, events, items, textual, home, declared)?;
     }
     Ok(events)
 }

@@ -1,7 +1,7 @@
 use Rattle.std.proofs.Common.{◌≡◌, ◌++◌, drop}
-use Rattle.crate_items.specs.TextualOrders.{events_from}
+use Rattle.std.specs.List.{flat_map}
+use Rattle.crate_items.specs.TextualOrders.{event_in}
 use Rattle.crate_items.proofs.textual_order.push_items.Given as goal
 
-abbrev pub invariant-loop-number : goal.invariant-loop-number
-invariant-loop-number l =
-    l.events.items ++ events_from l.home l.number (drop l.number l.items) ≡ l.fn.events.items ++ events_from l.home 0 l.items
+abbrev pub invariant-loop-item : goal.invariant-loop-item
+invariant-loop-item l = l.events.items ++ flat_map (event_in l.home) (drop l.item-index l.textual) ≡ l.fn.events.items ++ flat_map (event_in l.home) l.textual

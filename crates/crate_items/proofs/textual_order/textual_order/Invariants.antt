@@ -1,7 +1,7 @@
 use Rattle.std.proofs.Common.{◌≡◌, drop}
-use Rattle.crate_items.specs.TextualOrders.{block, ordered_from}
+use Rattle.crate_items.specs.TextualOrders.{ordered, ordered_from}
 use Rattle.crate_items.proofs.textual_order.textual_order.Given as goal
 
 abbrev pub invariant-loop-home : goal.invariant-loop-home
 invariant-loop-home l =
-    ordered_from l.items l.events.items l.home (drop l.home l.modules) ≡ ordered_from l.items (block l.items 0) 0 l.modules
+    ordered_from l.items l.textual l.events.items l.home (drop l.home l.modules) ≡ ordered l.modules l.items l.textual
