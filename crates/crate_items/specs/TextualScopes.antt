@@ -1,12 +1,13 @@
 -- Which macros by `macro_rules!` are in textual scope where a module of a crate ends.
 use Rattle.std.specs.Prelude.{◌++◌, ◌||◌, ℕ, Bool, true, false, List, [], ◌∷◌, Option, Some, None, map, slice_get, slice_set, if◌then◌else◌}
-use Rattle.std.specs.List.{find, list_any}
+use Rattle.std.specs.List.{list_any}
 use Rattle.std.specs.Option.{option_map_or}
 use Rattle.crate_items.specs.ItemAttributes.{file_attributes, item_attributes}
-use Rattle.crate_items.specs.TextualOrders.{is_declared_by, textual_order}
+use Rattle.crate_items.specs.TextualOrders.{declaring, textual_from, textual_order}
 use Rattle.crate_items.specs.declared.declared_item.DeclaredItem.{DeclaredItem}
 use Rattle.crate_items.specs.declared.textual_order.TextEvent.{TextEvent}
 use Rattle.crate_items.specs.declared.textual_order.TextEvent.TheVariants.{Begins, Ends, Item}
+use Rattle.crate_items.specs.declared.textual_order.TextualItem.{TextualItem}
 use Rattle.crate_modules.specs.DeclaredModules.{Module}
 use Rattle.crate_modules.specs.Modules.{Listing}
 use Rattle.crate_modules.specs.Sources.{source_at}
@@ -29,17 +30,25 @@ abbrev pub leaves_by : Listing → Option DeclaredItem → Bool
 leaves_by l None = false
 leaves_by l (Some x) = list_any is_macro_use (item_attributes l x)
 
-abbrev pub leaves_if : Listing → List DeclaredItem → Option Declaration → Bool
-leaves_if l xs None = false
-leaves_if l xs (Some d) = leaves_by l (find (is_declared_by d) xs)
+abbrev pub leaves_at : Listing → List DeclaredItem → Option ℕ → Bool
+leaves_at l xs None = false
+leaves_at l xs (Some n) = leaves_by l (slice_get xs n)
+
+abbrev pub leaves_if : Listing → List DeclaredItem → List TextualItem → Option Declaration → Bool
+leaves_if l xs ts None = false
+leaves_if l xs ts (Some d) = leaves_at l xs (declaring ts d)
 
 abbrev pub begins_so : Listing → FileId → Option ℕ → Bool
 begins_so l f (Some n) = false
 begins_so l f None = list_any is_macro_use (file_attributes (source_at l.sources f))
 
 -- an active `macro_use` stands before the item that declares the module, or its own file begins with one
-abbrev pub leaves : Listing → List DeclaredItem → Module → Bool
-leaves l xs m = leaves_if l xs m.declaration || begins_so l m.file m.item
+abbrev pub leaves : Listing → List DeclaredItem → List TextualItem → Module → Bool
+leaves l xs ts m = leaves_if l xs ts m.declaration || begins_so l m.file m.item
+
+-- which modules of the list leave their macros
+abbrev pub all_leaves : Listing → List DeclaredItem → List Bool
+all_leaves l xs = map (leaves l xs (textual_from 0 xs)) l.modules
 
 -- ---- Scopes
 
@@ -124,4 +133,4 @@ nothing_in m = []
 -- scope behind its item, and a module under `macro_use` leaves the last macro of each name behind it.
 abbrev pub textual_scopes : Listing → List DeclaredItem → Scopes
 textual_scopes l xs =
-    all_met l.modules xs (map (leaves l xs) l.modules) (map nothing_in l.modules) (textual_order l.modules xs)
+    all_met l.modules xs (all_leaves l xs) (map nothing_in l.modules) (textual_order l.modules xs)

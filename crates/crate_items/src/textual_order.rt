@@ -5,6 +5,7 @@ ghost use Rattle.crate_items.specs.TextualOrders as spec;
 
 use crate::declared_item::DeclaredItem;
 use crate_modules::declared_module::{Declaration, DeclaredModule};
+use dm_ids::ids::FileId;
 use item_tree::item_kind::ItemKind;
 use std::alloc::{AllocError, Global};
 
@@ -37,12 +38,16 @@ fn push_event(events: &mut Vec<TextEvent>, event: TextEvent) -> Result<(), Alloc
 }
 
 /// An item that textual scope knows.
-#[derive(Clone, Copy, PartialEq, Eq, Debug)]
+#[derive(Clone, Copy)]
 pub struct TextualItem {
     /// Its number.
     pub number: usize,
     /// The number of the module that it is of.
     pub module: usize,
+    /// The file of that module.
+    pub file: FileId,
+    /// The number of the item in the tree of that file.
+    pub item: usize,
 }
 
 /// Adds the item of a number, if textual scope knows it.
@@ -57,13 +62,18 @@ fn push_textual(
         found.push(TextualItem {
             number,
             module: item.module,
+            file: item.file,
+            item: item.item,
         })?;
     }
     Ok(())
 }
 
 /// The items that textual scope knows: few of all, so that these alone are gone over for each module.
-fn textual_items(alloc: Global, items: &[DeclaredItem]) -> Result<Vec<TextualItem>, AllocError>
+pub(crate) fn textual_items(
+    alloc: Global,
+    items: &[DeclaredItem],
+) -> Result<Vec<TextualItem>, AllocError>
     ensures { IfOk result (λ found. found.items ≡ spec.textual_from 0 items.now) }
 {
     let mut found = Vec::new(alloc);
@@ -124,7 +134,7 @@ fn push_events(events: &mut Vec<TextEvent>, more: &[TextEvent]) -> Result<(), Al
 }
 
 /// Whether an item is what declares a module.
-pub(crate) fn is_declared_by(declaration: &Declaration, item: &DeclaredItem) -> bool
+fn is_declared_by(declaration: &Declaration, item: &TextualItem) -> bool
     ensures { result ≡ spec.is_declared_by declaration.now item.now }
 {
     item.module == declaration.parent
@@ -143,12 +153,16 @@ fn is_item(number: usize, event: TextEvent) -> bool
 }
 
 /// The number of the item that declares a module.
-fn declaring(items: &[DeclaredItem], declaration: &Declaration) -> Option<usize>
-    ensures { result ≡ position (spec.is_declared_by declaration.now) items.now }
+pub(crate) fn declaring(textual: &[TextualItem], declaration: &Declaration) -> Option<usize>
+    ensures { result ≡ spec.declaring textual.now declaration.now }
 {
-    items
+    let found = textual
         .iter()
-        .position(|item| is_declared_by(declaration, item))
+        .find(|item| is_declared_by(declaration, item));
+    match found {
+        None => None,
+        Some(item) => Some(item.number),
+    }
 }
 
 /// The place of the item of a number.
@@ -214,15 +228,14 @@ fn put_behind(
 fn with_declared(
     alloc: Global,
     events: Vec<TextEvent>,
-    items: &[DeclaredItem],
     textual: &[TextualItem],
     home: usize,
     declaration: &Declaration,
 ) -> Result<Vec<TextEvent>, AllocError>
     ensures { IfOk result (λ more. more.items ≡ spec.put_in textual.now events.items home
-        (position (spec.is_declared_by declaration.now) items.now)) }
+        (spec.declaring textual.now declaration.now)) }
 {
-    match declaring(items, declaration) {
+    match declaring(textual, declaration) {
         None => Ok(events),
         Some(number) => put_behind(alloc, events, textual, home, number),
     }
@@ -232,23 +245,23 @@ fn with_declared(
 fn with_module(
     alloc: Global,
     events: Vec<TextEvent>,
-    items: &[DeclaredItem],
     textual: &[TextualItem],
     home: usize,
     declared: &DeclaredModule,
 ) -> Result<Vec<TextEvent>, AllocError>
     ensures { IfOk result (λ more. more.items ≡
-        spec.with_module items.now textual.now events.items home declared.now.declaration) }
+        spec.with_module textual.now events.items home declared.now.declaration) }
 {
     match declared.declaration() {
         None => Ok(events),
-        Some(declaration) => with_declared(alloc, events, items, textual, home, declaration),
+        Some(declaration) => with_declared(alloc, events, textual, home, declaration),
     }
 }
 
 /// The modules and the macros by `macro_rules!` of a crate in the order of its text, by its modules and its items, as
 /// `declared_items` gives these. What stands in a module stands behind the item that declares it. Numbers are places in
-/// the two lists. For each module the items are looked through for the one that declares it, and then the events.
+/// the two lists. For each module the modules and macros are looked through for the one that declares it, and then the
+/// events.
 ///
 /// # Errors
 ///
@@ -265,7 +278,7 @@ pub fn textual_order(
     let mut events = Vec::new(alloc);
     push_block(&mut events, 0, textual)?;
     for (home, declared) in modules.iter().enumerate() {
-        events = with_module(alloc, events, items, textual, home, declared)?;
+        events = with_module(alloc, events, textual, home, declared)?;
     }
     Ok(events)
 }

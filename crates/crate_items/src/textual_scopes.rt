@@ -1,14 +1,13 @@
 //! Which macros by `macro_rules!` are in textual scope where a module of a crate ends.
 ghost use Rattle.std.specs.Prelude.{◌≡◌, ◌<◌, ◌+◌, ◌++◌, ◌∷◌, [], IfOk, OnOk, drop, length, map, slice_get};
-ghost use Rattle.std.specs.List.{find, list_any};
+ghost use Rattle.std.specs.List.{list_any};
 ghost use Rattle.std.specs.Option.{option_copied};
-ghost use Rattle.crate_items.specs.TextualOrders.{is_declared_by};
 ghost use Rattle.crate_items.specs.TextualScopes as spec;
 
 use crate::declared_item::DeclaredItem;
 use crate::item_attributes::{file_attributes, item_attributes};
-use crate::textual_order::{TextEvent, is_declared_by, textual_order};
-use crate_modules::declared_module::{Declaration, DeclaredModule};
+use crate::textual_order::{TextEvent, TextualItem, declaring, textual_items, textual_order};
+use crate_modules::declared_module::DeclaredModule;
 use crate_modules::modules::CrateModules;
 use dm_ids::name::Name;
 use item_tree::attribute::AttributeKind;
@@ -73,11 +72,22 @@ fn any_macro_use(kinds: &[AttributeKind]) -> bool
     kinds.iter().any(|kind| is_macro_use(*kind))
 }
 
-/// The item that declares a module.
-fn declaring<'a>(items: &'a [DeclaredItem], declaration: &Declaration) -> Option<&'a DeclaredItem>
-    ensures { option_copied result ≡ find (is_declared_by declaration.now) items.now }
+/// Whether an active `macro_use` stands before the item of a number.
+fn is_under_at(
+    alloc: Global,
+    list: &CrateModules,
+    items: &[DeclaredItem],
+    number: usize,
+) -> Result<bool, AllocError>
+    ensures { IfOk result (λ under. under ≡ spec.leaves_by list.now (slice_get items.now number)) }
 {
-    items.iter().find(|item| is_declared_by(declaration, item))
+    match items.get(number) {
+        None => Ok(false),
+        Some(item) => {
+            let kinds = item_attributes(alloc, list, item)?;
+            Ok(any_macro_use(kinds.as_slice()))
+        }
+    }
 }
 
 /// Whether an active `macro_use` stands before the item that declares a module.
@@ -85,18 +95,17 @@ fn is_under(
     alloc: Global,
     list: &CrateModules,
     items: &[DeclaredItem],
+    textual: &[TextualItem],
     declared: &DeclaredModule,
 ) -> Result<bool, AllocError>
-    ensures { IfOk result (λ under. under ≡ spec.leaves_if list.now items.now declared.now.declaration) }
+    ensures { IfOk result (λ under. under ≡
+        spec.leaves_if list.now items.now textual.now declared.now.declaration) }
 {
     match declared.declaration() {
         None => Ok(false),
-        Some(declaration) => match declaring(items, declaration) {
+        Some(declaration) => match declaring(textual, declaration) {
             None => Ok(false),
-            Some(item) => {
-                let kinds = item_attributes(alloc, list, item)?;
-                Ok(any_macro_use(kinds.as_slice()))
-            }
+            Some(number) => is_under_at(alloc, list, items, number),
         },
     }
 }
@@ -124,11 +133,12 @@ fn leaves(
     alloc: Global,
     list: &CrateModules,
     items: &[DeclaredItem],
+    textual: &[TextualItem],
     declared: &DeclaredModule,
 ) -> Result<bool, AllocError>
-    ensures { IfOk result (λ leave. leave ≡ spec.leaves list.now items.now declared.now) }
+    ensures { IfOk result (λ leave. leave ≡ spec.leaves list.now items.now textual.now declared.now) }
 {
-    let under = is_under(alloc, list, items, declared)?;
+    let under = is_under(alloc, list, items, textual, declared)?;
     let begins = begins_so(alloc, list, declared)?;
     Ok(under || begins)
 }
@@ -139,11 +149,13 @@ fn all_leaves(
     list: &CrateModules,
     items: &[DeclaredItem],
 ) -> Result<Vec<bool>, AllocError>
-    ensures { IfOk result (λ leave. leave.items ≡ map (spec.leaves list.now items.now) list.now.modules) }
+    ensures { IfOk result (λ leave. leave.items ≡ spec.all_leaves list.now items.now) }
 {
+    let known = textual_items(alloc, items)?;
+    let textual = known.as_slice();
     let mut leave = Vec::new(alloc);
     for declared in list.modules() {
-        let one = leaves(alloc, list, items, declared)?;
+        let one = leaves(alloc, list, items, textual, declared)?;
         leave.push(one)?;
     }
     Ok(leave)

@@ -4,4 +4,4 @@ use Rattle.crate_items.proofs.textual_order.textual_order.Given as goal
 
 abbrev pub invariant-loop-home : goal.invariant-loop-home
 invariant-loop-home l =
-    ordered_from l.items l.textual l.events.items l.home (drop l.home l.modules) ≡ ordered l.modules l.items l.textual
+    ordered_from l.textual l.events.items l.home (drop l.home l.modules) ≡ ordered l.modules l.textual
