@@ -33,12 +33,12 @@ impl<'a> Model for ModuleIndex<'a> {
 fn number_module(
     numbers: &mut IndexMap<(usize, usize), usize>,
     number: usize,
-    module: &DeclaredModule,
+    declared: &DeclaredModule,
 ) -> Result<(), AllocError>
     ensures { OnOk result ((x : ItemOutline) → spec.number_of numbers.new.entries x ≡
-        (if spec.declares x module.now.declaration then Some number else spec.number_of numbers.old.entries x)) }
+        (if spec.declares x declared.now.declaration then Some number else spec.number_of numbers.old.entries x)) }
 {
-    match module.declaration() {
+    match declared.declaration() {
         None => Ok(()),
         Some(declaration) => {
             numbers.insert((declaration.parent, declaration.item), number)?;

@@ -6,6 +6,6 @@ use Rattle.crate_tables.proofs.module_index.number_module.Goals as goal
 
 pub returns-in_ok-insert-in-Some : goal.returns-in_ok-insert-in-Some
 returns-in_ok-insert-in-Some c =
-    let at : c.args.module.now.declaration ≡ Some c.in-Some.declaration.now = search rules in
+    let at : c.args.declared.now.declaration ≡ Some c.in-Some.declaration.now = search rules in
     λ x. c.in_ok-insert-in-Some.ensures.updates.0 (x.home, x.item)
     ∙ sym (ap (λ (o : Option Declaration). if declares x o then Some c.args.number else number_of c.args.numbers.now.entries x) at)
