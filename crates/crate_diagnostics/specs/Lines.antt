@@ -1,5 +1,5 @@
 -- Messages: what is told of a byte of a file, and the line that says it.
-use Rattle.std.specs.Prelude.{◌≡◌, ◌++◌, ℕ, List, codes, length, min, nat_lt, if◌then◌else◌}
+use Rattle.std.specs.Prelude.{◌≡◌, ◌++◌, ℕ, List, codes, length, map, min, nat_lt, take, if◌then◌else◌}
 use Rattle.std.specs.Fmt.{decimal}
 use Rattle.std.specs.List.{flat_map}
 use Rattle.std.specs.List.Sorted.{IsPermutation, IsSortedByKey, IsStableByKey}
@@ -28,6 +28,10 @@ message_of l d = record {
   offset = place_offset (source_at l.sources d.file) d.place;
   text = kind_text d.kind;
 }
+
+-- behind some messages stand those of the first of these diagnostics
+abbrev pub AddsSome : Listing → List Told → List Diagnostic → List Told → Type 0
+AddsSome l old ds new = (k : ℕ) × (new ≡ old ++ map (message_of l) (take k ds))
 
 abbrev pub line_col_in : List ℕ → ℕ → LineCol
 line_col_in text offset = line_col text (min offset (length text))

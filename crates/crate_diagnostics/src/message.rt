@@ -1,5 +1,5 @@
 //! Messages: what is told of a byte of a file.
-ghost use Rattle.std.specs.Prelude.{◌≡◌, ◌++◌, ◌∷◌, [], IfOk, OnOk, map};
+ghost use Rattle.std.specs.Prelude.{◌≡◌, ◌++◌, ◌∷◌, [], IfOk, OnErr, OnOk, map};
 ghost use Rattle.crate_diagnostics.specs.Lines as spec;
 
 use crate::diagnostic::Diagnostic;
@@ -52,15 +52,17 @@ pub fn message_of(
 ///
 /// # Errors
 ///
-/// Fails only where memory runs out.
+/// Fails only where memory runs out: then those of the first diagnostics may be added, and nothing else is.
 pub fn push_messages(
     messages: &mut Vec<Message>,
     alloc: Global,
     list: &CrateModules,
     diagnostics: &[Diagnostic],
 ) -> Result<(), AllocError>
-    ensures { OnOk result (messages.new.items ≡
+    ensures all { OnOk result (messages.new.items ≡
         messages.old.items ++ map (spec.message_of list.now) diagnostics.now) }
+    ensures some { OnErr result
+        (spec.AddsSome list.now messages.old.items diagnostics.now messages.new.items) }
 {
     for diagnostic in diagnostics {
         let message = message_of(alloc, list, diagnostic)?;
