@@ -5,7 +5,7 @@ ghost use Rattle.crate_items.specs.CrateAttributes as spec;
 
 use crate::item_attributes::file_attributes;
 use crate::lexeme_names::names_among;
-use crate::lookups::text_of;
+use crate::lookups::{lexemes_of, text_of};
 use crate_modules::file_table::FileTable;
 use crate_modules::modules::CrateModules;
 use dm_ids::ids::FileId;
@@ -153,8 +153,6 @@ pub fn crate_attributes(
 {
     let kinds = file_attributes(alloc, list, root)?;
     let text = text_of(files, root);
-    match list.sources().get(root) {
-        None => set_by_all(alloc, text, &[], kinds.as_slice()),
-        Some(source) => set_by_all(alloc, text, source.lexemes(), kinds.as_slice()),
-    }
+    let lexemes = lexemes_of(list, root);
+    set_by_all(alloc, text, lexemes, kinds.as_slice())
 }

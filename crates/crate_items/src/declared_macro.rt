@@ -6,7 +6,7 @@ ghost use Rattle.crate_items.specs.DeclaredMacros as spec;
 use crate::declared_item::DeclaredItem;
 use crate::item_attributes::item_attributes;
 use crate::lexeme_names::names_among;
-use crate::lookups::text_of;
+use crate::lookups::{lexemes_of, text_of};
 use crate_modules::file_table::FileTable;
 use crate_modules::modules::CrateModules;
 use dm_ids::name::Name;
@@ -164,8 +164,6 @@ pub fn macro_use(
 {
     let kinds = item_attributes(alloc, list, item)?;
     let text = text_of(files, item.file);
-    match list.sources().get(item.file) {
-        None => used(alloc, text, &[], kinds.as_slice()),
-        Some(source) => used(alloc, text, source.lexemes(), kinds.as_slice()),
-    }
+    let lexemes = lexemes_of(list, item.file);
+    used(alloc, text, lexemes, kinds.as_slice())
 }

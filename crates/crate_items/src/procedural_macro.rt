@@ -7,7 +7,7 @@ ghost use Rattle.crate_items.specs.ProceduralMacros as spec;
 use crate::declared_item::DeclaredItem;
 use crate::item_attributes::item_attributes;
 use crate::lexeme_names::lexeme_name;
-use crate::lookups::text_of;
+use crate::lookups::{lexemes_of, text_of};
 use crate_modules::file_table::FileTable;
 use crate_modules::modules::CrateModules;
 use dm_ids::macros::ProcMacroKind;
@@ -178,10 +178,8 @@ fn of_function(
 {
     let kinds = item_attributes(alloc, list, item)?;
     let text = text_of(files, item.file);
-    match list.sources().get(item.file) {
-        None => made_by(alloc, text, &[], item, kinds.as_slice()),
-        Some(source) => made_by(alloc, text, source.lexemes(), item, kinds.as_slice()),
-    }
+    let lexemes = lexemes_of(list, item.file);
+    made_by(alloc, text, lexemes, item, kinds.as_slice())
 }
 
 /// The procedural macro that an item is, by the active attributes before it: a function under `proc_macro`, under
