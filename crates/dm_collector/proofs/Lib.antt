@@ -5,3 +5,5 @@ pub mod IdleLemmas
 pub mod TableLemmas
 pub mod OrderLemmas
 pub mod MacroLemmas
+pub mod ListedLemmas
+pub mod FaultLemmas

@@ -1,5 +1,5 @@
 -- What collecting a graph of crates gives.
-use Rattle.std.specs.Prelude.{◌≡◌, List, [], map, true}
+use Rattle.std.specs.Prelude.{◌≡◌, ℕ, List, [], map, true}
 use Rattle.std.specs.List.{flat_map}
 use Rattle.assoc_items.specs.AssocItems.{AreAllAdded, Filled as WithItems}
 use Rattle.assoc_items.specs.declared.items.AssocPlace.{AssocPlace}
@@ -50,8 +50,9 @@ pub record IsBegun (r : Reading) (g : Graph) (k : Kept) (gs : List GlobImport) (
   pub globs : gs ≡ flat_map (unless_named s.world) (flat_map globs_of (flat_map (λ (t : Table). t.leaves) crates.tables))
   pub uses : us ≡ macro_uses r.files crates.lists crates.rows 0 g
 
--- from there the state was reached by rounds of imports and by steps of these globs and crates
-pub record IsCollected (r : Reading) (g : Graph) (k : Kept) (gs : List GlobImport) (us : List Uses) (s : State) : Type 0 where
+-- from there the state was reached by rounds of imports and by steps of these globs and crates, of which n at least wrote
+-- something
+pub record IsCollected (n : ℕ) (r : Reading) (g : Graph) (k : Kept) (gs : List GlobImport) (us : List Uses) (s : State) : Type 0 where
   pub start : State
   pub begun : IsBegun r g k gs us start
-  pub reached : IsReached gs us 0 start s
+  pub reached : IsReached gs us n start s

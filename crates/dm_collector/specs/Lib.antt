@@ -12,3 +12,4 @@ pub mod StaleBindings
 pub mod UnresolvedNames
 pub mod Leaves
 pub mod Collecting
+pub mod CollectFaults

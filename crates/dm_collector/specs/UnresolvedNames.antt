@@ -1,5 +1,5 @@
 -- The names of imports that lead nowhere, listed in their modules.
-use Rattle.std.specs.Prelude.{ℕ, Bool, true, false, List, [], ◌∷◌, Option, Some, None, slice_get}
+use Rattle.std.specs.Prelude.{◌≡◌, ◌⊎◌, ℕ, Bool, true, false, List, [], ◌∷◌, Option, Some, None, slice_get}
 use Rattle.std.specs.List.{flat_map}
 use Rattle.dm_base.specs.PerNs.{nothing}
 use Rattle.dm_check.specs.declared.held.HeldId.TheVariants as held
@@ -36,6 +36,11 @@ with_name s n = listed_if (knows s.world (held.Module n.home)) s n
 abbrev pub with_names : State → List UnresolvedName → State
 with_names s [] = s
 with_names s (n ∷ ns) = with_names (with_name s n) ns
+
+-- from a state with some of these names listed, the first: none, or one and some of those behind it
+abbrev pub IsListedSome : State → List UnresolvedName → State → Type 0
+IsListedSome s [] t = t ≡ s
+IsListedSome s (n ∷ ns) t = (t ≡ s) ⊎ IsListedSome (with_name s n) ns t
 
 -- the state in which the names of all imports that lead nowhere are listed
 abbrev pub with_unresolved_names : State → State

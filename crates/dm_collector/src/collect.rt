@@ -1,11 +1,12 @@
 //! Crates, collected into a world: their modules and items, with imports and globs settled to a fixed point.
-ghost use Rattle.std.specs.Prelude.{◌≡◌, ℕ, [], true, All, IfOk, List, OnOk, map};
+ghost use Rattle.std.specs.Prelude.{◌≡◌, ℕ, [], false, true, All, IfErr, IfOk, List, OnOk, Some, map};
 ghost use Rattle.std.specs.List.{flat_map};
 ghost use Rattle.assoc_items.specs.AssocItems.{AreAllAdded};
-ghost use Rattle.crate_modules.specs.CrateGraphs.{IsOrder, rows};
-ghost use Rattle.crate_tables.specs.CrateFillings.{AreFilled, IsKnownTable};
+ghost use Rattle.crate_modules.specs.CrateGraphs.{Graph, IsOrder, rows};
+ghost use Rattle.crate_tables.specs.CrateFillings.{AreFilled, IsKnownTable, Reading as Given};
 ghost use Rattle.crate_tables.specs.CrateTables.{IsNameOf, Table, emptied};
 ghost use Rattle.crate_tables.specs.DeclaredWorlds.{AreShown, BindNothing, with_all_declared};
+ghost use Rattle.dm_collector.specs.CollectFaults.{imports_of, IsFault, IsNotBegun, IsNotSettled};
 ghost use Rattle.dm_collector.specs.Collecting as spec;
 ghost use Rattle.dm_collector.specs.Globs.{IsFilledBySource};
 ghost use Rattle.dm_collector.specs.Leaves.{globs_of, pendings_of};
@@ -15,8 +16,11 @@ ghost use Rattle.dm_collector.specs.PreludeGlobs.{unless_named};
 ghost use Rattle.dm_collector.specs.Steps.{IsReached};
 ghost use Rattle.dm_collector.specs.UnnamedTraits.{HasBroughtBySource};
 ghost use Rattle.dm_collector.specs.Widening.{IsWideBySource};
+ghost use Rattle.dm_collector.specs.declared.collect_fault.CollectFault.TheVariants as faults;
+ghost use Rattle.dm_retry.specs.Known.{fault_of};
 ghost use Rattle.dm_retry.specs.Rounds.{marked};
 ghost use Rattle.dm_retry.specs.Settling.{IsFixedPoint};
+ghost use Rattle.dm_retry.specs.declared.retry_fault.RetryFault.{RetryFault};
 ghost use Rattle.dm_scope.specs.Flags.{no_globs};
 
 use crate::collect_fault::{CollectFault, of_builder, of_declared, of_filling, of_glob, of_order};
@@ -119,6 +123,8 @@ fn waiting(
     ensures globs { IfOk result (λ retry. retry.state.globs ≡ flags) }
     ensures declared { IfOk result (λ retry. AreShown retry.state.world retry.state.globs names.now) }
     ensures pending { IfOk result (λ retry. retry.state.pending ≡ map (marked true) pendings.items) }
+    ensures fault { IfErr result (λ fault. (fault ≡ faults.Unknown)
+        × ((why : RetryFault) × (fault_of world pendings.items ≡ Some why))) }
 {
     let _names = names;
     match Retry::new(world, flags, pendings) {
@@ -140,6 +146,7 @@ fn declared(
         with_all_declared (record { world = tables; globs = no_globs }) names.now) }
     ensures declared { IfOk result (λ retry. AreShown retry.state.world retry.state.globs names.now) }
     ensures pending { IfOk result (λ retry. retry.state.pending ≡ map (marked true) pendings.items) }
+    ensures fault { IfErr result (IsNotBegun tables names.now pendings.items) }
 {
     match declared_world(alloc, tables, names) {
         Err(fault) => Err(of_declared(fault)),
@@ -164,6 +171,8 @@ fn begun(
     ensures globs { IfOk result (λ begun. begun.globs.items ≡ flat_map (unless_named begun.retry.state.world)
         (flat_map globs_of (flat_map (λ (t : Table). t.leaves) tables.items))) }
     ensures rest { IfOk result (λ begun. begun.rest.items ≡ map emptied tables.items) }
+    ensures fault { IfErr result
+        (IsNotBegun builder (spec.names_of tables.items) (imports_of tables.items)) }
 {
     let parts = table_parts(alloc, tables)?;
     let leaves = split(alloc, parts.leaves)?;
@@ -187,6 +196,7 @@ fn tables_of(
         (record { world = made.builder; lists = made.lists.items; tables = made.tables.items; rows = made.externs.items })) }
     ensures known { IfOk result (λ made. All (IsKnownTable made.builder) made.tables.items) }
     ensures empty { IfOk result (λ made. BindNothing made.builder) }
+    ensures fault { IfErr result (IsFault reading.now graph.now) }
 {
     match filled(alloc, graph, reading) {
         Err(fault) => Err(of_filling(fault)),
@@ -207,6 +217,7 @@ fn add_items(
         (record { world = builder.new; places = places.items })) }
     ensures known { (t : Table) → IsKnownTable builder.old t → IsKnownTable builder.new t }
     ensures empty { BindNothing builder.old → BindNothing builder.new }
+    ensures fault { IfErr result (λ fault. (r : Given) (g : Graph) → IsFault r g fault) }
 {
     match add_assoc_items(builder, alloc, reading.files, lists, tables) {
         Ok(places) => Ok(places),
@@ -222,8 +233,9 @@ fn uses_of(
     lists: &[CrateModules],
     rows: &[ExternCrateRow],
 ) -> Result<Vec<MacroUses>, CollectFault>
-    ensures { IfOk result (λ uses. uses.items ≡
+    ensures uses { IfOk result (λ uses. uses.items ≡
         macro_uses reading.now.files lists.now rows.now 0 graph.now) }
+    ensures memory { IfErr result (λ fault. fault ≡ faults.OutOfMemory) }
 {
     let uses = macro_uses(alloc, graph, reading.files, lists, rows)?;
     Ok(uses)
@@ -235,13 +247,14 @@ fn begin(
     graph: &CrateGraph,
     reading: &Reading<'_>,
 ) -> Result<BegunCrates, CollectFault>
-    ensures { IfOk result (λ begun. spec.IsBegun reading.now graph.now
+    ensures begun { IfOk result (λ begun. spec.IsBegun reading.now graph.now
         (record {
           lists = begun.lists.items;
           tables = begun.tables.items;
           rows = begun.externs.items;
           assocs = begun.assocs.items;
         }) begun.globs.items begun.uses.items begun.retry.state) }
+    ensures fault { IfErr result (IsFault reading.now graph.now) }
 {
     let made = tables_of(alloc, graph, reading)?;
     let FilledCrates {
@@ -280,6 +293,8 @@ fn settled(
     uses: Vec<MacroUses>,
 ) -> Result<SettledState, CollectFault>
     ensures reached { IfOk result (λ made. IsReached globs.items uses.items 0 begun.state made.retry.state) }
+    ensures limited { IfOk result (λ made. made.is_settled ≡ false
+        → IsReached globs.items uses.items rounds begun.state made.retry.state) }
     ensures globs { IfOk result (λ made. made.globs.items ≡ globs.items) }
     ensures uses { IfOk result (λ made. made.uses.items ≡ uses.items) }
     ensures fixed { IfOk result (λ made. made.is_settled ≡ true → IsFixedPoint made.retry.state) }
@@ -291,6 +306,7 @@ fn settled(
         → All (IsWideBySource made.retry.state.world) made.globs.items) }
     ensures used { IfOk result (λ made. made.is_settled ≡ true
         → All (HasMacros made.retry.state.world) made.uses.items) }
+    ensures fault { IfErr result (IsNotSettled globs.items uses.items begun.state) }
 {
     let mut retry = begun;
     match settle(&mut retry, globs.as_slice(), uses.as_slice(), rounds, alloc) {
@@ -306,7 +322,8 @@ fn settled(
 
 /// Whether the crates of a graph are in no circle.
 fn ordered(alloc: Global, graph: &CrateGraph) -> Result<(), CollectFault>
-    ensures { OnOk result ((order : List ℕ) × IsOrder (rows graph.now) order) }
+    ensures order { OnOk result ((order : List ℕ) × IsOrder (rows graph.now) order) }
+    ensures fault { IfErr result (λ fault. (r : Given) → IsFault r graph.now fault) }
 {
     match graph.crates_in_topological_order(alloc) {
         Ok(_order) => Ok(()),
@@ -331,7 +348,16 @@ pub fn collect(
     ensures order { OnOk result ((order : List ℕ) × IsOrder (rows graph.now) order) }
 
     // The state was reached from that of the crates' own declarations by rounds of imports and steps of globs and crates.
-    ensures collected { IfOk result (λ made. spec.IsCollected reading.now graph.now
+    ensures collected { IfOk result (λ made. spec.IsCollected 0 reading.now graph.now
+        (record {
+          lists = made.lists.items;
+          tables = made.tables.items;
+          rows = made.externs.items;
+          assocs = made.assocs.items;
+        }) made.globs.items made.uses.items made.retry.state) }
+
+    // Where it is not settled, the turns that were asked for were taken, and each of them wrote something.
+    ensures limited { IfOk result (λ made. made.is_settled ≡ false → spec.IsCollected rounds reading.now graph.now
         (record {
           lists = made.lists.items;
           tables = made.tables.items;
@@ -350,6 +376,11 @@ pub fn collect(
         → All (IsWideBySource made.retry.state.world) made.globs.items) }
     ensures used { IfOk result (λ made. made.is_settled ≡ true
         → All (HasMacros made.retry.state.world) made.uses.items) }
+
+    // Where it fails, it is so as the fault says: these crates are a circle, the root of that crate has no file, or it has
+    // more modules than asked for, that holder of the crates' tables has an id that is none of theirs, or an import or a
+    // glob names what the world does not have.
+    ensures fault { IfErr result (IsFault reading.now graph.now) }
 {
     ordered(alloc, graph)?;
     let begun = begin(alloc, graph, reading)?;

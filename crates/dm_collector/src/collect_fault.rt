@@ -1,5 +1,18 @@
 //! Why crates are not collected.
-ghost use Rattle.std.specs.Prelude.{◌≡◌};
+ghost use Rattle.std.specs.Prelude.{◌≡◌, List};
+ghost use Rattle.crate_modules.specs.CrateGraphs.{Graph, rows};
+ghost use Rattle.crate_modules.specs.OrderFaults as orders;
+ghost use Rattle.crate_tables.specs.CrateFillings.{IsFaultIn, IsShortageOr, Reading};
+ghost use Rattle.crate_tables.specs.DeclaredWorlds.{IsRefusal};
+ghost use Rattle.crate_tables.specs.declared.declared_name.DeclaredName.{DeclaredName};
+ghost use Rattle.dm_collector.specs.CollectFaults.{IsFault, IsNotBegun, IsNotSettled};
+ghost use Rattle.dm_collector.specs.Globs.{HasUnknown};
+ghost use Rattle.dm_collector.specs.MacroUses.{Uses};
+ghost use Rattle.dm_collector.specs.Steps.{IsLeftBy};
+ghost use Rattle.dm_collector.specs.declared.glob_fault.GlobFault.TheVariants as globs;
+ghost use Rattle.dm_collector.specs.declared.sources.GlobImport.{GlobImport};
+ghost use Rattle.dm_maps.specs.World.{World};
+ghost use Rattle.dm_retry.specs.Rounds.{Pending, State};
 ghost use Rattle.dm_collector.specs.declared.collect_fault.CollectFault.TheVariants as faults;
 
 use crate::glob_fault::GlobFault;
@@ -24,7 +37,7 @@ pub enum CollectFault {
     OutOfNumbers,
     /// The tables of the crates hold an id that is none of theirs.
     Dangling(WorldFault),
-    /// An import or a glob names what the world does not have.
+    /// An import or a glob names what the world does not have, or an import is listed twice.
     Unknown,
     OutOfMemory,
 }
@@ -38,7 +51,9 @@ impl From<AllocError> for CollectFault {
 }
 
 /// The same of an order.
-pub(crate) fn of_order(fault: OrderFault) -> CollectFault {
+pub(crate) fn of_order(fault: OrderFault) -> CollectFault
+    ensures { (r : Reading) (g : Graph) → orders.IsFaultOf (rows g) fault → IsFault r g result }
+{
     match fault {
         OrderFault::Cycle(crates) => CollectFault::Cycle(crates),
         OrderFault::OutOfMemory => CollectFault::OutOfMemory,
@@ -46,7 +61,9 @@ pub(crate) fn of_order(fault: OrderFault) -> CollectFault {
 }
 
 /// The same of a builder that knows the modules of its items.
-pub(crate) fn of_builder(fault: BuildFault) -> CollectFault {
+pub(crate) fn of_builder(fault: BuildFault) -> CollectFault
+    ensures { (r : Reading) (g : Graph) → IsFault r g result }
+{
     match fault {
         BuildFault::OutOfMemory => CollectFault::OutOfMemory,
         _ => CollectFault::OutOfNumbers,
@@ -54,7 +71,9 @@ pub(crate) fn of_builder(fault: BuildFault) -> CollectFault {
 }
 
 /// The same of what crates declare.
-pub(crate) fn of_filling(fault: FillFault) -> CollectFault {
+pub(crate) fn of_filling(fault: FillFault) -> CollectFault
+    ensures { (r : Reading) (g : Graph) → IsShortageOr (IsFaultIn r g) fault → IsFault r g result }
+{
     match fault {
         FillFault::NoRootFile(krate) => CollectFault::NoRootFile(krate),
         FillFault::TooManyModules(krate) => CollectFault::TooManyModules(krate),
@@ -64,7 +83,9 @@ pub(crate) fn of_filling(fault: FillFault) -> CollectFault {
 }
 
 /// The same of a world.
-pub(crate) fn of_declared(fault: NotDeclared) -> CollectFault {
+pub(crate) fn of_declared(fault: NotDeclared) -> CollectFault
+    ensures { (w : World) (ns : List DeclaredName) (ps : List Pending) → IsRefusal w fault → IsNotBegun w ns ps result }
+{
     match fault {
         NotDeclared::Dangling(fault) => CollectFault::Dangling(fault),
         NotDeclared::OutOfMemory => CollectFault::OutOfMemory,
@@ -72,7 +93,10 @@ pub(crate) fn of_declared(fault: NotDeclared) -> CollectFault {
 }
 
 /// The same of globs.
-pub(crate) fn of_glob(fault: GlobFault) -> CollectFault {
+pub(crate) fn of_glob(fault: GlobFault) -> CollectFault
+    ensures { (gs : List GlobImport) (us : List Uses) (s t : State) → IsLeftBy fault gs us s t
+        → (fault ≡ globs.Unknown → HasUnknown t.world gs) → IsNotSettled gs us s result }
+{
     match fault {
         GlobFault::Unknown => CollectFault::Unknown,
         GlobFault::OutOfMemory => CollectFault::OutOfMemory,

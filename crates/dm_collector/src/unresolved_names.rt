@@ -1,5 +1,5 @@
 //! The names of imports that lead nowhere, listed in their modules.
-ghost use Rattle.std.specs.Prelude.{◌≡◌, ◌++◌, IfOk, None, OnOk, slice_get};
+ghost use Rattle.std.specs.Prelude.{◌≡◌, ◌++◌, IfOk, None, OnErr, OnOk, slice_get};
 ghost use Rattle.dm_check.specs.declared.held.HeldId.TheVariants as held;
 ghost use Rattle.dm_collector.specs.UnresolvedNames as spec;
 ghost use Rattle.dm_maps.specs.Known.{knows};
@@ -88,7 +88,9 @@ pub fn unresolved_names(alloc: Global, retry: &Retry) -> Result<Vec<UnresolvedNa
 
 /// Lists a name in its module.
 fn list_name(retry: &mut Retry, name: UnresolvedName) -> Result<(), AllocError>
-    ensures { OnOk result (retry.new.state ≡ spec.with_name retry.old.state name) }
+    ensures listed { OnOk result (retry.new.state ≡ spec.with_name retry.old.state name) }
+    ensures same { OnErr result (retry.new ≡ retry.old) }
+    ensures tries { retry.new.last_tries ≡ retry.old.last_tries }
 {
     let nothing = PerNs::none();
     if retry.world().knows_res(name.home, &nothing, None) {
@@ -99,7 +101,9 @@ fn list_name(retry: &mut Retry, name: UnresolvedName) -> Result<(), AllocError>
 
 /// Lists names in their modules, in order.
 fn list_names(retry: &mut Retry, names: Vec<UnresolvedName>) -> Result<(), AllocError>
-    ensures { OnOk result (retry.new.state ≡ spec.with_names retry.old.state names.items) }
+    ensures all { OnOk result (retry.new.state ≡ spec.with_names retry.old.state names.items) }
+    ensures some { OnErr result (spec.IsListedSome retry.old.state names.items retry.new.state) }
+    ensures tries { retry.new.last_tries ≡ retry.old.last_tries }
 {
     for name in names {
         list_name(retry, name)?;
@@ -112,9 +116,12 @@ fn list_names(retry: &mut Retry, names: Vec<UnresolvedName>) -> Result<(), Alloc
 ///
 /// # Errors
 ///
-/// Fails only where memory runs out. Names that were listed before stay.
+/// Fails only where memory runs out: then the first of the names may be listed, and nothing else is changed.
 pub fn list_unresolved(alloc: Global, retry: &mut Retry) -> Result<(), AllocError>
-    ensures { OnOk result (retry.new.state ≡ spec.with_unresolved_names retry.old.state) }
+    ensures all { OnOk result (retry.new.state ≡ spec.with_unresolved_names retry.old.state) }
+    ensures some { OnErr result
+        (spec.IsListedSome retry.old.state (spec.unresolved_names retry.old.state) retry.new.state) }
+    ensures tries { retry.new.last_tries ≡ retry.old.last_tries }
 {
     let names = unresolved_names(alloc, retry)?;
     list_names(retry, names)
