@@ -6,7 +6,9 @@ use crate::inputs::Inputs;
 use crate::plan::CratePlan;
 use crate::settled::{NotSettled, Settled, world_of};
 use crate::stats::Effort;
+use crate_modules::file_table::FileTable;
 use crate_tables::crate_filling::Reading;
+use dm_collector::collect::Collected;
 use std::alloc::{AllocError, Global};
 
 /// The settled crates, and what could not be read of them.
@@ -71,6 +73,39 @@ fn line_of(
     }
 }
 
+/// The crates of a graph, collected and settled, or a line that says why they are not.
+fn collected_of(
+    alloc: Global,
+    made: &PlannedGraph,
+    reading: &Reading<'_>,
+    names: &[String],
+) -> Result<(Collected, Effort), Failure> {
+    match world_of(alloc, &made.graph, reading) {
+        Ok(settled) => Ok(settled),
+        Err(why) => {
+            let line = line_of(alloc, names, reading.limit, &why)?;
+            Err(Failure::Told(Status::Unreadable, line))
+        }
+    }
+}
+
+/// The same, with their files and names.
+fn settle_graph(
+    alloc: Global,
+    made: &PlannedGraph,
+    files: FileTable,
+    names: Vec<String>,
+    limit: u32,
+) -> Result<(Settled, Effort), Failure> {
+    let reading = Reading {
+        files: &files,
+        limit,
+    };
+    let (collected, effort) = collected_of(alloc, made, &reading, names.as_slice())?;
+    let settled = Settled::of_graph(alloc, &made.graph, files, names, collected)?;
+    Ok((settled, effort))
+}
+
 /// Collects the crates that were read, and settles them.
 pub(crate) fn settle_inputs(
     alloc: Global,
@@ -92,18 +127,7 @@ pub(crate) fn settle_inputs(
         &mut complaints,
     )?;
     let names = names_of(alloc, plans.as_slice(), &made)?;
-    let reading = Reading {
-        files: &files,
-        limit,
-    };
-    let (collected, effort) = match world_of(alloc, &made.graph, &reading) {
-        Ok(settled) => settled,
-        Err(why) => {
-            let line = line_of(alloc, names.as_slice(), limit, &why)?;
-            return Err(Failure::Told(Status::Unreadable, line));
-        }
-    };
-    let settled = Settled::of_graph(alloc, &made.graph, files, names, collected)?;
+    let (settled, effort) = settle_graph(alloc, &made, files, names, limit)?;
     Ok(SettledInputs {
         settled,
         effort,
