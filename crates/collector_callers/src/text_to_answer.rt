@@ -17,7 +17,7 @@ use crate_modules::crate_graph::CrateGraph;
 use crate_modules::file_table::FileTable;
 use crate_tables::crate_filling::Reading;
 use defmap_callers::paths::meaning_in_root;
-use dm_base::ids::Crate;
+use dm_base::ids::{Crate, FileId};
 use dm_base::mod_path::ModPath;
 use dm_base::per_ns::PerNs;
 use dm_base::source::Edition;
@@ -25,9 +25,18 @@ use dm_collector::collect::{Collected, collect};
 use dm_collector::collect_fault::CollectFault;
 use dm_maps::world::World;
 use item_tree::cfg::CfgOptions;
-use std::alloc::Global;
+use std::alloc::{AllocError, Global};
 
-/// A crate of one text, in the edition 2021 and without dependencies, settled.
+/// The graph of one crate, in the edition 2021 and without dependencies.
+fn one_crate(alloc: Global, root: FileId) -> Result<CrateGraph, AllocError> {
+    let mut graph = CrateGraph::new(alloc);
+    let options = CfgOptions::new(alloc);
+    let described = CrateData::new(root, Edition::Edition2021, options, false, Vec::new(alloc));
+    graph.add_crate(described)?;
+    Ok(graph)
+}
+
+/// A crate of one text, settled.
 pub fn world_of(alloc: Global, text: Vec<u8>) -> Result<Collected, CollectFault>
     ensures fixed { IfOk result (λ made. made.is_settled ≡ true → IsFixedPoint made.retry.state) }
     ensures filled { IfOk result (λ made. made.is_settled ≡ true
@@ -38,10 +47,7 @@ pub fn world_of(alloc: Global, text: Vec<u8>) -> Result<Collected, CollectFault>
     let Ok(root) = files.add(path, text) else {
         return Err(CollectFault::OutOfMemory);
     };
-    let mut graph = CrateGraph::new(alloc);
-    let options = CfgOptions::new(alloc);
-    let described = CrateData::new(root, Edition::Edition2021, options, false, Vec::new(alloc));
-    graph.add_crate(described)?;
+    let graph = one_crate(alloc, root)?;
     let limit = 8_192;
     let files = &files;
     collect(alloc, &graph, &Reading { files, limit }, limit)
