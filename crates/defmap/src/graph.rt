@@ -166,6 +166,19 @@ fn open_circle(plans: &mut [CratePlan], made: &PlannedGraph, circle: &[Crate]) {
     }
 }
 
+/// Complains of a circle, and takes away the dependency that closes it.
+fn complain_of(
+    alloc: Global,
+    plans: &mut [CratePlan],
+    made: &PlannedGraph,
+    circle: &[Crate],
+    complaints: &mut Complaints,
+) -> Result<(), AllocError> {
+    complaints.add(circle_line(alloc, plans, made, circle)?)?;
+    open_circle(plans, made, circle);
+    Ok(())
+}
+
 /// How many dependencies the plans have.
 fn dependency_count(plans: &[CratePlan]) -> usize {
     let mut count = 0usize;
@@ -188,11 +201,13 @@ pub(crate) fn ordered_graph(
         match made.graph.crates_in_topological_order(alloc) {
             Ok(_order) => return Ok(made),
             Err(OrderFault::OutOfMemory) => return Err(AllocError),
-            Err(OrderFault::Cycle(circle)) => {
-                let circle = circle.as_slice();
-                complaints.add(circle_line(alloc, plans.as_slice(), &made, circle)?)?;
-                open_circle(plans.as_mut_slice(), &made, circle);
-            }
+            Err(OrderFault::Cycle(circle)) => complain_of(
+                alloc,
+                plans.as_mut_slice(),
+                &made,
+                circle.as_slice(),
+                complaints,
+            )?,
         }
     }
     graph_of(alloc, cfgs, plans.as_slice(), roots)
