@@ -1,14 +1,24 @@
-"""Reads the transcripts: the scripts that crates/defmap_transcripts is given, and what it has to print of each.
+"""Reads the transcripts: scripts for crates/defmap_tool, and what it has to print of each.
 
-Its `stdin` has the scripts, and its `stdout` each of them with what it prints, in the form that the head of its main.rt
-tells. What is read here is what `rt ci` compares.
+In its folder `transcripts` the file `scripts` has the scripts. A line `=== NAME` begins a text of that name, which is what
+stands in the lines behind it. Further words have it run:
+
+- `=== NAME alone`: empty lines part the text into scripts, and each is run;
+- `=== NAME behind NAME..`: each is run behind the lines of these texts, which stand before.
+
+A heading `=== # ..` is a comment, without a text. Where no line stands behind a heading, its text is the one of that name
+that stands before. In a text `%{HEX}` is the byte of that number, and `%{-}` at the end of a line takes its line feed away.
+
+The file `answers` has the headings, and behind each its text; or what the lines before the scripts print, and then each
+script, and what it prints behind that. What a script prints stands behind `=> `, or as `=>` where a line is empty. How it
+ends follows where it does not run to its end.
 """
 import re
 from dataclasses import dataclass
 
 from judging import ROOT, Wrong, read_text
 
-FOLDER = f"{ROOT}/crates/defmap_transcripts"
+FOLDER = f"{ROOT}/crates/defmap_tool/transcripts"
 HEADING = "=== "
 COMMENT = "#"
 ENDS = "ends: "
@@ -23,6 +33,10 @@ class Script:
     lines: bytes
     printed: bytes
     begun: int = 0
+
+    def is_refused(self):
+        """Whether one of its lines is refused, and it ends there."""
+        return b"refused " in self.printed
 
 
 def bytes_of(lines):
@@ -46,10 +60,10 @@ def pieces(name):
 
 
 def paired(where, given, told):
-    """What stands in stdin, each with what stands in stdout in its place."""
+    """What stands in `scripts`, each with what stands in `answers` in its place."""
     given, told = list(given), list(told)
     if len(given) != len(told):
-        raise Wrong(f"of {where} stdin has {len(given)}, and stdout {len(told)}")
+        raise Wrong(f"of {where} scripts has {len(given)}, and answers {len(told)}")
     return zip(given, told)
 
 
@@ -72,9 +86,9 @@ class Transcripts:
 
     def __init__(self):
         self.texts, self.used, self.scripts, self.beginnings, self.rows = {}, set(), [], {}, {}
-        for (heading, own), (told, printed) in paired("the headings", pieces("stdin"), pieces("stdout")):
+        for (heading, own), (told, printed) in paired("the headings", pieces("scripts"), pieces("answers")):
             if heading != told:
-                raise Wrong(f"stdin has the heading '{heading}', and stdout '{told}'")
+                raise Wrong(f"scripts has the heading '{heading}', and answers '{told}'")
             name, *words = heading.split(" ")
             if name == COMMENT:
                 continue
@@ -83,7 +97,7 @@ class Transcripts:
                 self.used.update((name, *words[1:]))
                 self._add(heading, words[1:], self.texts[name].split("\n\n"), f"\n{printed}".split("\n\n"))
             elif printed != own:
-                raise Wrong(f"stdout has the text {name} otherwise")
+                raise Wrong(f"answers has the text {name} otherwise")
 
     def _add(self, heading, names, rows, blocks):
         """Adds the scripts behind a heading."""
@@ -94,7 +108,7 @@ class Transcripts:
         for number, (row, block) in enumerate(paired(heading, rows, blocks[1:]), 1):
             title = f"{heading}, {number}"
             if not block.startswith(f"{row}\n") and block != row:
-                raise Wrong(f"stdout has another script {title}")
+                raise Wrong(f"answers has another script {title}")
             answers = block[len(row) + 1 :]
             printed = begun + printed_by(title, answers)
             self.rows[heading].append((row, answers))

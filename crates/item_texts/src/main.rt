@@ -10,6 +10,7 @@
 //! - `visibilities`: what is written before each item; `members`: of each item the fields or variants;
 //! - `uses`: of a `use` item each use tree with the list that it stands in, its own text, and what it imports;
 //! - `errors`: each syntax error with its place;
+//! - `listing`: each public item with its kind and its name, by the caller that docs/USING.md shows;
 //! - `cfg`: each line, and whether it holds as a predicate, or the lexeme at which it is none;
 //! - `attributes`: each attribute, and how many errors and conditions there are;
 //! - `item_attributes`: of each item how many attributes it has, whether they leave it there, and the same of the inner
@@ -24,6 +25,7 @@ mod errors;
 mod heading;
 mod item_attributes;
 mod items;
+mod listing;
 mod members;
 mod parsed;
 mod tokens;
@@ -69,6 +71,7 @@ fn print_text(
     match heading.kind {
         "tokens" => tokens::print_tokens(alloc, out, heading.edition, text),
         "lexemes" => tokens::print_lexemes(alloc, out, heading.edition, text),
+        "listing" => listing::print_listing(alloc, out, text),
         "cut" => tokens::print_cuts(alloc, out, heading.edition, text),
         "cfg" => cfg::print_predicates(alloc, out, heading, text),
         "attributes" => attributes::print_attributes(alloc, out, heading, text),
