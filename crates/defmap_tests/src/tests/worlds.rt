@@ -1,6 +1,5 @@
 //! The world of two crates and two blocks, by calls of a builder: each call that can fail is made, and made again where
 //! it fails.
-mod ancestry;
 mod callers;
 mod crate_data;
 mod faults;
