@@ -6,6 +6,7 @@ use Rattle.std.specs.List.{All}
 use Rattle.std.specs.Option.{IfSome, option_map_or}
 use Rattle.dm_ids.specs.Names.{Name}
 use Rattle.dm_base.specs.PerNs.{is_empty, keep}
+use Rattle.dm_base.specs.declared.per_ns.Namespace.TheVariants.{Types, Values, Macros}
 use Rattle.dm_retry.specs.Rounds.{State}
 use Rattle.dm_collector.specs.Globs.{IsFilled, IsFilledBySource, missing, resolved}
 use Rattle.dm_collector.specs.Steps.{Bind, SeesNothing, writes}
@@ -38,9 +39,9 @@ module _ (s : State) (g : GlobImport) (o : Option Glob) (r : Glob) (found : o �
   none-seen [] some idle = refl
   none-seen (n ∷ ns) some idle =
       let first = idle 0 n (omega arith) in
-      let types : is_some (wider s.world r n).types ≡ false = subst (λ z. option_map_or (λ (x : Glob). is_some (wider s.world x n).types) z false ≡ false) means first.0 in
-      let values : is_some (wider s.world r n).values ≡ false = subst (λ z. option_map_or (λ (x : Glob). is_some (wider s.world x n).values) z false ≡ false) means first.1 in
-      let macros : is_some (wider s.world r n).macros ≡ false = subst (λ z. option_map_or (λ (x : Glob). is_some (wider s.world x n).macros) z false ≡ false) means first.2 in
+      let types : is_some (wider s.world r n).types ≡ false = subst (λ z. option_map_or (λ (x : Glob). is_some (wider s.world x n).types) z false ≡ false) means (first Types) in
+      let values : is_some (wider s.world r n).values ≡ false = subst (λ z. option_map_or (λ (x : Glob). is_some (wider s.world x n).values) z false ≡ false) means (first Values) in
+      let macros : is_some (wider s.world r n).macros ≡ false = subst (λ z. option_map_or (λ (x : Glob). is_some (wider s.world x n).macros) z false ≡ false) means (first Macros) in
       let nothing : is_nothing_wider (wider s.world r n) ≡ true = λ j. unset (wider s.world r n).types types j && unset (wider s.world r n).values values j && unset (wider s.world r n).macros macros j in
       absurd (false≢true (sym (some 0 n (omega arith)) ∙ nothing))
 

@@ -5,6 +5,8 @@ use Rattle.dm_ids.specs.Names.{Name}
 use Rattle.dm_ids.specs.Imports.{is_glob, is_glob_or_import}
 use Rattle.dm_ids.specs.declared.ids.ModuleId.{ModuleId}
 use Rattle.dm_base.specs.declared.per_ns.Item.{Item}
+use Rattle.dm_base.specs.declared.per_ns.Namespace.{Namespace}
+use Rattle.dm_base.specs.declared.per_ns.Namespace.TheVariants.{Types, Values, Macros}
 use Rattle.dm_base.specs.declared.per_ns.PerNs.{PerNs}
 use Rattle.dm_base.specs.declared.visibility.Visibility.{Visibility}
 use Rattle.dm_base.specs.Sameness.{same_def, same_macro, same_visibility}
@@ -42,6 +44,12 @@ wider_of t m bound x = record {
 -- those that a glob has yet to give under a name
 abbrev pub wider : World → Glob → Name → NewVisibilities
 wider w g n = wider_of (tree_of w) g.into (bound_in (scope_of w g.into) n) (shown w g n)
+
+-- that of the binding in a namespace, if it gets one
+abbrev pub in_namespace : Namespace → NewVisibilities → Option Visibility
+in_namespace Types v = v.types
+in_namespace Values v = v.values
+in_namespace Macros v = v.macros
 
 -- no binding gets another visibility
 abbrev pub nothing_wider : NewVisibilities

@@ -4,7 +4,7 @@ ghost use Rattle.dm_maps.specs.Known.{KnowsAll};
 ghost use Rattle.dm_collector.specs.Globs.{glob_holds};
 ghost use Rattle.dm_collector.specs.MacroUses.{Uses};
 ghost use Rattle.dm_collector.specs.declared.glob_fault.GlobFault.TheVariants as faults;
-ghost use Rattle.dm_collector.specs.Steps.{after_step, IsReached, SeeMacro, SeesNothing, SeeType, SeeValue, writes};
+ghost use Rattle.dm_collector.specs.Steps.{after_step, IsReached, See, SeesNothing, writes};
 ghost use Rattle.dm_collector.specs.Widening.{IsWideBySource};
 ghost use Rattle.dm_collector.specs.declared.sources.GlobImport.{GlobImport as Import};
 
@@ -12,6 +12,7 @@ use crate::glob_fault::GlobFault;
 use crate::sources::{GlobImport, known};
 use crate::widening::{wider, wider_names};
 use dm_base::name::Name;
+use dm_base::per_ns::Namespace;
 use dm_retry::retry::Retry;
 use std::alloc::Global;
 
@@ -70,18 +71,24 @@ fn see(retry: &mut Retry, glob: &GlobImport, name: &Name) -> Result<bool, GlobFa
         (λ fault. fault ≡ faults.Unknown
         → ¬ (KnowsAll retry.new.state.world (glob_holds glob.now))) }
 {
-    let mut written = see_type(retry, glob, name)?;
-    written |= see_value(retry, glob, name)?;
-    written |= see_macro(retry, glob, name)?;
+    let mut written = see_in(retry, glob, name, Namespace::Types)?;
+    written |= see_in(retry, glob, name, Namespace::Values)?;
+    written |= see_in(retry, glob, name, Namespace::Macros)?;
     Ok(written)
 }
 
-/// Gives the type that the module of a glob binds under a name the visibility that the glob has yet to give. Answers
-/// whether there was one.
-fn see_type(retry: &mut Retry, glob: &GlobImport, name: &Name) -> Result<bool, GlobFault>
-    ensures ok { OnOk result (retry.new.state ≡ after_step (SeeType glob.now name.now) retry.old.state) }
+/// Gives what the module of a glob binds under a name in a namespace the visibility that the glob has yet to give.
+/// Answers whether there was one.
+fn see_in(
+    retry: &mut Retry,
+    glob: &GlobImport,
+    name: &Name,
+    namespace: Namespace,
+) -> Result<bool, GlobFault>
+    ensures ok { OnOk result
+        (retry.new.state ≡ after_step (See namespace glob.now name.now) retry.old.state) }
     ensures answer { IfOk result
-        (λ written. written ≡ writes (SeeType glob.now name.now) retry.old.state) }
+        (λ written. written ≡ writes (See namespace glob.now name.now) retry.old.state) }
     ensures same { IfOk result (λ written. written ≡ false → retry.new ≡ retry.old) }
     ensures err { OnErr result (retry.new ≡ retry.old) }
     ensures unknown { IfErr result
@@ -91,51 +98,26 @@ fn see_type(retry: &mut Retry, glob: &GlobImport, name: &Name) -> Result<bool, G
     let Some(resolved) = known(retry.world(), glob)? else {
         return Ok(false);
     };
-    let Some(vis) = wider(retry.world(), resolved, name).types else {
-        return Ok(false);
-    };
-    retry.update_visibility_types(resolved.into, name, vis);
-    Ok(true)
-}
-
-/// The same of the value.
-fn see_value(retry: &mut Retry, glob: &GlobImport, name: &Name) -> Result<bool, GlobFault>
-    ensures ok { OnOk result (retry.new.state ≡ after_step (SeeValue glob.now name.now) retry.old.state) }
-    ensures answer { IfOk result
-        (λ written. written ≡ writes (SeeValue glob.now name.now) retry.old.state) }
-    ensures same { IfOk result (λ written. written ≡ false → retry.new ≡ retry.old) }
-    ensures err { OnErr result (retry.new ≡ retry.old) }
-    ensures unknown { IfErr result
-        (λ fault. fault ≡ faults.Unknown
-        → ¬ (KnowsAll retry.new.state.world (glob_holds glob.now))) }
-{
-    let Some(resolved) = known(retry.world(), glob)? else {
-        return Ok(false);
-    };
-    let Some(vis) = wider(retry.world(), resolved, name).values else {
-        return Ok(false);
-    };
-    retry.update_visibility_values(resolved.into, name, vis);
-    Ok(true)
-}
-
-/// The same of the macro.
-fn see_macro(retry: &mut Retry, glob: &GlobImport, name: &Name) -> Result<bool, GlobFault>
-    ensures ok { OnOk result (retry.new.state ≡ after_step (SeeMacro glob.now name.now) retry.old.state) }
-    ensures answer { IfOk result
-        (λ written. written ≡ writes (SeeMacro glob.now name.now) retry.old.state) }
-    ensures same { IfOk result (λ written. written ≡ false → retry.new ≡ retry.old) }
-    ensures err { OnErr result (retry.new ≡ retry.old) }
-    ensures unknown { IfErr result
-        (λ fault. fault ≡ faults.Unknown
-        → ¬ (KnowsAll retry.new.state.world (glob_holds glob.now))) }
-{
-    let Some(resolved) = known(retry.world(), glob)? else {
-        return Ok(false);
-    };
-    let Some(vis) = wider(retry.world(), resolved, name).macros else {
-        return Ok(false);
-    };
-    retry.update_visibility_macros(resolved.into, name, vis);
+    let given = wider(retry.world(), resolved, name);
+    match namespace {
+        Namespace::Types => {
+            let Some(vis) = given.types else {
+                return Ok(false);
+            };
+            retry.update_visibility_types(resolved.into, name, vis);
+        }
+        Namespace::Values => {
+            let Some(vis) = given.values else {
+                return Ok(false);
+            };
+            retry.update_visibility_values(resolved.into, name, vis);
+        }
+        Namespace::Macros => {
+            let Some(vis) = given.macros else {
+                return Ok(false);
+            };
+            retry.update_visibility_macros(resolved.into, name, vis);
+        }
+    }
     Ok(true)
 }
