@@ -75,6 +75,11 @@ fn the_callers_of_the_page_see_what_it_says(rt: HostRuntime) {
     let item = PerNs::types(ModuleDefId::ModuleId(ModuleId(2)), inside(1), None);
     same(&rt, &seen_from(&tree, ModuleId(2), item), &item);
     same(&rt, &seen_from(&tree, ModuleId(3), item), &PerNs::none());
+}
+
+#[test]
+fn the_callers_of_the_page_say_who_sees_more(rt: HostRuntime) {
+    let tree = SmallTree::new();
     assert!(rt;
         is_reached(
             &tree,

@@ -2,8 +2,6 @@
 //! program that goes from tables to an answer.
 mod asked;
 mod built;
-mod later;
-mod pushed;
 
 use super::{Bound, Building, FILE, structure};
 use crate::tests::gives;
