@@ -20,11 +20,21 @@ use std::alloc::{AllocError, Global};
 use std::marker::Model;
 
 /// The modules of a crate, with what was read of their files.
-#[derive(Drop)]
 pub struct CrateModules {
     sources: Sources,
     modules: Vec<DeclaredModule>,
     faults: Vec<ModuleFault>,
+}
+
+/// Hand-written `Drop`, to keep proofs small: dropping one is then a single call.
+impl Drop for CrateModules {
+    fn drop(self) {
+        let CrateModules {
+            sources: _sources,
+            modules: _modules,
+            faults: _faults,
+        } = self;
+    }
 }
 
 impl Model for CrateModules {

@@ -18,7 +18,6 @@ use std::alloc::{AllocError, Global};
 use std::marker::Model;
 
 /// A file, as a crate of some edition and options reads it.
-#[derive(Drop)]
 pub struct Source {
     lexemes: Vec<Lexeme>,
     partners: Vec<usize>,
@@ -28,6 +27,22 @@ pub struct Source {
     standings: Vec<Standing>,
     mods: Vec<ModItem>,
     is_enabled: bool,
+}
+
+/// Hand-written `Drop`, to keep proofs small: dropping one is then a single call.
+impl Drop for Source {
+    fn drop(self) {
+        let Source {
+            lexemes: _lexemes,
+            partners: _partners,
+            tree: _tree,
+            attributes: _attributes,
+            active: _active,
+            standings: _standings,
+            mods: _mods,
+            is_enabled: _is_enabled,
+        } = self;
+    }
 }
 
 impl Model for Source {

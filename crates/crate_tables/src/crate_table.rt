@@ -18,7 +18,6 @@ use std::marker::Model;
 
 /// What a crate has in a builder: for each module of its list the id, unless it was left out, the names that its modules
 /// declare, what they import, and where each use, each definition and each block is written.
-#[derive(Drop)]
 pub struct CrateTable {
     ids: Vec<Option<ModuleId>>,
     names: Vec<DeclaredName>,
@@ -26,6 +25,20 @@ pub struct CrateTable {
     uses: Vec<UsePlace>,
     defs: Vec<DefPlace>,
     blocks: Vec<BlockPlace>,
+}
+
+/// Hand-written `Drop`, to keep proofs small: dropping one is then a single call.
+impl Drop for CrateTable {
+    fn drop(self) {
+        let CrateTable {
+            ids: _ids,
+            names: _names,
+            leaves: _leaves,
+            uses: _uses,
+            defs: _defs,
+            blocks: _blocks,
+        } = self;
+    }
 }
 
 impl Model for CrateTable {

@@ -11,12 +11,22 @@ use dm_ids::name::Name;
 use std::alloc::{AllocError, Global};
 
 /// A graph, and the number in it of each plan whose root was read.
-#[derive(Drop)]
 pub(crate) struct PlannedGraph {
     pub(crate) graph: CrateGraph,
     pub(crate) numbers: Vec<Option<Crate>>,
     /// The plan of each crate of the graph.
     pub(crate) plans_of: Vec<usize>,
+}
+
+/// Hand-written `Drop`, to keep proofs small: dropping one is then a single call.
+impl Drop for PlannedGraph {
+    fn drop(self) {
+        let PlannedGraph {
+            graph: _graph,
+            numbers: _numbers,
+            plans_of: _plans_of,
+        } = self;
+    }
 }
 
 fn number_of(numbers: &[Option<Crate>], plan: usize) -> Option<Crate> {

@@ -153,11 +153,21 @@ fn take_name(names: &mut IndexSet<Name>, name: &Name)
 }
 
 /// The names that globs bound, in each namespace. Explicit names shadow them.
-#[derive(Drop)]
 pub struct PerNsGlobImports {
     pub(crate) types: GlobFlags,
     pub(crate) values: GlobFlags,
     pub(crate) macros: GlobFlags,
+}
+
+/// Hand-written `Drop`, to keep proofs small: dropping one is then a single call.
+impl Drop for PerNsGlobImports {
+    fn drop(self) {
+        let PerNsGlobImports {
+            types: _types,
+            values: _values,
+            macros: _macros,
+        } = self;
+    }
 }
 
 impl Model for PerNsGlobImports {
