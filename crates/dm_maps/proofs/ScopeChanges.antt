@@ -20,10 +20,10 @@ use Rattle.dm_base.specs.declared.per_ns.Item.{Item}
 use Rattle.dm_base.specs.declared.per_ns.Namespace.{Namespace}
 use Rattle.dm_base.specs.declared.per_ns.Namespace.TheVariants.{Types, Values, Macros}
 use Rattle.dm_base.specs.declared.visibility.Visibility.{Visibility}
-use Rattle.dm_scope.specs.Changes.{change_item, with_vis}
+use Rattle.dm_bindings.specs.Changes.{change_item, with_vis}
 use Rattle.dm_scope.specs.ChainSteps.{record_count}
 use Rattle.dm_scope.specs.Records.{records_in}
-use Rattle.dm_scope.specs.Flags.{Globs}
+use Rattle.dm_bindings.specs.Flags.{Globs}
 use Rattle.dm_scope.specs.Scope.{Scope, no_scope}
 use Rattle.dm_scope.specs.Shows.{ScopePush, Shows}
 use Rattle.dm_scope.specs.Tables.{all_records}

@@ -2,7 +2,8 @@
 ghost use Rattle.std.specs.Prelude.{◌≡◌, option_map, option_copied, find, slice_get};
 ghost use Rattle.std.specs.Map.{lookup};
 ghost use Rattle.dm_ids.specs.Names.{find_name};
-ghost use Rattle.dm_scope.specs.Lookups.{def_and_vis, deref_named, names_for, MayAskNames, AsksNames, trait_vis};
+ghost use Rattle.dm_bindings.specs.Lookups.{deref_named, MayAskNames, AsksNames};
+ghost use Rattle.dm_scope.specs.Lookups.{def_and_vis, names_for, trait_vis};
 ghost use Rattle.dm_base.specs.Sameness.{same_ast};
 
 use super::ItemScope;
