@@ -1,13 +1,12 @@
 pub mod DeriveLemmas
 pub mod DumpLemmas
 pub mod CallLemmas
-pub mod ChainLemmas
-pub mod ChainTables
 pub mod ChangeLemmas
 pub mod ClosedLemmas
 pub mod LawLemmas
 pub mod LookupLemmas
 pub mod ReadingLemmas
+pub mod RecordLemmas
 pub mod RestLemmas
 pub mod SortLemmas
 pub mod TableListLemmas

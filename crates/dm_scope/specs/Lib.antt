@@ -1,6 +1,5 @@
 pub mod AllCalls
 pub mod ChainRows
-pub mod ChainSteps
 pub mod Chains
 pub mod Derives
 pub mod DumpRows

@@ -8,7 +8,6 @@ ghost use Rattle.dm_scope.specs.Shows.{Shows};
 mod changes;
 mod derive_attributes;
 mod dump;
-mod import_chains;
 mod lists;
 mod lookups;
 mod mutators;

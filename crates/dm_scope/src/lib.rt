@@ -1,7 +1,6 @@
 //! `ItemScope`: what a module binds under each name, and how pushes (`push_res_with_import`) fill it.
 #![tactic(auto)]
 
-mod circles;
 pub mod derives;
 pub mod diagnostics;
 pub mod glob_imports;

@@ -1,8 +1,8 @@
 use Rattle.std.proofs.Common.{◌≡◌, ◌∙◌, Some, ap, sym, subst, arith, rules, IfSome}
 use Rattle.dm_scope.specs.Chains.{Pair, at_home}
-use Rattle.dm_scope.specs.ChainSteps.{WasPassed}
-use Rattle.dm_scope.proofs.ChainTables.{found-step, found-round, passed-step, same_import_id}
-use Rattle.dm_scope.proofs.item_scope.ItemScope.chain_end.Goals as goal
+use Rattle.dm_chains.specs.ChainSteps.{WasPassed}
+use Rattle.dm_chains.proofs.ChainTables.{found-step, found-round, passed-step, same_import_id}
+use Rattle.dm_chains.proofs.import_chains.chain_end.Goals as goal
 
 pub returns-then-eq : goal.returns-then-eq
 returns-then-eq g c =

@@ -8,9 +8,8 @@ use Rattle.std.specs.Set.{is_member}
 use Rattle.std.proofs.lemmas.List.{length-map, map-append}
 use Rattle.std.proofs.lemmas.List.Folds.{list_any-append}
 use Rattle.std.proofs.lemmas.Map.Made.{is_some-lookup}
-use Rattle.dm_ids.specs.Imports.{widened}
 use Rattle.dm_base.specs.Definitions.{widened_macro}
-use Rattle.dm_base.specs.Sameness.{same_import, same_value_import}
+use Rattle.dm_base.specs.Sameness.{same_import}
 use Rattle.dm_ids.specs.contracts.imports.ImportIdPartialEq.TheImpl as id_eq
 use Rattle.dm_ids.specs.contracts.imports.ImportOrExternCrateEq.TheImpl.Laws as import_eq
 use Rattle.dm_ids.specs.contracts.value_eq.ImportIdValueEq.TheImpl.Laws as id_value
@@ -19,28 +18,16 @@ use Rattle.dm_ids.specs.declared.imports.ImportId.{ImportId}
 use Rattle.dm_ids.specs.declared.imports.ImportOrDef.{ImportOrDef}
 use Rattle.dm_ids.specs.declared.imports.ImportOrDef.TheVariants.{Import, Glob, ExternCrate, Def}
 use Rattle.dm_ids.specs.declared.imports.ImportOrExternCrate.TheVariants as wide
-use Rattle.dm_ids.specs.declared.imports.ImportOrGlob.{ImportOrGlob}
-use Rattle.dm_ids.specs.declared.imports.ImportOrGlob.TheVariants as narrow
 use Rattle.dm_ids.specs.declared.item_ids.MacroId.{MacroId}
 use Rattle.dm_ids.specs.declared.item_ids.ModuleDefId.{ModuleDefId}
 use Rattle.dm_ids.specs.declared.item_ids.ModuleDefId.TheVariants as def
 use Rattle.dm_base.specs.declared.per_ns.Item.{Item}
 use Rattle.dm_base.specs.declared.per_ns.Namespace.{Namespace}
 use Rattle.dm_scope.specs.Chains.{Pair, EndsIn, IsFound, named_import, def_of, at_home, leads, ends, record_of, public_item}
-use Rattle.dm_scope.specs.ChainSteps.{WasPassed, found_within, found_from, record_count, macro_of}
+use Rattle.dm_chains.specs.ChainSteps.{WasPassed, found_within, found_from, macro_of}
 use Rattle.dm_scope.specs.Records.{records_in}
-use Rattle.dm_scope.specs.Tables.{Tables, all_records}
-use Rattle.dm_scope.proofs.ChainLemmas.{some_is, found_within-ends, found_within-keys, found_within-round, chain_append, last_append}
-
--- an import of values is looked up as it is seen among all imports
-same_widened : (i : ImportId) (x : ImportOrGlob) → same_value_import (narrow.Import i) x ≡ same_import (wide.Import i) (widened x)
-same_widened i (narrow.Glob g) = refl
-same_widened i (narrow.Import j) = refl
-
-pub lookup_widened : (i : ImportId) (es : List (ImportOrGlob × ImportOrDef))
-    → lookup (same_value_import (narrow.Import i)) es ≡ lookup (same_import (wide.Import i)) (map (λ e. (widened e.0, e.1)) es)
-lookup_widened i [] = refl
-lookup_widened i (e ∷ es) = ap (λ b. cond b (Some e.1) (lookup (same_value_import (narrow.Import i)) es)) (same_widened i e.0) ∙ ap (cond (same_import (wide.Import i) (widened e.0)) (Some e.1)) (lookup_widened i es)
+use Rattle.dm_scope.specs.Tables.{Tables, all_records, record_count}
+use Rattle.dm_chains.proofs.ChainLemmas.{some_is, found_within-ends, found_within-keys, found_within-round, chain_append, last_append}
 
 import_is : (i j : ImportId) → same_import (wide.Import i) (wide.Import j) ≡ true → i ≡ j
 import_is = id_value.same-law

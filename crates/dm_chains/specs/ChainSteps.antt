@@ -1,5 +1,5 @@
 -- What a walk along an import chain finds, in a bounded number of steps.
-use Rattle.std.specs.Prelude.{◌≡◌, ℕ, List, zero, suc, ◌^◌, ◌-◌, length, min, Option, None, Some}
+use Rattle.std.specs.Prelude.{◌≡◌, ℕ, List, zero, suc, Option, None, Some}
 use Rattle.std.specs.Option.{option_and_then, option_or}
 use Rattle.dm_ids.specs.declared.imports.ImportId.{ImportId}
 use Rattle.dm_ids.specs.declared.item_ids.MacroId.{MacroId}
@@ -7,16 +7,12 @@ use Rattle.dm_ids.specs.declared.item_ids.ModuleDefId.{ModuleDefId}
 use Rattle.dm_ids.specs.declared.item_ids.ModuleDefId.TheVariants as def
 use Rattle.dm_base.specs.declared.per_ns.Namespace.{Namespace}
 use Rattle.dm_scope.specs.Chains.{Pair, IsChain, at_home, leads, ends, last_from}
-use Rattle.dm_scope.specs.Tables.{Tables, all_records}
+use Rattle.dm_scope.specs.Tables.{Tables, record_count}
 
 -- what at most n pairs find
 abbrev pub found_within : {X D : Type 0} → (X → Option X) → (X → Option D) → ℕ → X → Option D
 found_within next end zero x = None
 found_within next end (suc n) x = option_or (end x) (option_and_then (found_within next end n) (next x))
-
--- how many records are counted
-abbrev pub record_count : Namespace → Tables → ℕ
-record_count ns t = min (length (all_records ns t)) (2 ^ 64 - 1)
 
 -- what one pair more than there are records finds
 abbrev pub found_from : Namespace → Tables → Pair → Option ModuleDefId

@@ -7,7 +7,7 @@ use Rattle.std.specs.Option.{option_and_then, option_or}
 use Rattle.std.proofs.lemmas.Map.Made.{length-le_from_is_member}
 use Rattle.std.proofs.lemmas.List.{length-map, length-append}
 use Rattle.dm_scope.specs.Chains.{last_from, IsChain, EndsIn}
-use Rattle.dm_scope.specs.ChainSteps.{found_within}
+use Rattle.dm_chains.specs.ChainSteps.{found_within}
 
 pub some_is : {X : Type 0} (x y : X) → Some x ≡ Some y → x ≡ y
 some_is x y e = cc
