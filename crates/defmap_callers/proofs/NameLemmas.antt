@@ -4,7 +4,7 @@ use Rattle.std.specs.Borrow.{Bor}
 use Rattle.std.specs.List.{cons_option, filter_map}
 use Rattle.dm_ids.specs.Names.{Name}
 use Rattle.dm_base.specs.declared.visibility.Visibility.{Visibility}
-use Rattle.dm_scope.specs.Lookups.{AsksName, AsksNames}
+use Rattle.dm_bindings.specs.Lookups.{AsksName, AsksNames}
 
 -- the first answer that is there, where each answer is that of a test
 pub AsksNames-first : {F T : Type 0} (step : F → Bor Name → Visibility → Bool → Option T → F → Type 0) (xs : List (Name × Visibility × Bool)) (f : F) (r : Option T) (g : F) → AsksNames step xs f r g

@@ -3,10 +3,10 @@ ghost use Rattle.std.specs.Prelude.{◌≡◌, ◌↔◌, ◌<◌, ◌^◌, IsTr
 ghost use Rattle.dm_ids.specs.declared.ids.ModuleId.{ModuleId};
 ghost use Rattle.dm_base.specs.PerNs.{type_alone};
 ghost use Rattle.dm_scope.specs.Chains.{EndsIn, leads, ends};
-ghost use Rattle.dm_scope.specs.Flags.{Globs};
+ghost use Rattle.dm_bindings.specs.Flags.{Globs};
 ghost use Rattle.dm_scope.specs.Lookups.{def_and_vis};
 ghost use Rattle.dm_scope.specs.Push.{types_reading};
-ghost use Rattle.dm_scope.specs.Pushes.{binding};
+ghost use Rattle.dm_bindings.specs.Pushes.{binding};
 ghost use Rattle.dm_scope.specs.Shows.{PushShows, ScopePush, Shows, push_of, pushes_in};
 ghost use Rattle.dm_scope.specs.Tables.{all_records};
 
@@ -20,6 +20,7 @@ use dm_scope::diagnostics::SaidEq;
 use dm_scope::glob_imports::PerNsGlobImports;
 use dm_scope::item_scope::ItemScope;
 use dm_scope::scope_tables::ScopeTables;
+use hir_def_map::item_scope::ImportChains;
 use std::alloc::AllocError;
 
 /// Declares a public type in a module: the list of pushes that scope and table show has it last.

@@ -5,6 +5,7 @@ use crate::engine::Reply;
 use crate::fault::Fault;
 use dm_base::ids::ModuleId;
 use dm_base::imports::ImportId;
+use dm_chains::import_chains::ImportChains;
 use dm_maps::world::World;
 use dm_scope::scope_tables::ScopeTables;
 

@@ -10,7 +10,7 @@ use Rattle.dm_ids.specs.Names.{Name, same_name}
 use Rattle.dm_base.specs.declared.per_ns.Namespace.{Namespace}
 use Rattle.dm_base.specs.declared.per_ns.Namespace.TheVariants.{Types, Values, Macros}
 use Rattle.dm_scope.specs.declared.diagnostics.DefDiagnostic.{DefDiagnostic}
-use Rattle.dm_scope.specs.ChainSteps.{record_count}
+use Rattle.dm_scope.specs.Tables.{record_count}
 use Rattle.dm_scope.specs.Records.{records_in}
 use Rattle.dm_scope.specs.Scope.{Scope, no_scope}
 use Rattle.dm_check.specs.declared.fault.Holder.TheVariants as holder

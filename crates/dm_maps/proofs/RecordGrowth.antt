@@ -13,13 +13,12 @@ use Rattle.dm_base.specs.declared.per_ns.Item.{Item}
 use Rattle.dm_base.specs.declared.per_ns.Namespace.{Namespace}
 use Rattle.dm_base.specs.declared.per_ns.Namespace.TheVariants.{Types, Values, Macros}
 use Rattle.dm_base.specs.declared.per_ns.PerNs.{PerNs}
-use Rattle.dm_scope.specs.Bindings.{Bound, Reading, bound, bound_after, import_of, recorded, with_record, writes}
-use Rattle.dm_scope.specs.Flags.{Flags, Globs, has_flag}
+use Rattle.dm_bindings.specs.Bindings.{Bound, Reading, bound, bound_after, import_of, recorded, with_record, writes}
+use Rattle.dm_bindings.specs.Flags.{Flags, Globs, has_flag}
 use Rattle.dm_scope.specs.Push.{scope_after, types_reading, values_reading, macros_reading}
-use Rattle.dm_scope.specs.ChainSteps.{record_count}
+use Rattle.dm_scope.specs.Tables.{record_count, all_records}
 use Rattle.dm_scope.specs.Records.{records_in}
 use Rattle.dm_scope.specs.Scope.{Scope, no_scope}
-use Rattle.dm_scope.specs.Tables.{all_records}
 use Rattle.dm_def_map.specs.Maps.{Module}
 use Rattle.dm_maps.specs.PushRes.{with_push}
 use Rattle.dm_maps.specs.ScopeTables.{scope_at_place, scope_tables}

@@ -20,13 +20,12 @@ use Rattle.dm_base.specs.declared.per_ns.Item.{Item}
 use Rattle.dm_base.specs.declared.per_ns.Namespace.{Namespace}
 use Rattle.dm_base.specs.declared.per_ns.Namespace.TheVariants.{Types, Values, Macros}
 use Rattle.dm_base.specs.declared.visibility.Visibility.{Visibility}
-use Rattle.dm_scope.specs.Changes.{change_item, with_vis}
-use Rattle.dm_scope.specs.ChainSteps.{record_count}
+use Rattle.dm_bindings.specs.Changes.{change_item, with_vis}
+use Rattle.dm_scope.specs.Tables.{record_count, all_records}
 use Rattle.dm_scope.specs.Records.{records_in}
-use Rattle.dm_scope.specs.Flags.{Globs}
+use Rattle.dm_bindings.specs.Flags.{Globs}
 use Rattle.dm_scope.specs.Scope.{Scope, no_scope}
 use Rattle.dm_scope.specs.Shows.{ScopePush, Shows}
-use Rattle.dm_scope.specs.Tables.{all_records}
 use Rattle.dm_check.specs.declared.held.HeldId.{HeldId}
 use Rattle.dm_check.specs.declared.held.HeldId.TheVariants as held
 use Rattle.dm_check.specs.Holding.{def_holds, vis_holds, import_holds, value_import_holds, type_holds, value_holds, macro_holds}

@@ -6,7 +6,8 @@ use Rattle.std.proofs.lemmas.Option.{slice_get-map, slice_get_within}
 use Rattle.std.proofs.lemmas.Bool.{lt-ltb, eqb-true}
 use Rattle.std.proofs.lemmas.List.{length-map}
 use Rattle.dm_maps.proofs.Ids.{BlockId, ExternCrateId, MacroId, MapId, ModuleId, Name, Place, UseId, find_name, same_name}
-use Rattle.dm_scope.specs.Scope.{Scope, no_scope, bound_in, legacy_in, last_of}
+use Rattle.dm_bindings.specs.Pushes.{last_of}
+use Rattle.dm_scope.specs.Scope.{Scope, no_scope, bound_in, legacy_in}
 use Rattle.dm_check.specs.declared.held.HeldId.{HeldId}
 use Rattle.dm_check.specs.declared.held.HeldId.TheVariants as held
 use Rattle.dm_def_map.specs.Maps.{Map, Module, Modules, LocalMap, module_at, nth_module}

@@ -25,7 +25,8 @@ use Rattle.dm_ids.specs.declared.macros.MacroCallStyles.{MacroCallStyles}
 use Rattle.dm_ids.specs.declared.macros.MacroLoc.{MacroLoc}
 use Rattle.dm_ids.specs.Names.{Name, same_name, find_name}
 use Rattle.dm_ids.specs.Builtins.{builtin_words}
-use Rattle.dm_scope.specs.Scope.{Scope, no_scope, bound_in, legacy_in, last_of}
+use Rattle.dm_bindings.specs.Pushes.{last_of}
+use Rattle.dm_scope.specs.Scope.{Scope, no_scope, bound_in, legacy_in}
 use Rattle.dm_scope.specs.Tables.{no_style}
 use Rattle.dm_def_map.specs.Variants.{Variants, Enums, same_enum, variants_in}
 use Rattle.dm_check.specs.Kinds.{macro_number}

@@ -2,7 +2,7 @@
 use Rattle.std.specs.Prelude.{◌≡◌, ℕ}
 use Rattle.dm_base.specs.declared.per_ns.Namespace.{Namespace}
 use Rattle.dm_base.specs.declared.per_ns.Namespace.TheVariants.{Types, Values, Macros}
-use Rattle.dm_scope.specs.ChainSteps.{record_count}
+use Rattle.dm_scope.specs.Tables.{record_count}
 use Rattle.dm_maps.specs.declared.world.record_counts.RecordCounts.{RecordCounts}
 use Rattle.dm_maps.specs.ScopeTables.{scope_tables}
 use Rattle.dm_maps.specs.World.{World}

@@ -1,4 +1,4 @@
--- A push makes a namespace, and a scope, show one push more.
+-- A push makes a scope show one push more.
 use Rattle.std.proofs.Common.{◌≡◌, Bool, true, false, cond, not, ◌&&◌, ◌||◌, List, [], ◌∷◌, ◌++◌, append-nil, Option, None, Some, refl, sym, ap, subst, ◌∙◌}
 use Rattle.std.specs.Option.{option_map, option_map_or}
 use Rattle.std.specs.List.{list_any, filter_map}
@@ -13,26 +13,20 @@ use Rattle.dm_ids.specs.declared.ids.ModuleId.{ModuleId}
 use Rattle.dm_base.specs.declared.per_ns.Item.{Item}
 use Rattle.dm_base.specs.declared.per_ns.PerNs.{PerNs}
 use Rattle.dm_ids.specs.declared.imports.ImportOrExternCrate.{ImportOrExternCrate}
-use Rattle.dm_scope.specs.Bindings.{Bound, Reading, import_of, is_effective_at, bound_after, flags_after}
-use Rattle.dm_scope.specs.Flags.{Flags, Globs, has_flag, no_flags, no_globs}
+use Rattle.dm_bindings.specs.Bindings.{Bound, Reading, import_of, is_effective_at, bound_after, flags_after}
+use Rattle.dm_bindings.specs.Flags.{Flags, Globs, has_flag, no_flags, no_globs}
 use Rattle.dm_base.specs.PerNs.{is_empty}
 use Rattle.dm_scope.specs.Push.{types_reading, values_reading, macros_reading, unresolved_after, scope_after, globs_after, push_answer}
-use Rattle.dm_scope.specs.Pushes.{Push, is_effective, ShowsIn}
+use Rattle.dm_bindings.specs.Pushes.{Push, is_effective, ShowsIn}
 use Rattle.dm_scope.specs.Scope.{Scope, no_scope}
 use Rattle.dm_scope.specs.Shows.{ScopePush, push_in, pushes_in, is_effective_in, has_empty_push, is_answered, Shows}
-use Rattle.dm_scope.proofs.FlagLemmas.{has_flag-after, has_flag-elsewhere}
-use Rattle.dm_scope.proofs.PushLemmas.{IsReading}
+use Rattle.dm_bindings.proofs.ClosedLemmas.{ShowsIn-after, is_effective-after}
+use Rattle.dm_bindings.proofs.FlagLemmas.{has_flag-elsewhere}
+use Rattle.dm_bindings.proofs.PushLemmas.{IsReading}
 use Rattle.dm_scope.proofs.ReadingLemmas.{types_lawful, values_lawful, macros_lawful}
-use Rattle.dm_scope.proofs.ShowLemmas.{ShowsIn-none, ShowsIn-push, ShowsIn-writes}
+use Rattle.dm_bindings.proofs.ShowLemmas.{ShowsIn-none}
 
 module _ {D I : Type 0} (r : Reading D I) (law : IsReading r) (s : Bound D I) (f : Flags) (m : ModuleId) where
-  module _ (ps : List (Push D I)) (shows : ShowsIn r s (has_flag f m) ps) (name : Name) (item : Item D I) (by : Option ImportOrExternCrate) where
-    pub ShowsIn-after : ShowsIn r (bound_after r s f m name (Some item) by) (has_flag (flags_after r s f m name (Some item) by) m) (ps ++ record { name = name; item = item; by = import_of r by } ∷ [])
-    ShowsIn-after = ShowsIn-push r law s (has_flag f m) _ ps (record { name = name; item = item; by = import_of r by }) shows (has_flag-after r f (is_effective_at r s f m name (Some item) by) m name (import_of r by))
-
-    pub is_effective-after : is_effective_at r s f m name (Some item) by ≡ is_effective r ps (record { name = name; item = item; by = import_of r by })
-    is_effective-after = ShowsIn-writes r law s (has_flag f m) ps (record { name = name; item = item; by = import_of r by }) shows
-
   module _ (of : PerNs → Option (Item D I)) (ps : List ScopePush) (shows : ShowsIn r s (has_flag f m) (pushes_in r of ps)) (p : ScopePush) where
     pub ShowsIn-pushes_in : ShowsIn r (bound_after r s f m p.name (of p.res) p.by) (has_flag (flags_after r s f m p.name (of p.res) p.by) m) (pushes_in r of (ps ++ p ∷ []))
     ShowsIn-pushes_in = subst (λ qs. ShowsIn r (bound_after r s f m p.name (of p.res) p.by) (has_flag (flags_after r s f m p.name (of p.res) p.by) m) qs) (sym (filter_map-append (push_in r of) ps (p ∷ []))) (at (of p.res))
@@ -40,14 +34,14 @@ module _ {D I : Type 0} (r : Reading D I) (law : IsReading r) (s : Bound D I) (f
         at : (o : Option (Item D I)) → ShowsIn r (bound_after r s f m p.name o p.by) (has_flag (flags_after r s f m p.name o p.by) m)
             (pushes_in r of ps ++ filter_map (λ (q : ScopePush). option_map (λ x. record { name = p.name; item = x; by = import_of r p.by }) o) (p ∷ []))
         at None = subst (λ qs. ShowsIn r s (has_flag f m) qs) (sym (append-nil (pushes_in r of ps))) shows
-        at (Some x) = ShowsIn-after (pushes_in r of ps) shows p.name x p.by
+        at (Some x) = ShowsIn-after r law s f m (pushes_in r of ps) shows p.name x p.by
 
     pub is_effective-pushes_in : is_effective_at r s f m p.name (of p.res) p.by ≡ is_effective_in r of ps p
     is_effective-pushes_in = at (of p.res)
       where
         at : (o : Option (Item D I)) → is_effective_at r s f m p.name o p.by ≡ option_map_or (is_effective r (pushes_in r of ps)) (option_map (λ x. record { name = p.name; item = x; by = import_of r p.by }) o) false
         at None = refl
-        at (Some x) = is_effective-after (pushes_in r of ps) shows p.name x p.by
+        at (Some x) = is_effective-after r law s f m (pushes_in r of ps) shows p.name x p.by
 
 -- flags of another module are read as before
 module _ {D I : Type 0} (r : Reading D I) (s : Bound D I) (f : Flags) (m : ModuleId) where

@@ -8,7 +8,7 @@ use Rattle.dm_ids.specs.contracts.value_eq.ImportOrGlobValueEq.TheImpl.Laws as v
 use Rattle.dm_ids.specs.contracts.value_eq.MacroIdValueEq.TheImpl.Laws as macro_value
 use Rattle.dm_ids.specs.contracts.value_eq.ModuleDefIdValueEq.TheImpl.Laws as def_value
 use Rattle.dm_scope.specs.Push.{types_reading, values_reading, macros_reading}
-use Rattle.dm_scope.proofs.PushLemmas.{IsReading}
+use Rattle.dm_bindings.proofs.PushLemmas.{IsReading}
 
 pub types_lawful : IsReading types_reading
 types_lawful = record { import_refl = import_eq.laws-law.refl; import_same = import_value.same-law; def_refl = def_eq.laws-law.refl; def_same = def_value.same-law }

@@ -9,11 +9,11 @@ use Rattle.dm_ids.specs.Names.{Name, same_name, find_name}
 use Rattle.dm_ids.specs.declared.imports.ImportOrExternCrate.{ImportOrExternCrate}
 use Rattle.dm_base.specs.Tree.{same_module}
 use Rattle.dm_base.specs.declared.per_ns.Item.{Item}
-use Rattle.dm_scope.specs.Bindings.{Bound, Reading, import_of, is_glob, is_same, writes, stored, bound, flagged, is_effective_at, bound_after, flags_after}
-use Rattle.dm_scope.specs.Flags.{Flags, has_flag}
-use Rattle.dm_scope.proofs.FlagLemmas.{has_flag-with, has_flag-after, has_flag-elsewhere}
-use Rattle.dm_scope.proofs.PushLemmas.{IsReading, is_same-turned}
-use Rattle.dm_scope.proofs.ShowLemmas.{lookup-insert_entry}
+use Rattle.dm_bindings.specs.Bindings.{Bound, Reading, import_of, is_glob, is_same, writes, stored, bound, flagged, is_effective_at, bound_after, flags_after}
+use Rattle.dm_bindings.specs.Flags.{Flags, has_flag}
+use Rattle.dm_bindings.proofs.FlagLemmas.{has_flag-with, has_flag-after, has_flag-elsewhere}
+use Rattle.dm_bindings.proofs.PushLemmas.{IsReading, is_same-turned}
+use Rattle.dm_bindings.proofs.ShowLemmas.{lookup-insert_entry}
 
 module _ {D I : Type 0} (r : Reading D I) where
   -- a push that writes nothing leaves the bindings and the flags

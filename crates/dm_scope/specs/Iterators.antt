@@ -12,10 +12,6 @@ use Rattle.dm_base.specs.declared.per_ns.Item.{Item}
 use Rattle.dm_base.specs.declared.visibility.Visibility.{Visibility}
 use Rattle.dm_ids.specs.Names.{Name}
 
--- what a name's reference points to, beside what comes with it
-abbrev pub deref_name : {X : Type 0} → Bor Name × X → Name × X
-deref_name p = (p.0.now, p.1)
-
 -- the module that a type is, with its visibility
 abbrev pub seen_module : ModuleDefId → Visibility → Option (ModuleId × Visibility)
 seen_module (def.ModuleId m) v = Some (m, v)

@@ -5,12 +5,14 @@ use Rattle.dm_ids.specs.declared.ids.BuiltinDeriveImplId.{BuiltinDeriveImplId}
 use Rattle.dm_ids.specs.declared.ids.ExternBlockId.{ExternBlockId}
 use Rattle.dm_ids.specs.declared.ids.ExternCrateId.{ExternCrateId}
 use Rattle.dm_ids.specs.declared.ids.ConstId.{ConstId}
+use Rattle.dm_ids.specs.declared.ids.Crate.{Crate}
 use Rattle.dm_ids.specs.declared.ids.TraitId.{TraitId}
 use Rattle.dm_ids.specs.declared.ids.MacroCallId.{MacroCallId}
 use Rattle.dm_ids.specs.declared.source.AstId.{AstId}
 use Rattle.dm_ids.specs.declared.imports.ImportId.{ImportId}
 use Rattle.dm_ids.specs.declared.item_ids.MacroId.{MacroId}
 use Rattle.dm_base.specs.declared.visibility.Visibility.{Visibility}
+use Rattle.dm_base.specs.declared.visibility.Visibility.TheVariants.{PubCrate}
 use Rattle.dm_ids.specs.Names.{Name}
 use Rattle.dm_scope.specs.declared.rare.RareTables.{RareTables}
 use Rattle.dm_scope.specs.Derives.{Derive, derives_of}
@@ -66,3 +68,7 @@ rare_in t = record {
 abbrev pub rare_of : Option RareTables → RareScope
 rare_of None = no_rare
 rare_of (Some t) = rare_in t
+
+-- an unnamed trait restricted to its crate
+abbrev pub censored_trait : Crate → TraitId × Visibility × Option ImportId → TraitId × Visibility × Option ImportId
+censored_trait k t = (t.0, PubCrate k, t.2)

@@ -1,5 +1,5 @@
 -- `ItemScope`, as contracts see it.
-use Rattle.std.specs.Prelude.{Bool, List, [], ◌∷◌, Option, Some, None}
+use Rattle.std.specs.Prelude.{Bool, List, [], Option, Some, None}
 use Rattle.dm_ids.specs.declared.ids.ImplId.{ImplId}
 use Rattle.dm_ids.specs.declared.ids.BuiltinDeriveImplId.{BuiltinDeriveImplId}
 use Rattle.dm_ids.specs.declared.ids.ExternBlockId.{ExternBlockId}
@@ -16,7 +16,8 @@ use Rattle.dm_ids.specs.declared.item_ids.MacroId.{MacroId}
 use Rattle.dm_base.specs.declared.per_ns.PerNs.{PerNs}
 use Rattle.dm_base.specs.declared.visibility.Visibility.{Visibility}
 use Rattle.dm_ids.specs.Names.{Name, find_name}
-use Rattle.dm_scope.specs.Bindings.{Bound}
+use Rattle.dm_bindings.specs.Bindings.{Bound}
+use Rattle.dm_bindings.specs.Pushes.{last_of}
 use Rattle.dm_scope.specs.Derives.{Derive}
 
 -- A scope: what it binds in each namespace, the names that no import could resolve, its legacy macros (those in textual
@@ -62,11 +63,6 @@ no_scope = record {
 -- what a scope binds under a name
 abbrev pub bound_in : Scope → Name → PerNs
 bound_in s n = record { types = find_name n s.types.items; values = find_name n s.values.items; macros = find_name n s.macros.items }
-
--- the last of a list
-abbrev pub last_of : {A : Type 0} → List A → Option A
-last_of [] = None
-last_of (x ∷ xs) = elim xs [ [] ↦ Some x | ◌∷◌ y ys ↦ last_of xs ]
 
 -- the last legacy macro of a scope under a name
 abbrev pub legacy_in : Scope → Name → Option MacroId

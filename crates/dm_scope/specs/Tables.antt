@@ -1,5 +1,5 @@
 -- What import chains and dumps read beside a scope: the scopes of all modules, and tables by id.
-use Rattle.std.specs.Prelude.{Bool, List, Option}
+use Rattle.std.specs.Prelude.{ℕ, ◌^◌, ◌-◌, Bool, List, Option, length, min}
 use Rattle.std.specs.List.{flat_map}
 use Rattle.dm_ids.specs.declared.ids.ModuleId.{ModuleId}
 use Rattle.dm_ids.specs.declared.ids.UseId.{UseId}
@@ -26,6 +26,10 @@ pub record Tables : Type 0 where
 -- the records of a namespace in all scopes
 abbrev pub all_records : Namespace → Tables → List (ImportOrExternCrate × ImportOrDef)
 all_records ns t = flat_map (records_in ns) t.scopes
+
+-- how many records are counted
+abbrev pub record_count : Namespace → Tables → ℕ
+record_count ns t = min (length (all_records ns t)) (2 ^ 64 - 1)
 
 -- no way to call a macro
 abbrev pub no_style : MacroCallStyles

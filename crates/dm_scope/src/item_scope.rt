@@ -1,21 +1,19 @@
 //! `ItemScope`, the scope of a module: what its names are bound to, its legacy macros, and the lists of its items.
 ghost use Rattle.std.specs.Prelude.{◌≡◌, []};
 ghost use Rattle.dm_ids.specs.declared.ids.ModuleId.{ModuleId};
-ghost use Rattle.dm_scope.specs.Flags.{no_globs};
+ghost use Rattle.dm_bindings.specs.Flags.{no_globs};
 ghost use Rattle.dm_scope.specs.Scope.{no_scope, bound_in};
 ghost use Rattle.dm_scope.specs.Shows.{Shows};
 
 mod changes;
 mod derive_attributes;
 mod dump;
-mod import_chains;
 mod lists;
 mod lookups;
 mod mutators;
 mod push;
 mod sorted;
 
-use crate::bindings::Bindings;
 use crate::glob_imports::PerNsGlobImports;
 use crate::rare::Rare;
 use dm_base::ids::ModuleId;
@@ -23,6 +21,7 @@ use dm_base::imports::{ImportOrExternCrate, ImportOrGlob};
 use dm_base::item_ids::{MacroId, ModuleDefId};
 use dm_base::name::Name;
 use dm_base::per_ns::PerNs;
+use dm_bindings::bindings::Bindings;
 use std::alloc::Global;
 use std::marker::Model;
 

@@ -1,7 +1,6 @@
 //! The trait by which import chains and dumps read the scopes of all modules.
 ghost use Rattle.std.specs.Prelude.{◌≡◌, unwrap_or, slice_get, option_copied};
-ghost use Rattle.dm_scope.specs.ChainSteps.{record_count};
-ghost use Rattle.dm_scope.specs.Tables.{Tables, no_style};
+ghost use Rattle.dm_scope.specs.Tables.{record_count, Tables, no_style};
 
 use crate::item_scope::ItemScope;
 use dm_base::ids::{ModuleId, UseId};

@@ -23,7 +23,7 @@ use Rattle.dm_base.specs.declared.visibility.Visibility.{Visibility}
 use Rattle.dm_base.specs.declared.visibility.Visibility.TheVariants.{Module, PubCrate, Public}
 use Rattle.dm_base.specs.declared.visibility.VisibilityExplicitness.{VisibilityExplicitness}
 use Rattle.dm_ids.specs.Names.{Name}
-use Rattle.dm_scope.specs.Bindings.{Bound}
+use Rattle.dm_bindings.specs.Bindings.{Bound}
 use Rattle.dm_scope.specs.Scope.{Scope, no_scope}
 use Rattle.dm_def_map.specs.declared.modules.modes.BuiltinShadowMode.{BuiltinShadowMode}
 use Rattle.dm_def_map.specs.declared.modules.modes.BuiltinShadowMode.TheVariants as asks

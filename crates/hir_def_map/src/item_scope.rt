@@ -3,6 +3,7 @@ pub use dm_base::definition::Definition;
 pub use dm_base::import_source::ImportSource;
 pub use dm_base::imports::{GlobId, ImportId, ImportOrDef, ImportOrExternCrate, ImportOrGlob};
 pub use dm_base::item_in_ns::ItemInNs;
+pub use dm_chains::import_chains::ImportChains;
 pub use dm_maps::modes::BuiltinShadowMode;
 pub use dm_scope::bindings::{self, Bindings};
 pub use dm_scope::derives::DeriveMacroInvocation;

@@ -3,7 +3,7 @@ ghost use Rattle.std.specs.Prelude.{◌≡◌, ◌+◌, ◌-◌, ◌^◌, length
 ghost use Rattle.std.specs.List.{flat_map};
 ghost use Rattle.dm_maps.specs.RecordCounts.{IsCounted, count_of};
 ghost use Rattle.dm_maps.specs.ScopeTables.{scope_at_place, scope_tables};
-ghost use Rattle.dm_scope.specs.ChainSteps.{record_count};
+ghost use Rattle.dm_scope.specs.Tables.{record_count};
 ghost use Rattle.dm_scope.specs.Records.{records_in};
 
 use crate::builder::WorldBuilder;

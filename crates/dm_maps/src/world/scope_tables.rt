@@ -5,8 +5,7 @@ ghost use Rattle.dm_check.specs.declared.held.HeldId.TheVariants as held;
 ghost use Rattle.dm_maps.specs.Known.{knows};
 ghost use Rattle.dm_maps.specs.ScopeTables.{scope_tables};
 ghost use Rattle.dm_maps.specs.World.{scope_if_known, scope_of};
-ghost use Rattle.dm_scope.specs.ChainSteps.{record_count};
-ghost use Rattle.dm_scope.specs.Tables.{no_style};
+ghost use Rattle.dm_scope.specs.Tables.{record_count, no_style};
 
 use crate::builder::WorldBuilder;
 use crate::world::World;

@@ -2,7 +2,8 @@
 //! without it.
 ghost use Rattle.std.specs.Prelude.{◌≡◌, IsSome, map};
 ghost use Rattle.dm_ids.specs.Names.{find_name};
-ghost use Rattle.dm_scope.specs.Changes.{without_binding, with_vis, with_def, change_all, censored, censored_macro, censored_trait};
+ghost use Rattle.dm_bindings.specs.Changes.{without_binding, with_vis, with_def, change_all, censored, censored_macro};
+ghost use Rattle.dm_scope.specs.Rare.{censored_trait};
 ghost use Rattle.dm_base.specs.Sameness.{same_def};
 
 use super::ItemScope;

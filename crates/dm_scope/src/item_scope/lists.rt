@@ -22,10 +22,10 @@ ghost use Rattle.dm_ids.specs.declared.item_ids.ModuleDefId.{ModuleDefId};
 ghost use Rattle.dm_base.specs.declared.per_ns.Item.{Item};
 ghost use Rattle.dm_scope.specs.AllCalls.{all_calls};
 ghost use Rattle.dm_scope.specs.Records.{records_in};
-ghost use Rattle.dm_scope.specs.Iterators.{any_impl, trait_impl, inherent_impl, bound_module, trait_of, deref_name, deref_legacy};
+ghost use Rattle.dm_bindings.specs.Iterators.{deref_name};
+ghost use Rattle.dm_scope.specs.Iterators.{any_impl, trait_impl, inherent_impl, bound_module, trait_of, deref_legacy};
 
 use super::ItemScope;
-use crate::bindings::Iter;
 use crate::import_records::ImportRecords;
 use crate::iterators::{
     AttrMacroInvocations, Impls, InherentImpls, LegacyMacros, Listed, MacroInvocations,
@@ -39,6 +39,7 @@ use dm_base::imports::{ImportId, ImportOrExternCrate, ImportOrGlob};
 use dm_base::item_ids::{MacroId, ModuleDefId};
 use dm_base::per_ns::Namespace;
 use dm_base::visibility::Visibility;
+use dm_bindings::bindings::Iter;
 
 impl ItemScope {
     /// What is declared in the scope, in order of definition. Takes no memory.

@@ -1,16 +1,19 @@
-//! Look-ups in a scope: by name, by definition (the reverse look-up), or by AST id.
+//! Look-ups in a scope: by name, by definition (the reverse look-up), by AST id, or by import.
 ghost use Rattle.std.specs.Prelude.{◌≡◌, option_map, option_copied, find, slice_get};
 ghost use Rattle.std.specs.Map.{lookup};
 ghost use Rattle.dm_ids.specs.Names.{find_name};
-ghost use Rattle.dm_scope.specs.Lookups.{def_and_vis, deref_named, names_for, MayAskNames, AsksNames, trait_vis};
+ghost use Rattle.dm_bindings.specs.Lookups.{deref_named, MayAskNames, AsksNames};
+ghost use Rattle.dm_scope.specs.Chains.{record_of};
+ghost use Rattle.dm_scope.specs.Lookups.{def_and_vis, names_for, trait_vis};
 ghost use Rattle.dm_base.specs.Sameness.{same_ast};
 
 use super::ItemScope;
 use dm_base::ids::{MacroCallId, TraitId};
+use dm_base::imports::{ImportId, ImportOrDef, ImportOrExternCrate, ImportOrGlob};
 use dm_base::item_ids::{MacroId, ModuleDefId};
 use dm_base::item_in_ns::ItemInNs;
 use dm_base::name::Name;
-use dm_base::per_ns::TypesItem;
+use dm_base::per_ns::{Namespace, TypesItem};
 use dm_base::source::AstId;
 use dm_base::visibility::Visibility;
 
@@ -97,6 +100,18 @@ impl ItemScope {
             ItemInNs::Types(def) => self.types.names_of(def, f),
             ItemInNs::Values(def) => self.values.names_of(def, f),
             ItemInNs::Macros(def) => self.macros.names_of(def, f),
+        }
+    }
+
+    /// What a named import resolved to in a namespace, one step of its chain. Takes no memory: one look-up.
+    #[tactic(auto, using(crate::proofs::RecordLemmas::lookup_widened))]
+    pub fn record_in(&self, namespace: Namespace, import: ImportId) -> Option<ImportOrDef>
+        ensures { result ≡ record_of namespace (self.now, import) }
+    {
+        match namespace {
+            Namespace::Types => self.types.record_of(&ImportOrExternCrate::Import(import)),
+            Namespace::Values => self.values.record_of(&ImportOrGlob::Import(import)),
+            Namespace::Macros => self.macros.record_of(&ImportOrExternCrate::Import(import)),
         }
     }
 }

@@ -3,7 +3,7 @@ ghost use Rattle.std.specs.Prelude.{◌≡◌, ◌||◌, false, List, [], ◌∷
 ghost use Rattle.dm_ids.specs.declared.ids.ModuleId.{ModuleId};
 ghost use Rattle.dm_ids.specs.Names.{Name};
 ghost use Rattle.dm_base.specs.Tree.{same_module};
-ghost use Rattle.dm_scope.specs.Bindings.{bound_after, flags_after, is_effective_at};
+ghost use Rattle.dm_bindings.specs.Bindings.{bound_after, flags_after, is_effective_at};
 ghost use Rattle.dm_scope.specs.Gives.{PushGives};
 ghost use Rattle.dm_scope.specs.Push.{types_reading, values_reading, macros_reading, unresolved_after, is_new_unresolved, scope_after, globs_after};
 ghost use Rattle.dm_scope.specs.PushLaw.{PushLaw, itself};

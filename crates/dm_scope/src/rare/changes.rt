@@ -2,8 +2,7 @@
 ghost use Rattle.std.specs.Prelude.{◌≡◌, OnOk, OnErr, map};
 ghost use Rattle.indexmap.specs.IndexSet.{insert_key};
 ghost use Rattle.dm_ids.specs.Names.{same_name};
-ghost use Rattle.dm_scope.specs.Changes.{censored_trait};
-ghost use Rattle.dm_scope.specs.Rare.{rare_in};
+ghost use Rattle.dm_scope.specs.Rare.{censored_trait, rare_in};
 
 use super::{Rare, RareTables};
 use dm_base::ids::{Crate, TraitId};

@@ -14,6 +14,7 @@ use dm_base::name::Name;
 use dm_base::per_ns::PerNs;
 use dm_base::source::Edition;
 use dm_base::visibility::Visibility;
+use dm_chains::import_chains::ImportChains;
 use dm_maps::build_fault::BuildFault;
 use dm_maps::world::World;
 use dm_retry::pending::Pending;

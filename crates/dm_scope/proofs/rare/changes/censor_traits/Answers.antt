@@ -1,5 +1,5 @@
 use Rattle.std.proofs.Common.{◌<◌, length, arith}
-use Rattle.dm_scope.specs.Changes.{censored_trait}
+use Rattle.dm_scope.specs.Rare.{censored_trait}
 use Rattle.dm_scope.proofs.ChangeLemmas.{changed_before}
 use Rattle.dm_scope.proofs.rare.changes.censor_traits.Goals as goal
 

@@ -1,5 +1,5 @@
 use Rattle.std.proofs.Common.{◌≡◌, ◌++◌, map, take, drop}
-use Rattle.dm_scope.specs.Changes.{censored_trait}
+use Rattle.dm_scope.specs.Rare.{censored_trait}
 use Rattle.dm_scope.proofs.rare.changes.censor_traits.Given as goal
 
 -- those before the index are censored, and the others are as they were
