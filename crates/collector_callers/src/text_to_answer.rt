@@ -24,6 +24,7 @@ use dm_base::source::Edition;
 use dm_collector::collect::{Collected, collect};
 use dm_collector::collect_fault::CollectFault;
 use dm_maps::world::World;
+use dm_world::knows::KnowsPaths;
 use item_tree::cfg::CfgOptions;
 use std::alloc::{AllocError, Global};
 

@@ -14,6 +14,7 @@ use dm_base::ids::MapId;
 use dm_maps::world::World;
 use dm_retry::retry::Retry;
 use dm_scope::diagnostics::DefDiagnostic;
+use dm_world::knows::KnowsPaths;
 use std::alloc::{AllocError, Global};
 
 /// Whether all that a diagnostic names is the world's.

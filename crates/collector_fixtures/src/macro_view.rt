@@ -9,6 +9,7 @@ use collector_diagnostics::open_modules::{GlobEdge, OpenModules};
 use dm_base::ids::ModuleId;
 use dm_base::mod_path::ModPath;
 use dm_maps::world::World;
+use dm_world::knows::KnowsPaths;
 use std::alloc::{AllocError, Global};
 
 /// The macro calls of all crates, and the modules that these leave open.

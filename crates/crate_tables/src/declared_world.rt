@@ -21,6 +21,7 @@ use dm_maps::builder::WorldBuilder;
 use dm_maps::fault::WorldFault;
 use dm_maps::world::World;
 use dm_scope::glob_imports::PerNsGlobImports;
+use dm_world::check::CheckTables;
 use std::alloc::{AllocError, Global};
 
 /// Why names were not declared.

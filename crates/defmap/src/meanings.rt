@@ -10,6 +10,7 @@ use dm_maps::modes::{BuiltinShadowMode, MacroSubNs};
 use dm_maps::world::World;
 use dm_maps::world::maps_of::local_def_map;
 use dm_retry::meaning::path_meaning;
+use dm_world::knows::KnowsPaths;
 use hir_def_map::path_resolution::ResolvePath;
 use hir_def_map::result::{ResolveMode, ResolvePathResult};
 

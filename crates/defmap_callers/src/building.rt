@@ -19,6 +19,7 @@ use dm_maps::builder::WorldBuilder;
 use dm_maps::module_origin::ModuleOrigin;
 use dm_maps::world::World;
 use dm_scope::glob_imports::PerNsGlobImports;
+use dm_world::check::CheckTables;
 use std::alloc::{AllocError, Global};
 
 /// The tables of one crate with a public module of each name below its root, and these modules: none of them binds

@@ -35,6 +35,7 @@ use dm_maps::rules::Rules;
 use dm_maps::world::World;
 use dm_maps::world::maps_of::{AskWorld, block_def_map, crate_def_map};
 use dm_scope::glob_imports::PerNsGlobImports;
+use dm_world::check::CheckTables;
 use std::alloc::{AllocError, Global};
 
 /// The tables of one crate, empty but for its root.

@@ -15,6 +15,7 @@ use dm_maps::build_fault::BuildFault;
 use dm_maps::builder::WorldBuilder;
 use dm_maps::world::World;
 use dm_scope::glob_imports::PerNsGlobImports;
+use dm_world::check::CheckTables;
 use std::alloc::{AllocError, Global};
 
 /// Why there is no answer.

@@ -12,6 +12,7 @@ use dm_maps::world::World;
 use dm_retry::pending::Pending;
 use dm_retry::retry::Retry;
 use dm_scope::glob_imports::PerNsGlobImports;
+use dm_world::check::CheckTables;
 use std::alloc::Global;
 use std::fmt::Write;
 

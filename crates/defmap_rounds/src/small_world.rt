@@ -10,6 +10,7 @@ use dm_maps::builder::WorldBuilder;
 use dm_maps::module_origin::ModuleOrigin;
 use dm_maps::world::World;
 use dm_scope::glob_imports::PerNsGlobImports;
+use dm_world::check::CheckTables;
 use std::alloc::Global;
 
 const ROOT: ModuleId = ModuleId(0);

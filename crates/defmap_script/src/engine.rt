@@ -25,6 +25,8 @@ use dm_maps::local_def_map::LocalDefMap;
 use dm_maps::world::World;
 use dm_maps::world::maps_of::local_def_map;
 use dm_scope::glob_imports::PerNsGlobImports;
+use dm_world::check::CheckTables;
+use dm_world::knows::KnowsPaths;
 use hir_def_map::path_resolution::ResolvePath;
 use hir_def_map::result::ResolvePathResult;
 use std::alloc::{AllocError, Global};

@@ -24,6 +24,7 @@ use dm_maps::world::World;
 use dm_maps::world::variants::Variants;
 use dm_retry::meaning::path_meaning;
 use dm_scope::scope_tables::ScopeTables;
+use dm_world::knows::KnowsPaths;
 use hir_def_map::result::ResolvePathResult;
 use std::alloc::{AllocError, Global};
 

@@ -1,5 +1,5 @@
 -- The first fault of holders in a row, and a list without one is known.
-use Rattle.std.proofs.Common.{◌≡◌, Bool, true, false, List, [], ◌∷◌, ◌++◌, refl, sym, subst, Option, None, Some, zero, suc, ℕ, slice_get, take, drop, get_or, length, ◌+◌, ◌<◌, add-one, ◌∙◌, true≢false, is_some, not, IsTrue, ◌↔◌}
+use Rattle.std.proofs.Common.{◌≡◌, Bool, true, false, List, [], ◌∷◌, ◌++◌, refl, sym, subst, Option, None, Some, zero, suc, ℕ, slice_get, take, drop, get_or, length, ◌+◌, ◌<◌, add-one, ◌∙◌, true≢false, is_some, not, IsTrue, IsNone, ◌↔◌}
 use Rattle.std.specs.List.{AllByRecursion}
 use Rattle.std.specs.Option.{option_map}
 use Rattle.std.proofs.Math.Seq.{drop-cons}
@@ -91,8 +91,13 @@ missing w hs f is all =
     let one : knows w is.held ≡ true = All-contains (λ (h : HeldId). knows w h ≡ true) hs is.held (All-from_recursion (λ (h : HeldId). knows w h ≡ true) hs all) is.among in
     true≢false (sym one ∙ is.unknown)
 
-pub unchecked : (w : World) (hs : List Held) (f : WorldFault) → IsFirstFault w hs f → AllByRecursion (AllKnown w) hs → ⊥
+unchecked : (w : World) (hs : List Held) (f : WorldFault) → IsFirstFault w hs f → AllByRecursion (AllKnown w) hs → ⊥
 unchecked w hs f is all = missing w is.ids is.fault is.least (all-get (AllKnown w) hs is.place (is.holder, is.ids) all is.there)
+
+-- holders have no first fault exactly where each id is the world's
+pub none-checked : (w : World) (hs : List Held) (r : Option WorldFault) → IsAnswer w hs r → IsNone r ↔ AllByRecursion (AllKnown w) hs
+none-checked w hs None all = (λ n. all, λ k. refl)
+none-checked w hs (Some f) is = (λ n. absurd (true≢false (sym n)), λ all. absurd (unchecked w hs f is all))
 
 -- a list has no least fault exactly where each of its ids is the world's
 pub known-by : (w v : World) (hs : List HeldId) (least : Option HeldFault) (r : Bool) → v ≡ w → IsLeastFault (knows v) hs least → is_some least ≡ not r → IsTrue r ↔ KnowsAll w hs

@@ -1,6 +1,6 @@
-//! From a builder to a checked world, without dangling ids, and back.
-ghost use Rattle.std.specs.Prelude.{◌≡◌, ◌↔◌, IsOk, IfOk, IfErr};
-ghost use Rattle.dm_maps.specs.First.{holders, IsChecked, IsFirstFault};
+//! The first fault of a builder's tables, which is a dangling id, and the tables of a checked world.
+ghost use Rattle.std.specs.Prelude.{◌≡◌};
+ghost use Rattle.dm_maps.specs.First.{IsChecked};
 
 mod first_fault;
 mod known_ids;
@@ -8,25 +8,6 @@ pub(crate) mod note_maps;
 
 use crate::builder::WorldBuilder;
 use crate::world::World;
-use dm_check::fault::WorldFault;
-
-impl WorldBuilder {
-    /// The world of the builder's tables, if each id that they hold is one of their own, with its kind.
-    ///
-    /// Else the first holder with a fault, in the order of crates' maps, blocks' maps, modules and tables, each by
-    /// number: there the least kind of fault, and of it the least id; with the builder as it was. Takes no memory.
-    pub fn check(self) -> Result<World, (WorldBuilder, WorldFault)>
-        ensures ok { IsOk result ↔ IsChecked self }
-        ensures same { IfOk result (λ world. world ≡ self) }
-        ensures builder { IfErr result (λ refused. refused.0 ≡ self) }
-        ensures fault { IfErr result (λ refused. IsFirstFault self (holders self) refused.1) }
-    {
-        match self.first_fault() {
-            None => Ok(World::of_checked(self)),
-            Some(fault) => Err((self, fault)),
-        }
-    }
-}
 
 impl World {
     /// The tables of the world, to be built on: a check of them as they are finds no fault. Takes no memory.

@@ -2,7 +2,6 @@
 ghost use Rattle.std.specs.Prelude.{◌≡◌, ◌↔◌, IsTrue, IsSome, IfSome, Some, slice_get, nat_lt, length};
 ghost use Rattle.std.specs.Option.{option_copied, option_map};
 ghost use Rattle.dm_scope.specs.Scope.{bound_in};
-ghost use Rattle.dm_maps.specs.Built.{IsBuilt};
 ghost use Rattle.dm_maps.specs.World.{place_of, numbered_map, map_of, module_of, scope_of};
 ghost use Rattle.dm_maps.specs.First.{IsChecked};
 ghost use Rattle.dm_check.specs.declared.held.HeldId.TheVariants as held;
@@ -71,12 +70,12 @@ impl Model for World {
 }
 
 impl World {
-    /// The world of these tables.
-    pub(crate) fn of_checked(tables: WorldBuilder) -> World
+    /// The world of these tables, which have to be checked (`WorldBuilder::first_fault`). Takes no memory.
+    pub fn of_checked(tables: WorldBuilder) -> World
         requires checked { IsChecked tables }
-        requires built { IsBuilt tables }
         ensures { result ≡ tables }
     {
+        tables.lawful();
         let records = RecordCounts::of_world(&tables);
         World { tables, records }
     }

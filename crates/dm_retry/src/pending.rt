@@ -18,6 +18,7 @@ use dm_base::per_ns::PerNs;
 use dm_base::visibility::Visibility;
 use dm_maps::world::World;
 use dm_waiters::unresolved::Unresolved;
+use dm_world::knows::KnowsPaths;
 use std::marker::Model;
 
 /// An unresolved import, and whether it is due (dirty): it was not tried yet, or a name on its path was bound since.

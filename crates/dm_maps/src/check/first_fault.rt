@@ -1,7 +1,7 @@
 //! The first fault, which is a dangling id, of a world that is being built.
-ghost use Rattle.std.specs.Prelude.{◌≡◌, ◌≤◌, length, map, [], ◌∷◌};
+ghost use Rattle.std.specs.Prelude.{◌≡◌, ◌≤◌, ◌↔◌, IsNone, length, map, [], ◌∷◌};
 ghost use Rattle.std.specs.Option.{option_map};
-ghost use Rattle.dm_maps.specs.First.{each_from, fault_of, local_at, crate_holder, block_holder, module_holder, holders, IsAnswer};
+ghost use Rattle.dm_maps.specs.First.{each_from, fault_of, local_at, crate_holder, block_holder, module_holder, holders, IsAnswer, IsChecked};
 ghost use Rattle.dm_check.specs.declared.fault.Holder.TheVariants as holder;
 ghost use Rattle.dm_check.specs.Held.{IsLeastFault};
 ghost use Rattle.dm_maps.specs.Known.{knows};
@@ -130,9 +130,12 @@ fn of_modules(world: &WorldBuilder, places: &[Place]) -> Option<WorldFault>
 }
 
 impl WorldBuilder {
-    /// The least fault of the first holder with one.
-    pub(crate) fn first_fault(&self) -> Option<WorldFault>
+    /// The first holder with a fault, in the order of crates' maps, blocks' maps, modules and tables, each by number:
+    /// of it the least kind of fault, and of that the least id. None where each id is one of the builder's own. Takes
+    /// no memory.
+    pub fn first_fault(&self) -> Option<WorldFault>
         ensures answer { IsAnswer self.now (holders self.now) result }
+        ensures checked { IsNone result ↔ IsChecked self.now }
         ensures built { IsBuilt self.now }
     {
         if let Some(fault) = of_crate_maps(self, &self.local_maps, self.maps.crates()) {

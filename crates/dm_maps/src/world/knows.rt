@@ -3,7 +3,7 @@ ghost use Rattle.std.specs.Prelude.{◌≡◌, ◌↔◌, IsTrue, nat_lt, length
 ghost use Rattle.dm_check.specs.declared.held.HeldId.TheVariants as held;
 ghost use Rattle.dm_check.specs.Pushes.{push_holds};
 ghost use Rattle.dm_maps.specs.Known.{knows, KnowsAll};
-ghost use Rattle.dm_check.specs.Holding.{def_holds, res_holds, local_holds, path_holds};
+ghost use Rattle.dm_check.specs.Holding.{def_holds, res_holds, local_holds};
 
 use crate::builder::WorldBuilder;
 use crate::check::note_maps::note_local_map;
@@ -11,7 +11,6 @@ use crate::world::World;
 use dm_base::ids::{BlockId, Crate, ModuleId};
 use dm_base::imports::ImportOrExternCrate;
 use dm_base::item_ids::ModuleDefId;
-use dm_base::mod_path::{ModPath, PathKind};
 use dm_base::per_ns::PerNs;
 use dm_check::held::HeldId;
 use dm_check::known_ids::KnownIds;
@@ -40,16 +39,6 @@ impl World {
     {
         let least = def_fault(self.tables(), def);
         least.is_none()
-    }
-
-    /// Whether the crate of a path's `$crate` is the world's, if the path has one. Names are everyone's.
-    pub fn knows_path(&self, path: &ModPath) -> bool
-        ensures { IsTrue result ↔ KnowsAll self.now (path_holds path.now.kind) }
-    {
-        match path.kind() {
-            PathKind::DollarCrate(krate) => self.has_crate(krate),
-            _ => true,
-        }
     }
 
     /// Whether each module of an extern prelude is the world's.

@@ -1,7 +1,6 @@
 //! Tests whether what the calls that change a checked world take is the world's. None of them takes memory.
 ghost use Rattle.std.specs.Prelude.{◌≡◌, ◌↔◌, IsTrue};
 ghost use Rattle.dm_check.specs.Holding.{vis_holds};
-ghost use Rattle.dm_check.specs.TablesHold.{diagnostic_holds, diagnostic_kind_holds};
 ghost use Rattle.dm_maps.specs.BuildMaps.{lacks_map};
 ghost use Rattle.dm_maps.specs.GoesOn.{trait_import_holds};
 ghost use Rattle.dm_maps.specs.Known.{KnowsAll};
@@ -13,7 +12,6 @@ use dm_base::item_ids::ModuleDefId;
 use dm_base::per_ns::PerNs;
 use dm_base::visibility::Visibility;
 use dm_check::notes::vis_fault;
-use dm_scope::diagnostics::{DefDiagnostic, DefDiagnosticKind};
 
 impl World {
     /// Whether there is no map of that number, or it is another crate's.
@@ -46,27 +44,6 @@ impl World {
         match import {
             None => self.knows_res(m, &res, None),
             Some(id) => self.knows_res(m, &res, Some(ImportOrExternCrate::Import(id))),
-        }
-    }
-
-    /// Whether all that a diagnostic holds is the world's: its module, and the crate of the `$crate` of the path that
-    /// it is about, if it is about one.
-    pub fn knows_diagnostic(&self, diagnostic: &DefDiagnostic) -> bool
-        ensures { IsTrue result ↔ KnowsAll self.now (diagnostic_holds diagnostic.now) }
-    {
-        if !self.knows_def(ModuleDefId::ModuleId(diagnostic.in_module)) {
-            return false;
-        }
-        self.knows_diagnostic_kind(&diagnostic.kind)
-    }
-
-    fn knows_diagnostic_kind(&self, kind: &DefDiagnosticKind) -> bool
-        ensures { IsTrue result ↔ KnowsAll self.now (diagnostic_kind_holds kind.now) }
-    {
-        match kind {
-            DefDiagnosticKind::UnresolvedMacroCall { path, .. } => self.knows_path(path),
-            DefDiagnosticKind::MacroError { path, .. } => self.knows_path(path),
-            _ => true,
         }
     }
 }

@@ -22,6 +22,7 @@ use dm_maps::build_fault::BuildFault;
 use dm_maps::world::World;
 use dm_maps::world::maps_of::local_def_map;
 use dm_scope::scope_tables::ScopeTables;
+use dm_world::knows::KnowsPaths;
 use std::alloc::{AllocError, Global};
 use std::test::Fail;
 

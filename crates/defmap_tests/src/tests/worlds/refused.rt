@@ -20,6 +20,7 @@ use dm_base::visibility::{Visibility, VisibilityExplicitness};
 use dm_maps::build_fault::BuildFault;
 use dm_maps::modes::{BuiltinShadowMode, MacroSubNs};
 use dm_maps::world::World;
+use dm_world::knows::KnowsPaths;
 use hir_def_map::nameres::AskWorld;
 use hir_def_map::path_resolution::ResolvePath;
 use hir_def_map::result::ResolveMode;

@@ -13,6 +13,7 @@ use dm_base::symbol::Symbol;
 use dm_maps::builder::WorldBuilder;
 use dm_maps::rules::Rules;
 use dm_maps::world::World;
+use dm_world::check::CheckTables;
 use std::alloc::{AllocError, Global};
 use std::test::Fail;
 

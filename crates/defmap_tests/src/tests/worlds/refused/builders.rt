@@ -20,6 +20,7 @@ use dm_maps::def_map::DefMap;
 use dm_maps::world::World;
 use dm_maps::world::maps_of::local_def_map;
 use dm_scope::scope_tables::ScopeTables;
+use dm_world::check::CheckTables;
 use std::alloc::{AllocError, Global};
 use std::hash::{DefaultHasher, Hash, Hasher};
 use std::test::Fail;

@@ -2,9 +2,9 @@ use Rattle.std.proofs.Common.{◌≡◌, ◌++◌, ◌∷◌, [], List, Some, ma
 use Rattle.std.specs.List.{AllByRecursion}
 use Rattle.dm_check.specs.declared.fault.Holder.TheVariants as holder
 use Rattle.dm_check.specs.TablesHold.{tables_hold}
-use Rattle.dm_maps.specs.First.{Held, IsAnswer, IsFirstFault, block_holder, crate_holder, each_from, module_holder, tables_holder}
+use Rattle.dm_maps.specs.First.{Held, IsAnswer, IsFirstFault, block_holder, crate_holder, each_from, holders, module_holder, tables_holder}
 use Rattle.dm_maps.specs.World.{World}
-use Rattle.dm_maps.proofs.FirstLemmas.{AllKnown, first-before, first-behind}
+use Rattle.dm_maps.proofs.FirstLemmas.{AllKnown, first-before, first-behind, none-checked}
 use Rattle.dm_maps.proofs.builder.WorldBuilder.first_fault.Goals as goal
 
 abbrev crates : World → List Held
@@ -65,3 +65,15 @@ returns-clause-answer c =
     (first-behind w (blocks w) (modules w ++ tables w) r too
     (first-behind w (modules w) (tables w) r also
     (subst (λ ids. IsAnswer w ((holder.Tables, ids) ∷ []) r) others c.tables_fault.ensures)))
+
+pub returns-in-Some-clause-checked : goal.returns-in-Some-clause-checked
+returns-in-Some-clause-checked c = none-checked c.args.self.now (holders c.args.self.now) (Some c.in-Some.fault) (returns-in-Some-clause-answer c)
+
+pub returns-in-Some-of_block_maps-clause-checked : goal.returns-in-Some-of_block_maps-clause-checked
+returns-in-Some-of_block_maps-clause-checked c = none-checked c.args.self.now (holders c.args.self.now) (Some c.in-Some-of_block_maps.fault) (returns-in-Some-of_block_maps-clause-answer c)
+
+pub returns-in-Some-of_modules-clause-checked : goal.returns-in-Some-of_modules-clause-checked
+returns-in-Some-of_modules-clause-checked c = none-checked c.args.self.now (holders c.args.self.now) (Some c.in-Some-of_modules.fault) (returns-in-Some-of_modules-clause-answer c)
+
+pub returns-clause-checked : goal.returns-clause-checked
+returns-clause-checked c = none-checked c.args.self.now (holders c.args.self.now) c.tables_fault.result (returns-clause-answer c)

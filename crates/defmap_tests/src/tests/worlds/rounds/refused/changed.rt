@@ -13,6 +13,7 @@ use dm_maps::build_fault::BuildFault;
 use dm_retry::import_kind::ImportKind;
 use dm_retry::pending::Pending;
 use dm_scope::diagnostics::DefDiagnostic;
+use dm_world::knows::KnowsPaths;
 use std::alloc::{AllocError, Global};
 use std::test::Fail;
 
