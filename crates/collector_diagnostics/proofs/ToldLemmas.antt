@@ -13,11 +13,11 @@ use Rattle.crate_diagnostics.specs.declared.diagnostic.DiagnosticKind.{Diagnosti
 use Rattle.crate_diagnostics.specs.declared.diagnostic.DiagnosticKind.TheVariants as kind
 use Rattle.crate_diagnostics.specs.declared.diagnostic.Place.{Place}
 use Rattle.dm_base.specs.Path.{Path}
-use Rattle.dm_ids.specs.declared.ids.Crate.{Crate}
-use Rattle.dm_ids.specs.declared.ids.FileId.{FileId}
+use Rattle.dm_names.specs.declared.ids.Crate.{Crate}
+use Rattle.dm_names.specs.declared.ids.FileId.{FileId}
 use Rattle.dm_ids.specs.declared.ids.ModuleId.{ModuleId}
 use Rattle.dm_ids.specs.declared.source.AstId.{AstId}
-use Rattle.dm_ids.specs.declared.source.Edition.{Edition}
+use Rattle.dm_names.specs.declared.edition.Edition.{Edition}
 use Rattle.dm_ids.specs.declared.source.HirFileId.TheVariants as hir
 
 row_at : (front rest : List CallPlace) (row : CallPlace) → slice_get (front ++ row ∷ rest) (length front) ≡ Some row

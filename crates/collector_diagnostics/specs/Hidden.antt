@@ -5,8 +5,8 @@ use Rattle.dm_base.specs.PerNs.{is_empty}
 use Rattle.dm_base.specs.Tree.{is_among}
 use Rattle.dm_base.specs.declared.mod_path.PathKind.{PathKind}
 use Rattle.dm_base.specs.declared.mod_path.PathKind.TheVariants as kind
-use Rattle.dm_ids.specs.Names.{Name}
-use Rattle.dm_ids.specs.declared.ids.Crate.{Crate}
+use Rattle.dm_names.specs.Names.{Name}
+use Rattle.dm_names.specs.declared.ids.Crate.{Crate}
 use Rattle.dm_ids.specs.declared.ids.ModuleId.{ModuleId}
 use Rattle.dm_maps.specs.ItemHomes.{homes_of}
 use Rattle.dm_maps.specs.Readings.{is_2015_in, root_of}

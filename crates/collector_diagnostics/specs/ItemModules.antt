@@ -6,10 +6,10 @@ use Rattle.crate_items.specs.FileItems as items
 use Rattle.crate_modules.specs.DeclaredModules.{Module}
 use Rattle.crate_modules.specs.Modules.{Listing, is_same}
 use Rattle.crate_modules.specs.Sources.{Source, source_at}
-use Rattle.dm_ids.specs.declared.ids.Crate.{Crate}
-use Rattle.dm_ids.specs.declared.ids.FileId.{FileId}
+use Rattle.dm_names.specs.declared.ids.Crate.{Crate}
+use Rattle.dm_names.specs.declared.ids.FileId.{FileId}
 use Rattle.dm_ids.specs.declared.ids.ModuleId.{ModuleId}
-use Rattle.dm_ids.specs.declared.source.Edition.{Edition}
+use Rattle.dm_names.specs.declared.edition.Edition.{Edition}
 
 -- a crate of a world: its number there, its edition, the list of its modules, and the id of each that was not left out
 pub record MappedCrate : Type 0 where

@@ -5,7 +5,7 @@ use Rattle.collector_diagnostics.specs.ItemModules.{MappedCrate}
 use Rattle.collector_diagnostics.specs.ToldInMaps.{Told, told_by, told_from}
 use Rattle.crate_diagnostics.specs.declared.diagnostic.Diagnostic.{Diagnostic}
 use Rattle.dm_check.specs.TablesHold.{diagnostic_holds}
-use Rattle.dm_ids.specs.declared.ids.Crate.{Crate}
+use Rattle.dm_names.specs.declared.ids.Crate.{Crate}
 use Rattle.dm_ids.specs.declared.ids.MapId.{MapId}
 use Rattle.dm_maps.specs.BuildMaps.{lacks_map, with_diagnostic}
 use Rattle.dm_maps.specs.Known.{knows}

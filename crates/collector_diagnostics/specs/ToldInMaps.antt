@@ -11,13 +11,13 @@ use Rattle.crate_diagnostics.specs.declared.diagnostic.Place.TheVariants.{Item, 
 use Rattle.dm_base.specs.Path.{Path}
 use Rattle.dm_ids.specs.declared.ids.CfgExpr.{CfgExpr}
 use Rattle.dm_ids.specs.declared.ids.CfgOptions.{CfgOptions}
-use Rattle.dm_ids.specs.declared.ids.Crate.{Crate}
-use Rattle.dm_ids.specs.declared.ids.FileId.{FileId}
+use Rattle.dm_names.specs.declared.ids.Crate.{Crate}
+use Rattle.dm_names.specs.declared.ids.FileId.{FileId}
 use Rattle.dm_ids.specs.declared.ids.MacroCallKind.{MacroCallKind}
 use Rattle.dm_ids.specs.declared.ids.ModuleId.{ModuleId}
-use Rattle.dm_ids.specs.declared.ids.UseTreeIdx.{UseTreeIdx}
+use Rattle.dm_names.specs.declared.ids.UseTreeIdx.{UseTreeIdx}
 use Rattle.dm_ids.specs.declared.source.AstId.{AstId}
-use Rattle.dm_ids.specs.declared.source.Edition.{Edition}
+use Rattle.dm_names.specs.declared.edition.Edition.{Edition}
 use Rattle.dm_ids.specs.declared.source.HirFileId.TheVariants as hir
 use Rattle.dm_scope.specs.declared.diagnostics.DefDiagnostic.{DefDiagnostic}
 use Rattle.dm_scope.specs.declared.diagnostics.DefDiagnosticKind.{DefDiagnosticKind}

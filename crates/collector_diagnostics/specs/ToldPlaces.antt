@@ -6,7 +6,7 @@ use Rattle.collector_diagnostics.specs.declared.told_places.ToldPlace.{ToldPlace
 use Rattle.crate_diagnostics.specs.declared.diagnostic.Place.{Place}
 use Rattle.crate_diagnostics.specs.declared.diagnostic.Place.TheVariants.{Item, UseTree}
 use Rattle.dm_ids.specs.declared.ids.MacroCallKind.{MacroCallKind}
-use Rattle.dm_ids.specs.declared.ids.UseTreeIdx.{UseTreeIdx}
+use Rattle.dm_names.specs.declared.ids.UseTreeIdx.{UseTreeIdx}
 use Rattle.dm_ids.specs.declared.source.AstId.{AstId}
 use Rattle.dm_ids.specs.declared.source.HirFileId.{HirFileId}
 use Rattle.dm_ids.specs.declared.source.HirFileId.TheVariants as hir

@@ -4,7 +4,7 @@ use Rattle.crate_diagnostics.specs.declared.diagnostic.Diagnostic.{Diagnostic}
 use Rattle.crate_diagnostics.specs.declared.diagnostic.DiagnosticKind.{DiagnosticKind}
 use Rattle.crate_diagnostics.specs.declared.diagnostic.Place.TheVariants.{Item}
 use Rattle.crate_items.specs.declared.declared_item.DeclaredItem.{DeclaredItem}
-use Rattle.dm_ids.specs.declared.ids.FileId.{FileId}
+use Rattle.dm_names.specs.declared.ids.FileId.{FileId}
 
 -- what is told of the item of a number
 abbrev pub at_item : FileId → ℕ → DiagnosticKind → Diagnostic

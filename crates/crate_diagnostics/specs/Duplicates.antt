@@ -8,7 +8,7 @@ use Rattle.crate_diagnostics.specs.declared.diagnostic.DiagnosticKind.TheVariant
 use Rattle.crate_diagnostics.specs.declared.taken_names.TakenName.{TakenName}
 use Rattle.crate_items.specs.declared.declared_item.DeclaredItem.{DeclaredItem}
 use Rattle.crate_modules.specs.Modules.{Listing}
-use Rattle.dm_ids.specs.Names.{Name}
+use Rattle.dm_names.specs.Names.{Name}
 
 abbrev pub duplicate : DeclaredItem → Option Name → List Diagnostic
 duplicate x None = []

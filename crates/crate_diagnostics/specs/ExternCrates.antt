@@ -11,7 +11,7 @@ use Rattle.crate_items.specs.declared.declared_item.LinkedCrate.TheVariants.{Its
 use Rattle.crate_modules.specs.Files.{SourceFile}
 use Rattle.crate_modules.specs.Modules.{Listing}
 use Rattle.crate_modules.specs.declared.dependency.Dependency.{Dependency}
-use Rattle.dm_ids.specs.Names.{Name, same_name}
+use Rattle.dm_names.specs.Names.{Name, same_name}
 use Rattle.item_tree.specs.declared.item_kind.ItemKind.{ItemKind}
 use Rattle.item_tree.specs.declared.item_kind.ItemKind.TheVariants as item
 

@@ -13,7 +13,7 @@ use Rattle.crate_modules.specs.LineIndexes.{line_col}
 use Rattle.crate_modules.specs.Modules.{Listing}
 use Rattle.crate_modules.specs.Sources.{source_at}
 use Rattle.crate_modules.specs.declared.line_index.LineCol.{LineCol}
-use Rattle.dm_ids.specs.declared.ids.FileId.{FileId}
+use Rattle.dm_names.specs.declared.ids.FileId.{FileId}
 
 -- a text, and the byte of a file that it is about
 pub record Told : Type 0 where

@@ -7,7 +7,7 @@ use Rattle.crate_diagnostics.specs.declared.diagnostic.DiagnosticKind.{Diagnosti
 use Rattle.crate_diagnostics.specs.declared.diagnostic.DiagnosticKind.TheVariants as kind
 use Rattle.crate_modules.specs.DeclaredModules.{Fault}
 use Rattle.crate_modules.specs.ModDirs.{File}
-use Rattle.dm_ids.specs.declared.ids.FileId.{FileId}
+use Rattle.dm_names.specs.declared.ids.FileId.{FileId}
 
 -- a module has no file among the candidates, or one that its declaration stands in
 abbrev pub kind_of : List File → Option FileId → DiagnosticKind

@@ -3,7 +3,7 @@ use Rattle.std.specs.Prelude.{◌+◌, ◌-◌, ◌^◌, ℕ, Option, None, Some
 use Rattle.crate_diagnostics.specs.declared.diagnostic.Place.{Place}
 use Rattle.crate_diagnostics.specs.declared.diagnostic.Place.TheVariants as place
 use Rattle.crate_modules.specs.Sources.{Source}
-use Rattle.dm_ids.specs.declared.ids.UseTreeIdx.{UseTreeIdx}
+use Rattle.dm_names.specs.declared.ids.UseTreeIdx.{UseTreeIdx}
 use Rattle.item_tree.specs.Ids.{item_range, use_tree_range}
 use Rattle.item_tree.specs.UseTrees.{use_trees_of}
 use Rattle.item_tree.specs.declared.items.Item.{Item}

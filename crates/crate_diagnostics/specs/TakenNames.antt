@@ -9,7 +9,7 @@ use Rattle.crate_modules.specs.Modules.{Listing}
 use Rattle.dm_base.specs.declared.per_ns.Namespace.{Namespace}
 use Rattle.dm_base.specs.declared.per_ns.Namespace.TheVariants.{Macros, Types, Values}
 use Rattle.dm_ids.specs.Kinds.{has_constructor}
-use Rattle.dm_ids.specs.Names.{Name, same_name}
+use Rattle.dm_names.specs.Names.{Name, same_name}
 use Rattle.dm_ids.specs.declared.fields_shape.FieldsShape.{FieldsShape}
 use Rattle.indexmap.specs.IndexSet.{insert_key}
 use Rattle.item_tree.specs.declared.item_kind.ItemKind.{ItemKind}

@@ -6,7 +6,7 @@ use Rattle.crate_diagnostics.specs.declared.diagnostic.DiagnosticKind.TheVariant
 use Rattle.dm_base.specs.Path.{Path}
 use Rattle.dm_base.specs.declared.mod_path.PathKind.{PathKind}
 use Rattle.dm_base.specs.declared.mod_path.PathKind.TheVariants as path
-use Rattle.dm_ids.specs.Names.{Name}
+use Rattle.dm_names.specs.Names.{Name}
 
 -- what is no UTF-8 is a question mark
 abbrev pub as_text : List ℕ → List ℕ

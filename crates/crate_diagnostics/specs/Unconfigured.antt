@@ -10,7 +10,7 @@ use Rattle.crate_modules.specs.DeclaredModules.{Module}
 use Rattle.crate_modules.specs.Modules.{Listing}
 use Rattle.crate_modules.specs.Sources.{Source, source_at}
 use Rattle.crate_modules.specs.declared.standing.Standing.{Standing}
-use Rattle.dm_ids.specs.declared.ids.FileId.{FileId}
+use Rattle.dm_names.specs.declared.ids.FileId.{FileId}
 use Rattle.item_tree.specs.declared.item_kind.ItemKind.{ItemKind}
 use Rattle.item_tree.specs.declared.item_kind.ItemKind.TheVariants as item
 use Rattle.item_tree.specs.declared.items.Item.{Item}

@@ -5,7 +5,7 @@ use Rattle.std.specs.Str.{bytes_eq}
 use Rattle.crate_items.specs.ItemAttributes.{item_attributes}
 use Rattle.crate_items.specs.declared.declared_item.DeclaredItem.{DeclaredItem}
 use Rattle.crate_modules.specs.Modules.{Listing}
-use Rattle.dm_ids.specs.Names.{Name}
+use Rattle.dm_names.specs.Names.{Name}
 use Rattle.dm_ids.specs.declared.macros.MacroExpander.{MacroExpander}
 use Rattle.dm_ids.specs.declared.macros.MacroExpander.TheVariants as expander
 use Rattle.item_tree.specs.declared.attribute.AttributeKind.{AttributeKind}

@@ -12,8 +12,8 @@ use Rattle.crate_modules.specs.Files.{SourceFile, text_of}
 use Rattle.crate_modules.specs.ModuleVisibilities.{lexemes_known}
 use Rattle.crate_modules.specs.Modules.{Listing}
 use Rattle.crate_modules.specs.Sources.{source_at}
-use Rattle.dm_ids.specs.Names.{Name}
-use Rattle.dm_ids.specs.declared.ids.FileId.{FileId}
+use Rattle.dm_names.specs.Names.{Name}
+use Rattle.dm_names.specs.declared.ids.FileId.{FileId}
 use Rattle.item_tree.specs.AttributeKinds.{lexemes_in}
 use Rattle.item_tree.specs.Spans.{string_text}
 use Rattle.item_tree.specs.declared.attribute.AttributeKind.{AttributeKind}

@@ -6,7 +6,7 @@ use Rattle.crate_modules.specs.Files.{SourceFile, text_of}
 use Rattle.crate_modules.specs.Modules.{Listing}
 use Rattle.crate_modules.specs.Sources.{Source, source_at}
 use Rattle.dm_base.specs.declared.visibility.RawVisibility.{RawVisibility}
-use Rattle.dm_ids.specs.declared.ids.FileId.{FileId}
+use Rattle.dm_names.specs.declared.ids.FileId.{FileId}
 use Rattle.item_tree.specs.Fields.{item_fields}
 use Rattle.item_tree.specs.ItemAttributes.{is_cfg_enabled}
 use Rattle.item_tree.specs.Members.{members_of}

@@ -10,8 +10,8 @@ use Rattle.crate_modules.specs.Files.{SourceFile, text_of}
 use Rattle.crate_modules.specs.Modules.{Listing}
 use Rattle.crate_modules.specs.Sources.{Source, source_at}
 use Rattle.dm_base.specs.Path.{Path}
-use Rattle.dm_ids.specs.Names.{Name}
-use Rattle.dm_ids.specs.declared.ids.UseTreeIdx.{UseTreeIdx}
+use Rattle.dm_names.specs.Names.{Name}
+use Rattle.dm_names.specs.declared.ids.UseTreeIdx.{UseTreeIdx}
 use Rattle.item_tree.specs.Ids.{use_tree_idx}
 use Rattle.item_tree.specs.Imports.{import_kind, import_path}
 use Rattle.item_tree.specs.UseTrees.{use_trees_of}

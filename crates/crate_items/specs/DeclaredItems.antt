@@ -10,8 +10,8 @@ use Rattle.crate_modules.specs.Files.{SourceFile, text_of}
 use Rattle.crate_modules.specs.ModuleVisibilities.{visibility_in}
 use Rattle.crate_modules.specs.Modules.{Listing}
 use Rattle.crate_modules.specs.Sources.{Source, source_at}
-use Rattle.dm_ids.specs.Names.{Name}
-use Rattle.dm_ids.specs.declared.source.Edition.{Edition}
+use Rattle.dm_names.specs.Names.{Name}
+use Rattle.dm_names.specs.declared.edition.Edition.{Edition}
 use Rattle.item_tree.specs.Paths.{extern_crate_alias}
 use Rattle.item_tree.specs.Visibilities.{raw_visibility}
 use Rattle.item_tree.specs.declared.item_kind.ItemKind.{ItemKind}

@@ -8,7 +8,7 @@ use Rattle.crate_modules.specs.Files.{SourceFile, text_of}
 use Rattle.crate_modules.specs.ModuleVisibilities.{lexemes_known}
 use Rattle.crate_modules.specs.Modules.{Listing}
 use Rattle.crate_modules.specs.Sources.{source_at}
-use Rattle.dm_ids.specs.Names.{Name}
+use Rattle.dm_names.specs.Names.{Name}
 use Rattle.item_tree.specs.AttributeKinds.{lexemes_in}
 use Rattle.item_tree.specs.declared.attribute.AttributeKind.{AttributeKind}
 use Rattle.item_tree.specs.declared.attribute.AttributeKind.TheVariants as says

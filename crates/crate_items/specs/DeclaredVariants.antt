@@ -11,7 +11,7 @@ use Rattle.crate_modules.specs.Files.{SourceFile, text_of}
 use Rattle.crate_modules.specs.Modules.{Listing}
 use Rattle.crate_modules.specs.Sources.{Source, source_at}
 use Rattle.dm_base.specs.declared.visibility.RawVisibility.{RawVisibility}
-use Rattle.dm_ids.specs.Names.{Name}
+use Rattle.dm_names.specs.Names.{Name}
 use Rattle.item_tree.specs.ItemAttributes.{is_cfg_enabled}
 use Rattle.item_tree.specs.Members.{members_of}
 use Rattle.item_tree.specs.declared.cfg.CfgAtom.{CfgAtom}

@@ -1,7 +1,7 @@
 -- What lexemes name.
 use Rattle.std.specs.Prelude.{ℕ, Bool, true, false, not, List, [], ◌∷◌, Option, Some, None, slice_get, if◌then◌else◌}
 use Rattle.crate_modules.specs.Modules.{as_name}
-use Rattle.dm_ids.specs.Names.{Name}
+use Rattle.dm_names.specs.Names.{Name}
 use Rattle.item_tree.specs.Spans.{name_text}
 use Rattle.item_tree.specs.Visibilities.{lexeme_at}
 use Rattle.item_tree.specs.declared.lexeme.Lexeme.{Lexeme}

@@ -9,7 +9,7 @@ use Rattle.crate_modules.specs.Files.{SourceFile, text_of}
 use Rattle.crate_modules.specs.ModuleVisibilities.{lexemes_known}
 use Rattle.crate_modules.specs.Modules.{Listing}
 use Rattle.crate_modules.specs.Sources.{source_at}
-use Rattle.dm_ids.specs.Names.{Name}
+use Rattle.dm_names.specs.Names.{Name}
 use Rattle.dm_ids.specs.declared.macros.ProcMacroKind.{ProcMacroKind}
 use Rattle.dm_ids.specs.declared.macros.ProcMacroKind.TheVariants as proc
 use Rattle.item_tree.specs.AttributeKinds.{lexemes_in}

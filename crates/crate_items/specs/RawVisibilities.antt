@@ -10,7 +10,7 @@ use Rattle.dm_base.specs.declared.mod_path.PathKind.TheVariants as path
 use Rattle.dm_base.specs.declared.visibility.RawVisibility.{RawVisibility}
 use Rattle.dm_base.specs.declared.visibility.RawVisibility.TheVariants as raw
 use Rattle.dm_base.specs.declared.visibility.VisibilityExplicitness.TheVariants.{Explicit, Implicit}
-use Rattle.dm_ids.specs.declared.ids.FileId.{FileId}
+use Rattle.dm_names.specs.declared.ids.FileId.{FileId}
 use Rattle.item_tree.specs.AttributeKinds.{lexemes_in}
 use Rattle.item_tree.specs.Imports.{segments_from}
 use Rattle.item_tree.specs.declared.items.Item.{Item}

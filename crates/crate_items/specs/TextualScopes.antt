@@ -12,8 +12,8 @@ use Rattle.crate_modules.specs.DeclaredModules.{Module}
 use Rattle.crate_modules.specs.Modules.{Listing}
 use Rattle.crate_modules.specs.Sources.{source_at}
 use Rattle.crate_modules.specs.declared.declared_module.Declaration.{Declaration}
-use Rattle.dm_ids.specs.Names.{Name, same_name}
-use Rattle.dm_ids.specs.declared.ids.FileId.{FileId}
+use Rattle.dm_names.specs.Names.{Name, same_name}
+use Rattle.dm_names.specs.declared.ids.FileId.{FileId}
 use Rattle.item_tree.specs.declared.attribute.AttributeKind.{AttributeKind}
 use Rattle.item_tree.specs.declared.attribute.AttributeKind.TheVariants as says
 use Rattle.item_tree.specs.declared.item_kind.ItemKind.{ItemKind}

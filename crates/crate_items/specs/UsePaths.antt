@@ -6,7 +6,7 @@ use Rattle.crate_items.specs.declared.use_paths.Start.{Start}
 use Rattle.dm_base.specs.Path.{Path}
 use Rattle.dm_base.specs.declared.mod_path.PathKind.{PathKind}
 use Rattle.dm_base.specs.declared.mod_path.PathKind.TheVariants as path
-use Rattle.dm_ids.specs.Names.{Name}
+use Rattle.dm_names.specs.Names.{Name}
 use Rattle.item_tree.specs.declared.lexeme.Lexeme.{Lexeme}
 use Rattle.item_tree.specs.declared.lexeme.LexemeKind.{LexemeKind}
 use Rattle.item_tree.specs.declared.lexeme.LexemeKind.TheVariants.{Mark, Word}

@@ -11,8 +11,8 @@ use Rattle.crate_modules.specs.Modules.{Adds, IsListedTo, IsListing, IsRead, Lis
 use Rattle.crate_modules.specs.Sources.{AreSourcesOf, Extends, Source, source_at}
 use Rattle.crate_modules.specs.declared.found.Found.{Found}
 use Rattle.crate_modules.specs.declared.found.Found.TheVariants.{Declared}
-use Rattle.dm_ids.specs.declared.ids.FileId.{FileId}
-use Rattle.dm_ids.specs.declared.source.Edition.{Edition}
+use Rattle.dm_names.specs.declared.ids.FileId.{FileId}
+use Rattle.dm_names.specs.declared.edition.Edition.{Edition}
 use Rattle.item_tree.specs.declared.cfg.CfgAtom.{CfgAtom}
 
 none_more : (k : ℕ) → k ≡ k + 0

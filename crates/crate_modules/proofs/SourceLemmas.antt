@@ -4,8 +4,8 @@ use Rattle.std.specs.Prelude.{Option, Some, None, nat_eq, slice_get, slice_set}
 use Rattle.std.proofs.lemmas.Bool.{eqb-false, eqb-true}
 use Rattle.crate_modules.specs.Files.{SourceFile, text_of, text_or_nothing}
 use Rattle.crate_modules.specs.Sources.{AreSourcesOf, IsSourceOf, Source, known, source_at}
-use Rattle.dm_ids.specs.declared.ids.FileId.{FileId}
-use Rattle.dm_ids.specs.declared.source.Edition.{Edition}
+use Rattle.dm_names.specs.declared.ids.FileId.{FileId}
+use Rattle.dm_names.specs.declared.edition.Edition.{Edition}
 use Rattle.item_tree.specs.declared.cfg.CfgAtom.{CfgAtom}
 
 -- a table of nothing that was read has nothing

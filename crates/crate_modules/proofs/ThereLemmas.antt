@@ -8,7 +8,7 @@ use Rattle.crate_modules.specs.Files.{SourceFile, file_at, id_of}
 use Rattle.crate_modules.specs.ModDirs.{File}
 use Rattle.crate_modules.specs.Modules.{only, there_from, there_if}
 use Rattle.crate_modules.specs.declared.found.There.{There}
-use Rattle.dm_ids.specs.declared.ids.FileId.{FileId}
+use Rattle.dm_names.specs.declared.ids.FileId.{FileId}
 
 file_known : (files : List SourceFile) (path : List ℕ) (id : FileId) → file_at files path ≡ Some id → id.0 < length files
 file_known files path id at = by (nat_lt place (length files)) refl at

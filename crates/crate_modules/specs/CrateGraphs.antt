@@ -1,8 +1,8 @@
 -- Graphs of crates, their orders and their circles.
 use Rattle.std.specs.Prelude.{◌≡◌, ◌≢◌, ◌+◌, ◌-◌, ◌<◌, ◌≤◌, ◌^◌, ◌++◌, ℕ, Bool, zero, suc, List, [], ◌∷◌, length, map, All, slice_index, slice_index_or}
-use Rattle.dm_ids.specs.declared.ids.Crate.{Crate}
-use Rattle.dm_ids.specs.declared.ids.FileId.{FileId}
-use Rattle.dm_ids.specs.declared.source.Edition.{Edition}
+use Rattle.dm_names.specs.declared.ids.Crate.{Crate}
+use Rattle.dm_names.specs.declared.ids.FileId.{FileId}
+use Rattle.dm_names.specs.declared.edition.Edition.{Edition}
 use Rattle.crate_modules.specs.declared.dependency.Dependency.{Dependency}
 use Rattle.item_tree.specs.declared.cfg.CfgAtom.{CfgAtom}
 

@@ -2,7 +2,7 @@
 use Rattle.std.specs.Prelude.{ℕ, List, Option}
 use Rattle.crate_modules.specs.ModDirs.{Dir, File}
 use Rattle.crate_modules.specs.declared.declared_module.Declaration.{Declaration}
-use Rattle.dm_ids.specs.declared.ids.FileId.{FileId}
+use Rattle.dm_names.specs.declared.ids.FileId.{FileId}
 
 -- a module of a crate: how it is declared, which the root is not; its file, and its item there where it is inline;
 -- where the files of its children are looked for; and the files that it stands in, from the root's to its own

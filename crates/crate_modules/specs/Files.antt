@@ -4,7 +4,7 @@ use Rattle.std.specs.Global.{Vec}
 use Rattle.std.specs.Str.{bytes_eq}
 use Rattle.crate_modules.specs.declared.file_table.AddFileError.{AddFileError}
 use Rattle.crate_modules.specs.declared.file_table.AddFileError.TheVariants.{PathExists, OutOfMemory}
-use Rattle.dm_ids.specs.declared.ids.FileId.{FileId}
+use Rattle.dm_names.specs.declared.ids.FileId.{FileId}
 
 -- a file that was read
 pub record SourceFile : Type 0 where

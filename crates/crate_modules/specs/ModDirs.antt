@@ -1,7 +1,7 @@
 -- Where the files of modules are looked for.
 use Rattle.std.specs.Prelude.{◌++◌, ℕ, Bool, true, false, List, [], ◌∷◌, Option, Some, None, drop, nat_eq, codes, if◌then◌else◌}
 use Rattle.std.specs.List.{starts_with, ends_with}
-use Rattle.dm_ids.specs.Names.{Name}
+use Rattle.dm_names.specs.Names.{Name}
 use Rattle.crate_modules.specs.Paths.{entered_all, file_name, folder_of, is_absolute}
 
 -- where the files of a module's children are looked for: a folder, and in it the folder of the module's own name, which

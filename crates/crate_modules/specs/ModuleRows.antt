@@ -11,7 +11,7 @@ use Rattle.crate_modules.specs.declared.found.Found.TheVariants.{Declared}
 use Rattle.crate_modules.specs.declared.mod_items.ModItem.{ModItem}
 use Rattle.crate_modules.specs.declared.module_visibility.DeclaredVisibility.TheVariants as seen
 use Rattle.crate_modules.specs.declared.standing.Standing.{Standing}
-use Rattle.dm_ids.specs.declared.source.Edition.TheVariants.{Edition2015, Edition2021}
+use Rattle.dm_names.specs.declared.edition.Edition.TheVariants.{Edition2015, Edition2021}
 use Rattle.item_tree.specs.declared.attribute.AttributeKind.TheVariants.{Cfg}
 use Rattle.item_tree.specs.declared.attributes.Attribute.{Attribute}
 use Rattle.item_tree.specs.declared.cfg.CfgNode.TheVariants.{False}

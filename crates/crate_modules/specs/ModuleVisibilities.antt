@@ -9,8 +9,8 @@ use Rattle.crate_modules.specs.declared.module_visibility.DeclaredVisibility.{De
 use Rattle.crate_modules.specs.declared.module_visibility.DeclaredVisibility.TheVariants.{Public, Within}
 use Rattle.crate_modules.specs.declared.module_visibility.Reach.{Reach}
 use Rattle.crate_modules.specs.declared.module_visibility.Reach.TheVariants.{Start, At, Nowhere}
-use Rattle.dm_ids.specs.declared.source.Edition.{Edition}
-use Rattle.dm_ids.specs.declared.source.Edition.TheVariants.{Edition2015}
+use Rattle.dm_names.specs.declared.edition.Edition.{Edition}
+use Rattle.dm_names.specs.declared.edition.Edition.TheVariants.{Edition2015}
 use Rattle.item_tree.specs.AttributeKinds.{lexemes_in}
 use Rattle.item_tree.specs.Spans.{name_text}
 use Rattle.item_tree.specs.declared.lexeme.Lexeme.{Lexeme}

@@ -14,9 +14,9 @@ use Rattle.crate_modules.specs.declared.found.There.{There}
 use Rattle.crate_modules.specs.declared.mod_items.ModItem.{ModItem}
 use Rattle.crate_modules.specs.declared.modules.ModulesError.{ModulesError}
 use Rattle.crate_modules.specs.declared.modules.ModulesError.TheVariants.{TooManyModules, OutOfMemory}
-use Rattle.dm_ids.specs.Names.{Name}
-use Rattle.dm_ids.specs.declared.ids.FileId.{FileId}
-use Rattle.dm_ids.specs.declared.source.Edition.{Edition}
+use Rattle.dm_names.specs.Names.{Name}
+use Rattle.dm_names.specs.declared.ids.FileId.{FileId}
+use Rattle.dm_names.specs.declared.edition.Edition.{Edition}
 use Rattle.item_tree.specs.Spans.{name_text, string_text}
 use Rattle.item_tree.specs.declared.cfg.CfgAtom.{CfgAtom}
 

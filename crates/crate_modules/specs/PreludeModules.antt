@@ -4,9 +4,9 @@ use Rattle.std.specs.List.{position}
 use Rattle.std.specs.Str.{bytes_eq}
 use Rattle.crate_modules.specs.DeclaredModules.{Module}
 use Rattle.crate_modules.specs.declared.declared_module.Declaration.{Declaration}
-use Rattle.dm_ids.specs.Names.{Name}
-use Rattle.dm_ids.specs.declared.source.Edition.{Edition}
-use Rattle.dm_ids.specs.declared.source.Edition.TheVariants as edition
+use Rattle.dm_names.specs.Names.{Name}
+use Rattle.dm_names.specs.declared.edition.Edition.{Edition}
+use Rattle.dm_names.specs.declared.edition.Edition.TheVariants as edition
 
 -- a declaration in the module of a number, under a name
 abbrev pub is_declared_in : ℕ → List ℕ → Option Declaration → Bool

@@ -5,8 +5,8 @@ use Rattle.crate_modules.specs.ModItems.{IsInTextOrder, mods_of}
 use Rattle.crate_modules.specs.Standings.{View, may_stand, standings}
 use Rattle.crate_modules.specs.declared.mod_items.ModItem.{ModItem}
 use Rattle.crate_modules.specs.declared.standing.Standing.{Standing}
-use Rattle.dm_ids.specs.declared.ids.FileId.{FileId}
-use Rattle.dm_ids.specs.declared.source.Edition.{Edition}
+use Rattle.dm_names.specs.declared.ids.FileId.{FileId}
+use Rattle.dm_names.specs.declared.edition.Edition.{Edition}
 use Rattle.item_tree.specs.Attributes.{Table, active_conditions, attributes_of}
 use Rattle.item_tree.specs.Delimiters.{partners_of}
 use Rattle.item_tree.specs.ItemAttributes.{inner_range}

@@ -3,8 +3,8 @@ ghost use Rattle.std.specs.Prelude.{◌≡◌, OnErr, OnOk};
 ghost use Rattle.crate_modules.specs.CrateGraphs.{with_dependency};
 
 use crate::dependency::Dependency;
-use dm_ids::ids::FileId;
-use dm_ids::source::Edition;
+use dm_names::edition::Edition;
+use dm_names::ids::FileId;
 use item_tree::cfg::CfgOptions;
 use std::alloc::AllocError;
 use std::marker::Model;

@@ -6,7 +6,7 @@ ghost use Rattle.crate_modules.specs.OrderFaults.{IsFaultOf};
 use crate::crate_data::CrateData;
 use crate::crate_order::{OrderFault, order_of};
 use crate::dependency::Dependency;
-use dm_ids::ids::Crate;
+use dm_names::ids::Crate;
 use std::alloc::{AllocError, Global};
 use std::marker::Model;
 

@@ -6,7 +6,7 @@ ghost use Rattle.crate_modules.specs.OrderSearch.{Ends, GoesOn, IsLast, IsSearch
 
 use crate::crate_data::CrateData;
 use crate::order_search::Search;
-use dm_ids::ids::Crate;
+use dm_names::ids::Crate;
 use std::alloc::{AllocError, Global};
 
 /// Why a graph's crates were not put into an order.

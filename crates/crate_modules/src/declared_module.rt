@@ -3,8 +3,8 @@ ghost use Rattle.std.specs.Prelude.{◌≡◌};
 ghost use Rattle.std.specs.Option.{option_copied};
 
 use crate::mod_resolution::{Candidate, ModDir};
-use dm_ids::ids::FileId;
-use dm_ids::name::Name;
+use dm_names::ids::FileId;
+use dm_names::name::Name;
 use item_tree::visibility::RawVisibility;
 use std::marker::Model;
 

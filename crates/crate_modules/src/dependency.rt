@@ -1,6 +1,6 @@
 //! What crates depend on.
-use dm_ids::ids::Crate;
-use dm_ids::name::Name;
+use dm_names::ids::Crate;
+use dm_names::name::Name;
 
 /// A crate that another one depends on, and the name under which it knows it.
 #[derive(Drop)]

@@ -5,7 +5,7 @@ ghost use Rattle.std.specs.Str.{bytes_eq};
 ghost use Rattle.crate_modules.specs.Files as spec;
 ghost use Rattle.indexmap.specs.IndexMap.{get_by};
 
-use dm_ids::ids::FileId;
+use dm_names::ids::FileId;
 use indexmap::IndexMap;
 use std::alloc::{AllocError, Global};
 use std::marker::Model;

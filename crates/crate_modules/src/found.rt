@@ -9,8 +9,8 @@ use crate::declared_module::{Declaration, DeclaredModule, ModuleFault};
 use crate::file_table::FileTable;
 use crate::mod_items::ModItem;
 use crate::mod_resolution::Candidate;
-use dm_ids::ids::FileId;
-use dm_ids::name::Name;
+use dm_names::ids::FileId;
+use dm_names::name::Name;
 use item_tree::span::{name_text, string_text};
 use std::alloc::{AllocError, Global};
 

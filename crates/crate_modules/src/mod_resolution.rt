@@ -4,7 +4,7 @@ ghost use Rattle.crate_modules.specs.ModDirs as spec;
 ghost use Rattle.std.specs.Option.{option_copied};
 
 use crate::paths::{enter_all, file_name, folder_of, is_absolute, joined};
-use dm_ids::name::Name;
+use dm_names::name::Name;
 use std::alloc::{AllocError, Global};
 use std::marker::Model;
 

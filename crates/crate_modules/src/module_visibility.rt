@@ -4,7 +4,7 @@ ghost use Rattle.crate_modules.specs.ModuleVisibilities as spec;
 ghost use Rattle.crate_modules.specs.declared.module_visibility.Reach.TheVariants.{Start};
 
 use crate::declared_module::DeclaredModule;
-use dm_ids::source::Edition;
+use dm_names::edition::Edition;
 use item_tree::attribute::lexemes_in;
 use item_tree::lexeme::{Lexeme, LexemeKind};
 use item_tree::span::{Span, name_text};

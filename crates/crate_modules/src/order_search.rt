@@ -4,7 +4,7 @@ ghost use Rattle.crate_modules.specs.CrateGraphs.{needs, numbers, rows};
 ghost use Rattle.crate_modules.specs.OrderSearch as spec;
 
 use crate::crate_data::CrateData;
-use dm_ids::ids::Crate;
+use dm_names::ids::Crate;
 use std::alloc::{AllocError, Global};
 use std::marker::Model;
 

@@ -4,8 +4,8 @@ ghost use Rattle.std.specs.Option.{option_copied};
 ghost use Rattle.crate_modules.specs.PreludeModules as spec;
 
 use crate::declared_module::{Declaration, DeclaredModule};
-use dm_ids::name::Name;
-use dm_ids::source::Edition;
+use dm_names::edition::Edition;
+use dm_names::name::Name;
 
 /// Whether something is declared in the module of a number, under a name.
 fn is_declared_in(declaration: Option<&Declaration>, parent: usize, name: &[u8]) -> bool

@@ -7,7 +7,7 @@ ghost use Rattle.item_tree.specs.ItemAttributes.{inner_range};
 
 use crate::mod_items::{ModItem, mod_items};
 use crate::standing::{Standing, View, standings};
-use dm_ids::source::Edition;
+use dm_names::edition::Edition;
 use item_tree::attributes::{Attributes, read_attributes};
 use item_tree::cfg::CfgOptions;
 use item_tree::delimiters::partners;

@@ -2,12 +2,12 @@
 ghost use Rattle.std.specs.Prelude.{◌≡◌, ◌<◌, IfOk, IsSome, None, OnOk, Some, if◌then◌else◌, length, nat_eq};
 ghost use Rattle.std.specs.Option.{option_copied};
 ghost use Rattle.crate_modules.specs.Sources.{AreSourcesOf, Extends, source_at};
-ghost use Rattle.dm_ids.specs.declared.ids.FileId.{FileId};
+ghost use Rattle.dm_names.specs.declared.ids.FileId.{FileId};
 
 use crate::file_table::FileTable;
 use crate::source::Source;
-use dm_ids::ids::FileId;
-use dm_ids::source::Edition;
+use dm_names::edition::Edition;
+use dm_names::ids::FileId;
 use item_tree::cfg::CfgOptions;
 use std::alloc::{AllocError, Global};
 use std::marker::Model;

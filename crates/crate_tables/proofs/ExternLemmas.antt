@@ -8,8 +8,8 @@ use Rattle.crate_items.specs.declared.declared_item.LinkedCrate.TheVariants.{Its
 use Rattle.crate_modules.specs.declared.dependency.Dependency.{Dependency}
 use Rattle.crate_tables.specs.ExternCrates.{held_root, linkable, linked_root, root_named, root_of_dep}
 use Rattle.dm_check.specs.declared.held.HeldId.TheVariants as held
-use Rattle.dm_ids.specs.Names.{Name, same_name}
-use Rattle.dm_ids.specs.declared.ids.Crate.{Crate}
+use Rattle.dm_names.specs.Names.{Name, same_name}
+use Rattle.dm_names.specs.declared.ids.Crate.{Crate}
 use Rattle.dm_maps.specs.Known.{knows, KnowsAll}
 use Rattle.dm_maps.specs.World.{World}
 

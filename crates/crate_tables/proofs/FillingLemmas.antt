@@ -13,7 +13,7 @@ use Rattle.crate_tables.specs.ExternCrates.{Linked, held_root, linkable}
 use Rattle.dm_check.specs.Holding.{vis_holds}
 use Rattle.dm_check.specs.Pushes.{push_holds}
 use Rattle.dm_check.specs.declared.held.HeldId.TheVariants as held
-use Rattle.dm_ids.specs.declared.ids.Crate.{Crate}
+use Rattle.dm_names.specs.declared.ids.Crate.{Crate}
 use Rattle.crate_tables.specs.Kept.{IsKept}
 use Rattle.crate_modules.specs.Modules.{Listing}
 use Rattle.dm_maps.specs.Known.{KnowsAll}

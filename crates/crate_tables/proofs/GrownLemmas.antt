@@ -10,8 +10,8 @@ use Rattle.crate_tables.specs.Visibilities.{AreIdsOf, Ids}
 use Rattle.dm_check.specs.declared.held.HeldId.{HeldId}
 use Rattle.dm_def_map.specs.Locals.{with_extern}
 use Rattle.dm_def_map.specs.Maps.{LocalMap}
-use Rattle.dm_ids.specs.Names.{Name}
-use Rattle.dm_ids.specs.declared.ids.Crate.{Crate}
+use Rattle.dm_names.specs.Names.{Name}
+use Rattle.dm_names.specs.declared.ids.Crate.{Crate}
 use Rattle.dm_ids.specs.declared.ids.ExternCrateId.{ExternCrateId}
 use Rattle.dm_maps.specs.BuildMaps.{locals_with, with_extern_of}
 use Rattle.dm_def_map.specs.ItemTables.{ItemTables}

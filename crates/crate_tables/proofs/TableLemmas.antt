@@ -10,8 +10,8 @@ use Rattle.dm_base.specs.declared.visibility.Visibility.{Visibility}
 use Rattle.dm_check.specs.Holding.{def_holds, res_holds, vis_holds}
 use Rattle.dm_check.specs.Pushes.{push_holds}
 use Rattle.dm_check.specs.declared.held.HeldId.TheVariants as held
-use Rattle.dm_ids.specs.Names.{Name}
-use Rattle.dm_ids.specs.declared.ids.Crate.{Crate}
+use Rattle.dm_names.specs.Names.{Name}
+use Rattle.dm_names.specs.declared.ids.Crate.{Crate}
 use Rattle.dm_ids.specs.declared.ids.ModuleId.{ModuleId}
 use Rattle.dm_ids.specs.declared.item_ids.ModuleDefId.{ModuleDefId}
 use Rattle.dm_ids.specs.declared.item_ids.ModuleDefId.TheVariants as def

@@ -7,7 +7,7 @@ use Rattle.dm_check.specs.Holding.{vis_holds}
 use Rattle.dm_check.specs.Pushes.{push_holds}
 use Rattle.dm_check.specs.declared.held.HeldId.{HeldId}
 use Rattle.dm_check.specs.declared.held.HeldId.TheVariants as held
-use Rattle.dm_ids.specs.declared.ids.Crate.{Crate}
+use Rattle.dm_names.specs.declared.ids.Crate.{Crate}
 use Rattle.dm_maps.specs.Known.{KnowsAll}
 use Rattle.dm_maps.specs.World.{World}
 

@@ -2,7 +2,7 @@
 use Rattle.std.proofs.Common.{◌≡◌, Bool, true, false, cond, not, Option, Some, None, ap, refl}
 use Rattle.std.specs.Prelude.{Ok, Err, IsTrue}
 use Rattle.dm_check.specs.declared.held.HeldId.TheVariants as held
-use Rattle.dm_ids.specs.Names.{Name}
+use Rattle.dm_names.specs.Names.{Name}
 use Rattle.dm_ids.specs.declared.ids.EnumId.{EnumId}
 use Rattle.dm_ids.specs.declared.item_ids.ItemKind.TheVariants as kinds
 use Rattle.dm_maps.specs.Faults.{Answers, is_full}

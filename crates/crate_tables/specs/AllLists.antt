@@ -7,7 +7,7 @@ use Rattle.crate_tables.specs.ProceduralPairs.{with_pairs}
 use Rattle.crate_tables.specs.ScopeLists.{with_scope_lists}
 use Rattle.crate_tables.specs.declared.extern_crates.ExternCrateRow.{ExternCrateRow}
 use Rattle.crate_tables.specs.declared.item_outline.ItemOutline.{ItemOutline}
-use Rattle.dm_ids.specs.declared.ids.Crate.{Crate}
+use Rattle.dm_names.specs.declared.ids.Crate.{Crate}
 use Rattle.dm_maps.specs.World.{World}
 
 -- The definitions of a crate come into the lists of their modules, and so do its extern crates, whose rows begin at n. Then

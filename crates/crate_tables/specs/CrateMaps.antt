@@ -7,9 +7,9 @@ use Rattle.crate_tables.specs.Visibilities.{id_at, visibility_of}
 use Rattle.crate_tables.specs.declared.new_module.NewModule.{NewModule}
 use Rattle.dm_base.specs.declared.visibility.Visibility.{Visibility}
 use Rattle.dm_def_map.specs.declared.modules.module_origin.ModuleOrigin.{ModuleOrigin}
-use Rattle.dm_ids.specs.Names.{Name}
+use Rattle.dm_names.specs.Names.{Name}
 use Rattle.dm_ids.specs.declared.ids.ModuleId.{ModuleId}
-use Rattle.dm_ids.specs.declared.source.Edition.{Edition}
+use Rattle.dm_names.specs.declared.edition.Edition.{Edition}
 use Rattle.dm_maps.specs.Build.{next_module, with_module}
 use Rattle.dm_maps.specs.Faults.{has_child}
 use Rattle.dm_maps.specs.World.{World}

@@ -9,8 +9,8 @@ use Rattle.crate_modules.specs.declared.dependency.Dependency.{Dependency}
 use Rattle.dm_check.specs.declared.held.HeldId.{HeldId}
 use Rattle.dm_check.specs.declared.held.HeldId.TheVariants as held
 use Rattle.crate_tables.specs.NewModules.{in_edition}
-use Rattle.dm_ids.specs.Names.{Name, same_name}
-use Rattle.dm_ids.specs.declared.ids.Crate.{Crate}
+use Rattle.dm_names.specs.Names.{Name, same_name}
+use Rattle.dm_names.specs.declared.ids.Crate.{Crate}
 use Rattle.dm_ids.specs.declared.ids.ModuleId.{ModuleId}
 use Rattle.dm_maps.specs.Build.{with_crate}
 use Rattle.dm_maps.specs.BuildMaps.{with_extern_of}

@@ -11,10 +11,10 @@ use Rattle.crate_tables.specs.declared.new_module.NewModule.{NewModule}
 use Rattle.crate_tables.specs.declared.new_module.OwnFile.{OwnFile}
 use Rattle.dm_def_map.specs.declared.modules.module_origin.ModuleOrigin.{ModuleOrigin}
 use Rattle.dm_def_map.specs.declared.modules.module_origin.ModuleOrigin.TheVariants as origin
-use Rattle.dm_ids.specs.declared.ids.Crate.{Crate}
-use Rattle.dm_ids.specs.declared.ids.FileAstId.{FileAstId}
-use Rattle.dm_ids.specs.declared.ids.FileId.{FileId}
-use Rattle.dm_ids.specs.declared.source.Edition.{Edition}
+use Rattle.dm_names.specs.declared.ids.Crate.{Crate}
+use Rattle.dm_names.specs.declared.ids.FileAstId.{FileAstId}
+use Rattle.dm_names.specs.declared.ids.FileId.{FileId}
+use Rattle.dm_names.specs.declared.edition.Edition.{Edition}
 use Rattle.dm_ids.specs.declared.source.EditionedFileId.{EditionedFileId}
 use Rattle.dm_ids.specs.declared.source.HirFileId.TheVariants as file
 use Rattle.dm_ids.specs.declared.source.TreeId.{TreeId}

@@ -10,8 +10,8 @@ use Rattle.crate_tables.specs.CrateTables.{Table, def_at, with_def_at, with_name
 use Rattle.crate_tables.specs.NewModules.{CrateView, is_macro_root}
 use Rattle.dm_base.specs.PerNs.{macro_alone}
 use Rattle.dm_base.specs.declared.visibility.Visibility.TheVariants.{Public}
-use Rattle.dm_ids.specs.Names.{Name}
-use Rattle.dm_ids.specs.declared.ids.Crate.{Crate}
+use Rattle.dm_names.specs.Names.{Name}
+use Rattle.dm_names.specs.declared.ids.Crate.{Crate}
 use Rattle.dm_ids.specs.declared.item_ids.MacroId.{MacroId}
 use Rattle.dm_ids.specs.declared.item_ids.ModuleDefId.TheVariants as def
 use Rattle.dm_ids.specs.declared.macros.MacroLoc.{MacroLoc}

@@ -13,11 +13,11 @@ use Rattle.crate_tables.specs.CrateTables.{Table}
 use Rattle.crate_tables.specs.Visibilities.{id_at}
 use Rattle.dm_def_map.specs.declared.crate_data.crate_setting.CrateSetting.{CrateSetting}
 use Rattle.dm_def_map.specs.declared.crate_data.crate_setting.CrateSetting.TheVariants as setting
-use Rattle.dm_ids.specs.declared.ids.Crate.{Crate}
+use Rattle.dm_names.specs.declared.ids.Crate.{Crate}
 use Rattle.dm_ids.specs.declared.ids.MapId.{MapId}
 use Rattle.dm_ids.specs.declared.ids.ModuleId.{ModuleId}
 use Rattle.dm_ids.specs.declared.ids.UseId.{UseId}
-use Rattle.dm_ids.specs.declared.source.Edition.{Edition}
+use Rattle.dm_names.specs.declared.edition.Edition.{Edition}
 use Rattle.dm_maps.specs.BuildCrateData.{with_crate_settings}
 use Rattle.dm_maps.specs.BuildMaps.{with_prelude}
 use Rattle.dm_maps.specs.World.{World}

@@ -5,7 +5,7 @@ use Rattle.crate_items.specs.TextualScopes.{Scopes, name_at}
 use Rattle.crate_items.specs.declared.declared_item.DeclaredItem.{DeclaredItem}
 use Rattle.crate_tables.specs.Visibilities.{Ids, id_at}
 use Rattle.dm_check.specs.declared.held.HeldId.{HeldId}
-use Rattle.dm_ids.specs.Names.{Name, same_name}
+use Rattle.dm_names.specs.Names.{Name, same_name}
 use Rattle.dm_ids.specs.declared.ids.ModuleId.{ModuleId}
 use Rattle.dm_ids.specs.declared.item_ids.MacroId.{MacroId}
 use Rattle.dm_maps.specs.Known.{knows}

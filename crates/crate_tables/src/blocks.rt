@@ -3,7 +3,7 @@ ghost use Rattle.std.specs.Prelude.{◌≡◌, IfOk, OnOk};
 ghost use Rattle.crate_modules.specs.Sources.{source_at};
 ghost use Rattle.crate_tables.specs.Blocks as spec;
 ghost use Rattle.crate_tables.specs.CrateTables.{IsTableOf};
-ghost use Rattle.dm_ids.specs.declared.ids.Crate.{Crate};
+ghost use Rattle.dm_names.specs.declared.ids.Crate.{Crate};
 ghost use Rattle.dm_maps.specs.World.{World};
 
 use crate::crate_table::CrateTable;

@@ -7,7 +7,7 @@ ghost use Rattle.crate_tables.specs.CrateMaps.{is_shortage};
 ghost use Rattle.crate_tables.specs.CrateTables.{IsTableOf};
 ghost use Rattle.dm_check.specs.Holding.{def_holds, vis_holds};
 ghost use Rattle.dm_check.specs.declared.held.HeldId.TheVariants as held;
-ghost use Rattle.dm_ids.specs.declared.ids.Crate.{Crate};
+ghost use Rattle.dm_names.specs.declared.ids.Crate.{Crate};
 ghost use Rattle.dm_ids.specs.declared.item_ids.ItemKind.TheVariants as kinds;
 ghost use Rattle.dm_maps.specs.Added.{IsGrown};
 ghost use Rattle.dm_maps.specs.Known.{knows, KnowsAll};

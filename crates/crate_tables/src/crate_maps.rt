@@ -8,7 +8,7 @@ ghost use Rattle.dm_check.specs.Holding.{vis_holds};
 ghost use Rattle.dm_check.specs.declared.held.HeldId.TheVariants as held;
 ghost use Rattle.dm_def_map.specs.Origins.{is_child};
 ghost use Rattle.dm_maps.specs.Added.{IsGrown};
-ghost use Rattle.dm_ids.specs.declared.ids.Crate.{Crate};
+ghost use Rattle.dm_names.specs.declared.ids.Crate.{Crate};
 ghost use Rattle.dm_maps.specs.Known.{knows, KnowsAll};
 ghost use Rattle.dm_maps.specs.declared.build_fault.BuildFault.TheVariants.{TakenChild};
 

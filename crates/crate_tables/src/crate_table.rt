@@ -1,6 +1,6 @@
 //! What a crate has in a builder.
 ghost use Rattle.std.specs.Prelude.{◌≡◌, ◌++◌, ◌∷◌, [], OnOk, map};
-ghost use Rattle.dm_ids.specs.declared.ids.Crate.{Crate};
+ghost use Rattle.dm_names.specs.declared.ids.Crate.{Crate};
 ghost use Rattle.dm_maps.specs.World.{World};
 ghost use Rattle.crate_tables.specs.CrateTables as spec;
 

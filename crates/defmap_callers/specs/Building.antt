@@ -1,7 +1,7 @@
 -- What declarations make the modules of a world bind.
 use Rattle.std.specs.Prelude.{◌≡◌, IsTrue, List, Option, None, Some, if◌then◌else◌}
 use Rattle.std.specs.List.{filter_map}
-use Rattle.dm_ids.specs.Names.{Name}
+use Rattle.dm_names.specs.Names.{Name}
 use Rattle.dm_ids.specs.declared.ids.ModuleId.{ModuleId}
 use Rattle.dm_ids.specs.declared.item_ids.ModuleDefId.{ModuleDefId}
 use Rattle.dm_base.specs.PerNs.{type_alone}

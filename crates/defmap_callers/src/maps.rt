@@ -1,7 +1,7 @@
 //! Example callers, shown in docs/USING.md: builders, checked worlds, and their def maps.
 ghost use Rattle.std.specs.Prelude.{◌≡◌, ◌∷◌, [], false, None, Some, IfOk, IfSome, IsSome, IsTrue, OnErr, OnOk, length, nat_lt, slice_get};
 ghost use Rattle.std.specs.List.{filter_map};
-ghost use Rattle.dm_ids.specs.Names.{find_name};
+ghost use Rattle.dm_names.specs.Names.{find_name};
 ghost use Rattle.dm_ids.specs.declared.ids.ModuleId.{ModuleId};
 ghost use Rattle.dm_ids.specs.declared.imports.ImportOrExternCrate.TheVariants.{Glob};
 ghost use Rattle.dm_base.specs.PerNs.{type_alone};

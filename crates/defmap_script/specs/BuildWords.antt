@@ -1,7 +1,7 @@
 -- Grammar of the words of the lines that build. A word of another form is parsed to none.
 use Rattle.std.specs.Prelude.{ℕ, ◌==◌, nat_lt, List, [], ◌∷◌, Option, Some, None, if◌then◌else◌, codes}
 use Rattle.std.specs.Option.{option_map, option_map_or, option_and_then, option_or}
-use Rattle.dm_ids.specs.Names.{Name, same_name, find_name}
+use Rattle.dm_names.specs.Names.{Name, same_name, find_name}
 use Rattle.dm_ids.specs.declared.fields_shape.FieldsShape.{FieldsShape}
 use Rattle.dm_ids.specs.declared.fields_shape.FieldsShape.TheVariants.{Record, Tuple, Unit}
 use Rattle.dm_ids.specs.declared.ids.ExternCrateId.{ExternCrateId}

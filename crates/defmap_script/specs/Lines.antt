@@ -3,7 +3,7 @@ use Rattle.std.specs.Prelude.{ℕ, ◌==◌, not, List, [], ◌∷◌, Option, S
 use Rattle.std.specs.List.{slice_split, starts_with}
 use Rattle.std.specs.Str.{is_utf8}
 use Rattle.std.specs.Option.{option_map, option_map_or, option_and_then}
-use Rattle.dm_ids.specs.Names.{Name, find_name}
+use Rattle.dm_names.specs.Names.{Name, find_name}
 use Rattle.dm_base.specs.Path.{Path}
 use Rattle.dm_ids.specs.declared.ids.ModuleId.{ModuleId}
 use Rattle.dm_ids.specs.declared.item_ids.MacroId.{MacroId}

@@ -4,11 +4,11 @@ use Rattle.std.specs.Char.{is_ascii_digit}
 use Rattle.std.specs.List.{list_all}
 use Rattle.std.specs.Option.{option_map, option_and_then, option_or}
 use Rattle.std.specs.Str.Parse.{digits_value}
-use Rattle.dm_ids.specs.Names.{Name, same_name, find_name}
+use Rattle.dm_names.specs.Names.{Name, same_name, find_name}
 use Rattle.dm_ids.specs.Builtins.{builtin_words}
 use Rattle.dm_ids.specs.Imports.{narrowed}
 use Rattle.dm_ids.specs.declared.ids.UseId.{UseId}
-use Rattle.dm_ids.specs.declared.ids.UseTreeIdx.{UseTreeIdx}
+use Rattle.dm_names.specs.declared.ids.UseTreeIdx.{UseTreeIdx}
 use Rattle.dm_ids.specs.declared.item_ids.AdtId.TheVariants as adt
 use Rattle.dm_ids.specs.declared.item_ids.ItemKind.{ItemKind}
 use Rattle.dm_ids.specs.declared.item_ids.ItemKind.TheVariants as item
@@ -22,8 +22,8 @@ use Rattle.dm_ids.specs.declared.imports.ImportOrGlob.{ImportOrGlob}
 use Rattle.dm_base.specs.declared.mod_path.PathKind.{PathKind}
 use Rattle.dm_base.specs.declared.mod_path.PathKind.TheVariants as path
 use Rattle.dm_base.specs.declared.per_ns.Item.{Item}
-use Rattle.dm_ids.specs.declared.source.Edition.{Edition}
-use Rattle.dm_ids.specs.declared.source.Edition.TheVariants as edition
+use Rattle.dm_names.specs.declared.edition.Edition.{Edition}
+use Rattle.dm_names.specs.declared.edition.Edition.TheVariants as edition
 use Rattle.dm_base.specs.declared.visibility.Visibility.{Visibility}
 use Rattle.dm_base.specs.declared.visibility.Visibility.TheVariants as seen
 use Rattle.dm_base.specs.declared.visibility.VisibilityExplicitness.{VisibilityExplicitness}

@@ -3,7 +3,7 @@ use Rattle.std.proofs.Common.{◌≡◌, true, Option, None, Some, refl, sym, ap
 use Rattle.std.proofs.lemmas.Bool.{and_parts, and_from}
 use Rattle.dm_ids.specs.declared.ids.ModuleId.{ModuleId}
 use Rattle.dm_ids.specs.declared.ids.BlockId.{BlockId}
-use Rattle.dm_ids.specs.declared.ids.Crate.{Crate}
+use Rattle.dm_names.specs.declared.ids.Crate.{Crate}
 use Rattle.dm_ids.specs.declared.ids.MapId.{MapId}
 use Rattle.dm_ids.specs.contracts.value_eq.BlockIdValueEq.TheImpl.Laws as block_value
 use Rattle.dm_ids.specs.contracts.value_eq.CrateValueEq.TheImpl.Laws as crate_value

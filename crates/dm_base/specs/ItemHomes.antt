@@ -2,7 +2,7 @@
 use Rattle.std.specs.Prelude.{Option, Some, None}
 use Rattle.std.specs.Option.{option_and_then}
 use Rattle.dm_ids.specs.declared.ids.ModuleId.{ModuleId}
-use Rattle.dm_ids.specs.declared.ids.Crate.{Crate}
+use Rattle.dm_names.specs.declared.ids.Crate.{Crate}
 use Rattle.dm_ids.specs.declared.ids.EnumId.{EnumId}
 use Rattle.dm_ids.specs.declared.ids.EnumVariantId.{EnumVariantId}
 use Rattle.dm_ids.specs.declared.item_ids.AdtId.TheVariants as adts

@@ -1,7 +1,7 @@
 -- One binding changed in its place.
 use Rattle.std.proofs.Common.{◌≡◌, Bool, true, false, cond, List, [], ◌∷◌, None, Some, refl, ap}
 use Rattle.std.specs.Map.{lookup, set_value}
-use Rattle.dm_ids.specs.Names.{Name, same_name}
+use Rattle.dm_names.specs.Names.{Name, same_name}
 use Rattle.dm_base.specs.declared.per_ns.Item.{Item}
 use Rattle.dm_bindings.specs.Changes.{change_item}
 

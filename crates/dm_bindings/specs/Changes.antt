@@ -1,14 +1,14 @@
 -- What a scope's mutators do to a namespace, beside pushes.
 use Rattle.std.specs.Prelude.{◌&&◌, Bool, false, true, List, [], ◌∷◌, Option, Some, None, map, is_none, if◌then◌else◌}
 use Rattle.std.specs.Map.{remove_entry}
-use Rattle.dm_ids.specs.declared.ids.Crate.{Crate}
+use Rattle.dm_names.specs.declared.ids.Crate.{Crate}
 use Rattle.dm_ids.specs.declared.imports.ImportOrExternCrate.{ImportOrExternCrate}
 use Rattle.dm_ids.specs.declared.item_ids.MacroId.{MacroId}
 use Rattle.dm_ids.specs.declared.item_ids.MacroId.TheVariants as macro
 use Rattle.dm_base.specs.declared.per_ns.Item.{Item}
 use Rattle.dm_base.specs.declared.visibility.Visibility.{Visibility}
 use Rattle.dm_base.specs.declared.visibility.Visibility.TheVariants.{PubCrate}
-use Rattle.dm_ids.specs.Names.{Name, same_name, find_name}
+use Rattle.dm_names.specs.Names.{Name, same_name, find_name}
 use Rattle.dm_bindings.specs.Bindings.{Bound}
 
 -- whether a binding is of a definition

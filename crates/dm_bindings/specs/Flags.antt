@@ -7,7 +7,7 @@ use Rattle.std.specs.Cmp.Lexicographic.{slice_cmp}
 use Rattle.std.specs.FinMap.Entries.{find, put, where_key}
 use Rattle.std.specs.declared.cmp.Ordering.{Ordering}
 use Rattle.dm_ids.specs.declared.ids.ModuleId.{ModuleId}
-use Rattle.dm_ids.specs.Names.{Name, same_name}
+use Rattle.dm_names.specs.Names.{Name, same_name}
 use Rattle.dm_base.specs.Tree.{same_module}
 
 -- flags in order: by the module's number, and then by the name's bytes

@@ -1,6 +1,6 @@
 -- The result and the effect of a push into a namespace. Where an allocation fails, nothing changes.
 use Rattle.std.specs.Prelude.{◌≡◌, Bool, Option, Some, Result, IfOk, OnOk, OnErr}
-use Rattle.dm_ids.specs.Names.{Name}
+use Rattle.dm_names.specs.Names.{Name}
 use Rattle.dm_ids.specs.declared.ids.ModuleId.{ModuleId}
 use Rattle.dm_ids.specs.declared.imports.ImportOrExternCrate.{ImportOrExternCrate}
 use Rattle.dm_base.specs.declared.per_ns.Item.{Item}

@@ -1,6 +1,6 @@
 -- What the iterator of a namespace yields.
 use Rattle.std.specs.Borrow.{Bor}
-use Rattle.dm_ids.specs.Names.{Name}
+use Rattle.dm_names.specs.Names.{Name}
 
 -- what a name's reference points to, beside what comes with it
 abbrev pub deref_name : {X : Type 0} → Bor Name × X → Name × X

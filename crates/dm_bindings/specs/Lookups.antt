@@ -3,7 +3,7 @@ use Rattle.std.specs.Prelude.{◌≡◌, ◌∷◌, [], Bool, List, Option, Some
 use Rattle.std.specs.Borrow.{Bor}
 use Rattle.dm_base.specs.declared.per_ns.Item.{Item}
 use Rattle.dm_base.specs.declared.visibility.Visibility.{Visibility}
-use Rattle.dm_ids.specs.Names.{Name}
+use Rattle.dm_names.specs.Names.{Name}
 
 -- a binding as what is said of its definition: the name, its visibility, and whether no import brought it
 abbrev pub shown_name : {D I : Type 0} → Name × Item D I → Name × Visibility × Bool

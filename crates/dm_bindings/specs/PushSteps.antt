@@ -2,7 +2,7 @@
 -- second one writes the values, and cannot fail.
 use Rattle.std.specs.Prelude.{Bool, false, List, Option, None, Some, if◌then◌else◌}
 use Rattle.std.specs.Map.{set_value}
-use Rattle.dm_ids.specs.Names.{Name, same_name}
+use Rattle.dm_names.specs.Names.{Name, same_name}
 use Rattle.dm_ids.specs.declared.ids.ModuleId.{ModuleId}
 use Rattle.dm_base.specs.declared.per_ns.Item.{Item}
 use Rattle.dm_ids.specs.declared.imports.ImportOrDef.{ImportOrDef}

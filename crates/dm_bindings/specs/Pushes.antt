@@ -3,7 +3,7 @@ use Rattle.std.specs.Prelude.{◌≡◌, ℕ, Bool, true, false, not, nat_eq, Li
 use Rattle.std.specs.Option.{option_map}
 use Rattle.std.specs.List.{filter, list_all, list_any, enumerate_from}
 use Rattle.std.specs.Map.{lookup}
-use Rattle.dm_ids.specs.Names.{Name, same_name, find_name}
+use Rattle.dm_names.specs.Names.{Name, same_name, find_name}
 use Rattle.dm_base.specs.declared.per_ns.Item.{Item}
 use Rattle.dm_ids.specs.declared.imports.ImportOrDef.{ImportOrDef}
 use Rattle.dm_ids.specs.declared.imports.ImportOrExternCrate.{ImportOrExternCrate}

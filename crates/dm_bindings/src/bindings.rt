@@ -8,7 +8,7 @@ ghost use Rattle.std.specs.Map.Iter.{TakesFirst, ShowsInOrder};
 ghost use Rattle.dm_base.specs.declared.per_ns.Item.{Item};
 ghost use Rattle.dm_bindings.specs.Iterators.{deref_name};
 ghost use Rattle.dm_ids.specs.declared.ids.ModuleId.{ModuleId};
-ghost use Rattle.dm_ids.specs.Names.{Name, same_name, find_name};
+ghost use Rattle.dm_names.specs.Names.{Name, same_name, find_name};
 ghost use Rattle.dm_base.specs.Tree.{same_module};
 ghost use Rattle.dm_bindings.specs.Pushes.{PushAnswersIn, PushShowsIn, one_push, Push, ShowsIn, IsByName, is_effective};
 ghost use Rattle.dm_bindings.specs.Entries.{is_new};
@@ -58,7 +58,7 @@ pub struct Iter<'a, D, I> {
 
 impl<'a, D, I> Model for Iter<'a, D, I> {
     ghost use Rattle.std.specs.Prelude.{List};
-    ghost use Rattle.dm_ids.specs.Names.{Name};
+    ghost use Rattle.dm_names.specs.Names.{Name};
     ghost use Rattle.dm_base.specs.declared.per_ns.Item.{Item};
 
     ghost Value = { List (Name × Item D I) };

@@ -3,7 +3,7 @@ ghost use Rattle.std.specs.Prelude.{◌≡◌, [], None, true, false, cond, OnOk
 ghost use Rattle.std.specs.Map.{lookup};
 ghost use Rattle.std.specs.List.{list_any};
 ghost use Rattle.dm_ids.specs.declared.ids.ModuleId.{ModuleId};
-ghost use Rattle.dm_ids.specs.Names.{Name, same_name};
+ghost use Rattle.dm_names.specs.Names.{Name, same_name};
 ghost use Rattle.dm_base.specs.Tree.{same_module};
 ghost use Rattle.dm_bindings.specs.Flags.{flags_of, has_flag, with_flag, no_flags, flags_grown, flags_undone, flags_finished};
 

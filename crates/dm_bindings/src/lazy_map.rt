@@ -3,7 +3,7 @@ ghost use Rattle.std.specs.Prelude.{◌≡◌, [], length, is_some, None, true, 
 ghost use Rattle.std.specs.Option.{option_copied};
 ghost use Rattle.std.specs.Map.{lookup, set_value, remove_entry};
 ghost use Rattle.indexmap.specs.IndexMap.{insert_entry};
-ghost use Rattle.dm_ids.specs.Names.{same_name};
+ghost use Rattle.dm_names.specs.Names.{same_name};
 ghost use Rattle.dm_bindings.specs.Entries.{add_entry, is_new, without_new};
 ghost use Rattle.dm_bindings.specs.LazyMaps.{entries_of};
 

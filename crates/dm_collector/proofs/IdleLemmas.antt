@@ -4,7 +4,7 @@ use Rattle.std.proofs.lemmas.Bool.{cases_lt, false≢true, not-false}
 use Rattle.std.proofs.lemmas.Option.{slice_get_past}
 use Rattle.std.specs.List.{All}
 use Rattle.std.specs.Option.{IfSome, option_map_or}
-use Rattle.dm_ids.specs.Names.{Name}
+use Rattle.dm_names.specs.Names.{Name}
 use Rattle.dm_base.specs.PerNs.{is_empty, keep}
 use Rattle.dm_base.specs.declared.per_ns.Namespace.TheVariants.{Types, Values, Macros}
 use Rattle.dm_retry.specs.Rounds.{State}

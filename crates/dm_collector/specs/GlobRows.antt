@@ -1,6 +1,6 @@
 -- Examples: what globs bind beside what is bound, and whom they let see it.
 use Rattle.std.specs.Prelude.{◌≡◌, None, Some, [], refl}
-use Rattle.dm_ids.specs.declared.ids.Crate.{Crate}
+use Rattle.dm_names.specs.declared.ids.Crate.{Crate}
 use Rattle.dm_ids.specs.declared.ids.ModuleId.{ModuleId}
 use Rattle.dm_ids.specs.declared.imports.GlobId.{GlobId}
 use Rattle.dm_ids.specs.declared.imports.ImportId.{ImportId}

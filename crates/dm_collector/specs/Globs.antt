@@ -1,7 +1,7 @@
 -- Globs: what one brings into its module, and when it brings nothing more.
 use Rattle.std.specs.Prelude.{◌≡◌, true, List, [], ◌∷◌, ◌++◌, IfSome, Option, Some, None, Contains, is_none, map, if◌then◌else◌}
 use Rattle.std.specs.Option.{option_and_then, option_map, option_map_or}
-use Rattle.dm_ids.specs.Names.{Name, find_name}
+use Rattle.dm_names.specs.Names.{Name, find_name}
 use Rattle.dm_ids.specs.declared.ids.EnumVariantId.{EnumVariantId}
 use Rattle.dm_ids.specs.declared.ids.ModuleId.{ModuleId}
 use Rattle.dm_ids.specs.declared.item_ids.AdtId.TheVariants as adt

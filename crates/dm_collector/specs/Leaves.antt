@@ -2,7 +2,7 @@
 use Rattle.std.specs.Prelude.{Bool, true, false, List, [], ◌∷◌, Option, None, Some, codes, if◌then◌else◌}
 use Rattle.crate_tables.specs.declared.use_leaf.UseLeaf.{UseLeaf}
 use Rattle.dm_collector.specs.declared.sources.GlobImport.{GlobImport}
-use Rattle.dm_ids.specs.Names.{Name}
+use Rattle.dm_names.specs.Names.{Name}
 use Rattle.dm_retry.specs.Rounds.{Pending}
 use Rattle.dm_retry.specs.declared.import_kind.ImportKind.{ImportKind as Retried}
 use Rattle.dm_retry.specs.declared.import_kind.ImportKind.TheVariants as retried

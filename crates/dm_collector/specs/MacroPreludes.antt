@@ -11,7 +11,7 @@ use Rattle.dm_collector.specs.Globs.{source_names}
 use Rattle.dm_collector.specs.MacroUses.{Uses}
 use Rattle.dm_collector.specs.declared.macro_uses.MacroSource.{MacroSource}
 use Rattle.dm_collector.specs.declared.sources.GlobSource.TheVariants as source
-use Rattle.dm_ids.specs.Names.{Name, find_name}
+use Rattle.dm_names.specs.Names.{Name, find_name}
 use Rattle.dm_ids.specs.contracts.ids.ExternCrateIdPartialEq.TheImpl as extern_eq
 use Rattle.dm_ids.specs.declared.ids.ExternCrateId.{ExternCrateId}
 use Rattle.dm_ids.specs.declared.imports.ImportOrExternCrate.{ImportOrExternCrate}

@@ -12,9 +12,9 @@ use Rattle.crate_tables.specs.CrateRoots.{root_id}
 use Rattle.crate_tables.specs.StandardPreludes.{library}
 use Rattle.crate_tables.specs.declared.extern_crates.ExternCrateRow.{ExternCrateRow}
 use Rattle.dm_collector.specs.declared.macro_uses.MacroSource.{MacroSource}
-use Rattle.dm_ids.specs.declared.ids.Crate.{Crate}
+use Rattle.dm_names.specs.declared.ids.Crate.{Crate}
 use Rattle.dm_ids.specs.declared.ids.ExternCrateId.{ExternCrateId}
-use Rattle.dm_ids.specs.declared.ids.FileId.{FileId}
+use Rattle.dm_names.specs.declared.ids.FileId.{FileId}
 use Rattle.dm_ids.specs.declared.ids.ModuleId.{ModuleId}
 
 -- a crate, and the roots that it has macros from, in order: of two that bring one name the later counts

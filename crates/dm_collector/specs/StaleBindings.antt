@@ -10,7 +10,7 @@ use Rattle.dm_collector.specs.Globs.{resolved, shown, source_names}
 use Rattle.dm_collector.specs.declared.globs.Glob.{Glob}
 use Rattle.dm_collector.specs.declared.sources.GlobImport.{GlobImport}
 use Rattle.dm_collector.specs.declared.stale.StaleBinding.{StaleBinding}
-use Rattle.dm_ids.specs.Names.{Name}
+use Rattle.dm_names.specs.Names.{Name}
 use Rattle.dm_ids.specs.declared.imports.ImportOrExternCrate.TheVariants as wide
 use Rattle.dm_ids.specs.declared.imports.ImportOrGlob.TheVariants as value
 use Rattle.dm_maps.specs.World.{World, scope_of}

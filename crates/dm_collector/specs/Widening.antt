@@ -1,7 +1,7 @@
 -- Globs that show one definition to more: when the visibility of a binding grows.
 use Rattle.std.specs.Prelude.{◌≡◌, ◌&&◌, Bool, not, IfSome, Option, Some, None, Contains, is_none, if◌then◌else◌}
 use Rattle.std.specs.Option.{option_eq}
-use Rattle.dm_ids.specs.Names.{Name}
+use Rattle.dm_names.specs.Names.{Name}
 use Rattle.dm_ids.specs.Imports.{is_glob, is_glob_or_import}
 use Rattle.dm_ids.specs.declared.ids.ModuleId.{ModuleId}
 use Rattle.dm_base.specs.declared.per_ns.Item.{Item}

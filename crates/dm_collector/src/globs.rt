@@ -1,7 +1,7 @@
 //! Globs: what one brings into its module.
 ghost use Rattle.std.specs.Prelude.{◌≡◌, [], false, All, IfOk, IsTrue};
 ghost use Rattle.std.specs.Option.{ForSome, option_map_or};
-ghost use Rattle.dm_ids.specs.Names.{find_name};
+ghost use Rattle.dm_names.specs.Names.{find_name};
 ghost use Rattle.dm_base.specs.PerNs.{is_empty, keep, nothing, seen_by};
 ghost use Rattle.dm_base.specs.Tree.{IsKnown, sees};
 ghost use Rattle.dm_base.specs.Visibility.{NamesKnown};

@@ -3,7 +3,7 @@ ghost use Rattle.std.specs.Prelude.{◌≡◌, ◌↔◌, ◌++◌, ◌∷◌, [
 ghost use Rattle.dm_check.specs.declared.held.HeldId.TheVariants as held;
 ghost use Rattle.dm_check.specs.Holding.{path_holds, vis_holds};
 ghost use Rattle.dm_maps.specs.Known.{knows, KnowsAll};
-ghost use Rattle.dm_ids.specs.Names.{Name};
+ghost use Rattle.dm_names.specs.Names.{Name};
 ghost use Rattle.std.specs.Option.{option_map_or};
 ghost use Rattle.dm_maps.specs.GoesOn.{variants_if_known};
 ghost use Rattle.dm_maps.specs.World.{scope_of};

@@ -6,7 +6,7 @@ use Rattle.dm_ids.specs.declared.item_ids.VariantId.{VariantId}
 use Rattle.dm_ids.specs.declared.item_ids.AssocItemId.{AssocItemId}
 use Rattle.dm_ids.specs.declared.item_ids.ItemContainerId.{ItemContainerId}
 use Rattle.dm_base.specs.declared.visibility.RawVisibility.{RawVisibility}
-use Rattle.dm_ids.specs.Names.{Name, same_name}
+use Rattle.dm_names.specs.Names.{Name, same_name}
 
 pub record ItemTables : Type 0 where
   -- the visibilities of the fields of a variant, a struct or a union, in order

@@ -9,9 +9,9 @@ use Rattle.dm_ids.specs.declared.ids.UseId.{UseId}
 use Rattle.dm_ids.specs.declared.ids.ExternCrateId.{ExternCrateId}
 use Rattle.dm_ids.specs.declared.item_ids.MacroId.{MacroId}
 use Rattle.dm_ids.specs.declared.source.AstId.{AstId}
-use Rattle.dm_ids.specs.declared.source.Edition.{Edition}
+use Rattle.dm_names.specs.declared.edition.Edition.{Edition}
 use Rattle.dm_base.specs.declared.visibility.Visibility.{Visibility}
-use Rattle.dm_ids.specs.Names.{Name, same_name}
+use Rattle.dm_names.specs.Names.{Name, same_name}
 use Rattle.dm_base.specs.Tree.{same_module}
 use Rattle.dm_scope.specs.declared.diagnostics.DefDiagnostic.{DefDiagnostic}
 use Rattle.dm_scope.specs.Scope.{Scope, no_scope}

@@ -3,7 +3,7 @@ use Rattle.std.specs.Prelude.{Bool, false, nat_eq, List, Option, Some, None, ifâ
 use Rattle.std.specs.Borrow.{Bor}
 use Rattle.std.specs.List.{filter_map}
 use Rattle.std.specs.Option.{option_map_or, option_and_then, option_or}
-use Rattle.dm_ids.specs.declared.ids.FileId.{FileId}
+use Rattle.dm_names.specs.declared.ids.FileId.{FileId}
 use Rattle.dm_ids.specs.declared.ids.MacroCallId.{MacroCallId}
 use Rattle.dm_ids.specs.declared.ids.ModuleId.{ModuleId}
 use Rattle.dm_ids.specs.Files.{macro_file}

@@ -4,7 +4,7 @@ use Rattle.std.specs.Array.{AllZipBelow}
 use Rattle.std.specs.List.{AllZip}
 use Rattle.std.specs.Prelude.{Result}
 use Rattle.dm_ids.specs.Builtins.{builtin_word}
-use Rattle.dm_ids.specs.Names.{Name}
+use Rattle.dm_names.specs.Names.{Name}
 use Rattle.dm_ids.specs.declared.builtin_type.BuiltinType.{BuiltinType}
 
 -- what follows from a clause about what is within `Ok`

@@ -1,6 +1,6 @@
 -- The builtin types and their names.
 use Rattle.std.specs.Prelude.{◌≡◌, List, [], ◌∷◌, None, codes, refl}
-use Rattle.dm_ids.specs.Names.{Name, find_name}
+use Rattle.dm_names.specs.Names.{Name, find_name}
 use Rattle.dm_ids.specs.declared.builtin_type.BuiltinInt.{BuiltinInt}
 use Rattle.dm_ids.specs.declared.builtin_type.BuiltinInt.TheVariants as int
 use Rattle.dm_ids.specs.declared.builtin_type.BuiltinUint.{BuiltinUint}

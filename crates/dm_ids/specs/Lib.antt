@@ -1,7 +1,5 @@
-pub mod Names
 pub mod Imports
 pub mod Builtins
 pub mod Kinds
 pub mod Styles
 pub mod Files
-pub mod NameHashers

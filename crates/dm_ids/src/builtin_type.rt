@@ -1,6 +1,6 @@
 //! The builtin types, such as `u8` and `str`, whose names each program has.
 ghost use Rattle.std.specs.Prelude.{◌≡◌, IfOk, Some};
-ghost use Rattle.dm_ids.specs.Names.{find_name};
+ghost use Rattle.dm_names.specs.Names.{find_name};
 ghost use Rattle.dm_ids.specs.Builtins.{builtin_words, int_words, uint_words, float_words, builtin_word, int_word, uint_word, float_word};
 
 use crate::name::{AsName, Name};

@@ -1,8 +1,6 @@
 //! Ids, which are plain numbers. An id means nothing by itself: only the world that gave it out can look it up.
 
-/// A crate.
-#[derive(Clone, Copy, PartialEq, Eq, PartialOrd, Ord, Hash, Debug)]
-pub struct Crate(pub u32);
+pub use dm_names::ids::{Crate, FileAstId, FileId, UseTreeIdx};
 
 /// A module of a world: a crate's or a block's root, or a module below one.
 #[derive(Clone, Copy, PartialEq, Eq, PartialOrd, Ord, Hash, Debug)]
@@ -87,18 +85,6 @@ pub struct MacroCallId(pub u32);
 /// An attribute of an item.
 #[derive(Clone, Copy, PartialEq, Eq, PartialOrd, Ord, Hash, Debug)]
 pub struct AttrId(pub u32);
-
-/// A source file.
-#[derive(Clone, Copy, PartialEq, Eq, PartialOrd, Ord, Hash, Debug)]
-pub struct FileId(pub u32);
-
-/// An AST item, by its place in the syntax of its file.
-#[derive(Clone, Copy, PartialEq, Eq, PartialOrd, Ord, Hash, Debug)]
-pub struct FileAstId(pub u32);
-
-/// The index of an import in its `use` tree.
-#[derive(Clone, Copy, PartialEq, Eq, PartialOrd, Ord, Hash, Debug)]
-pub struct UseTreeIdx(pub u32);
 
 /// The condition of a `cfg` attribute. Its meaning is the caller's.
 #[derive(Clone, Copy, PartialEq, Eq, PartialOrd, Ord, Hash, Debug)]

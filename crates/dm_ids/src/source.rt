@@ -3,15 +3,7 @@ ghost use Rattle.std.specs.Prelude.{◌≡◌};
 ghost use Rattle.dm_ids.specs.Files.{macro_file};
 
 use crate::ids::{BlockId, FileAstId, FileId, MacroCallId};
-
-/// An edition of the language.
-#[derive(Clone, Copy, PartialEq, Eq, PartialOrd, Ord, Hash, Debug)]
-pub enum Edition {
-    Edition2015,
-    Edition2018,
-    Edition2021,
-    Edition2024,
-}
+pub use dm_names::edition::Edition;
 
 /// A file, as read under an edition.
 #[derive(Clone, Copy, PartialEq, Eq, PartialOrd, Ord, Hash, Debug)]

@@ -1,8 +1,8 @@
 -- The ids, names and places that most proofs cite, re-exported from one place. Declares nothing.
-pub use Rattle.dm_ids.specs.Names.{Name, find_name, same_name}
+pub use Rattle.dm_names.specs.Names.{Name, find_name, same_name}
 pub use Rattle.dm_ids.specs.declared.fields_shape.FieldsShape.{FieldsShape}
 pub use Rattle.dm_ids.specs.declared.ids.BlockId.{BlockId}
-pub use Rattle.dm_ids.specs.declared.ids.Crate.{Crate}
+pub use Rattle.dm_names.specs.declared.ids.Crate.{Crate}
 pub use Rattle.dm_ids.specs.declared.ids.EnumId.{EnumId}
 pub use Rattle.dm_ids.specs.declared.ids.EnumVariantId.{EnumVariantId}
 pub use Rattle.dm_ids.specs.declared.ids.ExternCrateId.{ExternCrateId}
@@ -21,6 +21,6 @@ pub use Rattle.dm_ids.specs.declared.item_ids.ModuleDefId.{ModuleDefId}
 pub use Rattle.dm_ids.specs.declared.item_ids.VariantId.{VariantId}
 pub use Rattle.dm_ids.specs.declared.macros.MacroLoc.{MacroLoc}
 pub use Rattle.dm_ids.specs.declared.source.AstId.{AstId}
-pub use Rattle.dm_ids.specs.declared.source.Edition.{Edition}
+pub use Rattle.dm_names.specs.declared.edition.Edition.{Edition}
 pub use Rattle.dm_ids.specs.declared.source.EditionedFileId.{EditionedFileId}
 pub use Rattle.dm_maps.specs.declared.place.Place.{Place}

@@ -13,7 +13,7 @@ use Rattle.dm_ids.specs.declared.imports.ImportOrExternCrate.{ImportOrExternCrat
 use Rattle.dm_ids.specs.declared.imports.ImportOrGlob.{ImportOrGlob}
 use Rattle.dm_ids.specs.declared.item_ids.MacroId.{MacroId}
 use Rattle.dm_ids.specs.declared.item_ids.ModuleDefId.{ModuleDefId}
-use Rattle.dm_ids.specs.Names.{Name, same_name, find_name}
+use Rattle.dm_names.specs.Names.{Name, same_name, find_name}
 use Rattle.dm_base.specs.IdLaws.{same_module-true}
 use Rattle.dm_base.specs.Tree.{same_module}
 use Rattle.dm_base.specs.declared.per_ns.Item.{Item}

@@ -2,7 +2,7 @@
 use Rattle.std.specs.Prelude.{◌≡◌, false, IsTrue, List, [], Option, None, Some, length, nat_lt}
 use Rattle.std.specs.List.{AllByRecursion}
 use Rattle.dm_ids.specs.declared.ids.BlockId.{BlockId}
-use Rattle.dm_ids.specs.declared.ids.Crate.{Crate}
+use Rattle.dm_names.specs.declared.ids.Crate.{Crate}
 use Rattle.dm_ids.specs.declared.ids.MapId.{MapId}
 use Rattle.dm_ids.specs.declared.ids.ModuleId.{ModuleId}
 use Rattle.dm_base.specs.Tree.{same_module}

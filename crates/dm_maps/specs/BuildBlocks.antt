@@ -3,7 +3,7 @@ use Rattle.std.specs.Prelude.{[], ◌∷◌, ◌++◌, Option, Some, None, lengt
 use Rattle.std.specs.Option.{option_map_or}
 use Rattle.dm_ids.specs.declared.ids.ModuleId.{ModuleId}
 use Rattle.dm_ids.specs.declared.ids.BlockId.{BlockId}
-use Rattle.dm_ids.specs.declared.ids.Crate.{Crate}
+use Rattle.dm_names.specs.declared.ids.Crate.{Crate}
 use Rattle.dm_ids.specs.declared.source.AstId.{AstId}
 use Rattle.dm_base.specs.declared.visibility.Visibility.TheVariants.{Module}
 use Rattle.dm_base.specs.declared.visibility.VisibilityExplicitness.TheVariants.{Implicit}

@@ -9,7 +9,7 @@ use Rattle.dm_ids.specs.declared.item_ids.MacroId.TheVariants.{Macro2Id, MacroRu
 use Rattle.dm_ids.specs.declared.fields_shape.FieldsShape.{FieldsShape}
 use Rattle.dm_ids.specs.declared.macros.MacroLoc.{MacroLoc}
 use Rattle.dm_ids.specs.declared.macros.MacroLoc.TheVariants as loc
-use Rattle.dm_ids.specs.Names.{Name}
+use Rattle.dm_names.specs.Names.{Name}
 use Rattle.dm_def_map.specs.Variants.{enums_with_variant}
 use Rattle.dm_maps.specs.World.{World}
 

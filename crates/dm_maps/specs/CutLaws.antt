@@ -23,7 +23,7 @@ use Rattle.dm_ids.specs.declared.ids.UseId.{UseId}
 use Rattle.dm_ids.specs.declared.item_ids.MacroId.{MacroId}
 use Rattle.dm_ids.specs.declared.macros.MacroCallStyles.{MacroCallStyles}
 use Rattle.dm_ids.specs.declared.macros.MacroLoc.{MacroLoc}
-use Rattle.dm_ids.specs.Names.{Name, same_name, find_name}
+use Rattle.dm_names.specs.Names.{Name, same_name, find_name}
 use Rattle.dm_ids.specs.Builtins.{builtin_words}
 use Rattle.dm_bindings.specs.Pushes.{last_of}
 use Rattle.dm_scope.specs.Scope.{Scope, no_scope, bound_in, legacy_in}

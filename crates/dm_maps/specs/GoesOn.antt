@@ -9,7 +9,7 @@ use Rattle.dm_ids.specs.declared.ids.ModuleId.{ModuleId}
 use Rattle.dm_ids.specs.declared.ids.TraitId.{TraitId}
 use Rattle.dm_ids.specs.declared.imports.ImportId.{ImportId}
 use Rattle.dm_ids.specs.declared.item_ids.ItemKind.TheVariants as item
-use Rattle.dm_ids.specs.Names.{Name}
+use Rattle.dm_names.specs.Names.{Name}
 use Rattle.dm_base.specs.declared.visibility.Visibility.{Visibility}
 use Rattle.dm_bindings.specs.Changes.{with_vis}
 use Rattle.dm_scope.specs.Scope.{Scope}

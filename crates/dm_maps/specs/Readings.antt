@@ -4,7 +4,7 @@ use Rattle.std.specs.Option.{option_map, option_map_or, option_and_then}
 use Rattle.std.specs.Map.{lookup}
 use Rattle.dm_ids.specs.declared.ids.ModuleId.{ModuleId}
 use Rattle.dm_ids.specs.declared.ids.BlockId.{BlockId}
-use Rattle.dm_ids.specs.declared.ids.Crate.{Crate}
+use Rattle.dm_names.specs.declared.ids.Crate.{Crate}
 use Rattle.dm_ids.specs.declared.ids.EnumId.{EnumId}
 use Rattle.dm_ids.specs.declared.ids.EnumVariantId.{EnumVariantId}
 use Rattle.dm_ids.specs.declared.ids.ExternCrateId.{ExternCrateId}
@@ -17,9 +17,9 @@ use Rattle.dm_ids.specs.declared.macros.MacroLoc.TheVariants as loc
 use Rattle.dm_ids.specs.declared.macros.MacroCallStyles.{MacroCallStyles}
 use Rattle.dm_ids.specs.declared.builtin_type.BuiltinType.{BuiltinType}
 use Rattle.dm_base.specs.declared.per_ns.PerNs.{PerNs}
-use Rattle.dm_ids.specs.declared.source.Edition.{Edition}
-use Rattle.dm_ids.specs.declared.source.Edition.TheVariants.{Edition2015, Edition2018, Edition2021, Edition2024}
-use Rattle.dm_ids.specs.Names.{Name, find_name}
+use Rattle.dm_names.specs.declared.edition.Edition.{Edition}
+use Rattle.dm_names.specs.declared.edition.Edition.TheVariants.{Edition2015, Edition2018, Edition2021, Edition2024}
+use Rattle.dm_names.specs.Names.{Name, find_name}
 use Rattle.dm_base.specs.Tree.{Tree}
 use Rattle.dm_ids.specs.Builtins.{builtin_words}
 use Rattle.dm_ids.specs.Styles as kinds

@@ -3,7 +3,7 @@ use Rattle.std.specs.Prelude.{◌≡◌, IsSome, IsTrue, Some, slice_get}
 use Rattle.std.specs.Option.{ForSome, option_map}
 use Rattle.dm_ids.specs.declared.ids.ModuleId.{ModuleId}
 use Rattle.dm_ids.specs.declared.ids.BlockId.{BlockId}
-use Rattle.dm_ids.specs.declared.ids.Crate.{Crate}
+use Rattle.dm_names.specs.declared.ids.Crate.{Crate}
 use Rattle.dm_ids.specs.declared.ids.EnumId.{EnumId}
 use Rattle.dm_ids.specs.declared.ids.EnumVariantId.{EnumVariantId}
 use Rattle.dm_ids.specs.declared.ids.MapId.{MapId}
@@ -11,7 +11,7 @@ use Rattle.dm_ids.specs.declared.ids.UseId.{UseId}
 use Rattle.dm_ids.specs.declared.item_ids.ItemKind.TheVariants as item
 use Rattle.dm_ids.specs.declared.item_ids.MacroId.{MacroId}
 use Rattle.dm_ids.specs.declared.item_ids.ModuleDefId.{ModuleDefId}
-use Rattle.dm_ids.specs.Names.{Name, find_name}
+use Rattle.dm_names.specs.Names.{Name, find_name}
 use Rattle.dm_base.specs.Tree.{IsKnown}
 use Rattle.dm_scope.specs.Scope.{bound_in, legacy_in}
 use Rattle.dm_check.specs.declared.held.HeldId.TheVariants as held

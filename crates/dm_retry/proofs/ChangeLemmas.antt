@@ -4,7 +4,7 @@ use Rattle.std.specs.List.{list_any}
 use Rattle.std.specs.Option.{option_map_or}
 use Rattle.std.proofs.lemmas.Bool.{or_left}
 use Rattle.std.proofs.lemmas.List.Folds.{list_any-append}
-use Rattle.dm_ids.specs.Names.{Name, find_name, same_name}
+use Rattle.dm_names.specs.Names.{Name, find_name, same_name}
 use Rattle.dm_ids.specs.contracts.value_eq.ModuleIdValueEq.TheImpl.Laws as module_value
 use Rattle.dm_ids.specs.declared.ids.ModuleId.{ModuleId}
 use Rattle.dm_ids.specs.declared.ids.TraitId.{TraitId}

@@ -3,7 +3,7 @@
 use Rattle.std.proofs.Common.{◌≡◌, false, Option, None, Some, refl}
 use Rattle.std.proofs.lemmas.Bool.{cond-false, or_parts}
 use Rattle.indexmap.specs.IndexSet.{insert_key}
-use Rattle.dm_ids.specs.Names.{Name, same_name}
+use Rattle.dm_names.specs.Names.{Name, same_name}
 use Rattle.dm_ids.specs.declared.ids.ModuleId.{ModuleId}
 use Rattle.dm_ids.specs.declared.imports.ImportOrExternCrate.{ImportOrExternCrate}
 use Rattle.dm_base.specs.PerNs.{is_empty}

@@ -1,6 +1,6 @@
 -- An import that never settles, as equations that compute: it binds the name that its own path begins with.
 use Rattle.std.specs.Prelude.{◌≡◌, true, [], ◌∷◌, Some, None, codes, refl}
-use Rattle.dm_ids.specs.declared.source.Edition.TheVariants.{Edition2021}
+use Rattle.dm_names.specs.declared.edition.Edition.TheVariants.{Edition2021}
 use Rattle.dm_base.specs.declared.mod_path.PathKind.TheVariants.{Plain}
 use Rattle.dm_base.specs.declared.visibility.Visibility.TheVariants.{Public}
 use Rattle.dm_bindings.specs.Flags.{Globs, no_globs, with_flag}

@@ -1,7 +1,7 @@
 -- Two imports, the first of which needs the second, and what rounds of resolution make of them: equations that compute.
 use Rattle.std.specs.Prelude.{◌≡◌, true, false, [], ◌∷◌, Some, None, codes, refl}
 use Rattle.dm_ids.specs.declared.item_ids.ItemKind.TheVariants as item
-use Rattle.dm_ids.specs.declared.source.Edition.TheVariants.{Edition2021}
+use Rattle.dm_names.specs.declared.edition.Edition.TheVariants.{Edition2021}
 use Rattle.dm_base.specs.declared.mod_path.PathKind.TheVariants.{Plain, Crate}
 use Rattle.dm_base.specs.declared.visibility.Visibility.TheVariants.{Public}
 use Rattle.dm_bindings.specs.Flags.{no_globs}

@@ -7,7 +7,7 @@ use Rattle.dm_ids.specs.declared.imports.ImportOrExternCrate.{ImportOrExternCrat
 use Rattle.dm_ids.specs.declared.imports.ImportOrExternCrate.TheVariants as wide
 use Rattle.dm_base.specs.declared.per_ns.PerNs.{PerNs}
 use Rattle.dm_base.specs.declared.visibility.Visibility.{Visibility}
-use Rattle.dm_ids.specs.Names.{Name}
+use Rattle.dm_names.specs.Names.{Name}
 use Rattle.dm_base.specs.Path.{Path}
 use Rattle.dm_base.specs.PerNs.{is_empty}
 use Rattle.dm_def_map.specs.declared.modules.modes.BuiltinShadowMode.TheVariants as shadow

@@ -4,8 +4,8 @@ use Rattle.std.specs.Prelude.{◌≡◌, true, false, [], ◌∷◌, Some, None,
 use Rattle.dm_ids.specs.declared.ids.TraitId.{TraitId}
 use Rattle.dm_ids.specs.declared.item_ids.ItemKind.TheVariants as item
 use Rattle.dm_ids.specs.declared.item_ids.ModuleDefId.TheVariants as def
-use Rattle.dm_ids.specs.declared.source.Edition.TheVariants.{Edition2021}
-use Rattle.dm_ids.specs.Names.{Name}
+use Rattle.dm_names.specs.declared.edition.Edition.TheVariants.{Edition2021}
+use Rattle.dm_names.specs.Names.{Name}
 use Rattle.dm_base.specs.declared.mod_path.PathKind.TheVariants.{Plain}
 use Rattle.dm_base.specs.declared.per_ns.PerNs.{PerNs}
 use Rattle.dm_base.specs.declared.visibility.Visibility.TheVariants.{Public}

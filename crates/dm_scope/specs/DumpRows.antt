@@ -1,6 +1,6 @@
 -- Examples of dump lines: equations that compute.
 use Rattle.std.specs.Prelude.{◌≡◌, [], ◌∷◌, Option, None, Some, refl, codes}
-use Rattle.dm_ids.specs.Names.{same_name}
+use Rattle.dm_names.specs.Names.{same_name}
 use Rattle.dm_ids.specs.Styles.{fn_like, attr, derive}
 use Rattle.dm_ids.specs.declared.imports.ImportOrExternCrate.TheVariants as wide
 use Rattle.dm_ids.specs.declared.imports.ImportOrGlob.TheVariants as narrow

@@ -4,7 +4,7 @@ use Rattle.std.specs.List.{flat_map}
 use Rattle.std.specs.Option.{option_map}
 use Rattle.dm_ids.specs.declared.ids.TraitId.{TraitId}
 use Rattle.dm_ids.specs.Imports.{widened}
-use Rattle.dm_ids.specs.Names.{Name, find_name}
+use Rattle.dm_names.specs.Names.{Name, find_name}
 use Rattle.dm_base.specs.PerNs.{is_empty}
 use Rattle.dm_ids.specs.Styles.{has_styles, fn_like, attr, derive}
 use Rattle.dm_ids.specs.declared.imports.ImportId.{ImportId}

@@ -6,7 +6,7 @@ use Rattle.dm_base.specs.declared.item_in_ns.ItemInNs.{ItemInNs}
 use Rattle.dm_base.specs.declared.item_in_ns.ItemInNs.TheVariants.{Types, Values, Macros}
 use Rattle.dm_base.specs.declared.per_ns.Item.{Item}
 use Rattle.dm_base.specs.declared.visibility.Visibility.{Visibility}
-use Rattle.dm_ids.specs.Names.{Name}
+use Rattle.dm_names.specs.Names.{Name}
 use Rattle.dm_base.specs.Sameness.{same_def, same_macro}
 use Rattle.dm_bindings.specs.Lookups.{names_in}
 use Rattle.dm_scope.specs.Scope.{Scope}

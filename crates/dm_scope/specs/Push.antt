@@ -2,7 +2,7 @@
 use Rattle.std.specs.Prelude.{◌&&◌, ◌||◌, Bool, not, List, Option, Some, if◌then◌else◌}
 use Rattle.std.specs.List.{list_any}
 use Rattle.indexmap.specs.IndexSet.{insert_key}
-use Rattle.dm_ids.specs.Names.{Name, same_name}
+use Rattle.dm_names.specs.Names.{Name, same_name}
 use Rattle.dm_base.specs.PerNs.{is_empty}
 use Rattle.dm_ids.specs.Imports.{is_glob, is_glob_or_import, narrowed, widened}
 use Rattle.dm_base.specs.Definitions.{widened_macro}

@@ -15,7 +15,7 @@ use Rattle.dm_ids.specs.declared.item_ids.ModuleDefId.{ModuleDefId}
 use Rattle.dm_ids.specs.declared.item_ids.MacroId.{MacroId}
 use Rattle.dm_base.specs.declared.per_ns.PerNs.{PerNs}
 use Rattle.dm_base.specs.declared.visibility.Visibility.{Visibility}
-use Rattle.dm_ids.specs.Names.{Name, find_name}
+use Rattle.dm_names.specs.Names.{Name, find_name}
 use Rattle.dm_bindings.specs.Bindings.{Bound}
 use Rattle.dm_bindings.specs.Pushes.{last_of}
 use Rattle.dm_scope.specs.Derives.{Derive}

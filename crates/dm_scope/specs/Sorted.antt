@@ -14,7 +14,7 @@ use Rattle.dm_ids.specs.declared.item_ids.ModuleDefId.TheVariants as def
 use Rattle.dm_base.specs.declared.per_ns.PerNs.{PerNs}
 use Rattle.dm_base.specs.declared.visibility.Visibility.{Visibility}
 use Rattle.dm_ids.specs.Imports.{widened, named_import}
-use Rattle.dm_ids.specs.Names.{Name}
+use Rattle.dm_names.specs.Names.{Name}
 use Rattle.dm_scope.specs.Scope.{Scope, bound_in}
 
 -- the names that are bound or unresolved, each as often as it is

@@ -141,7 +141,7 @@ pub struct LegacyMacros<'a> {
 impl<'a> Model for LegacyMacros<'a> {
     ghost use Rattle.std.specs.Prelude.{List};
     ghost use Rattle.dm_ids.specs.declared.item_ids.MacroId.{MacroId};
-    ghost use Rattle.dm_ids.specs.Names.{Name};
+    ghost use Rattle.dm_names.specs.Names.{Name};
     ghost use Rattle.dm_scope.specs.TableLists.{lists_of};
 
     ghost Value = { List (Name × List MacroId) };

@@ -4,7 +4,7 @@ use Rattle.std.proofs.lemmas.Bool.{ne_eqb}
 use Rattle.std.proofs.lemmas.Option.{slice_get-map, slice_get_cases, slice_get_past}
 use Rattle.std.proofs.lemmas.List.{length-append}
 use Rattle.std.specs.Option.{option_map_or}
-use Rattle.dm_ids.specs.Names.{Name}
+use Rattle.dm_names.specs.Names.{Name}
 use Rattle.dm_waiters.specs.Bits.{IsFirst, has}
 use Rattle.dm_waiters.specs.Index.{Entries, Indexes, IsKept, IsReady, Marks, all_marked, has_place, places_of, waits_for}
 use Rattle.dm_waiters.specs.Unresolved.{AllDirty, IsMark, Reading, among, awoken, is_dirty_at, marked_at}

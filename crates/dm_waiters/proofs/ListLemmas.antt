@@ -7,7 +7,7 @@ use Rattle.std.proofs.lemmas.Bool.Decides.{eqb_tells}
 use Rattle.std.specs.List.{list_any}
 use Rattle.std.proofs.Math.ListN.{length-set}
 use Rattle.std.specs.Option.{option_map_or}
-use Rattle.dm_ids.specs.Names.{Name}
+use Rattle.dm_names.specs.Names.{Name}
 use Rattle.dm_waiters.specs.Unresolved.{IsMark, Reading, among, awoken, is_dirty_at, marked_at}
 use Rattle.dm_waiters.specs.Index.{Entries, Indexes, Marks, all_marked, waits_for}
 use Rattle.dm_waiters.specs.Bits.{has}

@@ -11,7 +11,7 @@ use Rattle.std.specs.Map.{lookup, set_value}
 use Rattle.std.specs.Option.{option_map_or}
 use Rattle.std.specs.Str.{bytes_eq}
 use Rattle.dm_waiters.specs.Index.{Entries, has_place, places_of}
-use Rattle.dm_ids.specs.Names.{Name}
+use Rattle.dm_names.specs.Names.{Name}
 
 or_false : (b : Bool) → (b || false) ≡ b
 or_false true = refl

@@ -2,7 +2,7 @@
 use Rattle.std.specs.Prelude.{◌≡◌, ℕ, ◌/◌, ◌<◌, Bool, true, false, List, [], ◌∷◌, length, nat_eq, slice_get}
 use Rattle.std.specs.Option.{option_map_or}
 use Rattle.std.specs.List.{list_any}
-use Rattle.dm_ids.specs.Names.{Name, find_name}
+use Rattle.dm_names.specs.Names.{Name, find_name}
 use Rattle.dm_waiters.specs.Bits.{has}
 use Rattle.dm_waiters.specs.Unresolved.{AllDirty, Reading, among, is_dirty_at, marked_at}
 

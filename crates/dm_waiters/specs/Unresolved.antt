@@ -2,7 +2,7 @@
 use Rattle.std.specs.Prelude.{◌≡◌, ℕ, Bool, true, false, ◌||◌, List, [], Some, slice_get, slice_set}
 use Rattle.std.specs.Option.{option_map_or}
 use Rattle.std.specs.List.{list_any}
-use Rattle.dm_ids.specs.Names.{Name, same_name}
+use Rattle.dm_names.specs.Names.{Name, same_name}
 
 -- What a worklist reads of an import: the segments of its path, the name that it binds, whether it is dirty, and the
 -- import with another mark.

@@ -1,6 +1,6 @@
 //! An index of the names in paths.
 ghost use Rattle.std.specs.Prelude.{◌≡◌, ℕ, ◌&&◌, ◌||◌, false, filter, not, nat_eq, None, [], ◌∷◌, ◌++◌, IfOk, OnErr, OnOk};
-ghost use Rattle.dm_ids.specs.Names.{Name, same_name};
+ghost use Rattle.dm_names.specs.Names.{Name, same_name};
 ghost use Rattle.indexmap.specs.IndexMap.{get};
 ghost use Rattle.dm_waiters.specs.Index.{has_place, places_of};
 ghost use Rattle.dm_waiters.specs.Unresolved.{among};

@@ -1,6 +1,6 @@
 -- What the path calls promise follows from what they answer.
 use Rattle.std.proofs.Common.{◌≡◌, ◌∙◌, List, length, subst, sym}
-use Rattle.dm_ids.specs.Names.{Name}
+use Rattle.dm_names.specs.Names.{Name}
 use Rattle.dm_ids.specs.declared.ids.MapId.{MapId}
 use Rattle.dm_check.specs.Holding.{res_holds}
 use Rattle.dm_def_map.specs.Maps.{LocalMap}

@@ -13,7 +13,7 @@ use Rattle.dm_base.specs.declared.visibility.Visibility.{Visibility}
 use Rattle.dm_base.specs.declared.visibility.Visibility.TheVariants.{Module, PubCrate, Public}
 use Rattle.dm_ids.specs.declared.ids.ExternCrateId.{ExternCrateId}
 use Rattle.dm_base.specs.PerNs.{keep, seen_by, over, type_alone}
-use Rattle.dm_ids.specs.Names.{Name, find_name, same_name}
+use Rattle.dm_names.specs.Names.{Name, find_name, same_name}
 use Rattle.dm_base.specs.Tree.{IsKnown}
 use Rattle.dm_base.specs.Visibility.{NamesKnown}
 use Rattle.dm_check.specs.declared.held.HeldId.{HeldId}

@@ -6,7 +6,7 @@ use Rattle.dm_base.specs.declared.per_ns.PerNs.{PerNs}
 use Rattle.dm_ids.specs.declared.ids.ModuleId.{ModuleId}
 use Rattle.dm_base.specs.PerNs.{overlay}
 use Rattle.dm_base.specs.Tree.{crate_of}
-use Rattle.dm_ids.specs.Names.{Name}
+use Rattle.dm_names.specs.Names.{Name}
 use Rattle.dm_def_map.specs.Maps.{LocalMap}
 use Rattle.dm_maps.specs.Readings.{Setting, Reading, setting_of, read}
 use Rattle.dm_maps.specs.World.{World}

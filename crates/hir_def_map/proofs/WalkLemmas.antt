@@ -13,7 +13,7 @@ use Rattle.dm_ids.specs.declared.item_ids.AdtId.TheVariants as adt
 use Rattle.dm_base.specs.declared.per_ns.Item.{Item}
 use Rattle.dm_base.specs.declared.per_ns.PerNs.{PerNs}
 use Rattle.dm_base.specs.Tree.{Tree, same_crate, crate_of, home}
-use Rattle.dm_ids.specs.Names.{Name}
+use Rattle.dm_names.specs.Names.{Name}
 use Rattle.dm_def_map.specs.Maps.{LocalMap}
 use Rattle.dm_maps.specs.Readings.{Reading, read}
 use Rattle.dm_maps.specs.Trees.{tree_of}

@@ -3,8 +3,8 @@ use Rattle.std.specs.Prelude.{◌≡◌, ℕ, [], ◌∷◌, Some, None, codes, 
 use Rattle.dm_ids.specs.declared.fields_shape.FieldsShape.TheVariants.{Unit}
 use Rattle.dm_ids.specs.declared.macros.MacroExpander.TheVariants.{BuiltIn}
 use Rattle.dm_ids.specs.declared.macros.MacroLoc.TheVariants.{MacroRules}
-use Rattle.dm_ids.specs.declared.source.Edition.TheVariants.{Edition2021}
-use Rattle.dm_ids.specs.Names.{Name}
+use Rattle.dm_names.specs.declared.edition.Edition.TheVariants.{Edition2021}
+use Rattle.dm_names.specs.Names.{Name}
 use Rattle.dm_def_map.specs.Variants.{Enums, Variants}
 use Rattle.dm_bindings.specs.Flags.{no_globs}
 use Rattle.dm_scope.specs.Scope.{no_scope}

@@ -1,7 +1,7 @@
 -- What each path call promises of its answer.
 use Rattle.std.specs.Prelude.{◌≡◌, ◌≤◌, ◌<◌, ℕ, List, Option, length}
 use Rattle.std.specs.Option.{ForSome}
-use Rattle.dm_ids.specs.Names.{Name}
+use Rattle.dm_names.specs.Names.{Name}
 use Rattle.dm_base.specs.declared.per_ns.PerNs.{PerNs}
 use Rattle.dm_check.specs.Holding.{res_holds}
 use Rattle.dm_def_map.specs.Maps.{LocalMap}

@@ -5,7 +5,7 @@ use Rattle.dm_ids.specs.declared.item_ids.MacroId.{MacroId}
 use Rattle.dm_ids.specs.declared.macros.MacroLoc.TheVariants.{Proc}
 use Rattle.dm_ids.specs.declared.macros.ProcMacroKind.TheVariants.{Attr}
 use Rattle.dm_base.specs.declared.visibility.Visibility.TheVariants.{Public}
-use Rattle.dm_ids.specs.Names.{Name}
+use Rattle.dm_names.specs.Names.{Name}
 use Rattle.dm_base.specs.PerNs.{macro_alone}
 use Rattle.dm_bindings.specs.Flags.{no_globs}
 use Rattle.dm_maps.specs.declared.rules.Rules.TheVariants.{V2}

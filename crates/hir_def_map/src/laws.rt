@@ -1,6 +1,6 @@
 //! Lemmas about path resolution, for proofs of callers. Each is a function without effect: code calls it for its proof.
 ghost use Rattle.std.specs.Prelude.{◌≡◌, List};
-ghost use Rattle.dm_ids.specs.Names.{Name};
+ghost use Rattle.dm_names.specs.Names.{Name};
 ghost use Rattle.dm_base.specs.Tree.{IsKnown, home};
 ghost use Rattle.dm_maps.specs.Cut.{cut, cut_local};
 ghost use Rattle.dm_maps.specs.Readings.{Reading};

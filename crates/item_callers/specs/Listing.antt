@@ -1,6 +1,6 @@
 -- The public items of a text.
 use Rattle.std.specs.Prelude.{◌≡◌, ◌++◌, ℕ, Bool, false, true, List, [], Option, Some, None, slice_get}
-use Rattle.dm_ids.specs.declared.source.Edition.TheVariants.{Edition2021}
+use Rattle.dm_names.specs.declared.edition.Edition.TheVariants.{Edition2021}
 use Rattle.item_tree.specs.Delimiters.{partners_of}
 use Rattle.item_tree.specs.Items.{children_from, top_level_of}
 use Rattle.item_tree.specs.Lexemes.{lexemes_of}

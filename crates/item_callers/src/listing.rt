@@ -2,7 +2,7 @@
 ghost use Rattle.std.specs.Prelude.{◌≡◌, IfOk, filter};
 ghost use Rattle.item_callers.specs.Listing.{AreItemsOf, AreLexemesOf, is_public, name_of};
 
-use dm_ids::source::Edition;
+use dm_names::edition::Edition;
 use item_tree::delimiters::partners;
 use item_tree::items::{Item, ItemTree, Range, item_tree};
 use item_tree::lexeme::{Lexeme, read_lexemes};

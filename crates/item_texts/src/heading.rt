@@ -1,6 +1,6 @@
 //! Headings of texts.
-use dm_ids::source::Edition;
-use dm_ids::symbol::Symbol;
+use dm_names::edition::Edition;
+use dm_names::symbol::Symbol;
 use item_tree::cfg::CfgOptions;
 use std::alloc::{AllocError, Global};
 

@@ -2,7 +2,7 @@
 ghost use Rattle.std.specs.Prelude.{IfOk};
 ghost use Rattle.item_tree.specs.Children.{ByParent};
 
-use dm_ids::source::Edition;
+use dm_names::edition::Edition;
 use item_tree::delimiters::partners;
 use item_tree::ids::TextRange;
 use item_tree::items::{ItemTree, item_tree};

@@ -1,5 +1,5 @@
 //! Tokens and lexemes of texts.
-use dm_ids::source::Edition;
+use dm_names::edition::Edition;
 use item_tree::lexeme::read_lexemes;
 use item_tree::lexer::lex;
 use std::alloc::{AllocError, Global};

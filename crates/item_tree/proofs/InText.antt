@@ -3,7 +3,7 @@ use Rattle.std.proofs.Common.{◌+◌, ◌≤◌, ℕ, List, [], ◌∷◌, arit
 use Rattle.std.specs.Prelude.{Option, Some, None, sum_by, All}
 use Rattle.std.proofs.lemmas.List.Elements.{All-nil, All-cons, All-append}
 use Rattle.std.proofs.lemmas.List.Sums.{sum_by-cons}
-use Rattle.dm_ids.specs.declared.source.Edition.{Edition}
+use Rattle.dm_names.specs.declared.edition.Edition.{Edition}
 use Rattle.item_tree.specs.Lexemes.{LiesIn, classify, placed, lexeme_of, lexemes_of}
 use Rattle.item_tree.specs.declared.lexeme.LexemeKind.{LexemeKind}
 use Rattle.item_tree.specs.declared.token.Token.{Token}

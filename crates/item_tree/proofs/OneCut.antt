@@ -7,7 +7,7 @@ use Rattle.std.proofs.lemmas.Bool.{ltb-true, leb-true}
 use Rattle.std.proofs.lemmas.List.{drop-append-le, take_all}
 use Rattle.std.proofs.lemmas.List.Sums.{sum_by-cons}
 use Rattle.std.proofs.Math.Seq.{drop-append_seam}
-use Rattle.dm_ids.specs.declared.source.Edition.{Edition}
+use Rattle.dm_names.specs.declared.edition.Edition.{Edition}
 use Rattle.item_tree.specs.Shapes.{is_no_newline, is_escape, matched_with, past_quote, past_comment, past_raw, is_longest_run, is_exact}
 use Rattle.item_tree.specs.Characters.{is_following, is_blank, is_word_char, chars_len}
 use Rattle.item_tree.specs.Numbers.{number_len}

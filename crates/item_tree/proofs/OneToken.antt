@@ -6,7 +6,7 @@ use Rattle.std.proofs.lemmas.Bool.{le-leb}
 use Rattle.std.proofs.lemmas.List.{append-nil, drop-drop, drop-take, length-take-le}
 use Rattle.std.proofs.Math.ListN.{drop_of_length-le}
 use Rattle.std.proofs.Math.Seq.{take-length, drop-length}
-use Rattle.dm_ids.specs.declared.source.Edition.{Edition}
+use Rattle.dm_names.specs.declared.edition.Edition.{Edition}
 use Rattle.item_tree.specs.Openings.{opening}
 use Rattle.item_tree.specs.Tokens.{fills, never_ends, number_of, are_tokens, IsFirst}
 use Rattle.item_tree.specs.declared.openings.Opening.{Opening}

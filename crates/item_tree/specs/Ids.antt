@@ -1,7 +1,7 @@
 -- What items and use trees are known by, and which bytes they have.
 use Rattle.std.specs.Prelude.{◌+◌, ◌-◌, ◌^◌, ℕ, List, Option, Some, None, min, nat_lt, slice_get, if◌then◌else◌}
-use Rattle.dm_ids.specs.declared.ids.FileAstId.{FileAstId}
-use Rattle.dm_ids.specs.declared.ids.UseTreeIdx.{UseTreeIdx}
+use Rattle.dm_names.specs.declared.ids.FileAstId.{FileAstId}
+use Rattle.dm_names.specs.declared.ids.UseTreeIdx.{UseTreeIdx}
 use Rattle.item_tree.specs.Trees.{partner_at}
 use Rattle.item_tree.specs.declared.ids.ModItemId.{ModItemId}
 use Rattle.item_tree.specs.declared.ids.ModItemId.TheVariants as id

@@ -1,6 +1,6 @@
 -- The tokens that are neither blanks nor comments, told apart.
 use Rattle.std.specs.Prelude.{◌==◌, ◌+◌, ◌≤◌, ◌++◌, ℕ, List, [], ◌∷◌, Option, Some, None, drop, take, if◌then◌else◌}
-use Rattle.dm_ids.specs.declared.source.Edition.{Edition}
+use Rattle.dm_names.specs.declared.edition.Edition.{Edition}
 use Rattle.item_tree.specs.Words.{word_of}
 use Rattle.item_tree.specs.declared.lexeme.Delimiter.TheVariants.{Parenthesis, Bracket, Brace}
 use Rattle.item_tree.specs.declared.lexeme.LexemeKind.{LexemeKind}

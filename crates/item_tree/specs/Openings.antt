@@ -2,8 +2,8 @@
 use Rattle.std.specs.Prelude.{◌==◌, ◌+◌, ◌&&◌, ℕ, Bool, true, false, not, List, [], ◌∷◌, drop, nat_eq, codes, if◌then◌else◌}
 use Rattle.std.specs.List.{prefix_len, starts_with}
 use Rattle.std.specs.Char.{is_ascii_digit, is_ascii_punctuation}
-use Rattle.dm_ids.specs.declared.source.Edition.{Edition}
-use Rattle.dm_ids.specs.declared.source.Edition.TheVariants.{Edition2015, Edition2018, Edition2021, Edition2024}
+use Rattle.dm_names.specs.declared.edition.Edition.{Edition}
+use Rattle.dm_names.specs.declared.edition.Edition.TheVariants.{Edition2015, Edition2018, Edition2021, Edition2024}
 use Rattle.item_tree.specs.Characters.{is_blank, is_word_start, is_word_char, begins_char, chars_len}
 use Rattle.item_tree.specs.Shapes.{begins}
 use Rattle.item_tree.specs.declared.token.TokenKind.{TokenKind}

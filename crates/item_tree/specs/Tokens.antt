@@ -1,6 +1,6 @@
 -- The tokens of a text.
 use Rattle.std.specs.Prelude.{◌≡◌, ◌==◌, ◌<◌, ◌≤◌, ◌++◌, ◌||◌, ◌&&◌, ℕ, Bool, true, false, List, [], ◌∷◌, length, drop, take, nat_lt, nat_le, is_none}
-use Rattle.dm_ids.specs.declared.source.Edition.{Edition}
+use Rattle.dm_names.specs.declared.edition.Edition.{Edition}
 use Rattle.item_tree.specs.Characters.{is_following, is_blank, is_word_char, are_all}
 use Rattle.item_tree.specs.Shapes.{is_no_newline, is_longest_run, past_quote, past_comment, past_raw, is_exact}
 use Rattle.item_tree.specs.Numbers.{is_number}

@@ -5,7 +5,7 @@ ghost use Rattle.item_tree.specs.Cfg.{CfgExpr};
 ghost use Rattle.item_tree.specs.declared.cfg.CfgAtom.TheVariants as atom;
 
 use crate::span::{Span, name_text, string_text};
-use dm_ids::symbol::Symbol;
+use dm_names::symbol::Symbol;
 use std::alloc::{AllocError, Global};
 use std::marker::Model;
 

@@ -7,7 +7,7 @@ use crate::items::Item;
 use crate::lexeme::Lexeme;
 use crate::trees::partner_at;
 use crate::use_tree::{UseTree, UseTreeKind};
-use dm_ids::ids::{FileAstId, UseTreeIdx};
+use dm_names::ids::{FileAstId, UseTreeIdx};
 
 /// An item of a module, by its kind and its number in its file.
 #[derive(Clone, Copy, PartialEq, Eq, Debug)]

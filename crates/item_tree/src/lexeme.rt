@@ -7,7 +7,7 @@ ghost use Rattle.item_tree.specs.declared.token.Token.{Token};
 use crate::lexer::lex;
 use crate::token::{Token, TokenKind};
 use crate::word::{Word, word_of};
-use dm_ids::source::Edition;
+use dm_names::edition::Edition;
 use std::alloc::{AllocError, Global};
 
 /// The kind of brackets.

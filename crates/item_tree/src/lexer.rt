@@ -5,7 +5,7 @@ ghost use Rattle.item_tree.specs.Tokens.{IsFirst, are_tokens, IsOnlyCut};
 use crate::bodies::body_end;
 use crate::openings::{begins_order_mark, first_opening};
 use crate::token::{Token, TokenKind};
-use dm_ids::source::Edition;
+use dm_names::edition::Edition;
 use std::alloc::{AllocError, Global};
 
 /// The token that the text begins with.

@@ -9,7 +9,7 @@ use crate::characters::{
     begins_blank, begins_with, begins_word, begins_word_char, blank_end, word_end,
 };
 use crate::token::TokenKind;
-use dm_ids::source::Edition;
+use dm_names::edition::Edition;
 
 /// What stands in a token behind its opening.
 #[derive(Clone, Copy)]

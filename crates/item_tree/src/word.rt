@@ -3,7 +3,7 @@ ghost use Rattle.std.specs.Prelude.{◌≡◌, codes};
 ghost use Rattle.item_tree.specs.Words as spec;
 
 use crate::openings::since_2018;
-use dm_ids::source::Edition;
+use dm_names::edition::Edition;
 
 /// A word of the grammar of items, or of the attributes that matter to names. Whether it is one is told by the place
 /// where it stands: `union`, `auto` and most of these are names elsewhere.

@@ -1,7 +1,7 @@
 //! Mutators of the bindings of a namespace, beside pushes. None of them has to allocate: `shrink_to_fit` may, and goes
 //! on where that fails.
 ghost use Rattle.std.specs.Prelude.{◌≡◌, map};
-ghost use Rattle.dm_ids.specs.Names.{find_name};
+ghost use Rattle.dm_names.specs.Names.{find_name};
 ghost use Rattle.dm_bindings.specs.Changes.{is_of, without_binding, with_vis, with_def, change_item, change_all, censored, censored_macro, is_own_proc_macro};
 
 use super::Bindings;

@@ -1,7 +1,7 @@
 //! `ModuleData`: a module of a def map.
 ghost use Rattle.std.specs.Prelude.{◌≡◌, OnOk, OnErr, is_some};
 ghost use Rattle.std.specs.Borrow.{sem};
-ghost use Rattle.dm_ids.specs.Names.{find_name};
+ghost use Rattle.dm_names.specs.Names.{find_name};
 ghost use Rattle.dm_def_map.specs.Maps.{fresh_module, with_child};
 ghost use Rattle.dm_def_map.specs.LendingModule.{LendsModuleScope};
 ghost use Rattle.dm_def_map.specs.Origins.{source_file};

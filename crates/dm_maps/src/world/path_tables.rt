@@ -1,7 +1,7 @@
 //! What path resolution reads of the tables of a world.
 ghost use Rattle.std.specs.Prelude.{◌≡◌};
 ghost use Rattle.std.specs.Option.{option_copied};
-ghost use Rattle.dm_ids.specs.Names.{find_name};
+ghost use Rattle.dm_names.specs.Names.{find_name};
 ghost use Rattle.dm_maps.specs.Readings.{root_of, block_root_of, prelude_of, macro_uses_of, styles_by, styles_of};
 ghost use Rattle.dm_maps.specs.World.{crate_map, scope_of};
 ghost use Rattle.dm_bindings.specs.Pushes.{last_of};

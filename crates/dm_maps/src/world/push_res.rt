@@ -8,7 +8,7 @@ ghost use Rattle.dm_scope.specs.PushLaw.{PushLaw, itself};
 ghost use Rattle.dm_scope.specs.Shows.{PushAnswers, PushShows, ShowsElsewhere, StillShows, push_of};
 ghost use Rattle.dm_check.specs.Pushes.{push_holds};
 ghost use Rattle.dm_maps.specs.PushRes.{with_push, StaysShown};
-ghost use Rattle.dm_ids.specs.Names.{Name};
+ghost use Rattle.dm_names.specs.Names.{Name};
 ghost use Rattle.dm_maps.specs.Cut.{among, cut};
 ghost use Rattle.dm_maps.specs.First.{IsChecked};
 ghost use Rattle.dm_maps.specs.Known.{KnowsAll};

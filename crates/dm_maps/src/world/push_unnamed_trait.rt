@@ -1,7 +1,7 @@
 //! Traits that are imported without a name into the scopes of a checked world.
 ghost use Rattle.std.specs.Prelude.{◌≡◌, List, IsSome, OnOk, OnErr};
 ghost use Rattle.dm_ids.specs.declared.ids.ModuleId.{ModuleId};
-ghost use Rattle.dm_ids.specs.Names.{Name};
+ghost use Rattle.dm_names.specs.Names.{Name};
 ghost use Rattle.dm_bindings.specs.Flags.{Globs};
 ghost use Rattle.dm_maps.specs.Cut.{cut};
 ghost use Rattle.dm_maps.specs.First.{IsChecked};

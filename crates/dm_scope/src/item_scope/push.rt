@@ -1,7 +1,7 @@
 //! `push_res_with_import`: pushes a resolution into all namespaces of a scope.
 ghost use Rattle.std.specs.Prelude.{◌≡◌, ◌||◌, false, List, [], ◌∷◌, ◌++◌, IfOk, OnOk, OnErr};
 ghost use Rattle.dm_ids.specs.declared.ids.ModuleId.{ModuleId};
-ghost use Rattle.dm_ids.specs.Names.{Name};
+ghost use Rattle.dm_names.specs.Names.{Name};
 ghost use Rattle.dm_base.specs.Tree.{same_module};
 ghost use Rattle.dm_bindings.specs.Bindings.{bound_after, flags_after, is_effective_at};
 ghost use Rattle.dm_scope.specs.Gives.{PushGives};

@@ -1,6 +1,6 @@
 use Rattle.std.proofs.Common.{ap, sym, ◌∙◌}
 use Rattle.std.proofs.lemmas.List.{drop-map, take_rest}
-use Rattle.dm_ids.specs.declared.ids.Crate.{Crate}
+use Rattle.dm_names.specs.declared.ids.Crate.{Crate}
 use Rattle.crate_modules.specs.CrateGraphs.{numbers}
 use Rattle.crate_modules.proofs.order_search.copied_from.Goals as goal
 

@@ -3,7 +3,7 @@ use Rattle.crate_modules.specs.CrateGraphs.{Data}
 use Rattle.crate_tables.proofs.GrownLemmas.{grown-further}
 use Rattle.crate_tables.proofs.StepLemmas.{next-in}
 use Rattle.crate_tables.specs.CrateFillings.{with_prelude_of, with_preludes_from}
-use Rattle.dm_ids.specs.declared.ids.Crate.{Crate}
+use Rattle.dm_names.specs.declared.ids.Crate.{Crate}
 use Rattle.crate_tables.proofs.set_preludes.set_preludes.Goals as goal
 
 pub loop-number-preserved : goal.loop-number-preserved

@@ -1,9 +1,9 @@
 use Rattle.std.proofs.Common.{◌≡◌, ◌∙◌, [], ◌∷◌, Some, None, ap, refl, slice_get, subst, sym}
 use Rattle.std.specs.Option.{option_map_or}
 use Rattle.std.specs.Prelude.{codes}
-use Rattle.dm_ids.specs.Names.{Name}
-use Rattle.dm_ids.specs.declared.ids.Crate.{Crate}
-use Rattle.dm_ids.specs.declared.source.Edition.TheVariants.{Edition2021}
+use Rattle.dm_names.specs.Names.{Name}
+use Rattle.dm_names.specs.declared.ids.Crate.{Crate}
+use Rattle.dm_names.specs.declared.edition.Edition.TheVariants.{Edition2021}
 use Rattle.dm_ids.specs.declared.source.EditionedFileId.{EditionedFileId}
 use Rattle.dm_base.specs.Path.{Path}
 use Rattle.dm_base.specs.PerNs.{definition}

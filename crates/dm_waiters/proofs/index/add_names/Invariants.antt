@@ -1,7 +1,7 @@
 use Rattle.std.proofs.Common.{◌≡◌, ◌&&◌, ◌||◌, ℕ, false, length, nat_eq}
 use Rattle.dm_waiters.specs.Index.{has_place}
 use Rattle.dm_waiters.specs.Unresolved.{among}
-use Rattle.dm_ids.specs.Names.{Name}
+use Rattle.dm_names.specs.Names.{Name}
 use Rattle.dm_waiters.proofs.index.add_names.Given as goal
 
 abbrev pub invariant-names : goal.invariant-names

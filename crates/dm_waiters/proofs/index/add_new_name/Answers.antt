@@ -1,5 +1,5 @@
 use Rattle.std.proofs.Common.{◌∙◌, ◌++◌, ◌∷◌, [], ℕ, List, ap, ap₂}
-use Rattle.dm_ids.specs.Names.{same_name}
+use Rattle.dm_names.specs.Names.{same_name}
 use Rattle.indexmap.specs.IndexMap.{get}
 use Rattle.indexmap.proofs.CallerLemmas.{insert_entry-new}
 use Rattle.dm_waiters.proofs.index.add_new_name.Goals as goal

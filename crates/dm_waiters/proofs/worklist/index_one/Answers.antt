@@ -1,5 +1,5 @@
 use Rattle.std.proofs.Common.{◌≡◌, ◌∙◌, ◌<◌, ◌≤◌, ◌/◌, ◌&&◌, ◌||◌, List, ap, arith, if◌then◌else◌, length, nat_eq}
-use Rattle.dm_ids.specs.Names.{Name}
+use Rattle.dm_names.specs.Names.{Name}
 use Rattle.dm_waiters.specs.Index.{has_place}
 use Rattle.dm_waiters.specs.Unresolved.{among}
 use Rattle.dm_waiters.specs.Bits.{has}

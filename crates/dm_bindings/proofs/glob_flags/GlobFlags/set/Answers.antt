@@ -1,6 +1,6 @@
 use Rattle.std.proofs.Common.{◌∙◌, ap, cond, refl, subst, true, IsSome}
 use Rattle.std.specs.List.{list_any}
-use Rattle.dm_ids.specs.Names.{same_name}
+use Rattle.dm_names.specs.Names.{same_name}
 use Rattle.dm_bindings.specs.Flags.{has_name, with_flag}
 use Rattle.dm_bindings.specs.Outcomes.{on-err}
 use Rattle.dm_bindings.proofs.FlagLemmas.{flags_of-with, flags_of-kept}

@@ -1,7 +1,7 @@
 use Rattle.std.proofs.Common.{◌∙◌, sym, ap, not}
 use Rattle.indexmap.specs.IndexMap.{insert_entry}
 use Rattle.indexmap.proofs.MapLemmas.{insert_entry-absent, absent_from_lookup}
-use Rattle.dm_ids.specs.Names.{same_name}
+use Rattle.dm_names.specs.Names.{same_name}
 use Rattle.dm_bindings.proofs.EntryLemmas.{add_entry-new, add_entry-present, absent}
 use Rattle.dm_bindings.proofs.lazy_map.LazyMap+Name+V.add_name.Goals as goal
 

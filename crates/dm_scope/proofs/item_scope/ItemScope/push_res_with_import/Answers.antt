@@ -1,5 +1,5 @@
 use Rattle.std.proofs.Common.{◌∙◌, ◌++◌, ◌∷◌, [], sym, subst, subst₂}
-use Rattle.dm_ids.specs.Names.{Name}
+use Rattle.dm_names.specs.Names.{Name}
 use Rattle.dm_scope.specs.PushLaw.{PushLaw, itself}
 use Rattle.dm_scope.specs.Shows.{IsByNameInEach, ScopePush, Shows}
 use Rattle.dm_scope.proofs.ClosedLemmas.{Shows-after, push_answer-is_answered, Shows-elsewhere}

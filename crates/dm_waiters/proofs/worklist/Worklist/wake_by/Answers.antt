@@ -1,7 +1,7 @@
 use Rattle.std.proofs.Common.{◌≡◌, ◌∙◌, ◌<◌, List, [], Some, ap, length, map, slice_get, subst, sym}
 use Rattle.std.specs.Option.{option_map_or}
 use Rattle.std.proofs.lemmas.Option.{slice_get-get_or}
-use Rattle.dm_ids.specs.Names.{Name}
+use Rattle.dm_names.specs.Names.{Name}
 use Rattle.dm_waiters.specs.Unresolved.{AllDirty, awoken, name_at}
 use Rattle.dm_waiters.proofs.KeptLemmas.{all-awoken, ready-woken, woken}
 use Rattle.dm_waiters.proofs.worklist.Worklist.wake_by.Goals as goal

@@ -2,7 +2,7 @@
 ghost use Rattle.std.specs.Prelude.{◌≡◌, length};
 ghost use Rattle.std.specs.Hash.FoldHasher as folding;
 ghost use Rattle.std.specs.Int.{from_le_bytes, w64};
-ghost use Rattle.dm_ids.specs.NameHashers as names;
+ghost use Rattle.dm_names.specs.NameHashers as names;
 
 use std::hash::{BuildHasher, FoldHasher, Hasher};
 

@@ -2,7 +2,7 @@
 use Rattle.std.specs.Prelude.{ℕ, List, length, nat_eq, bit_xor, if◌then◌else◌}
 use Rattle.std.specs.Hash.FoldHasher as folding
 use Rattle.std.specs.Int.{from_le_bytes, w64}
-use Rattle.dm_ids.specs.declared.name_hasher.NameHasher.{NameHasher}
+use Rattle.dm_names.specs.declared.name_hasher.NameHasher.{NameHasher}
 
 -- nothing yet
 abbrev pub initial : NameHasher

@@ -1,6 +1,6 @@
 //! Owned text: what names and symbols are made of, seen by contracts as its bytes.
 ghost use Rattle.std.specs.Prelude.{◌≡◌, IfOk, Some, nat_eq, refl};
-ghost use Rattle.dm_ids.specs.Names.{digest, fed_text};
+ghost use Rattle.dm_names.specs.Names.{digest, fed_text};
 ghost use Rattle.std.specs.Ordering.{nat_cmp};
 ghost use Rattle.std.specs.Cmp.Lexicographic.{pointwise, slice_cmp, nat_list_eq_equiv, nat_list_cmp_total, texts_po, texts_ties};
 ghost use Rattle.std.specs.Cmp.{partial_equiv_from_equiv};
@@ -32,7 +32,7 @@ impl Drop for Text {
 impl Model for Text {
     ghost use Rattle.std.specs.Prelude.{◌≡◌, ℕ, List};
     ghost use Rattle.std.specs.String.{string_bytes};
-    ghost use Rattle.dm_ids.specs.Names.{digest};
+    ghost use Rattle.dm_names.specs.Names.{digest};
 
     ghost Value = { List ℕ };
 
