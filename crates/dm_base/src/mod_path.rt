@@ -23,10 +23,20 @@ impl PathKind {
 }
 
 /// A path, which contracts see as its kind and the list of its segments.
-#[derive(Drop, Debug)]
+#[derive(Debug)]
 pub struct ModPath {
     pub kind: PathKind,
     segments: Vec<Name>,
+}
+
+/// Hand-written `Drop`, to keep proofs small: dropping one is then a single call.
+impl Drop for ModPath {
+    fn drop(self) {
+        let ModPath {
+            kind: _kind,
+            segments: _segments,
+        } = self;
+    }
 }
 
 impl Model for ModPath {
