@@ -33,7 +33,7 @@ use dm_maps::world::World;
 /// as `local_def_map` gives a crate's; a mode, of an import or not; `shadow`, whether builtin types may shadow modules;
 /// and what kind of macro is expected. All ids have to be the world's: the map is the world's of its id, the origin
 /// lies in it, or for the calls on preludes in any map of its crate, and local map and path name only what the world
-/// has (`World::knows_local`, `World::knows_path`).
+/// has (`World::knows_local`, and `knows_path` of `dm_world`).
 pub trait ResolvePath {
     /// The map, as contracts see it.
     ghost map: { Self → Map };

@@ -56,7 +56,7 @@ pub trait ResolveVisibility {
     /// What a raw visibility in a module of a map resolves to: public where its path leads to no module.
     ///
     /// The map has to be the world's of its id, the module one of it, and the world has to know local map and path
-    /// (`World::knows_local`, `World::knows_path`). Allocates nothing.
+    /// (`World::knows_local`, and `knows_path` of `dm_world`). Allocates nothing.
     fn resolve(
         world: &World,
         map: &DefMap,
@@ -87,8 +87,8 @@ impl ResolveVisibility for Visibility {
 
 /// What a raw visibility in a module resolves to, by the module's own map and the extern prelude of its crate.
 ///
-/// The world has to know the path (`World::knows_path`). In a module that it does not have, everything is public.
-/// Allocates nothing.
+/// The world has to know the path (`knows_path` of `dm_world`). In a module that it does not have, everything is
+/// public. Allocates nothing.
 pub fn visibility_from_raw(
     world: &World,
     m: ModuleId,
