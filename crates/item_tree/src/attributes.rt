@@ -47,12 +47,23 @@ fn cfg_list(name: Word, input: AttributeInput) -> Option<Range>
 }
 
 /// The attributes of a file, so far as they are read.
-#[derive(Drop)]
 struct AttributeTable {
     attributes: Vec<Attribute>,
     conditions: Vec<Condition>,
     nodes: Vec<CfgNode>,
     errors: Vec<usize>,
+}
+
+/// Hand-written `Drop`, to keep proofs small: dropping one is then a single call.
+impl Drop for AttributeTable {
+    fn drop(self) {
+        let AttributeTable {
+            attributes: _attributes,
+            conditions: _conditions,
+            nodes: _nodes,
+            errors: _errors,
+        } = self;
+    }
 }
 
 impl Model for AttributeTable {
@@ -192,9 +203,15 @@ impl AttributeTable {
 }
 
 /// The attributes of a file.
-#[derive(Drop)]
 pub struct Attributes {
     table: AttributeTable,
+}
+
+/// Hand-written `Drop`, to keep proofs small: dropping one is then a single call.
+impl Drop for Attributes {
+    fn drop(self) {
+        let Attributes { table: _table } = self;
+    }
 }
 
 impl Model for Attributes {

@@ -32,7 +32,6 @@ pub enum CfgNode {
 }
 
 /// An option that a crate is built with.
-#[derive(Drop)]
 pub enum CfgAtom {
     /// A name, as `unix`.
     Flag(Symbol),
@@ -40,10 +39,29 @@ pub enum CfgAtom {
     KeyValue { key: Symbol, value: Symbol },
 }
 
+/// Hand-written `Drop`, to keep proofs small: dropping one is then a single call.
+impl Drop for CfgAtom {
+    fn drop(self) {
+        match self {
+            CfgAtom::Flag(_flag) => {}
+            CfgAtom::KeyValue {
+                key: _key,
+                value: _value,
+            } => {}
+        }
+    }
+}
+
 /// The options that a crate is built with.
-#[derive(Drop)]
 pub struct CfgOptions {
     enabled: Vec<CfgAtom>,
+}
+
+/// Hand-written `Drop`, to keep proofs small: dropping one is then a single call.
+impl Drop for CfgOptions {
+    fn drop(self) {
+        let CfgOptions { enabled: _enabled } = self;
+    }
 }
 
 impl Model for CfgOptions {

@@ -51,11 +51,20 @@ pub struct Item {
 }
 
 /// The items of a text: those of the top level, and then those in the body of each, in order.
-#[derive(Drop)]
 pub struct ItemTree {
     pub items: Vec<Item>,
     /// How many of them are of the top level.
     pub top_level: usize,
+}
+
+/// Hand-written `Drop`, to keep proofs small: dropping one is then a single call.
+impl Drop for ItemTree {
+    fn drop(self) {
+        let ItemTree {
+            items: _items,
+            top_level: _top_level,
+        } = self;
+    }
 }
 
 impl ItemTree {
