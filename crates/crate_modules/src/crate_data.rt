@@ -11,13 +11,25 @@ use std::marker::Model;
 
 /// What a graph has of a crate: the file of its root, its edition, the options that it is built with, whether it has
 /// procedural macros, and what it depends on.
-#[derive(Drop)]
 pub struct CrateData {
     root_file_id: FileId,
     edition: Edition,
     cfg_options: CfgOptions,
     is_proc_macro: bool,
     dependencies: Vec<Dependency>,
+}
+
+/// Hand-written `Drop`, to keep proofs small: dropping one is then a single call.
+impl Drop for CrateData {
+    fn drop(self) {
+        let CrateData {
+            root_file_id: _root_file_id,
+            edition: _edition,
+            cfg_options: _cfg_options,
+            is_proc_macro: _is_proc_macro,
+            dependencies: _dependencies,
+        } = self;
+    }
 }
 
 impl Model for CrateData {

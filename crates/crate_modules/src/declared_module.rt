@@ -9,7 +9,6 @@ use item_tree::visibility::RawVisibility;
 use std::marker::Model;
 
 /// Where and how a module is declared.
-#[derive(Drop)]
 pub struct Declaration {
     /// The number of the module that it stands in, in the list of the crate.
     pub parent: usize,
@@ -23,14 +22,39 @@ pub struct Declaration {
     pub item: usize,
 }
 
+/// Hand-written `Drop`, to keep proofs small: dropping one is then a single call.
+impl Drop for Declaration {
+    fn drop(self) {
+        let Declaration {
+            parent: _parent,
+            name: _name,
+            visibility: _visibility,
+            file: _file,
+            item: _item,
+        } = self;
+    }
+}
+
 /// A module of a crate.
-#[derive(Drop)]
 pub struct DeclaredModule {
     pub(crate) declaration: Option<Declaration>,
     pub(crate) file: FileId,
     pub(crate) item: Option<usize>,
     pub(crate) dir: ModDir,
     pub(crate) around: Vec<FileId>,
+}
+
+/// Hand-written `Drop`, to keep proofs small: dropping one is then a single call.
+impl Drop for DeclaredModule {
+    fn drop(self) {
+        let DeclaredModule {
+            declaration: _declaration,
+            file: _file,
+            item: _item,
+            dir: _dir,
+            around: _around,
+        } = self;
+    }
 }
 
 impl Model for DeclaredModule {
@@ -48,11 +72,21 @@ impl Model for DeclaredModule {
 }
 
 /// A declaration that leads to no module, since it has no file of its own.
-#[derive(Drop)]
 pub struct ModuleFault {
     pub(crate) declaration: Declaration,
     pub(crate) candidates: Vec<Candidate>,
     pub(crate) within: Option<FileId>,
+}
+
+/// Hand-written `Drop`, to keep proofs small: dropping one is then a single call.
+impl Drop for ModuleFault {
+    fn drop(self) {
+        let ModuleFault {
+            declaration: _declaration,
+            candidates: _candidates,
+            within: _within,
+        } = self;
+    }
 }
 
 impl Model for ModuleFault {

@@ -3,10 +3,20 @@ use dm_ids::ids::Crate;
 use dm_ids::name::Name;
 
 /// A crate that another one depends on, and the name under which it knows it.
-#[derive(Drop)]
 pub struct Dependency {
     pub crate_id: Crate,
     pub name: Name,
     /// Whether it is in the extern prelude; else only `extern crate` finds it.
     pub prelude: bool,
+}
+
+/// Hand-written `Drop`, to keep proofs small: dropping one is then a single call.
+impl Drop for Dependency {
+    fn drop(self) {
+        let Dependency {
+            crate_id: _crate_id,
+            name: _name,
+            prelude: _prelude,
+        } = self;
+    }
 }

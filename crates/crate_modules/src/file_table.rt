@@ -11,9 +11,15 @@ use std::alloc::{AllocError, Global};
 use std::marker::Model;
 
 /// Paths and texts of files. A contract sees the list of the files, each at its number.
-#[derive(Drop)]
 pub struct FileTable {
     texts: IndexMap<Vec<u8>, Vec<u8>>,
+}
+
+/// Hand-written `Drop`, to keep proofs small: dropping one is then a single call.
+impl Drop for FileTable {
+    fn drop(self) {
+        let FileTable { texts: _texts } = self;
+    }
 }
 
 impl Model for FileTable {

@@ -9,10 +9,19 @@ use std::alloc::{AllocError, Global};
 use std::marker::Model;
 
 /// Where the files of a module's children are looked for.
-#[derive(Drop)]
 pub struct ModDir {
     folder: Vec<u8>,
     own: Vec<u8>,
+}
+
+/// Hand-written `Drop`, to keep proofs small: dropping one is then a single call.
+impl Drop for ModDir {
+    fn drop(self) {
+        let ModDir {
+            folder: _folder,
+            own: _own,
+        } = self;
+    }
 }
 
 impl Model for ModDir {
@@ -24,10 +33,19 @@ impl Model for ModDir {
 }
 
 /// A path at which the file of a module may be.
-#[derive(Drop)]
 pub struct Candidate {
     path: Vec<u8>,
     is_owner: bool,
+}
+
+/// Hand-written `Drop`, to keep proofs small: dropping one is then a single call.
+impl Drop for Candidate {
+    fn drop(self) {
+        let Candidate {
+            path: _path,
+            is_owner: _is_owner,
+        } = self;
+    }
 }
 
 impl Model for Candidate {
