@@ -21,9 +21,15 @@ use std::alloc::{AllocError, Global};
 use std::marker::Model;
 
 /// The visibilities of the fields of a variant, in order.
-#[derive(Drop)]
 pub struct FieldVisibilities {
     fields: Vec<RawVisibility>,
+}
+
+/// Hand-written `Drop`, to keep proofs small: dropping one is then a single call.
+impl Drop for FieldVisibilities {
+    fn drop(self) {
+        let FieldVisibilities { fields: _fields } = self;
+    }
 }
 
 impl Model for FieldVisibilities {
@@ -46,7 +52,8 @@ impl FieldVisibilities {
     pub fn into_vec(self) -> Vec<RawVisibility>
         ensures { result.items ≡ self }
     {
-        self.fields
+        let FieldVisibilities { fields } = self;
+        fields
     }
 }
 

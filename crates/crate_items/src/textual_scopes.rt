@@ -17,9 +17,15 @@ use std::marker::Model;
 
 /// The textual scope of a module where it ends: the numbers of the items whose macros are in it, in the order of
 /// definition. Of one name the last counts. A contract sees the numbers.
-#[derive(Drop)]
 pub struct TextualScope {
     macros: Vec<usize>,
+}
+
+/// Hand-written `Drop`, to keep proofs small: dropping one is then a single call.
+impl Drop for TextualScope {
+    fn drop(self) {
+        let TextualScope { macros: _macros } = self;
+    }
 }
 
 impl Model for TextualScope {
