@@ -17,7 +17,6 @@ use dm_maps::world::World;
 use std::alloc::{AllocError, Global};
 
 /// A macro call among the items of a module.
-#[derive(Drop)]
 pub struct MacroCall {
     /// The module that it stands in.
     pub home: ModuleId,
@@ -27,6 +26,19 @@ pub struct MacroCall {
     pub path: ModPath,
     /// The macro that it calls; none where its path leads nowhere.
     pub called: Option<MacroId>,
+}
+
+/// Hand-written `Drop`, to keep proofs small: dropping one is then a single call.
+impl Drop for MacroCall {
+    fn drop(self) {
+        let MacroCall {
+            home: _home,
+            file: _file,
+            item: _item,
+            path: _path,
+            called: _called,
+        } = self;
+    }
 }
 
 /// The id of the module of a number in a crate's list, unless it was left out.

@@ -7,9 +7,15 @@ use std::alloc::{AllocError, Global};
 use std::marker::Model;
 
 /// Paths of files, which contracts see as a list.
-#[derive(Drop)]
 pub struct CandidatePaths {
     pub(crate) paths: Vec<Vec<u8>>,
+}
+
+/// Hand-written `Drop`, to keep proofs small: dropping one is then a single call.
+impl Drop for CandidatePaths {
+    fn drop(self) {
+        let CandidatePaths { paths: _paths } = self;
+    }
 }
 
 impl Model for CandidatePaths {

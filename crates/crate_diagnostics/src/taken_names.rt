@@ -15,11 +15,22 @@ use item_tree::item_kind::ItemKind;
 use std::alloc::{AllocError, Global};
 
 /// A name in a namespace of a module.
-#[derive(PartialEq, Eq, Hash, Drop)]
+#[derive(PartialEq, Eq, Hash)]
 pub(crate) struct TakenName {
     pub(crate) module: usize,
     pub(crate) namespace: Namespace,
     pub(crate) name: Name,
+}
+
+/// Hand-written `Drop`, to keep proofs small: dropping one is then a single call.
+impl Drop for TakenName {
+    fn drop(self) {
+        let TakenName {
+            module: _module,
+            namespace: _namespace,
+            name: _name,
+        } = self;
+    }
 }
 
 /// The namespaces of a struct.
