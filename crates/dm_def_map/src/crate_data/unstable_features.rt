@@ -10,9 +10,15 @@ use std::alloc::{AllocError, Global};
 use std::marker::Model;
 
 /// The unstable features that a crate enables, as by `#![feature(A, B)]`.
-#[derive(Drop)]
 pub struct UnstableFeatures {
     enabled: IndexSet<Symbol>,
+}
+
+/// Hand-written `Drop`, to keep proofs small: dropping one is then a single call.
+impl Drop for UnstableFeatures {
+    fn drop(self) {
+        let UnstableFeatures { enabled: _enabled } = self;
+    }
 }
 
 impl Model for UnstableFeatures {

@@ -16,9 +16,15 @@ use std::marker::Model;
 pub type DeriveHelper = (Name, MacroId, Either<MacroCallId, BuiltinDeriveImplId>);
 
 /// The helper attributes on an item, in order.
-#[derive(Drop)]
 pub struct DeriveHelpers {
     helpers: Vec<DeriveHelper>,
+}
+
+/// Hand-written `Drop`, to keep proofs small: dropping one is then a single call.
+impl Drop for DeriveHelpers {
+    fn drop(self) {
+        let DeriveHelpers { helpers: _helpers } = self;
+    }
 }
 
 impl Model for DeriveHelpers {

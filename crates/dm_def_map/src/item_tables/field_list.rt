@@ -5,9 +5,15 @@ use dm_base::visibility::RawVisibility;
 use std::marker::Model;
 
 /// The visibility of each field, in order.
-#[derive(Drop)]
 pub struct FieldList {
     fields: Vec<RawVisibility>,
+}
+
+/// Hand-written `Drop`, to keep proofs small: dropping one is then a single call.
+impl Drop for FieldList {
+    fn drop(self) {
+        let FieldList { fields: _fields } = self;
+    }
 }
 
 impl Model for FieldList {

@@ -9,9 +9,15 @@ use indexmap::IndexMap;
 use std::marker::Model;
 
 /// The modules of a map, in order of number.
-#[derive(Drop)]
 pub struct ModulesMap {
     pub(crate) entries: IndexMap<ModuleId, ModuleData>,
+}
+
+/// Hand-written `Drop`, to keep proofs small: dropping one is then a single call.
+impl Drop for ModulesMap {
+    fn drop(self) {
+        let ModulesMap { entries: _entries } = self;
+    }
 }
 
 impl Model for ModulesMap {
