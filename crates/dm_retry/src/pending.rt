@@ -21,7 +21,6 @@ use dm_waiters::unresolved::Unresolved;
 use std::marker::Model;
 
 /// An unresolved import, and whether it is due (dirty): it was not tried yet, or a name on its path was bound since.
-#[derive(Drop)]
 pub struct Pending {
     origin: ModuleId,
     name: Name,
@@ -31,6 +30,22 @@ pub struct Pending {
     import: ImportId,
     due: bool,
     rank: usize,
+}
+
+/// Hand-written `Drop`, to keep proofs small: dropping one is then a single call.
+impl Drop for Pending {
+    fn drop(self) {
+        let Pending {
+            origin: _origin,
+            name: _name,
+            path: _path,
+            visibility: _visibility,
+            kind: _kind,
+            import: _import,
+            due: _due,
+            rank: _rank,
+        } = self;
+    }
 }
 
 impl Model for Pending {
@@ -77,7 +92,9 @@ impl Pending {
     pub fn with_kind(self, kind: ImportKind) -> Pending
         ensures { result ≡ record self { kind = kind } }
     {
-        Pending { kind, ..self }
+        let mut changed = self;
+        changed.kind = kind;
+        changed
     }
 
     /// The module that contains the import.
