@@ -19,7 +19,6 @@ use std::alloc::{AllocError, Global};
 use std::marker::Model;
 
 /// A root that a crate has macros from.
-#[derive(Drop)]
 pub struct MacroSource {
     pub root: ModuleId,
     /// Which of its macros; all of them, where nothing says which.
@@ -28,11 +27,31 @@ pub struct MacroSource {
     pub brought_by: Option<ExternCrateId>,
 }
 
+/// Hand-written `Drop`, to keep proofs small: dropping one is then a single call.
+impl Drop for MacroSource {
+    fn drop(self) {
+        let MacroSource {
+            root: _root,
+            macros: _macros,
+            brought_by: _brought_by,
+        } = self;
+    }
+}
+
 /// A crate, and the roots that it has macros from, in order: of two that bring one name the later counts.
-#[derive(Drop)]
 pub struct MacroUses {
     krate: Crate,
     sources: Vec<MacroSource>,
+}
+
+/// Hand-written `Drop`, to keep proofs small: dropping one is then a single call.
+impl Drop for MacroUses {
+    fn drop(self) {
+        let MacroUses {
+            krate: _krate,
+            sources: _sources,
+        } = self;
+    }
 }
 
 impl Model for MacroUses {

@@ -35,7 +35,6 @@ pub enum GlobSource {
 }
 
 /// A glob import (`use path::*`).
-#[derive(Drop)]
 pub struct GlobImport {
     /// The module that it imports into.
     pub into: ModuleId,
@@ -43,6 +42,18 @@ pub struct GlobImport {
     /// Who may see what it brings, at most.
     pub vis: Visibility,
     pub import: GlobId,
+}
+
+/// Hand-written `Drop`, to keep proofs small: dropping one is then a single call.
+impl Drop for GlobImport {
+    fn drop(self) {
+        let GlobImport {
+            into: _into,
+            path: _path,
+            vis: _vis,
+            import: _import,
+        } = self;
+    }
 }
 
 impl GlobImport {

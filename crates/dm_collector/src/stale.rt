@@ -21,12 +21,23 @@ use dm_maps::world::World;
 use std::alloc::{AllocError, Global};
 
 /// What a module binds under a name by a glob, whose source means another definition by now.
-#[derive(Drop)]
 pub struct StaleBinding {
     pub home: ModuleId,
     pub name: Name,
     pub namespace: Namespace,
     pub glob: GlobId,
+}
+
+/// Hand-written `Drop`, to keep proofs small: dropping one is then a single call.
+impl Drop for StaleBinding {
+    fn drop(self) {
+        let StaleBinding {
+            home: _home,
+            name: _name,
+            namespace: _namespace,
+            glob: _glob,
+        } = self;
+    }
 }
 
 /// Whether an import brought a binding.
