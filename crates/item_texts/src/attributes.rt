@@ -11,6 +11,7 @@ use item_tree::items::Range;
 use item_tree::lexeme::{Lexeme, read_lexemes};
 use item_tree::span::{Span, name_text, string_text};
 use std::alloc::{AllocError, Global};
+use std::fmt::Write;
 
 /// A word for what an attribute says.
 fn word_for(kind: AttributeKind, holds: bool) -> &'static str {
@@ -58,8 +59,7 @@ fn print_list_item(
     if let Some(first) = lexemes_in(lexemes, item).first() {
         let (start, len) = (first.start, first.len);
         let name = name_text(text, Span { start, len });
-        out.push_str(" ")?;
-        out.push_str(std::str::from_utf8(name).unwrap_or("?"))?;
+        write!(out, " {}", std::str::from_utf8(name).unwrap_or("?"))?;
     }
     if let Some(helpers) = helper_list(text, lexemes, item) {
         for helper in &list_items(alloc, lexemes, helpers)? {
@@ -89,8 +89,8 @@ fn print_input(
             Ok(())
         }
         AttributeKind::Path(value) | AttributeKind::RecursionLimit(value) => {
-            out.push_str(" ")?;
-            out.push_str(std::str::from_utf8(string_text(text, value)).unwrap_or("?"))
+            let string = string_text(text, value);
+            write!(out, " {}", std::str::from_utf8(string).unwrap_or("?"))
         }
         _ => Ok(()),
     }
@@ -128,17 +128,6 @@ fn print_lines(
     Ok(())
 }
 
-/// Adds a line that counts errors and conditions.
-fn print_counts(
-    alloc: Global,
-    out: &mut String,
-    errors: usize,
-    conditions: usize,
-) -> Result<(), AllocError> {
-    let shown = format!(in alloc; "{errors} errors, {conditions} conditions\n")?;
-    out.push_str(shown.as_str())
-}
-
 pub(crate) fn print_attributes(
     alloc: Global,
     out: &mut String,
@@ -159,5 +148,6 @@ pub(crate) fn print_attributes(
         &table,
         active.as_slice(),
     )?;
-    print_counts(alloc, out, table.errors().len(), table.conditions().len())
+    let (errors, conditions) = (table.errors().len(), table.conditions().len());
+    write!(out, "{errors} errors, {conditions} conditions\n")
 }

@@ -3,6 +3,7 @@ use crate::heading::Heading;
 use item_tree::cfg_parser::{CfgParse, parse_cfg};
 use item_tree::lexeme::read_lexemes;
 use std::alloc::{AllocError, Global};
+use std::fmt::Write;
 
 /// Adds a line, and whether it holds as a predicate, or the lexeme at which it is none.
 fn print_predicate(
@@ -13,20 +14,13 @@ fn print_predicate(
 ) -> Result<(), AllocError> {
     let bytes = line.as_bytes();
     let lexemes = read_lexemes(alloc, bytes, heading.edition)?;
-    out.push_str(line)?;
     match parse_cfg(alloc, bytes, lexemes.as_slice())? {
         CfgParse::Predicate(nodes) => {
             let holds = heading.options.check(bytes, nodes.as_slice());
-            out.push_str(if holds == Some(true) {
-                ": yes\n"
-            } else {
-                ": no\n"
-            })
+            let word = if holds == Some(true) { "yes" } else { "no" };
+            write!(out, "{line}: {word}\n")
         }
-        CfgParse::Malformed(at) => {
-            let shown = format!(in alloc; ": at {at}\n")?;
-            out.push_str(shown.as_str())
-        }
+        CfgParse::Malformed(at) => write!(out, "{line}: at {at}\n"),
     }
 }
 

@@ -1,18 +1,8 @@
 //! Syntax errors of texts.
 use crate::parsed::Parsed;
-use item_tree::expected::Expected;
 use item_tree::syntax_error::syntax_errors;
 use std::alloc::{AllocError, Global};
-
-fn print_error(
-    alloc: Global,
-    out: &mut String,
-    start: usize,
-    expected: Expected,
-) -> Result<(), AllocError> {
-    let shown = format!(in alloc; "{start}: {expected}\n")?;
-    out.push_str(shown.as_str())
-}
+use std::fmt::Write;
 
 /// Adds each error, behind the byte where it stands.
 pub(crate) fn print_errors(
@@ -27,7 +17,7 @@ pub(crate) fn print_errors(
             None => text.len(),
             Some(lexeme) => lexeme.start,
         };
-        print_error(alloc, out, start, error.expected)?;
+        write!(out, "{start}: {}\n", error.expected)?;
     }
     Ok(())
 }

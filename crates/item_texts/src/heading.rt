@@ -3,6 +3,7 @@ use dm_names::edition::Edition;
 use dm_names::symbol::Symbol;
 use item_tree::cfg::CfgOptions;
 use std::alloc::{AllocError, Global};
+use std::fmt::Write;
 
 /// What a heading says of its text.
 #[derive(Drop)]
@@ -70,14 +71,8 @@ fn character_of(digits: &str) -> Option<char> {
 fn put_character(out: &mut String, piece: &str) -> Result<(), AllocError> {
     let (digits, rest) = piece.split_once('}').unwrap_or((piece, ""));
     match character_of(digits) {
-        Some(character) => {
-            out.push(character)?;
-            out.push_str(rest)
-        }
-        None => {
-            out.push_str("%{")?;
-            out.push_str(piece)
-        }
+        Some(character) => write!(out, "{character}{rest}"),
+        None => write!(out, "%{{{piece}"),
     }
 }
 

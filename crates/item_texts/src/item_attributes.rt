@@ -8,6 +8,7 @@ use item_tree::children::children_of;
 use item_tree::item_attributes::{inner_attributes, outer_attributes};
 use item_tree::items::{Item, Range};
 use std::alloc::{AllocError, Global};
+use std::fmt::Write;
 
 /// Where the inner attributes of an item stand, which has these items in its body.
 fn inside(item: Item, own: &[Item]) -> Range {
@@ -29,20 +30,8 @@ fn insides(alloc: Global, items: &[Item]) -> Result<Vec<Range>, AllocError>
     Ok(ranges)
 }
 
-/// Adds how many attributes there are, and whether they leave there what they belong to.
-fn print_counts(
-    alloc: Global,
-    out: &mut String,
-    count: usize,
-    is_there: bool,
-) -> Result<(), AllocError> {
-    let shown = format!(in alloc; " {count} {is_there}")?;
-    out.push_str(shown.as_str())
-}
-
-/// Adds that for those that begin in a range.
+/// Adds how many attributes begin in a range, and whether they leave there what they belong to.
 fn print_range(
-    alloc: Global,
     out: &mut String,
     heading: &Heading<'_>,
     text: &[u8],
@@ -52,7 +41,7 @@ fn print_range(
 ) -> Result<(), AllocError> {
     let count = table.attributes_in(range).len();
     let is_there = table.is_cfg_enabled(&heading.options, text, active, range);
-    print_counts(alloc, out, count, is_there)
+    write!(out, " {count} {is_there}")
 }
 
 pub(crate) fn print_item_attributes(
@@ -70,11 +59,10 @@ pub(crate) fn print_item_attributes(
     let active = table.active_conditions(alloc, &heading.options, bytes)?;
     let active = active.as_slice();
     for (item, inner) in read.tree.items.iter().zip(&insides) {
-        let kind = format!(in alloc; "{:?}", item.kind)?;
-        out.push_str(kind.as_str())?;
+        write!(out, "{:?}", item.kind)?;
         let outer = outer_attributes(*item);
-        print_range(alloc, out, heading, bytes, &table, active, outer)?;
-        print_range(alloc, out, heading, bytes, &table, active, *inner)?;
+        print_range(out, heading, bytes, &table, active, outer)?;
+        print_range(out, heading, bytes, &table, active, *inner)?;
         out.push_str("\n")?;
     }
     Ok(())

@@ -5,62 +5,42 @@ use item_tree::implementations::is_of_trait;
 use item_tree::item_kind::ItemKind;
 use item_tree::items::{Item, Range};
 use item_tree::lexeme::Lexeme;
-use item_tree::visibility::{RawVisibility, raw_visibility};
+use item_tree::visibility::raw_visibility;
 use std::alloc::{AllocError, Global};
+use std::fmt::Write;
 
 fn print_item(
-    alloc: Global,
     out: &mut String,
     text: &str,
     lexemes: &[Lexeme],
     item: Item,
 ) -> Result<(), AllocError> {
-    let kind = format!(in alloc; "{:?} ", item.kind)?;
-    out.push_str(kind.as_str())?;
-    if let Some(place) = item.name {
-        out.push_str(lexeme_text(text, lexemes, place))?;
-    }
+    let name = match item.name {
+        None => "",
+        Some(place) => lexeme_text(text, lexemes, place),
+    };
+    write!(out, "{:?} {name}", item.kind)?;
     if let Some(parent) = item.parent {
-        let shown = format!(in alloc; " in {parent}")?;
-        out.push_str(shown.as_str())?;
+        write!(out, " in {parent}")?;
     }
-    out.push_str(": ")?;
-    out.push_str(text_in(text, item_range(lexemes, item)))?;
-    out.push_str("\n")
+    write!(out, ": {}\n", text_in(text, item_range(lexemes, item)))
 }
 
-pub(crate) fn print_items(
-    alloc: Global,
-    out: &mut String,
-    text: &str,
-    read: &Parsed,
-) -> Result<(), AllocError> {
+pub(crate) fn print_items(out: &mut String, text: &str, read: &Parsed) -> Result<(), AllocError> {
     for item in &read.tree.items {
-        print_item(alloc, out, text, read.lexemes.as_slice(), *item)?;
+        print_item(out, text, read.lexemes.as_slice(), *item)?;
     }
     Ok(())
 }
 
-fn print_visibility(
-    alloc: Global,
-    out: &mut String,
-    visibility: RawVisibility,
-) -> Result<(), AllocError> {
-    let shown = format!(in alloc; "{visibility:?}\n")?;
-    out.push_str(shown.as_str())
-}
-
-pub(crate) fn print_visibilities(
-    alloc: Global,
-    out: &mut String,
-    read: &Parsed,
-) -> Result<(), AllocError> {
+pub(crate) fn print_visibilities(out: &mut String, read: &Parsed) -> Result<(), AllocError> {
     for item in &read.tree.items {
         let range = Range {
             first: item.visibility,
             behind: item.qualifiers,
         };
-        print_visibility(alloc, out, raw_visibility(read.lexemes.as_slice(), range))?;
+        let visibility = raw_visibility(read.lexemes.as_slice(), range);
+        write!(out, "{visibility:?}\n")?;
     }
     Ok(())
 }
@@ -74,13 +54,16 @@ fn print_implementation(
 ) -> Result<(), AllocError> {
     let lexemes = read.lexemes.as_slice();
     let is_of_trait = is_of_trait(alloc, lexemes, read.partners.as_slice(), item)?;
-    out.push_str(if is_of_trait {
-        "of a trait: "
+    let word = if is_of_trait {
+        "of a trait"
     } else {
-        "inherent: "
-    })?;
-    out.push_str(text_in(text, item_range(lexemes, *item)))?;
-    out.push_str("\n")
+        "inherent"
+    };
+    write!(
+        out,
+        "{word}: {}\n",
+        text_in(text, item_range(lexemes, *item))
+    )
 }
 
 pub(crate) fn print_implementations(

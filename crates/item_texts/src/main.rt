@@ -34,6 +34,7 @@ mod uses;
 use crate::heading::{Heading, characters_put, heading_of};
 use crate::parsed::{Parsed, read_text};
 use std::alloc::{AllocError, Global};
+use std::fmt::Write as _;
 use std::io::{Read, Write};
 use std::process::ExitCode;
 
@@ -48,8 +49,8 @@ fn print_read(
     requires { ByParent read.now.tree.items.items }
 {
     match heading.kind {
-        "items" => items::print_items(alloc, out, text, read),
-        "visibilities" => items::print_visibilities(alloc, out, read),
+        "items" => items::print_items(out, text, read),
+        "visibilities" => items::print_visibilities(out, read),
         "implementations" => items::print_implementations(alloc, out, text, read),
         "members" => members::print_members(alloc, out, text, read),
         "uses" => uses::print_uses(alloc, out, text, read),
@@ -85,8 +86,7 @@ fn print_text(
 /// Adds a heading, and what is printed of the text behind it.
 fn print_piece(alloc: Global, out: &mut String, piece: &str) -> Result<(), AllocError> {
     let (words, text) = piece.split_once('\n').unwrap_or((piece, ""));
-    let shown = format!(in alloc; "=== {words}\n")?;
-    out.push_str(shown.as_str())?;
+    write!(out, "=== {words}\n")?;
     let heading = heading_of(alloc, words)?;
     let text = characters_put(alloc, text)?;
     print_text(alloc, out, &heading, text.as_str())

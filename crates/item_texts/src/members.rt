@@ -6,8 +6,9 @@ use item_tree::item_kind::ItemKind;
 use item_tree::items::{Item, Range};
 use item_tree::lexeme::Lexeme;
 use item_tree::members::{Fields, FieldsShape, Member, MemberKind, members};
-use item_tree::visibility::{RawVisibility, raw_visibility};
+use item_tree::visibility::raw_visibility;
 use std::alloc::{AllocError, Global};
+use std::fmt::Write;
 
 /// What the members of an item are.
 fn kind_of(item: Item, fields: Fields) -> MemberKind {
@@ -19,20 +20,6 @@ fn kind_of(item: Item, fields: Fields) -> MemberKind {
 }
 
 fn print_member(
-    alloc: Global,
-    out: &mut String,
-    visibility: RawVisibility,
-    name: &str,
-    named: bool,
-    shape: FieldsShape,
-) -> Result<(), AllocError> {
-    let shown = format!(in alloc; "  {visibility:?} {name} {named} {shape:?}\n")?;
-    out.push_str(shown.as_str())
-}
-
-/// Adds a member, as it is written.
-fn print_written(
-    alloc: Global,
     out: &mut String,
     text: &str,
     lexemes: &[Lexeme],
@@ -42,14 +29,10 @@ fn print_written(
         first: member.visibility,
         behind: member.name,
     };
-    print_member(
-        alloc,
-        out,
-        raw_visibility(lexemes, written),
-        lexeme_text(text, lexemes, member.name),
-        member.named,
-        member.fields.shape,
-    )
+    let visibility = raw_visibility(lexemes, written);
+    let name = lexeme_text(text, lexemes, member.name);
+    let (named, shape) = (member.named, member.fields.shape);
+    write!(out, "  {visibility:?} {name} {named} {shape:?}\n")
 }
 
 fn print_members_of(
@@ -62,8 +45,7 @@ fn print_members_of(
     let lexemes = read.lexemes.as_slice();
     let partners = read.partners.as_slice();
     let fields = item_fields(alloc, lexemes, partners, item)?;
-    let shown = format!(in alloc; "{:?}\n", fields.shape)?;
-    out.push_str(shown.as_str())?;
+    write!(out, "{:?}\n", fields.shape)?;
     for member in &members(
         alloc,
         lexemes,
@@ -71,7 +53,7 @@ fn print_members_of(
         fields.range,
         kind_of(item, fields),
     )? {
-        print_written(alloc, out, text, lexemes, *member)?;
+        print_member(out, text, lexemes, *member)?;
     }
     Ok(())
 }

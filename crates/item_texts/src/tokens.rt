@@ -3,6 +3,7 @@ use dm_names::edition::Edition;
 use item_tree::lexeme::read_lexemes;
 use item_tree::lexer::lex;
 use std::alloc::{AllocError, Global};
+use std::fmt::Write;
 
 pub(crate) fn print_tokens(
     alloc: Global,
@@ -11,8 +12,7 @@ pub(crate) fn print_tokens(
     text: &str,
 ) -> Result<(), AllocError> {
     for token in &lex(alloc, text.as_bytes(), edition)? {
-        let shown = format!(in alloc; "{:?} {}\n", token.kind, token.len)?;
-        out.push_str(shown.as_str())?;
+        write!(out, "{:?} {}\n", token.kind, token.len)?;
     }
     Ok(())
 }
@@ -25,8 +25,7 @@ pub(crate) fn print_lexemes(
 ) -> Result<(), AllocError> {
     for lexeme in &read_lexemes(alloc, text.as_bytes(), edition)? {
         let (kind, start, len) = (lexeme.kind, lexeme.start, lexeme.len);
-        let shown = format!(in alloc; "{kind:?} {start} {len}\n")?;
-        out.push_str(shown.as_str())?;
+        write!(out, "{kind:?} {start} {len}\n")?;
     }
     Ok(())
 }
@@ -52,9 +51,9 @@ pub(crate) fn print_cuts(
             covered = covered.wrapping_add(1);
         }
     }
-    let shown = format!(in alloc;
-        "{covered} of {} beginnings are as long as their tokens\n",
-        text.len()
-    )?;
-    out.push_str(shown.as_str())
+    let all = text.len();
+    write!(
+        out,
+        "{covered} of {all} beginnings are as long as their tokens\n"
+    )
 }

@@ -6,31 +6,29 @@ use item_tree::items::Range;
 use item_tree::lexeme::Lexeme;
 use item_tree::use_tree::{UseTree, use_trees};
 use std::alloc::{AllocError, Global};
+use std::fmt::Write;
 
-/// What a use tree imports.
-fn imported(
+/// Adds what a use tree imports.
+fn print_import(
     alloc: Global,
+    out: &mut String,
     text: &str,
     lexemes: &[Lexeme],
     trees: &[UseTree],
     number: usize,
     tree: UseTree,
-) -> Result<String, AllocError> {
-    let mut out = String::new(alloc);
+) -> Result<(), AllocError> {
     let Some(kind) = import_kind(lexemes, tree) else {
-        return Ok(out);
+        return Ok(());
     };
-    let shown = format!(in alloc; " = {kind:?}")?;
-    out.push_str(shown.as_str())?;
+    write!(out, " = {kind:?}")?;
     for place in &import_path(alloc, lexemes, trees, number)? {
-        out.push_str(" ")?;
-        out.push_str(lexeme_text(text, lexemes, *place))?;
+        write!(out, " {}", lexeme_text(text, lexemes, *place))?;
     }
-    if let Some(place) = tree.alias {
-        out.push_str(" as ")?;
-        out.push_str(lexeme_text(text, lexemes, place))?;
+    match tree.alias {
+        None => Ok(()),
+        Some(place) => write!(out, " as {}", lexeme_text(text, lexemes, place)),
     }
-    Ok(out)
 }
 
 pub(crate) fn print_uses(
@@ -49,9 +47,9 @@ pub(crate) fn print_uses(
         let range = use_tree_range(lexemes, read.partners.as_slice(), *tree);
         let own = text_in(text, range);
         let (kind, parent) = (tree.kind, tree.parent);
-        let import = imported(alloc, text, lexemes, trees.as_slice(), number, *tree)?;
-        let shown = format!(in alloc; "{kind:?} {parent:?} {own}{import}\n")?;
-        out.push_str(shown.as_str())?;
+        write!(out, "{kind:?} {parent:?} {own}")?;
+        print_import(alloc, out, text, lexemes, trees.as_slice(), number, *tree)?;
+        out.push_str("\n")?;
     }
     Ok(())
 }
