@@ -82,10 +82,10 @@ def printed_by(where, answers):
 
 
 class Transcripts:
-    """The scripts with what they print, all of them and by their headings; the texts, and which of them some script has."""
+    """The scripts with what they print; the texts, and which of them some script has."""
 
     def __init__(self):
-        self.texts, self.used, self.scripts, self.beginnings, self.rows = {}, set(), [], {}, {}
+        self.texts, self.used, self.scripts, self.beginnings = {}, set(), [], {}
         for (heading, own), (told, printed) in paired("the headings", pieces("scripts"), pieces("answers")):
             if heading != told:
                 raise Wrong(f"scripts has the heading '{heading}', and answers '{told}'")
@@ -104,14 +104,11 @@ class Transcripts:
         beginning = b"".join(bytes_of(self.texts[it]) for it in names)
         begun = printed_by(heading, blocks[0])
         self.beginnings[tuple(names)] = beginning, begun
-        self.rows[heading] = []
         for number, (row, block) in enumerate(paired(heading, rows, blocks[1:]), 1):
             title = f"{heading}, {number}"
             if not block.startswith(f"{row}\n") and block != row:
                 raise Wrong(f"answers has another script {title}")
-            answers = block[len(row) + 1 :]
-            printed = begun + printed_by(title, answers)
-            self.rows[heading].append((row, answers))
+            printed = begun + printed_by(title, block[len(row) + 1 :])
             self.scripts.append(Script(title, beginning + bytes_of(row), printed, len(split_lines(beginning))))
 
     def beginning(self, *names):

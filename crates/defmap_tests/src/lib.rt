@@ -1,4 +1,4 @@
-//! Tests: calls with concrete types, and scripts with the output that they have to print.
+//! Tests: each call that allocates, with concrete types, and what is generic, at one.
 #![tactic(auto)]
 
 #[cfg(test)]

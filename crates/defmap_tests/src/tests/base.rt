@@ -1,6 +1,3 @@
-//! Calls of `dm_base`.
-mod builtins;
-mod items;
+//! Calls of `dm_base`, and the callers of these.
+mod generic;
 mod refused;
-mod traits;
-mod tree;

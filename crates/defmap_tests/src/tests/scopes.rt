@@ -1,18 +1,12 @@
 //! Item scopes, filled call by call.
-mod changes;
-mod derives;
-mod lists;
-mod pushes;
 mod refused;
 mod reported;
-pub(super) mod told;
 
-use dm_base::ids::{FileAstId, FileId, FunctionId, ModuleId, StructId, UseId, UseTreeIdx};
-use dm_base::imports::{GlobId, ImportId, ImportOrExternCrate, ImportOrGlob};
-use dm_base::item_ids::{AdtId, ModuleDefId};
+use dm_base::ids::{FunctionId, MacroRulesId, ModuleId, StructId};
+use dm_base::imports::ImportOrExternCrate;
+use dm_base::item_ids::{AdtId, MacroId, ModuleDefId};
 use dm_base::name::Name;
 use dm_base::per_ns::PerNs;
-use dm_base::source::{AstId, Edition, EditionedFileId, HirFileId};
 use dm_base::visibility::Visibility;
 use dm_scope::glob_imports::PerNsGlobImports;
 use dm_scope::item_scope::ItemScope;
@@ -21,53 +15,24 @@ use std::alloc::{AllocError, Global};
 /// The module whose scope it is.
 const HERE: ModuleId = ModuleId(0);
 
-/// A named import of use 0.
-fn import_id(idx: u32) -> ImportId {
-    ImportId {
-        use_: UseId(0),
-        idx: UseTreeIdx(idx),
-    }
-}
-
-/// A named import of use 0, as what brings any item.
-fn import(idx: u32) -> ImportOrExternCrate {
-    ImportOrExternCrate::Import(import_id(idx))
-}
-
-/// The glob import of use 0.
-const GLOB: ImportOrExternCrate = ImportOrExternCrate::Glob(GlobId {
-    use_: UseId(0),
-    idx: UseTreeIdx(0),
-});
-
 /// A struct.
 fn structure(id: u32) -> ModuleDefId {
     ModuleDefId::AdtId(AdtId::StructId(StructId(id)))
 }
 
-/// A function.
-fn function(id: u32) -> ModuleDefId {
-    ModuleDefId::FunctionId(FunctionId(id))
+fn rules(id: u32) -> MacroId {
+    MacroId::MacroRulesId(MacroRulesId(id))
 }
 
-/// A public struct, as a type.
-fn typed(id: u32, import: Option<ImportOrExternCrate>) -> PerNs {
-    PerNs::types(structure(id), Visibility::Public, import)
-}
-
-/// A public function, as a value.
-fn valued(id: u32, import: Option<ImportOrGlob>) -> PerNs {
-    PerNs::values(function(id), Visibility::Public, import)
-}
-
-/// An item of file 0.
-fn ast(item: u32) -> AstId {
-    AstId {
-        file_id: HirFileId::File(EditionedFileId {
-            file: FileId(0),
-            edition: Edition::Edition2021,
-        }),
-        value: FileAstId(item),
+/// What a number means in all namespaces, for all to see; none means nothing.
+fn in_all(number: Option<u32>) -> PerNs {
+    match number {
+        None => PerNs::none(),
+        Some(id) => {
+            let function = ModuleDefId::FunctionId(FunctionId(id));
+            let mac = PerNs::macros(rules(id), Visibility::Public, None);
+            PerNs::both(structure(id), function, Visibility::Public, None).or(mac)
+        }
     }
 }
 

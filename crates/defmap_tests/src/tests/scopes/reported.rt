@@ -2,7 +2,7 @@
 //!
 //! It passes with enough memory. `tools/refusals` fails where no failing allocation shows the defect, since then it
 //! would not show that of a real call either.
-use super::{Filled, structure, typed};
+use super::{Filled, in_all, structure};
 use crate::tests::gives;
 use std::alloc::{AllocError, Global};
 use std::test::Fail;
@@ -11,7 +11,7 @@ impl Filled {
     /// Declares a struct, and then pushes it: where the push fails, the declaration stays.
     fn write_before_growing(&mut self, alloc: Global) -> Result<(), AllocError> {
         self.scope.declare(structure(0))?;
-        self.push(alloc, "A", typed(0, None), None)?;
+        self.push(alloc, "A", in_all(Some(0)), None)?;
         Ok(())
     }
 }

@@ -1,243 +1,239 @@
-//! Fault injection: that world and its calls that allocate, each made again where an allocation fails.
-//!
-//! With enough memory none fails. `tools/refusals` injects faults: it runs these tests with every allocation failing in
-//! turn. Whichever it is, the call made again does what it would have done, and the finished world answers as that of
-//! the script does.
-pub(super) mod builders;
-mod crate_data;
+//! Fault injection: each call of a builder, a push into a checked world, and what is asked of a world and allocates.
+//! What is generic over worlds, or over closures that are called with its maps, is asked too.
 mod local_maps;
-mod questions;
+mod rounds;
 
-use self::questions::{ANSWERS, ATTRIBUTE};
-use super::{Building, STRUCT};
-use crate::tests::{gives, same};
-use defmap_script::print::answer_text;
-use dm_base::ids::{Crate, ModuleId};
-use dm_base::item_ids::{AdtId, ModuleDefId, VariantId};
-use dm_base::mod_path::{ModPath, PathKind};
+use super::{
+    Bound, Call, ENUM, FUNCTION, KRATE, ROOT, RULES, STRUCT, THE_STRUCT, TRAIT, ast, dump_of,
+    world_of,
+};
+use crate::tests::{a_name, path, same};
+use defmap_callers::finding::offered;
+use defmap_callers::maps::{Refused, bring_by_glob, child_outwards};
+use defmap_callers::paths::meaning_in_root;
+use dm_base::ids::{Crate, EnumVariantId, ModuleId, ProcMacroId, UseId, UseTreeIdx};
+use dm_base::imports::GlobId;
+use dm_base::item_ids::{AdtId, AssocItemId, ItemKind, MacroId, ModuleDefId, VariantId};
+use dm_base::item_in_ns::ItemInNs;
+use dm_base::mod_path::PathKind;
+use dm_base::module_tree::ModuleTree;
 use dm_base::name::Name;
-use dm_base::visibility::{Visibility, VisibilityExplicitness};
-use dm_maps::build_fault::BuildFault;
-use dm_maps::modes::{BuiltinShadowMode, MacroSubNs};
+use dm_base::per_ns::PerNs;
+use dm_base::symbol::Symbol;
+use dm_base::visibility::Visibility;
+use dm_maps::def_map::DefMap;
 use dm_maps::world::World;
+use dm_scope::scope_tables::ScopeTables;
 use dm_world::knows::KnowsPaths;
-use hir_def_map::nameres::AskWorld;
-use hir_def_map::path_resolution::ResolvePath;
-use hir_def_map::result::ResolveMode;
 use hir_def_map::visibility::VariantFields;
-use std::alloc::{AllocError, Global};
-use std::test::Fail;
+use std::alloc::Global;
 
-fn module(word: &str) -> ModuleId {
-    match word {
-        "2" => ModuleId(2),
-        "3" => ModuleId(3),
-        "4" => ModuleId(4),
-        "5" => ModuleId(5),
-        "6" => ModuleId(6),
-        "8" => ModuleId(8),
-        _ => ModuleId(0),
+/// The root of the second crate.
+const OTHER_ROOT: ModuleId = ModuleId(1);
+
+/// A module in a block of the first crate's root.
+const INNER: ModuleId = ModuleId(4);
+
+/// Each call, and of those that add to a list the second time.
+const CALLS: [Call; 36] = [
+    Call::Crate,
+    Call::Module(0, "a"),
+    Call::Block(0),
+    Call::Module(3, "n"),
+    Call::Use(0),
+    Call::Item(ItemKind::Struct, 2),
+    Call::Item(ItemKind::Enum, 1),
+    Call::Item(ItemKind::Function, 0),
+    Call::Item(ItemKind::Trait, 0),
+    Call::Variant,
+    Call::Rules,
+    Call::ProcMacro,
+    Call::Declare(0, "a", ModuleDefId::ModuleId(ModuleId(2))),
+    Call::Declare(0, "type", THE_STRUCT),
+    Call::Declare(1, "E", ModuleDefId::AdtId(AdtId::EnumId(ENUM))),
+    Call::RawName,
+    Call::Prelude(2),
+    Call::MacroUse,
+    Call::Extern(1),
+    Call::MacroDef,
+    Call::DeriveHelper,
+    Call::DeriveHelper,
+    Call::Diagnostic,
+    Call::Diagnostic,
+    Call::Fields,
+    Call::Associated,
+    Call::Trait,
+    Call::RecursionLimit,
+    Call::NoStd,
+    Call::NoCore,
+    Call::Coherence,
+    Call::Tool,
+    Call::Tool,
+    Call::Feature,
+    Call::Features,
+    Call::FunctionOfProcMacro,
+];
+
+/// A glob import of the first use.
+const GLOB: GlobId = GlobId {
+    use_: UseId(0),
+    idx: UseTreeIdx(0),
+};
+
+impl Bound {
+    /// Brings the struct into the root by the glob.
+    fn bring(&mut self, alloc: Global) -> Result<bool, Refused> {
+        let lookup = (ROOT, Name::new(alloc, "brought")?);
+        let items = PerNs::types(THE_STRUCT, Visibility::Public, None);
+        bring_by_glob(&mut self.world, &mut self.globs, lookup, items, GLOB)
     }
 }
 
-fn mode(word: &str) -> ResolveMode {
-    match word {
-        "import" => ResolveMode::Import,
-        _ => ResolveMode::Other,
-    }
-}
+/// What a crate's data is: the limit, three flags, how many tools there are, and which macro the function is.
+type Data = (u32, [bool; 3], usize, Option<ProcMacroId>);
 
-fn shadow(word: &str) -> BuiltinShadowMode {
-    match word {
-        "other" => BuiltinShadowMode::Other,
-        _ => BuiltinShadowMode::Module,
-    }
-}
+/// What a map's own tables have: the prelude, a macro by its item, and how many diagnostics and derive helpers.
+type Tables = (
+    Option<(ModuleId, Option<UseId>)>,
+    Option<MacroId>,
+    usize,
+    usize,
+);
 
-fn expected(word: &str) -> Option<MacroSubNs> {
-    match word {
-        "attr" => Some(MacroSubNs::Attr),
-        "bang" => Some(MacroSubNs::Bang),
-        _ => None,
-    }
-}
-
-fn kind(word: &str) -> PathKind {
-    match word {
-        "abs" => PathKind::Abs,
-        "crate" => PathKind::Crate,
-        "super:0" => PathKind::Super(0),
-        "super:1" => PathKind::Super(1),
-        _ => PathKind::Plain,
-    }
-}
-
-/// Names, parted by spaces.
-fn names(alloc: Global, words: &str) -> Result<Vec<Name>, AllocError> {
-    let mut names = Vec::new(alloc);
-    for word in words.split(" ") {
-        names.push(Name::new(alloc, word)?)?;
-    }
-    Ok(names)
-}
-
-/// A path: where it begins, and the names behind that, if there are any.
-fn path(alloc: Global, words: &str) -> Result<ModPath, AllocError> {
-    match words.split_once(" ") {
-        None => Ok(ModPath::from_segments(kind(words), Vec::new(alloc))),
-        Some((first, rest)) => Ok(ModPath::from_segments(kind(first), names(alloc, rest)?)),
-    }
-}
-
-/// What a question of a script asks: the module, the mode, whether builtin types shadow modules, and which macro is
-/// expected.
-type Asked = (ModuleId, ResolveMode, BuiltinShadowMode, Option<MacroSubNs>);
-
-/// The text of what a path means; none where it names what the world has not.
-fn meaning(
-    alloc: Global,
-    world: &World,
-    path: &ModPath,
-    (m, mode, shadow, expected): Asked,
-) -> Result<Option<String>, AllocError> {
-    let Some(map) = world.map_of(m) else {
-        return Ok(None);
+/// What a map tells.
+fn told_by(map: &DefMap) -> (Data, Tables) {
+    let flags = [
+        map.is_no_std(),
+        map.is_no_core(),
+        map.is_rustc_coherence_is_core(),
+    ];
+    let tools = map.registered_tools().len();
+    let proc_macro = map.fn_as_proc_macro(FUNCTION);
+    let helpers = match map.derive_helpers_in_scope(ast(2)) {
+        None => 0,
+        Some(helpers) => helpers.len(),
     };
-    if !world.knows_path(path) {
-        return Ok(None);
+    let diagnostics = map.diagnostics().len();
+    let by_item = map.macro_def_to_macro_id(ast(4));
+    (
+        (map.recursion_limit(), flags, tools, proc_macro),
+        (map.prelude(), by_item, diagnostics, helpers),
+    )
+}
+
+/// Whether the function and the trait have their visibilities; and whether there is a crate, a module or a use more
+/// than were added.
+fn has(world: &World) -> [bool; 5] {
+    [
+        world
+            .raw_assoc_of(AssocItemId::FunctionId(FUNCTION))
+            .is_some(),
+        world.raw_trait_of(TRAIT).is_some(),
+        world.has_crate(Crate(2)),
+        world.has(ModuleId(5)),
+        world.use_container(UseId(1)).is_some(),
+    ]
+}
+
+/// Whether the first crate has a feature.
+fn is_enabled(alloc: Global, world: &World, feature: &str) -> Option<bool> {
+    let feature = again!(Symbol::new(alloc, feature)).ok()?;
+    Some(world.map_of(ROOT)?.features().is_enabled(&feature))
+}
+
+/// What a path means in the root of the first crate.
+fn meaning(alloc: Global, world: &World, names: &[&str]) -> Option<PerNs> {
+    let path = again!(path(alloc, PathKind::Plain, names)).ok()?;
+    if !world.has_crate(KRATE) || !world.knows_path(&path) {
+        return None;
     }
-    let local = world.local_map_of(map);
-    let answer = map.resolve_path_fp_with_macro(local, world, mode, m, path, shadow, expected);
-    Ok(Some(answer_text(alloc, &answer)?))
+    Some(meaning_in_root(world, KRATE, &path))
 }
 
-/// The text of what a question asks: `MODULE MODE SHADOW EXPECTED KIND SEGMENT..`.
-fn answered(alloc: Global, world: &World, question: &str) -> Result<Option<String>, AllocError> {
-    let mut words = question.splitn(5, " ");
-    let m = module(words.next().unwrap_or(""));
-    let asked = (
-        m,
-        mode(words.next().unwrap_or("")),
-        shadow(words.next().unwrap_or("")),
-        expected(words.next().unwrap_or("")),
-    );
-    let path = path(alloc, words.next().unwrap_or(""))?;
-    meaning(alloc, world, &path, asked)
-}
-
-/// Whether a question has this answer, asked again where it fails.
-fn is_answered(
-    alloc: Global,
-    world: &World,
-    question: &str,
-    wanted: &str,
-) -> Result<bool, AllocError> {
-    let text = again!(answered(alloc, world, question))?;
-    Ok(match &text {
-        None => false,
-        Some(text) => text.as_str() == wanted,
-    })
-}
-
-fn first_line(text: &str) -> &str {
-    match text.split_once("\n") {
-        None => text,
-        Some((line, _)) => line,
-    }
-}
-
-/// Whether a row of a transcript holds: a question, and then its answer; or nothing, before the first.
-fn holds(alloc: Global, world: &World, row: &str) -> Result<bool, AllocError> {
-    match row.split_once("\n=> ") {
-        None => Ok(row.is_empty()),
-        Some((question, rest)) => is_answered(alloc, world, question, first_line(rest)),
-    }
-}
-
-/// The first path of a transcript that is answered otherwise.
-fn first_unlike(
-    alloc: Global,
-    world: &World,
-    transcript: &'static str,
-) -> Result<Option<&'static str>, AllocError> {
-    for row in transcript.split("path ") {
-        if !holds(alloc, world, row)? {
-            return Ok(Some(row));
-        }
-    }
-    Ok(None)
-}
-
-/// The first path of a transcript that a world built by calls answers otherwise.
-fn first_fault(
-    alloc: Global,
-    transcript: &'static str,
-) -> Result<Option<&'static str>, BuildFault> {
-    match Building::full(alloc)?.world() {
-        None => Ok(Some("check")),
-        Some(checked) => Ok(first_unlike(alloc, &checked.world, transcript)?),
-    }
-}
-
-#[test]
-fn a_world_whose_calls_were_refused_answers_alike(rt: HostRuntime) -> Result<(), Fail> {
-    gives(&rt, first_fault(rt.alloc(), ANSWERS), None)?;
-    gives(&rt, first_fault(rt.alloc(), ATTRIBUTE), None)
-}
-
-/// The visibilities of the struct's fields.
-fn fields_in(alloc: Global, world: &World) -> Result<Option<Vec<Visibility>>, AllocError> {
+/// How many fields the struct has.
+fn field_count(alloc: Global, world: &World) -> Option<usize> {
     if !world.knows_def(ModuleDefId::AdtId(AdtId::StructId(STRUCT))) {
-        return Ok(None);
+        return None;
     }
     let variant = VariantId::StructId(STRUCT);
-    let fields = again!(VariantFields::field_visibilities(alloc, world, variant))?;
-    Ok(Some(fields))
+    let fields = again!(VariantFields::field_visibilities(alloc, world, variant)).ok()?;
+    Some(fields.len())
 }
 
-fn fields(alloc: Global) -> Result<Option<Vec<Visibility>>, BuildFault> {
-    match Building::full(alloc)?.world() {
-        None => Ok(None),
-        Some(checked) => Ok(fields_in(alloc, &checked.world)?),
+type Asked = (usize, Option<Crate>, Option<ModuleId>);
+
+/// How many names the root offers, the crate of the second root, and the child `a` of the module in the block, or of one
+/// outwards.
+fn asked(alloc: Global, world: &World) -> Option<Asked> {
+    if !world.has(ROOT) {
+        return None;
     }
+    let names = again!(offered(world, ROOT)).ok()?;
+    let name = a_name(alloc, "a").ok()?;
+    let root = ItemInNs::Types(ModuleDefId::ModuleId(OTHER_ROOT));
+    let child = child_outwards(world, INNER, &name);
+    Some((names.len(), root.krate(world), child))
 }
 
-#[test]
-fn refused_visibilities_of_fields_are_made_again(rt: HostRuntime) -> Result<(), Fail> {
-    let seen = fields(rt.alloc())?.expect(&rt, "a world");
-    let wanted = [
-        Visibility::Public,
-        Visibility::Module(ModuleId(1), VisibilityExplicitness::Implicit),
-        Visibility::PubCrate(Crate(0)),
-        Visibility::Module(ModuleId(3), VisibilityExplicitness::Explicit),
-        Visibility::Public,
+/// What is read of the tables; the features of each call that sets some; what a variant of the second crate means and
+/// what the macro of the `macro_use` prelude; the fields; and what else is asked.
+type Told = (
+    (Data, Tables),
+    [bool; 5],
+    [bool; 2],
+    [PerNs; 2],
+    usize,
+    Asked,
+);
+
+fn told(alloc: Global, world: &World) -> Option<Told> {
+    let features = [
+        is_enabled(alloc, world, "first")?,
+        is_enabled(alloc, world, "third")?,
     ];
-    same(&rt, &seen.as_slice(), &wanted.as_slice());
-    Ok(())
+    let meanings = [
+        meaning(alloc, world, &["dep", "E", "V"])?,
+        meaning(alloc, world, &["mu"])?,
+    ];
+    let fields = field_count(alloc, world)?;
+    let asked = asked(alloc, world)?;
+    let by_map = told_by(world.map_of(ROOT)?);
+    Some((by_map, has(world), features, meanings, fields, asked))
 }
 
-/// The dump of the map of module 6, which lies in a block.
-fn dump_in(alloc: Global, world: &World) -> Result<String, AllocError> {
-    match world.map_of(ModuleId(6)) {
-        None => Ok(String::new(alloc)),
-        Some(map) => again!(map.dump(world)),
-    }
-}
-
-fn dump(alloc: Global) -> Result<Option<String>, BuildFault> {
-    match Building::full(alloc)?.world() {
-        None => Ok(None),
-        Some(checked) => Ok(Some(dump_in(alloc, &checked.world)?)),
-    }
+/// The world's dump in the end, whether the glob wrote something, and what else is told.
+fn end(alloc: Global) -> Option<(String, bool, Told)> {
+    let mut bound = world_of(alloc, &CALLS)?;
+    let brought = again!(bound.bring(alloc)).ok()?;
+    let told = told(alloc, &bound.world)?;
+    let text = dump_of(&bound.world)?;
+    Some((text, brought, told))
 }
 
 #[test]
-fn a_refused_dump_is_made_again(rt: HostRuntime) -> Result<(), Fail> {
-    let text = dump(rt.alloc())?.expect(&rt, "a world");
-    assert!(rt;
-        text.as_str().starts_with(
-            "(block scope)\n- S : value\n- n : type\n\n(block scope)::n\n\ncrate\n- E : type\n"
-        )
+fn a_refused_call_of_a_builder_is_made_again(rt: HostRuntime) {
+    let (text, brought, told) = end(rt.alloc()).expect(&rt, "a world");
+    same(
+        &rt,
+        &text.as_str(),
+        &"crate
+- a : type
+- brought : type (glob)
+- r#type : type
+
+crate::a
+",
     );
-    Ok(())
+    assert!(rt; brought);
+    let variant = ModuleDefId::EnumVariantId(EnumVariantId(0));
+    let meanings = [
+        PerNs::both(variant, variant, Visibility::Public, None),
+        PerNs::macros(RULES, Visibility::Public, None),
+    ];
+    let data = (4, [true; 3], 7, Some(ProcMacroId(1)));
+    let tables = (Some((ModuleId(2), None)), Some(RULES), 2, 2);
+    let has = [true, true, false, false, false];
+    let asked = (3, Some(Crate(1)), Some(ModuleId(2)));
+    let wanted = ((data, tables), has, [true; 2], meanings, 2, asked);
+    same(&rt, &told, &wanted);
 }
