@@ -28,7 +28,7 @@ use dm_maps::module_origin::ModuleOrigin;
 use dm_maps::world::World;
 use dm_scope::diagnostics::DefDiagnostic;
 use dm_scope::glob_imports::PerNsGlobImports;
-use dm_world::check::{CheckTables, CheckTables};
+use dm_world::check::CheckTables;
 use either::Either;
 use std::alloc::{AllocError, Global};
 
