@@ -98,7 +98,7 @@ fn imports(alloc: Global) -> Result<Vec<Pending>, AllocError> {
 }
 
 /// These in that crate.
-fn waiting(alloc: Global) -> Option<Waiting> {
+fn waiting_imports(alloc: Global) -> Option<Waiting> {
     let pendings = again!(imports(alloc)).ok()?;
     world_of(alloc, &CALLS)?.waiting(pendings)
 }
@@ -182,7 +182,7 @@ type Told = (bool, usize, [bool; 4], ([Option<bool>; 2], usize));
 
 /// The dump in the end, and what else is told, after rounds of these kinds.
 fn end(alloc: Global, kinds: &[RoundKind]) -> Option<(String, Told)> {
-    let mut waiting = waiting(alloc)?;
+    let mut waiting = waiting_imports(alloc)?;
     again!(waiting.retry.rounds(kinds)).ok()?;
     let added = waiting.add_last(alloc)?;
     let left = waiting.count_left(alloc)?;
