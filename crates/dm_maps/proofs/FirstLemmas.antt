@@ -97,7 +97,7 @@ unchecked w hs f is all = missing w is.ids is.fault is.least (all-get (AllKnown 
 -- holders have no first fault exactly where each id is the world's
 pub none-checked : (w : World) (hs : List Held) (r : Option WorldFault) → IsAnswer w hs r → IsNone r ↔ AllByRecursion (AllKnown w) hs
 none-checked w hs None all = (λ n. all, λ k. refl)
-none-checked w hs (Some f) is = (λ n. absurd (true≢false (sym n)), λ all. absurd (unchecked w hs f is all))
+none-checked w hs (Some f) is = (λ n. absurd (true≢false n), λ all. absurd (unchecked w hs f is all))
 
 -- a list has no least fault exactly where each of its ids is the world's
 pub known-by : (w v : World) (hs : List HeldId) (least : Option HeldFault) (r : Bool) → v ≡ w → IsLeastFault (knows v) hs least → is_some least ≡ not r → IsTrue r ↔ KnowsAll w hs
