@@ -162,17 +162,23 @@ fn field_count(alloc: Global, world: &World) -> Option<usize> {
 
 type Asked = (usize, Option<Crate>, Option<ModuleId>);
 
+/// How many names a module offers, if there is one.
+fn offered_count(world: &World, m: ModuleId) -> Option<usize> {
+    if !world.knows_def(ModuleDefId::ModuleId(m)) {
+        return None;
+    }
+    let names = again!(offered(world, m)).ok()?;
+    Some(names.len())
+}
+
 /// How many names the root offers, the crate of the second root, and the child `a` of the module in the block, or of one
 /// outwards.
 fn asked(alloc: Global, world: &World) -> Option<Asked> {
-    if !world.has(ROOT) {
-        return None;
-    }
-    let names = again!(offered(world, ROOT)).ok()?;
+    let count = offered_count(world, ROOT)?;
     let name = a_name(alloc, "a").ok()?;
     let root = ItemInNs::Types(ModuleDefId::ModuleId(OTHER_ROOT));
     let child = child_outwards(world, INNER, &name);
-    Some((names.len(), root.krate(world), child))
+    Some((count, root.krate(world), child))
 }
 
 /// What is read of the tables; the features of each call that sets some; what a variant of the second crate means and
