@@ -9,7 +9,6 @@ use dm_base::visibility::Visibility;
 use dm_maps::world::World;
 use hir_def_map::visibility::AssocVisibility;
 use std::alloc::{AllocError, Global};
-use std::fmt::Write;
 
 /// What an item is, with its number.
 fn words_of(id: AssocItemId) -> (&'static str, u32) {
@@ -55,19 +54,13 @@ fn seen_by(alloc: Global, world: &World, id: AssocItemId) -> Result<String, Allo
     }
 }
 
-/// Adds an associated item: where it is written, what it stands in, and who sees it.
-fn push_assoc(
-    out: &mut String,
-    alloc: Global,
-    world: &World,
-    place: AssocPlace,
-) -> Result<(), AllocError> {
+/// An associated item: where it is written, what it stands in, and who sees it.
+fn assoc_text(alloc: Global, world: &World, place: AssocPlace) -> Result<String, AllocError> {
     let (word, number) = words_of(place.id);
     let (container, of) = container_of(world, place.id);
     let seen = seen_by(alloc, world, place.id)?;
     let (item, file) = (place.item, place.file.0);
-    write!(
-        out,
+    format!(in alloc;
         "{word} {number}: item {item} of file {file}, in {container} {of}, seen by {seen}\n"
     )
 }
@@ -76,7 +69,7 @@ fn push_assoc(
 pub(crate) fn assoc_lines(alloc: Global, settled: &Settled) -> Result<String, AllocError> {
     let mut out = String::new(alloc);
     for place in &settled.collected.assocs {
-        push_assoc(&mut out, alloc, settled.world(), *place)?;
+        out.push_str(assoc_text(alloc, settled.world(), *place)?.as_str())?;
     }
     Ok(out)
 }

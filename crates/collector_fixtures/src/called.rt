@@ -28,18 +28,14 @@ fn told(alloc: Global, text: Vec<u8>) -> Result<String, CollectFault> {
     Ok(text)
 }
 
-/// Adds the same of the first file of a fixture.
-pub(crate) fn push_called(
-    out: &mut String,
-    alloc: Global,
-    fixture: &Fixture<'_>,
-) -> Result<(), AllocError> {
+/// The same of the first file of a fixture.
+pub(crate) fn called(alloc: Global, fixture: &Fixture<'_>) -> Result<String, AllocError> {
     let Some(file) = fixture.files.first() else {
-        return Ok(());
+        return Ok(String::new(alloc));
     };
     let text = Vec::from_slice(alloc, file.text.as_bytes())?;
     match told(alloc, text) {
-        Ok(text) => out.push_str(text.as_str()),
-        Err(_fault) => out.push_str("failed\n"),
+        Ok(text) => Ok(text),
+        Err(_fault) => String::from_str(alloc, "failed\n"),
     }
 }

@@ -46,12 +46,7 @@ impl<'a> CargoTarget<'a> {
 
 /// Whether a list has a text.
 fn has(words: &[Value], wanted: &str) -> bool {
-    for word in words {
-        if word.as_str() == Some(wanted) {
-            return true;
-        }
-    }
-    false
+    words.iter().any(|word| word.as_str() == Some(wanted))
 }
 
 /// What the words of a target's kind say.

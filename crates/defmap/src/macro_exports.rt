@@ -7,9 +7,8 @@ use crate::macro_homes::MacroHome;
 use crate::places::source_of;
 use crate::settled::Settled;
 use crate_items::declared_item::DeclaredItem;
-use crate_modules::modules::CrateModules;
 use dm_base::ids::{Crate, ModuleId};
-use dm_maps::world::World;
+use dm_maps::world::maps_of::crate_def_map;
 use indexmap::IndexSet;
 use item_tree::item_kind::ItemKind;
 use item_tree::lexeme::{Lexeme, LexemeKind};
@@ -19,19 +18,13 @@ use std::alloc::{AllocError, Global};
 /// The macro that puts the items of a file in its place.
 const INCLUDE: &'static str = "include";
 
-/// Whether `macro_export` is among lexemes.
-fn is_among(lexemes: &[Lexeme]) -> bool {
-    for lexeme in lexemes {
-        if matches!(lexeme.kind, LexemeKind::Word(Word::MacroExport)) {
-            return true;
-        }
-    }
-    false
+fn is_export(lexeme: Lexeme) -> bool {
+    matches!(lexeme.kind, LexemeKind::Word(Word::MacroExport))
 }
 
 /// Whether `macro_export` stands in an item, behind the word that it begins with.
-fn has_export(lists: &[CrateModules], krate: usize, item: &DeclaredItem) -> bool {
-    let Some(source) = source_of(lists, krate, item.file) else {
+fn has_export(settled: &Settled, krate: usize, item: &DeclaredItem) -> bool {
+    let Some(source) = source_of(settled, krate, item.file) else {
         return false;
     };
     let Some(written) = source.items().get(item.item) else {
@@ -39,20 +32,20 @@ fn has_export(lists: &[CrateModules], krate: usize, item: &DeclaredItem) -> bool
     };
     match source.lexemes().get(written.word..written.behind) {
         None => false,
-        Some(lexemes) => is_among(lexemes),
+        Some(lexemes) => lexemes.iter().any(|lexeme| is_export(*lexeme)),
     }
 }
 
 /// Adds the names of the macros of a crate that export macros.
 fn add_names<'a>(
     names: &mut IndexSet<&'a str>,
-    lists: &[CrateModules],
+    settled: &Settled,
     krate: usize,
     items: &'a [DeclaredItem],
 ) -> Result<(), AllocError> {
     for item in items {
         let is_macro = matches!(item.kind, ItemKind::MacroRules | ItemKind::Macro2);
-        if !is_macro || !has_export(lists, krate, item) {
+        if !is_macro || !has_export(settled, krate, item) {
             continue;
         }
         if let Some(name) = &item.name {
@@ -65,12 +58,11 @@ fn add_names<'a>(
 /// The names of the macros that export macros.
 fn exporting_names<'a>(
     alloc: Global,
-    lists: &[CrateModules],
-    items: &'a [Vec<DeclaredItem>],
+    settled: &'a Settled,
 ) -> Result<IndexSet<&'a str>, AllocError> {
     let mut names = IndexSet::new(alloc);
-    for (krate, items) in items.iter().enumerate() {
-        add_names(&mut names, lists, krate, items.as_slice())?;
+    for (krate, items) in settled.items().iter().enumerate() {
+        add_names(&mut names, settled, krate, items.as_slice())?;
     }
     Ok(names)
 }
@@ -82,8 +74,8 @@ fn may_export(
     names: &IndexSet<&str>,
     call: MacroHome,
 ) -> Result<bool, AllocError> {
-    if let Some(item) = item_of(settled.items(), call) {
-        if has_export(settled.lists(), call.krate, item) {
+    if let Some(item) = item_of(settled, call) {
+        if has_export(settled, call.krate, item) {
             return Ok(true);
         }
     }
@@ -97,10 +89,15 @@ fn may_export(
 }
 
 /// Adds the root of a crate.
-fn add_root(roots: &mut IndexSet<ModuleId>, world: &World, krate: usize) -> Result<(), AllocError> {
+fn add_root(
+    roots: &mut IndexSet<ModuleId>,
+    settled: &Settled,
+    krate: usize,
+) -> Result<(), AllocError> {
     let krate = Crate(u32::try_from(krate).unwrap_or(u32::MAX));
-    if let Some(root) = world.root_of(krate) {
-        roots.insert(root)?;
+    let world = settled.world();
+    if world.has_crate(krate) {
+        roots.insert(crate_def_map(world, krate).root_module_id())?;
     }
     Ok(())
 }
@@ -109,7 +106,7 @@ fn add_root(roots: &mut IndexSet<ModuleId>, world: &World, krate: usize) -> Resu
 fn add_procedural(roots: &mut IndexSet<ModuleId>, settled: &Settled) -> Result<(), AllocError> {
     for krate in 0..settled.names.len() {
         if settled.is_procedural(krate) {
-            add_root(roots, settled.world(), krate)?;
+            add_root(roots, settled, krate)?;
         }
     }
     Ok(())
@@ -121,12 +118,12 @@ pub(crate) fn exporting_roots(
     settled: &Settled,
     homes: &[MacroHome],
 ) -> Result<IndexSet<ModuleId>, AllocError> {
-    let names = exporting_names(alloc, settled.lists(), settled.items())?;
+    let names = exporting_names(alloc, settled)?;
     let mut roots = IndexSet::new(alloc);
     add_procedural(&mut roots, settled)?;
     for call in homes {
         if may_export(alloc, settled, &names, *call)? {
-            add_root(&mut roots, settled.world(), call.krate)?;
+            add_root(&mut roots, settled, call.krate)?;
         }
     }
     Ok(roots)

@@ -21,7 +21,6 @@ mod macro_exports;
 mod macro_homes;
 mod meanings;
 mod metadata;
-mod notes;
 mod offsets;
 mod outlines;
 mod partly;

@@ -1,7 +1,6 @@
 //! The crates that are to be collected, and what each depends on.
 use dm_ids::source::Edition;
 use std::alloc::{AllocError, Global};
-use std::fmt::Write;
 
 /// A crate that a crate depends on, by its number among the plans.
 pub(crate) struct DependencyPlan {
@@ -75,12 +74,17 @@ impl CratePlan {
 
     /// Adds an option, as a line of `rustc --print cfg`.
     pub(crate) fn set(&mut self, option: &str) -> Result<(), AllocError> {
-        write!(self.cfgs, "{option}\n")
+        self.cfgs.push_str(option)?;
+        self.cfgs.push_str("\n")?;
+        Ok(())
     }
 
     /// Adds a feature to its options.
     pub(crate) fn enable(&mut self, feature: &str) -> Result<(), AllocError> {
-        write!(self.cfgs, "feature=\"{feature}\"\n")
+        self.cfgs.push_str("feature=\"")?;
+        self.cfgs.push_str(feature)?;
+        self.cfgs.push_str("\"\n")?;
+        Ok(())
     }
 
     /// Adds a dependency, unless there is one of this name.
@@ -91,10 +95,12 @@ impl CratePlan {
         krate: usize,
         prelude: bool,
     ) -> Result<(), AllocError> {
-        for one in &self.dependencies {
-            if one.name.as_str() == name {
-                return Ok(());
-            }
+        if self
+            .dependencies
+            .iter()
+            .any(|one| one.name.as_str() == name)
+        {
+            return Ok(());
         }
         self.dependencies.push(DependencyPlan {
             name: String::from_str(alloc, name)?,

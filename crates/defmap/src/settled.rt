@@ -47,7 +47,7 @@ impl Drop for Settled {
 }
 
 /// Why there is no settled world.
-#[derive(Clone, Copy)]
+#[derive(Drop)]
 pub(crate) enum NotSettled {
     TooManyModules(Crate),
     /// The turns were not enough.

@@ -1,10 +1,8 @@
 //! How much was read and done, and how long it took.
 use crate::settled::Settled;
 use crate_modules::file_table::FileTable;
-use crate_modules::modules::CrateModules;
 use dm_base::ids::FileId;
-use std::alloc::AllocError;
-use std::fmt::Write;
+use std::alloc::{AllocError, Global};
 use std::rt::Clock;
 use std::time::{Duration, Instant};
 
@@ -65,24 +63,16 @@ impl Stopwatch {
         Ok(())
     }
 
-    /// Adds a line for each stage.
-    pub(crate) fn push_lines(&self, out: &mut String) -> Result<(), AllocError> {
+    /// A line for each stage.
+    pub(crate) fn lines(&self, alloc: Global) -> Result<String, AllocError> {
+        let mut text = String::new(alloc);
         for stage in &self.stages {
-            write!(out, "{}: {} us\n", stage.name, stage.time.as_micros())?;
+            let micros = stage.time.as_micros();
+            let line = format!(in alloc; "{}: {micros} us\n", stage.name)?;
+            text.push_str(line.as_str())?;
         }
-        Ok(())
+        Ok(text)
     }
-}
-
-/// How many newlines a text has.
-fn newline_count(text: &[u8]) -> usize {
-    let mut count = 0usize;
-    for byte in text {
-        if *byte == b'\n' {
-            count = count.saturating_add(1);
-        }
-    }
-    count
 }
 
 /// How many lines the files have.
@@ -91,36 +81,36 @@ fn line_count(files: &FileTable) -> usize {
     for number in 0..files.len() {
         let id = FileId(u32::try_from(number).unwrap_or(u32::MAX));
         if files.contains(id) {
-            count = count.saturating_add(newline_count(files.text(id)));
+            let newlines = files.text(id).iter().filter(|byte| **byte == b'\n').count();
+            count = count.saturating_add(newlines);
         }
     }
     count
 }
 
 /// How many modules the crates have.
-fn module_count(lists: &[CrateModules]) -> usize {
+fn module_count(settled: &Settled) -> usize {
     let mut count = 0usize;
-    for list in lists {
+    for list in settled.lists() {
         count = count.saturating_add(list.modules().len());
     }
     count
 }
 
-/// Adds lines with what was read and done.
-pub(crate) fn push_counts(
-    out: &mut String,
+/// Lines with what was read and done.
+pub(crate) fn count_lines(
+    alloc: Global,
     settled: &Settled,
     effort: Effort,
-) -> Result<(), AllocError> {
+) -> Result<String, AllocError> {
     let crates = settled.names.len();
     let files = settled.files.len();
     let lines = line_count(&settled.files);
-    let modules = module_count(settled.lists());
+    let modules = module_count(settled);
     let imports = settled.collected.retry.len();
     let globs = settled.collected.globs.len();
     let Effort { rounds, tries } = effort;
-    write!(
-        out,
+    format!(in alloc;
         "crates: {crates}\nfiles: {files}\nlines: {lines}\nmodules: {modules}\nimports: {imports}\nglobs: {globs}\nrounds: {rounds}\ntries: {tries}\n"
     )
 }

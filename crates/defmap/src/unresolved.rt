@@ -1,36 +1,23 @@
 //! What leads nowhere in a crate.
-use crate::hidden::Hidden;
+use crate::hidden::{Cause, Hidden};
 use crate::macro_calls::{CallEnd, end_of, item_of};
 use crate::macro_homes::{MacroHome, macro_homes};
-use crate::notes::Cause;
 use crate::path_text::path_text;
 use crate::places::{Lines, Spot, item_spot, use_spot};
 use crate::settled::Settled;
-use crate::shown::is_own;
 use crate_modules::declared_module::ModuleFault;
-use crate_modules::modules::CrateModules;
-use dm_base::ids::{ModuleId, UseId, UseTreeIdx};
+use dm_base::ids::{Crate, ModuleId, UseId, UseTreeIdx};
 use dm_base::item_in_ns::ItemModules;
 use dm_base::mod_path::ModPath;
 use dm_collector::sources::GlobImport;
 use dm_maps::world::World;
 use std::alloc::{AllocError, Global};
-use std::fmt::Write;
 
 /// A message, and what it is about.
+#[derive(Drop)]
 pub(crate) struct Told {
     spot: Option<Spot>,
     message: String,
-}
-
-/// A hand-written `Drop`, to keep proofs small: what drops one has one call to prove.
-impl Drop for Told {
-    fn drop(self) {
-        let Told {
-            spot: _spot,
-            message: _message,
-        } = self;
-    }
 }
 
 /// How many imports of a crate are unknown.
@@ -75,8 +62,8 @@ fn module_message(alloc: Global, fault: &ModuleFault) -> Result<String, AllocErr
     let mut paths = String::from_str(alloc, "unresolved module, tried")?;
     for (place, candidate) in fault.candidates().iter().enumerate() {
         let path = std::str::from_utf8(candidate.path()).unwrap_or("?");
-        let between = if place == 0 { "" } else { " and" };
-        write!(paths, "{between} {path}")?;
+        paths.push_str(if place == 0 { " " } else { " and " })?;
+        paths.push_str(path)?;
     }
     Ok(paths)
 }
@@ -84,6 +71,10 @@ fn module_message(alloc: Global, fault: &ModuleFault) -> Result<String, AllocErr
 /// Whether the path of a glob means no module and no enum.
 fn leads_nowhere(world: &World, glob: &GlobImport) -> bool {
     glob.is_known(world) && glob.resolved(world).is_none()
+}
+
+fn is_own(world: &World, home: ModuleId) -> bool {
+    world.module_krate(home) == Some(Crate(0))
 }
 
 impl Unresolved {
@@ -122,7 +113,7 @@ impl Unresolved {
             let Some(pending) = retry.get(place) else {
                 continue;
             };
-            if let Some(cause) = hidden.notes.cause_of_named(place) {
+            if let Some(cause) = hidden.cause_of_named(place) {
                 self.count(settled.world(), pending.origin(), cause);
             } else if is_own(settled.world(), pending.origin()) {
                 let import = pending.import();
@@ -141,7 +132,7 @@ impl Unresolved {
             if !leads_nowhere(world, glob) {
                 continue;
             }
-            if let Some(cause) = hidden.notes.cause_of_glob(place) {
+            if let Some(cause) = hidden.cause_of_glob(place) {
                 self.count(world, glob.into, cause);
             } else if is_own(world, glob.into) {
                 let leaf = (glob.import.use_, glob.import.idx);
@@ -159,12 +150,12 @@ impl Unresolved {
         call: MacroHome,
         path: &ModPath,
     ) -> Result<(), AllocError> {
-        let Some(item) = item_of(settled.items(), call) else {
+        let Some(item) = item_of(settled, call) else {
             return Ok(());
         };
         let written = path_text(alloc, path)?;
         self.told.push(Told {
-            spot: item_spot(settled.lists(), call.krate, item.file, item.item),
+            spot: item_spot(settled, call.krate, item.file, item.item),
             message: format!(in alloc; "unresolved macro {written}!")?,
         })?;
         Ok(())
@@ -195,15 +186,15 @@ impl Unresolved {
     pub(crate) fn add_modules(
         &mut self,
         alloc: Global,
-        lists: &[CrateModules],
+        settled: &Settled,
     ) -> Result<(), AllocError> {
-        let Some(list) = lists.first() else {
+        let Some(list) = settled.lists().first() else {
             return Ok(());
         };
         for fault in list.faults() {
             let declaration = fault.declaration();
             self.told.push(Told {
-                spot: item_spot(lists, 0, declaration.file, declaration.item),
+                spot: item_spot(settled, 0, declaration.file, declaration.item),
                 message: module_message(alloc, fault)?,
             })?;
         }
@@ -233,11 +224,10 @@ pub(crate) fn find_unresolved(
     settled: &Settled,
     has_sysroot: bool,
 ) -> Result<Unresolved, AllocError> {
-    let tables = settled.collected.tables.as_slice();
-    let homes = macro_homes(alloc, tables, settled.items())?;
+    let homes = macro_homes(alloc, settled)?;
     let hidden = Hidden::of(alloc, settled, has_sysroot, homes.as_slice())?;
     let mut found = nothing(alloc, settled.names.len())?;
-    found.add_modules(alloc, settled.lists())?;
+    found.add_modules(alloc, settled)?;
     found.add_named(&hidden)?;
     found.add_globs(&hidden)?;
     found.add_calls(&hidden, homes.as_slice())?;
@@ -252,19 +242,22 @@ fn order_of(told: &Told) -> (u32, usize) {
     }
 }
 
-/// Adds the messages, each in a line, in the order of the files and their bytes.
-pub(crate) fn push_messages(
-    out: &mut String,
+/// The messages, each in a line, in the order of the files and their bytes.
+pub(crate) fn message_lines(
+    alloc: Global,
     lines: &Lines<'_>,
     told: &mut Vec<Told>,
-) -> Result<(), AllocError> {
+) -> Result<String, AllocError> {
     told.sort_by_key(|one| order_of(one))?;
+    let mut out = String::new(alloc);
     for one in told.iter() {
         if let Some(spot) = one.spot {
-            lines.push_place(out, spot)?;
+            let place = lines.place(alloc, spot.file, spot.offset)?;
+            out.push_str(place.as_str())?;
             out.push_str(": ")?;
         }
-        write!(out, "{}\n", one.message)?;
+        out.push_str(one.message.as_str())?;
+        out.push_str("\n")?;
     }
-    Ok(())
+    Ok(out)
 }
