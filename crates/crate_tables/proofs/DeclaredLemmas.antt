@@ -10,7 +10,7 @@ use Rattle.dm_base.specs.Tree.{same_module}
 use Rattle.dm_ids.specs.declared.ids.ModuleId.{ModuleId}
 use Rattle.dm_maps.specs.PushRes.{StaysShown}
 use Rattle.dm_maps.specs.World.{World, scope_of}
-use Rattle.dm_bindings.specs.Flags.{Globs}
+use Rattle.dm_shadowing.specs.Flags.{Globs}
 use Rattle.dm_scope.specs.Shows.{ScopePush, Shows}
 
 -- with a name more, each module shows it after the others where it goes there

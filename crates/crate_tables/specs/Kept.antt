@@ -5,7 +5,7 @@ use Rattle.dm_ids.specs.declared.ids.ModuleId.{ModuleId}
 use Rattle.dm_maps.specs.Known.{knows, KnowsAll}
 use Rattle.dm_maps.specs.PushRes.{StaysShown}
 use Rattle.dm_maps.specs.World.{World}
-use Rattle.dm_bindings.specs.Flags.{Globs}
+use Rattle.dm_shadowing.specs.Flags.{Globs}
 
 -- Each id that was known is known, and so is what holds ids; and each module shows what it showed. A builder that has grown
 -- keeps that, and so does one whose modules have other textual macros.

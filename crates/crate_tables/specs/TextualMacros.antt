@@ -11,7 +11,7 @@ use Rattle.dm_ids.specs.declared.item_ids.MacroId.{MacroId}
 use Rattle.dm_maps.specs.Known.{knows}
 use Rattle.dm_maps.specs.PushRes.{StaysShown}
 use Rattle.dm_maps.specs.World.{World, scope_if_known, with_scope}
-use Rattle.dm_bindings.specs.Flags.{Globs}
+use Rattle.dm_shadowing.specs.Flags.{Globs}
 use Rattle.dm_scope.specs.Scope.{Scope}
 use Rattle.dm_scope.specs.TableLists.{add_to_list}
 

@@ -11,7 +11,7 @@ ghost use Rattle.dm_ids.specs.declared.ids.ModuleId.{ModuleId};
 ghost use Rattle.dm_maps.specs.Known.{KnowsAll};
 ghost use Rattle.dm_maps.specs.PushRes.{StaysShown};
 ghost use Rattle.dm_maps.specs.World.{scope_of};
-ghost use Rattle.dm_bindings.specs.Flags.{no_globs};
+ghost use Rattle.dm_shadowing.specs.Flags.{no_globs};
 ghost use Rattle.dm_scope.specs.Shows.{ScopePush, Shows};
 
 use crate::declared_name::DeclaredName;

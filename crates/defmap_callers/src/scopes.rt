@@ -3,7 +3,7 @@ ghost use Rattle.std.specs.Prelude.{◌≡◌, ◌↔◌, ◌<◌, ◌^◌, IsTr
 ghost use Rattle.dm_ids.specs.declared.ids.ModuleId.{ModuleId};
 ghost use Rattle.dm_base.specs.PerNs.{type_alone};
 ghost use Rattle.dm_scope.specs.Chains.{EndsIn, leads, ends};
-ghost use Rattle.dm_bindings.specs.Flags.{Globs};
+ghost use Rattle.dm_shadowing.specs.Flags.{Globs};
 ghost use Rattle.dm_scope.specs.Lookups.{def_and_vis};
 ghost use Rattle.dm_scope.specs.Push.{types_reading};
 ghost use Rattle.dm_bindings.specs.Pushes.{binding};

@@ -10,7 +10,7 @@ use Rattle.dm_ids.specs.declared.ids.ModuleId.{ModuleId}
 use Rattle.dm_maps.specs.Known.{KnowsAll}
 use Rattle.dm_maps.specs.World.{World}
 use Rattle.dm_def_map.specs.Maps.{Map, LocalMap}
-use Rattle.dm_bindings.specs.Flags.{Globs}
+use Rattle.dm_shadowing.specs.Flags.{Globs}
 use Rattle.defmap_script.specs.declared.engine.Reply.{Reply}
 use Rattle.defmap_script.specs.declared.engine.Reply.TheVariants.{Nothing}
 use Rattle.defmap_script.specs.declared.engine.Stage.TheVariants.{Checked}

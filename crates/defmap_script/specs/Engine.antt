@@ -5,7 +5,7 @@ use Rattle.dm_names.specs.Names.{Name}
 use Rattle.dm_ids.specs.declared.ids.ModuleId.{ModuleId}
 use Rattle.dm_ids.specs.declared.imports.ImportOrExternCrate.{ImportOrExternCrate}
 use Rattle.dm_base.specs.declared.per_ns.PerNs.{PerNs}
-use Rattle.dm_bindings.specs.Flags.{Globs, no_globs}
+use Rattle.dm_shadowing.specs.Flags.{Globs, no_globs}
 use Rattle.dm_scope.specs.Push.{scope_after, globs_after, push_answer}
 use Rattle.dm_scope.specs.Scope.{Scope}
 use Rattle.dm_check.specs.declared.fault.WorldFault.{WorldFault}

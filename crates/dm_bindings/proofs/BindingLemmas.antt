@@ -5,7 +5,8 @@ use Rattle.std.specs.Map.{lookup}
 use Rattle.std.specs.Cmp.Lexicographic.{nat_list_eq_equiv}
 use Rattle.dm_base.specs.declared.per_ns.Item.{Item}
 use Rattle.dm_ids.specs.declared.imports.ImportOrDef.{ImportOrDef}
-use Rattle.dm_bindings.specs.Bindings.{Bound, Reading, writes, with_record, bound, pushed, stored, recorded}
+use Rattle.dm_shadowing.specs.Shadowing.{Reading, writes}
+use Rattle.dm_bindings.specs.Bindings.{Bound, with_record, bound, pushed, stored, recorded}
 use Rattle.dm_bindings.specs.PushSteps.{written, with_keys, add_import, set_import, is_new_import, without_keys}
 use Rattle.dm_bindings.specs.Entries.{is_new, without_new}
 use Rattle.dm_bindings.proofs.EntryLemmas.{set_value-add_entry, without_new-add_entry}

@@ -4,10 +4,11 @@ use Rattle.dm_names.specs.Names.{Name}
 use Rattle.dm_ids.specs.declared.ids.ModuleId.{ModuleId}
 use Rattle.dm_base.specs.declared.per_ns.Item.{Item}
 use Rattle.dm_ids.specs.declared.imports.ImportOrExternCrate.{ImportOrExternCrate}
-use Rattle.dm_bindings.specs.Bindings.{Bound, Reading, import_of, is_effective_at, bound_after, flags_after}
-use Rattle.dm_bindings.specs.Flags.{Flags, has_flag}
+use Rattle.dm_shadowing.specs.Shadowing.{Reading, import_of}
+use Rattle.dm_bindings.specs.Bindings.{Bound, is_effective_at, bound_after, flags_after}
+use Rattle.dm_shadowing.specs.Flags.{Flags, has_flag}
 use Rattle.dm_bindings.specs.Pushes.{Push, is_effective, ShowsIn}
-use Rattle.dm_bindings.proofs.FlagLemmas.{has_flag-after}
+use Rattle.dm_shadowing.specs.FlagLaws.{has_flag-after}
 use Rattle.dm_bindings.proofs.PushLemmas.{IsReading}
 use Rattle.dm_bindings.proofs.ShowLemmas.{ShowsIn-push, ShowsIn-writes}
 

@@ -3,7 +3,6 @@ pub mod BindingLemmas
 pub mod ChangeLemmas
 pub mod ClosedLemmas
 pub mod EntryLemmas
-pub mod FlagLemmas
 pub mod NameLemmas
 pub mod PushLemmas
 pub mod ShowLemmas

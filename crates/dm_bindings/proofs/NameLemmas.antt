@@ -4,7 +4,7 @@ use Rattle.std.specs.Prelude.{map}
 use Rattle.std.specs.Option.{option_map}
 use Rattle.std.specs.List.{list_all, list_any, enumerate_from}
 use Rattle.dm_names.specs.Names.{Name, same_name}
-use Rattle.dm_bindings.specs.Bindings.{Reading}
+use Rattle.dm_shadowing.specs.Shadowing.{Reading}
 use Rattle.dm_bindings.specs.Pushes.{Push, of_name, is_explicit, is_by, has_same_def, last_run, named_explicit, named_of, named, named_push, item_of, binding, IsByName}
 
 module _ {D I : Type 0} where

@@ -5,7 +5,7 @@ use Rattle.std.specs.List.{list_all}
 use Rattle.std.proofs.lemmas.List.Elements.{filter-append}
 use Rattle.std.proofs.lemmas.List.Folds.{list_all-append}
 use Rattle.std.proofs.Math.Bool.{and-true}
-use Rattle.dm_bindings.specs.Bindings.{Reading, is_glob, is_same, writes}
+use Rattle.dm_shadowing.specs.Shadowing.{Reading, is_glob, is_same, writes}
 use Rattle.dm_bindings.specs.Pushes.{last_of, Push, is_explicit, is_by, has_same_def, last_run, named_explicit, named_of, named, item_of, is_glob_push}
 
 -- that the tests of a namespace find equal values

@@ -11,7 +11,8 @@ use Rattle.std.proofs.lemmas.Slice.Eq.{bytes_eq-Decides}
 use Rattle.std.proofs.lemmas.List.Elements.{filter-append}
 use Rattle.indexmap.specs.IndexMap.{insert_entry}
 use Rattle.dm_ids.specs.declared.imports.ImportOrDef.{ImportOrDef}
-use Rattle.dm_bindings.specs.Bindings.{Bound, Reading, is_glob, is_same, writes, stored, recorded, with_record, bound, pushed}
+use Rattle.dm_shadowing.specs.Shadowing.{Reading, is_glob, is_same, writes}
+use Rattle.dm_bindings.specs.Bindings.{Bound, stored, recorded, with_record, bound, pushed}
 use Rattle.dm_bindings.specs.Pushes.{last_of, Push, is_explicit, is_by, named_explicit, named_of, named, named_push, item_of, binding, is_glob_push, is_at, is_effective, effective, record_of, ShowsIn}
 use Rattle.dm_bindings.proofs.PushLemmas.{IsReading, after, named-push, last_run-all, last-push}
 

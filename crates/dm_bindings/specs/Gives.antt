@@ -4,8 +4,9 @@ use Rattle.dm_names.specs.Names.{Name}
 use Rattle.dm_ids.specs.declared.ids.ModuleId.{ModuleId}
 use Rattle.dm_ids.specs.declared.imports.ImportOrExternCrate.{ImportOrExternCrate}
 use Rattle.dm_base.specs.declared.per_ns.Item.{Item}
-use Rattle.dm_bindings.specs.Bindings.{Bound, Reading, bound_after, flags_after, is_effective_at}
-use Rattle.dm_bindings.specs.Flags.{Flags}
+use Rattle.dm_shadowing.specs.Shadowing.{Reading}
+use Rattle.dm_bindings.specs.Bindings.{Bound, bound_after, flags_after, is_effective_at}
+use Rattle.dm_shadowing.specs.Flags.{Flags}
 
 -- a push into a namespace with the bindings s and the flags f, which leaves t and h
 pub record PushGivesIn {D I E : Type 0} (r : Reading D I) (s : Bound D I) (f : Flags) (t : Bound D I) (h : Flags) (m : ModuleId) (n : Name) (item : Item D I) (by : Option ImportOrExternCrate) (result : Result Bool E) : Type 0 where

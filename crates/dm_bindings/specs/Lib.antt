@@ -1,11 +1,9 @@
 pub mod Bindings
 pub mod Changes
 pub mod Entries
-pub mod Flags
 pub mod Gives
 pub mod Iterators
 pub mod LazyMaps
 pub mod Lookups
-pub mod Outcomes
 pub mod PushSteps
 pub mod Pushes

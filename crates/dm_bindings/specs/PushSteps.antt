@@ -8,8 +8,9 @@ use Rattle.dm_base.specs.declared.per_ns.Item.{Item}
 use Rattle.dm_ids.specs.declared.imports.ImportOrDef.{ImportOrDef}
 use Rattle.dm_ids.specs.declared.imports.ImportOrExternCrate.{ImportOrExternCrate}
 use Rattle.dm_bindings.specs.Entries.{add_entry, is_new, without_new}
-use Rattle.dm_bindings.specs.Flags.{Flags, flags_finished}
-use Rattle.dm_bindings.specs.Bindings.{Bound, Reading, import_of, is_glob, stored, recorded}
+use Rattle.dm_shadowing.specs.Flags.{Flags, flags_finished}
+use Rattle.dm_shadowing.specs.Shadowing.{Reading, import_of, is_glob}
+use Rattle.dm_bindings.specs.Bindings.{Bound, stored, recorded}
 
 module _ {I : Type 0} (eq : I → I → Bool) where
   -- the records with the import as a key, if there is one

@@ -7,7 +7,8 @@ use Rattle.dm_names.specs.Names.{Name, same_name, find_name}
 use Rattle.dm_base.specs.declared.per_ns.Item.{Item}
 use Rattle.dm_ids.specs.declared.imports.ImportOrDef.{ImportOrDef}
 use Rattle.dm_ids.specs.declared.imports.ImportOrExternCrate.{ImportOrExternCrate}
-use Rattle.dm_bindings.specs.Bindings.{Bound, Reading, import_of, is_glob, is_same, stored, recorded}
+use Rattle.dm_shadowing.specs.Shadowing.{Reading, import_of, is_glob, is_same}
+use Rattle.dm_bindings.specs.Bindings.{Bound, stored, recorded}
 
 -- the last of a list
 abbrev pub last_of : {A : Type 0} → List A → Option A

@@ -13,16 +13,15 @@ ghost use Rattle.dm_base.specs.Tree.{same_module};
 ghost use Rattle.dm_bindings.specs.Pushes.{PushAnswersIn, PushShowsIn, one_push, Push, ShowsIn, IsByName, is_effective};
 ghost use Rattle.dm_bindings.specs.Entries.{is_new};
 ghost use Rattle.dm_bindings.specs.Gives.{PushGivesIn};
-ghost use Rattle.dm_bindings.specs.Flags.{has_flag, flags_undone, no_flags};
-ghost use Rattle.dm_bindings.specs.Bindings.{import_of, is_glob_by, writes, stored, recorded, with_record, bound, bound_after, flags_after, is_effective_at};
+ghost use Rattle.dm_shadowing.specs.Flags.{has_flag, flags_undone, no_flags};
+ghost use Rattle.dm_shadowing.specs.Shadowing.{import_of, is_glob_by, writes};
+ghost use Rattle.dm_bindings.specs.Bindings.{stored, recorded, with_record, bound, bound_after, flags_after, is_effective_at};
 ghost use Rattle.dm_bindings.specs.PushSteps.{with_keys, without_keys, is_new_record, written, is_new_import, add_import, set_import, finished, flags_done};
 
 mod changes;
 mod names;
 
-use crate::glob_flags::GlobFlags;
 use crate::lazy_map::LazyMap;
-use crate::reads::Reads;
 use crate::records::Records;
 use crate::steps::NewKeys;
 use dm_base::definition::Definition;
@@ -31,6 +30,9 @@ use dm_base::import_source::ImportSource;
 use dm_base::imports::{ImportOrDef, ImportOrExternCrate};
 use dm_base::name::Name;
 use dm_base::per_ns::Item;
+use dm_shadowing::glob_flags::GlobFlags;
+use dm_shadowing::reads::Reads;
+use dm_shadowing::shadowing::{self, is_glob, narrowed};
 use indexmap::map;
 use std::alloc::{AllocError, Global};
 use std::marker::Model;
@@ -332,10 +334,7 @@ impl<D: Definition, I: ImportSource> Bindings<D, I> {
             ≡ writes ⟦<D as Reads<I>>⟧.reading (find_name name.now self.now.items) flag item.now
             import }
     {
-        let Some(old) = self.get(name) else {
-            return true;
-        };
-        !is_glob(import) && (flag || old.is_reresolved_by(&item.def, import))
+        shadowing::writes(self.get(name), flag, item, import)
     }
 
     /// Puts the new keys of a push that writes last, with their values. Where an allocation fails, nothing changes.
@@ -395,25 +394,6 @@ fn stored<D: Definition, I: ImportSource>(item: &Item<D, I>, import: Option<I>) 
         def: item.def,
         vis: item.vis,
         import,
-    }
-}
-
-/// The import of a push, as the namespace stores it.
-fn narrowed<I: ImportSource>(import: Option<ImportOrExternCrate>) -> Option<I>
-    ensures { result ≡ option_and_then I.narrowed import }
-{
-    match import {
-        None => None,
-        Some(i) => I::narrow(i),
-    }
-}
-
-fn is_glob<I: ImportSource>(import: Option<I>) -> bool
-    ensures { result ≡ is_glob_by I.globs import }
-{
-    match import {
-        None => false,
-        Some(i) => i.is_glob(),
     }
 }
 

@@ -21,7 +21,7 @@ use Rattle.dm_maps.specs.World.{World}
 use Rattle.dm_retry.specs.Known.{fault_of}
 use Rattle.dm_retry.specs.Rounds.{Pending, State}
 use Rattle.dm_retry.specs.declared.retry_fault.RetryFault.{RetryFault}
-use Rattle.dm_bindings.specs.Flags.{no_globs}
+use Rattle.dm_shadowing.specs.Flags.{no_globs}
 
 -- the crates of a graph, filled with what it declares, and their world with the associated items
 pub record AreWhole (r : Reading) (g : Graph) (c : Crates) (w : WithItems) : Type 0 where

@@ -14,7 +14,7 @@ use Rattle.dm_base.specs.Tree.{Tree}
 use Rattle.dm_base.specs.Visibility.{max_of}
 use Rattle.dm_maps.specs.Trees.{tree_of}
 use Rattle.dm_maps.specs.World.{World, scope_of}
-use Rattle.dm_bindings.specs.Bindings.{is_glob_by}
+use Rattle.dm_shadowing.specs.Shadowing.{is_glob_by}
 use Rattle.dm_scope.specs.Scope.{bound_in}
 use Rattle.dm_collector.specs.Globs.{resolved, shown, source_names}
 use Rattle.dm_collector.specs.declared.globs.Glob.{Glob}

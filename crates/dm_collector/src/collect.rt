@@ -21,7 +21,7 @@ ghost use Rattle.dm_retry.specs.Known.{fault_of};
 ghost use Rattle.dm_retry.specs.Rounds.{marked};
 ghost use Rattle.dm_retry.specs.Settling.{IsFixedPoint};
 ghost use Rattle.dm_retry.specs.declared.retry_fault.RetryFault.{RetryFault};
-ghost use Rattle.dm_bindings.specs.Flags.{no_globs};
+ghost use Rattle.dm_shadowing.specs.Flags.{no_globs};
 
 use crate::collect_fault::{CollectFault, of_builder, of_declared, of_filling, of_glob, of_order};
 use crate::leaves::split;

@@ -9,9 +9,10 @@ use Rattle.dm_maps.proofs.Ids.{ImportOrExternCrate, ModuleId, Name, Place, find_
 use Rattle.dm_base.specs.declared.per_ns.Item.{Item}
 use Rattle.dm_base.specs.declared.per_ns.PerNs.{PerNs}
 use Rattle.dm_base.specs.declared.visibility.Visibility.TheVariants.{Public}
+use Rattle.dm_shadowing.specs.Shadowing as shadowing
 use Rattle.dm_bindings.specs.Bindings as b
 use Rattle.dm_bindings.specs.Bindings.{Bound}
-use Rattle.dm_bindings.specs.Flags.{Flags, Globs, has_flag}
+use Rattle.dm_shadowing.specs.Flags.{Flags, Globs, has_flag}
 use Rattle.dm_scope.specs.Push.{types_reading, values_reading, macros_reading, scope_after}
 use Rattle.dm_scope.specs.Scope.{Scope, no_scope}
 use Rattle.dm_def_map.specs.Maps.{Map, Module, Modules, fresh_module, nth_module, put_scope, map_with_scope}
@@ -29,13 +30,13 @@ kept-insert (k ∷ N) n v h es =
     let parts = or_parts (same_name n k) (among N n) h in
     λ i. cons_option (option_map (λ w. (k, w)) (find-other k n v (nat_list_eq_equiv.symm k n ∙ parts.0) es i)) (kept-insert N n v parts.1 es i)
 
-bound-after : {D I : Type 0} (r : b.Reading D I) (N : List Name) (n : Name) → among N n ≡ false → (s : Bound D I) (fs : Flags) (m : ModuleId) (item : Option (Item D I)) (by : Option ImportOrExternCrate)
+bound-after : {D I : Type 0} (r : shadowing.Reading D I) (N : List Name) (n : Name) → among N n ≡ false → (s : Bound D I) (fs : Flags) (m : ModuleId) (item : Option (Item D I)) (by : Option ImportOrExternCrate)
     → cut_bound N (b.bound_after r s fs m n item by) ≡ cut_bound N s
 bound-after r N n h s fs m None by = refl
-bound-after r N n h s fs m (Some x) by = go (b.writes r (find_name n s.items) (has_flag fs m n) x (b.import_of r by))
+bound-after r N n h s fs m (Some x) by = go (shadowing.writes r (find_name n s.items) (has_flag fs m n) x (shadowing.import_of r by))
   where
-    go : (c : Bool) → cut_bound N (cond c (b.bound r s n x (b.import_of r by)) s) ≡ cut_bound N s
-    go true = ap (λ es. record { items = es; records = [] }) (kept-insert N n (b.stored r x (b.import_of r by)) h s.items)
+    go : (c : Bool) → cut_bound N (cond c (b.bound r s n x (shadowing.import_of r by)) s) ≡ cut_bound N s
+    go true = ap (λ es. record { items = es; records = [] }) (kept-insert N n (b.stored r x (shadowing.import_of r by)) h s.items)
     go false = refl
 
 scope-pushed : (N : List Name) (n : Name) → among N n ≡ false → (s : Scope) (g : Globs) (m : ModuleId) (x : PerNs) (by : Option ImportOrExternCrate) → cut_scope N (scope_after s g m n x by) ≡ cut_scope N s

@@ -9,8 +9,9 @@ use Rattle.dm_ids.specs.declared.imports.ImportOrGlob.TheVariants as narrow
 use Rattle.dm_base.specs.declared.per_ns.Item.{Item}
 use Rattle.dm_base.specs.declared.per_ns.PerNs.{PerNs}
 use Rattle.dm_ids.specs.Imports.{narrowed, target_of, widened}
-use Rattle.dm_bindings.specs.Bindings.{Bound, Reading, recorded_from, recorded, with_record, stored, import_of, writes, bound, bound_after}
-use Rattle.dm_bindings.specs.Flags.{Flags, Globs, has_flag}
+use Rattle.dm_shadowing.specs.Shadowing.{Reading, import_of, writes}
+use Rattle.dm_bindings.specs.Bindings.{Bound, recorded_from, recorded, with_record, stored, bound, bound_after}
+use Rattle.dm_shadowing.specs.Flags.{Flags, Globs, has_flag}
 use Rattle.dm_scope.specs.Push.{types_reading, values_reading, macros_reading, scope_after}
 use Rattle.dm_scope.specs.Scope.{Scope}
 use Rattle.dm_check.specs.declared.held.HeldId.{HeldId}

@@ -13,8 +13,9 @@ use Rattle.dm_base.specs.declared.per_ns.Item.{Item}
 use Rattle.dm_base.specs.declared.per_ns.Namespace.{Namespace}
 use Rattle.dm_base.specs.declared.per_ns.Namespace.TheVariants.{Types, Values, Macros}
 use Rattle.dm_base.specs.declared.per_ns.PerNs.{PerNs}
-use Rattle.dm_bindings.specs.Bindings.{Bound, Reading, bound, bound_after, import_of, recorded, with_record, writes}
-use Rattle.dm_bindings.specs.Flags.{Flags, Globs, has_flag}
+use Rattle.dm_shadowing.specs.Shadowing.{Reading, import_of, writes}
+use Rattle.dm_bindings.specs.Bindings.{Bound, bound, bound_after, recorded, with_record}
+use Rattle.dm_shadowing.specs.Flags.{Flags, Globs, has_flag}
 use Rattle.dm_scope.specs.Push.{scope_after, types_reading, values_reading, macros_reading}
 use Rattle.dm_scope.specs.Tables.{record_count, all_records}
 use Rattle.dm_scope.specs.Records.{records_in}

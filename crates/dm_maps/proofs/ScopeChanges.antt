@@ -23,7 +23,7 @@ use Rattle.dm_base.specs.declared.visibility.Visibility.{Visibility}
 use Rattle.dm_bindings.specs.Changes.{change_item, with_vis}
 use Rattle.dm_scope.specs.Tables.{record_count, all_records}
 use Rattle.dm_scope.specs.Records.{records_in}
-use Rattle.dm_bindings.specs.Flags.{Globs}
+use Rattle.dm_shadowing.specs.Flags.{Globs}
 use Rattle.dm_scope.specs.Scope.{Scope, no_scope}
 use Rattle.dm_scope.specs.Shows.{ScopePush, Shows}
 use Rattle.dm_check.specs.declared.held.HeldId.{HeldId}

@@ -5,7 +5,7 @@ use Rattle.std.proofs.lemmas.List.{length-map}
 use Rattle.dm_maps.proofs.Ids.{ImportOrExternCrate, ModuleId, Name, Place}
 use Rattle.dm_ids.specs.declared.ids.MapId.{MapId}
 use Rattle.dm_base.specs.declared.per_ns.PerNs.{PerNs}
-use Rattle.dm_bindings.specs.Flags.{Globs}
+use Rattle.dm_shadowing.specs.Flags.{Globs}
 use Rattle.dm_scope.specs.Push.{scope_after}
 use Rattle.dm_scope.specs.Scope.{Scope}
 use Rattle.dm_check.specs.declared.held.HeldId.{HeldId}

@@ -4,7 +4,7 @@ use Rattle.std.specs.Option.{option_map}
 use Rattle.std.proofs.lemmas.Bool.{or_parts}
 use Rattle.std.proofs.lemmas.Option.{slice_get-map}
 use Rattle.dm_names.specs.Names.{Name}
-use Rattle.dm_bindings.specs.Flags.{Globs}
+use Rattle.dm_shadowing.specs.Flags.{Globs}
 use Rattle.dm_maps.specs.Cut.{among}
 use Rattle.dm_maps.specs.Known.{KnowsAll}
 use Rattle.dm_maps.specs.World.{World}

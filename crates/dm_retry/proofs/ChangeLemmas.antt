@@ -15,9 +15,10 @@ use Rattle.dm_base.specs.declared.per_ns.PerNs.{PerNs}
 use Rattle.dm_base.specs.declared.visibility.Visibility.{Visibility}
 use Rattle.dm_base.specs.Tree.{same_module}
 use Rattle.dm_check.specs.Holding.{vis_holds}
-use Rattle.dm_bindings.specs.Bindings.{Bound, Reading, import_of, is_effective_at, writes}
+use Rattle.dm_shadowing.specs.Shadowing.{Reading, import_of, writes}
+use Rattle.dm_bindings.specs.Bindings.{Bound, is_effective_at}
 use Rattle.dm_bindings.specs.Changes.{change_item, with_vis}
-use Rattle.dm_bindings.specs.Flags.{Flags, Globs, has_flag}
+use Rattle.dm_shadowing.specs.Flags.{Flags, Globs, has_flag}
 use Rattle.dm_scope.specs.Push.{is_new_unresolved, macros_reading, push_answer, types_reading, values_reading}
 use Rattle.dm_scope.specs.Scope.{Scope}
 use Rattle.dm_maps.specs.Added.{IsGrown, IsScoped}

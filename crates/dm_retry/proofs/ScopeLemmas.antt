@@ -9,8 +9,9 @@ use Rattle.dm_ids.specs.declared.imports.ImportOrExternCrate.{ImportOrExternCrat
 use Rattle.dm_base.specs.PerNs.{is_empty}
 use Rattle.dm_base.specs.declared.per_ns.Item.{Item}
 use Rattle.dm_base.specs.declared.per_ns.PerNs.{PerNs}
-use Rattle.dm_bindings.specs.Bindings.{Bound, Reading, import_of, bound, flagged, is_effective_at, bound_after, flags_after}
-use Rattle.dm_bindings.specs.Flags.{Flags, Globs}
+use Rattle.dm_shadowing.specs.Shadowing.{Reading, import_of, flagged}
+use Rattle.dm_bindings.specs.Bindings.{Bound, bound, is_effective_at, bound_after, flags_after}
+use Rattle.dm_shadowing.specs.Flags.{Flags, Globs}
 use Rattle.dm_scope.specs.Push.{types_reading, values_reading, macros_reading, scope_after, globs_after, push_answer}
 use Rattle.dm_scope.specs.Scope.{Scope}
 

@@ -6,7 +6,7 @@ use Rattle.std.proofs.lemmas.Bool.{and_parts, not-false, or_parts}
 use Rattle.std.proofs.lemmas.Option.{slice_get-map}
 use Rattle.dm_ids.specs.declared.imports.ImportId.{ImportId}
 use Rattle.dm_check.specs.declared.held.HeldId.{HeldId}
-use Rattle.dm_bindings.specs.Flags.{Globs}
+use Rattle.dm_shadowing.specs.Flags.{Globs}
 use Rattle.dm_maps.specs.Known.{knows, KnowsAll}
 use Rattle.dm_maps.specs.World.{World}
 use Rattle.dm_retry.specs.declared.retry_fault.RetryFault.{RetryFault}

@@ -15,8 +15,8 @@ use Rattle.dm_base.specs.PerNs.{is_empty}
 use Rattle.dm_base.specs.Tree.{same_module}
 use Rattle.dm_def_map.specs.declared.modules.modes.BuiltinShadowMode.TheVariants as shadow
 use Rattle.dm_def_map.specs.Maps.{LocalMap}
-use Rattle.dm_bindings.specs.Flags.{Globs}
-use Rattle.dm_bindings.specs.Bindings.{is_same}
+use Rattle.dm_shadowing.specs.Flags.{Globs}
+use Rattle.dm_shadowing.specs.Shadowing.{is_same}
 use Rattle.dm_scope.specs.Push.{globs_after, push_answer, scope_after, types_reading}
 use Rattle.dm_scope.specs.PushLaw.{PushLaw}
 use Rattle.dm_scope.specs.Scope.{Scope}

@@ -3,7 +3,7 @@ use Rattle.std.specs.Prelude.{◌≡◌, true, [], ◌∷◌, Some, None, codes,
 use Rattle.dm_names.specs.declared.edition.Edition.TheVariants.{Edition2021}
 use Rattle.dm_base.specs.declared.mod_path.PathKind.TheVariants.{Plain}
 use Rattle.dm_base.specs.declared.visibility.Visibility.TheVariants.{Public}
-use Rattle.dm_bindings.specs.Flags.{Globs, no_globs, with_flag}
+use Rattle.dm_shadowing.specs.Flags.{Globs, no_globs, with_flag}
 use Rattle.dm_maps.specs.Build.{no_world}
 use Rattle.dm_maps.specs.ItemHomes.{homes_of}
 use Rattle.dm_maps.specs.World.{World}

@@ -4,7 +4,7 @@ use Rattle.dm_ids.specs.declared.item_ids.ItemKind.TheVariants as item
 use Rattle.dm_names.specs.declared.edition.Edition.TheVariants.{Edition2021}
 use Rattle.dm_base.specs.declared.mod_path.PathKind.TheVariants.{Plain, Crate}
 use Rattle.dm_base.specs.declared.visibility.Visibility.TheVariants.{Public}
-use Rattle.dm_bindings.specs.Flags.{no_globs}
+use Rattle.dm_shadowing.specs.Flags.{no_globs}
 use Rattle.dm_scope.specs.Scope.{bound_in}
 use Rattle.dm_maps.specs.Build.{no_world}
 use Rattle.dm_maps.specs.ItemHomes.{homes_of}

@@ -12,7 +12,7 @@ use Rattle.dm_base.specs.Path.{Path}
 use Rattle.dm_base.specs.PerNs.{is_empty}
 use Rattle.dm_def_map.specs.declared.modules.modes.BuiltinShadowMode.TheVariants as shadow
 use Rattle.dm_def_map.specs.Maps.{LocalMap}
-use Rattle.dm_bindings.specs.Flags.{Globs}
+use Rattle.dm_shadowing.specs.Flags.{Globs}
 use Rattle.dm_scope.specs.Push.{globs_after, push_answer}
 use Rattle.dm_maps.specs.Cut.{among}
 use Rattle.dm_maps.specs.ItemHomes.{homes_of}

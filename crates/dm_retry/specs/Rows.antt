@@ -3,7 +3,7 @@ use Rattle.std.specs.Prelude.{◌≡◌, Bool, true, false, None, Some, [], ◌�
 use Rattle.dm_base.specs.declared.mod_path.PathKind.TheVariants.{Plain, Crate}
 use Rattle.dm_base.specs.declared.visibility.Visibility.TheVariants.{Public}
 use Rattle.dm_names.specs.Names.{Name}
-use Rattle.dm_bindings.specs.Flags.{Globs}
+use Rattle.dm_shadowing.specs.Flags.{Globs}
 use Rattle.dm_maps.specs.World.{World}
 use Rattle.dm_retry.specs.Known.{add_fault, first_double}
 use Rattle.dm_retry.specs.declared.import_kind.ImportKind.TheVariants as kind

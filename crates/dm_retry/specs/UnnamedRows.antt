@@ -10,7 +10,7 @@ use Rattle.dm_base.specs.declared.mod_path.PathKind.TheVariants.{Plain}
 use Rattle.dm_base.specs.declared.per_ns.PerNs.{PerNs}
 use Rattle.dm_base.specs.declared.visibility.Visibility.TheVariants.{Public}
 use Rattle.dm_base.specs.declared.visibility.VisibilityExplicitness.TheVariants.{Explicit}
-use Rattle.dm_bindings.specs.Flags.{no_globs}
+use Rattle.dm_shadowing.specs.Flags.{no_globs}
 use Rattle.dm_scope.specs.Scope.{bound_in}
 use Rattle.dm_maps.specs.Build.{no_world}
 use Rattle.dm_maps.specs.ItemHomes.{homes_of}

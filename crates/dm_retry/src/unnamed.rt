@@ -7,7 +7,7 @@ ghost use Rattle.dm_check.specs.declared.held.HeldId.TheVariants as held;
 ghost use Rattle.dm_check.specs.Pushes.{push_holds};
 ghost use Rattle.dm_maps.specs.Known.{knows, KnowsAll};
 ghost use Rattle.dm_maps.specs.Trees.{tree_of};
-ghost use Rattle.dm_bindings.specs.Flags.{Globs};
+ghost use Rattle.dm_shadowing.specs.Flags.{Globs};
 ghost use Rattle.dm_retry.specs.Kinds.{is_unnamed};
 ghost use Rattle.dm_retry.specs.Known.{parts};
 ghost use Rattle.dm_retry.specs.Rounds as rounds;

@@ -9,9 +9,10 @@ use Rattle.dm_names.specs.Names.{Name, same_name, find_name}
 use Rattle.dm_ids.specs.declared.imports.ImportOrExternCrate.{ImportOrExternCrate}
 use Rattle.dm_base.specs.Tree.{same_module}
 use Rattle.dm_base.specs.declared.per_ns.Item.{Item}
-use Rattle.dm_bindings.specs.Bindings.{Bound, Reading, import_of, is_glob, is_same, writes, stored, bound, flagged, is_effective_at, bound_after, flags_after}
-use Rattle.dm_bindings.specs.Flags.{Flags, has_flag}
-use Rattle.dm_bindings.proofs.FlagLemmas.{has_flag-with, has_flag-after, has_flag-elsewhere}
+use Rattle.dm_shadowing.specs.Shadowing.{Reading, import_of, is_glob, is_same, writes, flagged}
+use Rattle.dm_bindings.specs.Bindings.{Bound, stored, bound, is_effective_at, bound_after, flags_after}
+use Rattle.dm_shadowing.specs.Flags.{Flags, has_flag}
+use Rattle.dm_shadowing.specs.FlagLaws.{has_flag-with, has_flag-after, has_flag-elsewhere}
 use Rattle.dm_bindings.proofs.PushLemmas.{IsReading, is_same-turned}
 use Rattle.dm_bindings.proofs.ShowLemmas.{lookup-insert_entry}
 

@@ -12,8 +12,9 @@ use Rattle.dm_ids.specs.declared.imports.ImportOrExternCrate.{ImportOrExternCrat
 use Rattle.dm_ids.specs.declared.imports.ImportOrGlob.{ImportOrGlob}
 use Rattle.dm_ids.specs.declared.item_ids.ModuleDefId.{ModuleDefId}
 use Rattle.dm_ids.specs.declared.item_ids.MacroId.{MacroId}
-use Rattle.dm_bindings.specs.Bindings.{Reading, reading, is_effective_at, bound_after, flags_after}
-use Rattle.dm_bindings.specs.Flags.{Globs}
+use Rattle.dm_shadowing.specs.Shadowing.{Reading, reading}
+use Rattle.dm_bindings.specs.Bindings.{is_effective_at, bound_after, flags_after}
+use Rattle.dm_shadowing.specs.Flags.{Globs}
 use Rattle.dm_base.specs.Sameness.{same_import, same_value_import, same_def, same_macro}
 use Rattle.dm_scope.specs.Scope.{Scope}
 

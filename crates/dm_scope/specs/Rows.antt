@@ -18,7 +18,7 @@ use Rattle.dm_ids.specs.declared.item_ids.ModuleDefId.TheVariants as def
 use Rattle.dm_ids.specs.declared.ids.ModuleId.{ModuleId}
 use Rattle.dm_base.specs.Sameness.{same_def}
 use Rattle.dm_bindings.specs.Changes.{without_binding}
-use Rattle.dm_bindings.specs.Flags.{Globs, no_flags, no_globs, has_flag, with_flag}
+use Rattle.dm_shadowing.specs.Flags.{Globs, no_flags, no_globs, has_flag, with_flag}
 use Rattle.dm_scope.specs.Push.{types_reading, values_reading, scope_after, globs_after, push_answer}
 use Rattle.dm_bindings.specs.Pushes.{binding, record_of}
 use Rattle.dm_scope.specs.Scope.{Scope, no_scope, bound_in}

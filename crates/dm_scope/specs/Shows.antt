@@ -8,8 +8,8 @@ use Rattle.dm_base.specs.Tree.{same_module}
 use Rattle.dm_base.specs.declared.per_ns.Item.{Item}
 use Rattle.dm_base.specs.declared.per_ns.PerNs.{PerNs}
 use Rattle.dm_ids.specs.declared.imports.ImportOrExternCrate.{ImportOrExternCrate}
-use Rattle.dm_bindings.specs.Bindings.{Reading, import_of}
-use Rattle.dm_bindings.specs.Flags.{Globs, has_flag}
+use Rattle.dm_shadowing.specs.Shadowing.{Reading, import_of}
+use Rattle.dm_shadowing.specs.Flags.{Globs, has_flag}
 use Rattle.dm_scope.specs.Push.{types_reading, values_reading, macros_reading}
 use Rattle.dm_base.specs.PerNs.{is_empty}
 use Rattle.dm_bindings.specs.Pushes.{IsByName, Push, is_effective, ShowsIn}

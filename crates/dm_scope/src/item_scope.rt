@@ -1,7 +1,7 @@
 //! `ItemScope`, the scope of a module: what its names are bound to, its legacy macros, and the lists of its items.
 ghost use Rattle.std.specs.Prelude.{◌≡◌, []};
 ghost use Rattle.dm_ids.specs.declared.ids.ModuleId.{ModuleId};
-ghost use Rattle.dm_bindings.specs.Flags.{no_globs};
+ghost use Rattle.dm_shadowing.specs.Flags.{no_globs};
 ghost use Rattle.dm_scope.specs.Scope.{no_scope, bound_in};
 ghost use Rattle.dm_scope.specs.Shows.{Shows};
 

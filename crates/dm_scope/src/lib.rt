@@ -15,4 +15,5 @@ mod rare;
 pub mod scope_tables;
 mod table_lists;
 
-pub use dm_bindings::{bindings, lazy_map, reads};
+pub use dm_bindings::{bindings, lazy_map};
+pub use dm_shadowing::reads;

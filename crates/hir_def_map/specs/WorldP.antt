@@ -7,7 +7,7 @@ use Rattle.dm_ids.specs.declared.macros.ProcMacroKind.TheVariants.{Attr}
 use Rattle.dm_base.specs.declared.visibility.Visibility.TheVariants.{Public}
 use Rattle.dm_names.specs.Names.{Name}
 use Rattle.dm_base.specs.PerNs.{macro_alone}
-use Rattle.dm_bindings.specs.Flags.{no_globs}
+use Rattle.dm_shadowing.specs.Flags.{no_globs}
 use Rattle.dm_maps.specs.declared.rules.Rules.TheVariants.{V2}
 use Rattle.dm_maps.specs.Build.{with_rules}
 use Rattle.dm_maps.specs.BuildItems.{with_macro}

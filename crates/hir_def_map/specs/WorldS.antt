@@ -7,7 +7,7 @@ use Rattle.dm_base.specs.declared.per_ns.PerNs.{PerNs}
 use Rattle.dm_ids.specs.declared.item_ids.ModuleDefId.{ModuleDefId}
 use Rattle.dm_names.specs.declared.edition.Edition.TheVariants.{Edition2021}
 use Rattle.dm_base.specs.declared.visibility.Visibility.TheVariants.{Public}
-use Rattle.dm_bindings.specs.Flags.{Globs, no_globs}
+use Rattle.dm_shadowing.specs.Flags.{Globs, no_globs}
 use Rattle.dm_scope.specs.Push.{scope_after, globs_after}
 use Rattle.dm_scope.specs.Scope.{Scope, no_scope}
 use Rattle.dm_maps.specs.Build.{no_world}

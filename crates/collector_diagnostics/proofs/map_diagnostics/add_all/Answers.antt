@@ -1,6 +1,6 @@
 use Rattle.std.proofs.Common.{◌∙◌, sym}
 use Rattle.collector_diagnostics.proofs.AddedLemmas.{one_behind, one_taken}
-use Rattle.dm_bindings.specs.Outcomes.{on-err}
+use Rattle.dm_shadowing.specs.Outcomes.{on-err}
 use Rattle.collector_diagnostics.proofs.map_diagnostics.add_all.Goals as goal
 
 pub loop-diagnostic-preserved : goal.loop-diagnostic-preserved

@@ -1,5 +1,6 @@
 use Rattle.std.proofs.Common.{◌∙◌, sym}
-use Rattle.dm_bindings.specs.Bindings.{reading, pushed, bound_after}
+use Rattle.dm_shadowing.specs.Shadowing.{reading}
+use Rattle.dm_bindings.specs.Bindings.{pushed, bound_after}
 use Rattle.dm_bindings.specs.PushSteps.{written, with_keys, without_keys, finished}
 use Rattle.dm_bindings.proofs.BindingLemmas.{written-with_keys, without_keys-with_keys}
 use Rattle.dm_bindings.proofs.bindings.Bindings.grow.Goals as goal

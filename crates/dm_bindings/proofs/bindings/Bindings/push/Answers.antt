@@ -1,10 +1,11 @@
 use Rattle.std.proofs.Common.{◌∙◌, ◌++◌, ◌∷◌, [], Some, sym, ap, subst₂}
-use Rattle.dm_bindings.specs.Bindings.{reading, import_of, is_effective_at}
-use Rattle.dm_bindings.specs.Flags.{has_flag}
+use Rattle.dm_shadowing.specs.Shadowing.{reading, import_of}
+use Rattle.dm_bindings.specs.Bindings.{is_effective_at}
+use Rattle.dm_shadowing.specs.Flags.{has_flag}
 use Rattle.dm_bindings.specs.Pushes.{ShowsIn}
 use Rattle.dm_bindings.proofs.ClosedLemmas.{ShowsIn-after, is_effective-after}
 use Rattle.dm_bindings.proofs.NameLemmas.{is_by_name}
-use Rattle.dm_bindings.proofs.FlagLemmas.{has_flag-elsewhere}
+use Rattle.dm_shadowing.specs.FlagLaws.{has_flag-elsewhere}
 use Rattle.dm_bindings.proofs.bindings.Bindings.push.Goals as goal
 
 pub returns-clause-shown : goal.returns-clause-shown

@@ -1,7 +1,7 @@
 use Rattle.std.proofs.Common.{◌∙◌, ap, cond, false, rules, sym}
-use Rattle.dm_bindings.specs.Bindings.{reading, import_of, is_glob_by, writes, flagged}
-use Rattle.dm_bindings.specs.Flags.{has_flag, with_flag}
-use Rattle.dm_bindings.proofs.FlagLemmas.{with_flag-same}
+use Rattle.dm_shadowing.specs.Shadowing.{reading, import_of, is_glob_by, writes, flagged}
+use Rattle.dm_shadowing.specs.Flags.{has_flag, with_flag}
+use Rattle.dm_shadowing.specs.FlagLaws.{with_flag-same}
 use Rattle.dm_bindings.proofs.bindings.Bindings.push_named.Goals as goal
 
 pub returns-then-is_first : goal.returns-then-is_first

@@ -15,8 +15,8 @@ use Rattle.dm_ids.specs.declared.ids.ModuleId.{ModuleId}
 use Rattle.dm_names.specs.Names.{Name, same_name}
 use Rattle.dm_base.specs.Tree.{same_module}
 use Rattle.dm_base.specs.IdLaws.{same_module-true, same_module-refl}
-use Rattle.dm_bindings.specs.Bindings.{Reading, is_glob, flagged}
-use Rattle.dm_bindings.specs.Flags.{Flags, flag_cmp, has_flag, has_name, flags_of, with_flag, with_names, without_module}
+use Rattle.dm_shadowing.specs.Shadowing.{Reading, is_glob, flagged}
+use Rattle.dm_shadowing.specs.Flags.{Flags, flag_cmp, has_flag, has_name, flags_of, with_flag, with_names, without_module}
 
 total : IsTotalOrder flag_cmp
 total = on_texts (λ f. f.0.0 ∷ f.1)

@@ -1,11 +1,11 @@
 //! `GlobFlags`: which names of a namespace a glob import bound, so that explicit names can shadow them.
-ghost use Rattle.std.specs.Prelude.{◌≡◌, [], None, true, false, cond, OnOk, OnErr, IfOk};
+ghost use Rattle.std.specs.Prelude.{◌≡◌, None, true, false, cond, OnOk, OnErr, IfOk};
 ghost use Rattle.std.specs.Map.{lookup};
 ghost use Rattle.std.specs.List.{list_any};
 ghost use Rattle.dm_ids.specs.declared.ids.ModuleId.{ModuleId};
 ghost use Rattle.dm_names.specs.Names.{Name, same_name};
 ghost use Rattle.dm_base.specs.Tree.{same_module};
-ghost use Rattle.dm_bindings.specs.Flags.{flags_of, has_flag, with_flag, no_flags, flags_grown, flags_undone, flags_finished};
+ghost use Rattle.dm_shadowing.specs.Flags.{flags_of, has_flag, with_flag, no_flags, flags_grown, flags_undone, flags_finished};
 
 use dm_base::ids::ModuleId;
 use dm_base::name::Name;
@@ -23,7 +23,7 @@ pub struct GlobFlags {
 }
 
 impl Model for GlobFlags {
-    ghost use Rattle.dm_bindings.specs.Flags.{Flags, flags_of};
+    ghost use Rattle.dm_shadowing.specs.Flags.{Flags, flags_of};
 
     ghost Value = { Flags };
 
@@ -53,7 +53,7 @@ impl GlobFlags {
 
     /// The first step of a push that writes: a glob's flag is set. Answers whether it is new. Where an allocation
     /// fails, nothing changes.
-    pub(crate) fn grow(&mut self, m: ModuleId, name: &Name, glob: bool) -> Result<bool, AllocError>
+    pub fn grow(&mut self, m: ModuleId, name: &Name, glob: bool) -> Result<bool, AllocError>
         ensures ok { OnOk result (self.new ≡ flags_grown self.old m name.now glob) }
         ensures undo { IfOk result (λ new. flags_undone self.new m name.now new ≡ self.old) }
         ensures err { OnErr result (self.new ≡ self.old) }
@@ -70,7 +70,7 @@ impl GlobFlags {
     }
 
     /// The second step of a push that writes: the flag of any other push is cleared. Takes no memory.
-    pub(crate) fn finish(&mut self, m: ModuleId, name: &Name, glob: bool)
+    pub fn finish(&mut self, m: ModuleId, name: &Name, glob: bool)
         ensures { self.new ≡ flags_finished self.old m name.now glob }
     {
         if !glob {
@@ -79,7 +79,7 @@ impl GlobFlags {
     }
 
     /// Takes the first step back. A module's set stays, also where it is empty.
-    pub(crate) fn undo(&mut self, m: ModuleId, name: &Name, new: bool)
+    pub fn undo(&mut self, m: ModuleId, name: &Name, new: bool)
         ensures { self.new ≡ flags_undone self.old m name.now new }
     {
         if new {

@@ -1,5 +1,5 @@
 //! How a namespace compares and converts its imports and definitions, as one trait.
-ghost use Rattle.dm_bindings.specs.Bindings.{Reading, reading};
+ghost use Rattle.dm_shadowing.specs.Shadowing.{Reading, reading};
 
 use dm_base::definition::Definition;
 use dm_base::import_source::ImportSource;

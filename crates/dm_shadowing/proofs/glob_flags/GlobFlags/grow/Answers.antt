@@ -1,7 +1,7 @@
 use Rattle.std.proofs.Common.{◌∙◌, ap, false, sym, true}
-use Rattle.dm_bindings.specs.Flags.{with_flag}
-use Rattle.dm_bindings.proofs.FlagLemmas.{with_flag-undone}
-use Rattle.dm_bindings.proofs.glob_flags.GlobFlags.grow.Goals as goal
+use Rattle.dm_shadowing.specs.Flags.{with_flag}
+use Rattle.dm_shadowing.specs.FlagLaws.{with_flag-undone}
+use Rattle.dm_shadowing.proofs.glob_flags.GlobFlags.grow.Goals as goal
 
 pub returns-clause-undo : goal.returns-clause-undo
 returns-clause-undo c =

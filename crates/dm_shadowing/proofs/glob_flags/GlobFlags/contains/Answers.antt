@@ -1,7 +1,7 @@
 use Rattle.std.proofs.Common.{◌∙◌, sym, ap}
-use Rattle.dm_bindings.specs.Flags.{has_flag, has_name}
-use Rattle.dm_bindings.proofs.FlagLemmas.{has_flag-flags_of}
-use Rattle.dm_bindings.proofs.glob_flags.GlobFlags.contains.Goals as goal
+use Rattle.dm_shadowing.specs.Flags.{has_flag, has_name}
+use Rattle.dm_shadowing.specs.FlagLaws.{has_flag-flags_of}
+use Rattle.dm_shadowing.proofs.glob_flags.GlobFlags.contains.Goals as goal
 
 pub returns-in-Some : goal.returns-in-Some
 returns-in-Some c =

@@ -1,9 +1,9 @@
 use Rattle.std.proofs.Common.{◌∙◌, ap, cond, false, refl, subst, sym, IsSome}
 use Rattle.dm_names.specs.Names.{same_name}
-use Rattle.dm_bindings.specs.Flags.{flags_of, has_name, with_flag}
-use Rattle.dm_bindings.proofs.FlagLemmas.{flags_of-with, has_flag-flags_of, with_flag-same}
-use Rattle.dm_bindings.proofs.glob_flags.GlobFlags.clear.Goals as goal
-use Rattle.dm_bindings.proofs.glob_flags.GlobFlags.clear.Goals.{in-Some, in_default}
+use Rattle.dm_shadowing.specs.Flags.{flags_of, has_name, with_flag}
+use Rattle.dm_shadowing.specs.FlagLaws.{flags_of-with, has_flag-flags_of, with_flag-same}
+use Rattle.dm_shadowing.proofs.glob_flags.GlobFlags.clear.Goals as goal
+use Rattle.dm_shadowing.proofs.glob_flags.GlobFlags.clear.Goals.{in-Some, in_default}
 
 pub returns : goal.returns
 returns c = elim c.match-get_mut.branch [

@@ -1,9 +1,9 @@
 use Rattle.std.proofs.Common.{◌∙◌, ap, sym, cond, true}
 use Rattle.std.specs.List.{list_any}
 use Rattle.dm_names.specs.Names.{same_name}
-use Rattle.dm_bindings.specs.Flags.{has_name}
-use Rattle.dm_bindings.proofs.FlagLemmas.{flags_of-with}
-use Rattle.dm_bindings.proofs.glob_flags.add_first.Goals as goal
+use Rattle.dm_shadowing.specs.Flags.{has_name}
+use Rattle.dm_shadowing.specs.FlagLaws.{flags_of-with}
+use Rattle.dm_shadowing.proofs.glob_flags.add_first.Goals as goal
 
 pub returns-clause-ok : goal.returns-clause-ok
 returns-clause-ok c =

@@ -1,10 +1,10 @@
 use Rattle.std.proofs.Common.{◌∙◌, ap, cond, refl, subst, true, IsSome}
 use Rattle.std.specs.List.{list_any}
 use Rattle.dm_names.specs.Names.{same_name}
-use Rattle.dm_bindings.specs.Flags.{has_name, with_flag}
-use Rattle.dm_bindings.specs.Outcomes.{on-err}
-use Rattle.dm_bindings.proofs.FlagLemmas.{flags_of-with, flags_of-kept}
-use Rattle.dm_bindings.proofs.glob_flags.GlobFlags.set.Goals as goal
+use Rattle.dm_shadowing.specs.Flags.{has_name, with_flag}
+use Rattle.dm_shadowing.specs.Outcomes.{on-err}
+use Rattle.dm_shadowing.specs.FlagLaws.{flags_of-with, flags_of-kept}
+use Rattle.dm_shadowing.proofs.glob_flags.GlobFlags.set.Goals as goal
 
 pub returns-in_err-add_name-in-Some-clause-err : goal.returns-in_err-add_name-in-Some-clause-err
 returns-in_err-add_name-in-Some-clause-err c =

@@ -1,0 +1,4 @@
+pub mod FlagLaws
+pub mod Flags
+pub mod Outcomes
+pub mod Shadowing
