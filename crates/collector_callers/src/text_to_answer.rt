@@ -9,8 +9,8 @@ ghost use Rattle.dm_names.specs.declared.ids.Crate.{Crate};
 ghost use Rattle.dm_maps.specs.Known.{knows, KnowsAll};
 ghost use Rattle.dm_maps.specs.World.{crate_map};
 ghost use Rattle.dm_retry.specs.Settling.{IsFixedPoint};
-ghost use Rattle.hir_def_map.specs.Paths.{answer, asked};
-ghost use Rattle.hir_def_map.specs.declared.result.ResolveMode.TheVariants.{Other};
+ghost use Rattle.dm_paths.specs.Paths.{answer, asked};
+ghost use Rattle.dm_paths.specs.declared.result.ResolveMode.TheVariants.{Other};
 
 use crate_modules::crate_data::CrateData;
 use crate_modules::crate_graph::CrateGraph;

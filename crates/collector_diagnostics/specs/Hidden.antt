@@ -12,8 +12,8 @@ use Rattle.dm_maps.specs.ItemHomes.{homes_of}
 use Rattle.dm_maps.specs.Readings.{is_2015_in, root_of}
 use Rattle.dm_maps.specs.World.{World}
 use Rattle.dm_retry.specs.Rounds.{path_meaning}
-use Rattle.hir_def_map.specs.Paths.{type_module}
-use Rattle.hir_def_map.specs.declared.result.ResolvePathResult.{ResolvePathResult}
+use Rattle.dm_paths.specs.Paths.{type_module}
+use Rattle.dm_paths.specs.declared.result.ResolvePathResult.{ResolvePathResult}
 
 -- the first so many segments of a path
 abbrev pub prefix : Path → ℕ → Path

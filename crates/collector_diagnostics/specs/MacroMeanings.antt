@@ -11,9 +11,9 @@ use Rattle.dm_ids.specs.declared.item_ids.MacroId.{MacroId}
 use Rattle.dm_maps.specs.Known.{knows}
 use Rattle.dm_maps.specs.World.{World}
 use Rattle.dm_retry.specs.Rounds.{local_of}
-use Rattle.hir_def_map.specs.Paths.{answer, asked}
-use Rattle.hir_def_map.specs.declared.result.ResolveMode.TheVariants as mode
-use Rattle.hir_def_map.specs.declared.result.ResolvePathResult.{ResolvePathResult}
+use Rattle.dm_paths.specs.Paths.{answer, asked}
+use Rattle.dm_paths.specs.declared.result.ResolveMode.TheVariants as mode
+use Rattle.dm_paths.specs.declared.result.ResolvePathResult.{ResolvePathResult}
 
 -- the crate of a path's `$crate` is the world's, if the path has one
 abbrev pub knows_path : World → PathKind → Bool

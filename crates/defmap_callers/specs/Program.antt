@@ -17,8 +17,8 @@ use Rattle.dm_shadowing.specs.Flags.{no_globs}
 use Rattle.dm_maps.specs.Build.{no_world, with_crate, with_item}
 use Rattle.dm_maps.specs.PushRes.{with_push}
 use Rattle.dm_maps.specs.World.{World}
-use Rattle.hir_def_map.specs.Paths.{answer, asked}
-use Rattle.hir_def_map.specs.declared.result.ResolveMode.TheVariants.{Other}
+use Rattle.dm_paths.specs.Paths.{answer, asked}
+use Rattle.dm_paths.specs.declared.result.ResolveMode.TheVariants.{Other}
 
 abbrev pub root : ModuleId
 root = record { 0 = 0 }

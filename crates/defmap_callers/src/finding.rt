@@ -10,8 +10,8 @@ ghost use Rattle.dm_def_map.specs.Maps.{Map};
 ghost use Rattle.dm_def_map.specs.declared.modules.modes.BuiltinShadowMode.TheVariants.{Module};
 ghost use Rattle.dm_scope.specs.Lookups.{names_for};
 ghost use Rattle.dm_scope.specs.Sorted.{AreEntries, deref_entry};
-ghost use Rattle.hir_def_map.specs.Paths.{answer_alone, asked};
-ghost use Rattle.hir_def_map.specs.declared.result.ResolveMode.TheVariants.{Other};
+ghost use Rattle.dm_paths.specs.Paths.{answer_alone, asked};
+ghost use Rattle.dm_paths.specs.declared.result.ResolveMode.TheVariants.{Other};
 ghost use Rattle.defmap_callers.specs.Finding.{public_name};
 
 use dm_base::ids::{Crate, ModuleId};

@@ -10,8 +10,8 @@ ghost use Rattle.dm_maps.specs.World.{crate_map, scope_of};
 ghost use Rattle.dm_def_map.specs.Maps.{LocalMap, Map};
 ghost use Rattle.dm_def_map.specs.declared.modules.modes.BuiltinShadowMode.TheVariants.{Module};
 ghost use Rattle.dm_scope.specs.Shows.{PushShows, push_of};
-ghost use Rattle.hir_def_map.specs.Paths.{answer, asked};
-ghost use Rattle.hir_def_map.specs.declared.result.ResolveMode.TheVariants.{Other};
+ghost use Rattle.dm_paths.specs.Paths.{answer, asked};
+ghost use Rattle.dm_paths.specs.declared.result.ResolveMode.TheVariants.{Other};
 
 use dm_base::ids::{Crate, ModuleId};
 use dm_base::imports::{ImportId, ImportOrExternCrate};

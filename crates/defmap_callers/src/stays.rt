@@ -15,9 +15,9 @@ ghost use Rattle.dm_maps.specs.World.{crate_map, scope_of};
 ghost use Rattle.dm_def_map.specs.Maps.{LocalMap, Map};
 ghost use Rattle.dm_def_map.specs.declared.modules.modes.BuiltinShadowMode.TheVariants.{Module};
 ghost use Rattle.dm_scope.specs.Shows.{PushShows, push_of};
-ghost use Rattle.hir_def_map.specs.Paths.{asked, prelude_answer};
+ghost use Rattle.dm_paths.specs.Paths.{asked, prelude_answer};
 ghost use Rattle.hir_def_map.specs.RawVisibilities.{raw_visibility};
-ghost use Rattle.hir_def_map.specs.declared.result.ResolveMode.TheVariants.{Other};
+ghost use Rattle.dm_paths.specs.declared.result.ResolveMode.TheVariants.{Other};
 ghost use Rattle.defmap_callers.specs.Maps.{LiesIn};
 
 use crate::scopes;

@@ -18,7 +18,7 @@ use Rattle.dm_def_map.specs.Maps.{Map, LocalMap, module_at}
 use Rattle.dm_check.specs.Pushes.{push_holds}
 use Rattle.dm_maps.specs.PushRes.{with_push}
 use Rattle.dm_maps.specs.World.{World, map_of, numbered_map, scope_if_known, scope_of, with_scope}
-use Rattle.hir_def_map.specs.Paths.{asked, answer, answer_alone}
+use Rattle.dm_paths.specs.Paths.{asked, answer, answer_alone}
 use Rattle.defmap_script.specs.declared.engine.Reply.{Reply}
 use Rattle.defmap_script.specs.declared.engine.Reply.TheVariants.{Nothing, Pushed, Answered, Ended, Sees, Compared, Dumped}
 use Rattle.defmap_script.specs.declared.engine.Stage.{Stage}

@@ -16,7 +16,7 @@ use Rattle.dm_base.specs.declared.mod_path.PathKind.{PathKind}
 use Rattle.dm_base.specs.declared.per_ns.PerNs.{PerNs}
 use Rattle.dm_def_map.specs.declared.modules.modes.BuiltinShadowMode.{BuiltinShadowMode}
 use Rattle.dm_def_map.specs.declared.modules.modes.MacroSubNs.{MacroSubNs}
-use Rattle.hir_def_map.specs.declared.result.ResolveMode.{ResolveMode}
+use Rattle.dm_paths.specs.declared.result.ResolveMode.{ResolveMode}
 use Rattle.defmap_script.specs.declared.dump_lines.Dumping.{Dumping}
 use Rattle.defmap_script.specs.declared.lines.BadLine.{BadLine}
 use Rattle.defmap_script.specs.declared.lines.Command.{Command}

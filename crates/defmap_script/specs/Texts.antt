@@ -19,10 +19,10 @@ use Rattle.dm_base.specs.declared.visibility.VisibilityExplicitness.{VisibilityE
 use Rattle.dm_base.specs.declared.visibility.VisibilityExplicitness.TheVariants.{Explicit, Implicit}
 use Rattle.dm_ids.specs.Builtins.{builtin_word}
 use Rattle.dm_ids.specs.Imports.{widened}
-use Rattle.hir_def_map.specs.declared.result.ReachedFixedPoint.{ReachedFixedPoint}
-use Rattle.hir_def_map.specs.declared.result.ReachedFixedPoint.TheVariants.{Yes, No}
-use Rattle.hir_def_map.specs.declared.result.ResolvePathResult.{ResolvePathResult}
-use Rattle.hir_def_map.specs.declared.result.ResolvePathResultPrefixInfo.{ResolvePathResultPrefixInfo}
+use Rattle.dm_paths.specs.declared.result.ReachedFixedPoint.{ReachedFixedPoint}
+use Rattle.dm_paths.specs.declared.result.ReachedFixedPoint.TheVariants.{Yes, No}
+use Rattle.dm_paths.specs.declared.result.ResolvePathResult.{ResolvePathResult}
+use Rattle.dm_paths.specs.declared.result.ResolvePathResultPrefixInfo.{ResolvePathResultPrefixInfo}
 
 abbrev pub macro_text : MacroId → List ℕ
 macro_text («macro».Macro2Id m) = codes "macro2:" ++ decimal m.0

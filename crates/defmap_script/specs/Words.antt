@@ -32,8 +32,8 @@ use Rattle.dm_def_map.specs.declared.modules.modes.BuiltinShadowMode.{BuiltinSha
 use Rattle.dm_def_map.specs.declared.modules.modes.BuiltinShadowMode.TheVariants as shadow
 use Rattle.dm_def_map.specs.declared.modules.modes.MacroSubNs.{MacroSubNs}
 use Rattle.dm_def_map.specs.declared.modules.modes.MacroSubNs.TheVariants as expected
-use Rattle.hir_def_map.specs.declared.result.ResolveMode.{ResolveMode}
-use Rattle.hir_def_map.specs.declared.result.ResolveMode.TheVariants as mode
+use Rattle.dm_paths.specs.declared.result.ResolveMode.{ResolveMode}
+use Rattle.dm_paths.specs.declared.result.ResolveMode.TheVariants as mode
 
 -- decimal digits, one at least, of a value below 2^32; zeros may lead
 abbrev pub number : Name → Option ℕ

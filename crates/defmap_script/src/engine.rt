@@ -1,7 +1,7 @@
 //! The interpreter: the state of a run, and what a command does to it.
 ghost use Rattle.std.specs.Prelude.{◌≡◌, Some, IfOk, IfSome};
 ghost use Rattle.std.specs.String.{string_bytes};
-ghost use Rattle.hir_def_map.specs.Paths as paths;
+ghost use Rattle.dm_paths.specs.Paths as paths;
 ghost use Rattle.hir_def_map.specs.Questions as questions;
 ghost use Rattle.defmap_script.specs.Engine.{fresh, Answers, Finds, PushesInto, PushesWithin, reply_text, Steps};
 ghost use Rattle.defmap_script.specs.Lines.{asked, asking, Checks, Reopens, words_left};

@@ -32,7 +32,7 @@ use dm_base::name::Name;
 use dm_base::per_ns::Item;
 use dm_shadowing::glob_flags::GlobFlags;
 use dm_shadowing::reads::Reads;
-use dm_shadowing::shadowing::{self, is_glob, narrowed};
+use dm_shadowing::shadowing::{is_glob, narrowed, replaces};
 use indexmap::map;
 use std::alloc::{AllocError, Global};
 use std::marker::Model;
@@ -334,7 +334,10 @@ impl<D: Definition, I: ImportSource> Bindings<D, I> {
             ≡ writes ⟦<D as Reads<I>>⟧.reading (find_name name.now self.now.items) flag item.now
             import }
     {
-        shadowing::writes(self.get(name), flag, item, import)
+        let Some(old) = self.get(name) else {
+            return true;
+        };
+        replaces(old, flag, item, import)
     }
 
     /// Puts the new keys of a push that writes last, with their values. Where an allocation fails, nothing changes.

@@ -23,7 +23,7 @@ use Rattle.dm_scope.specs.Scope.{bound_in}
 use Rattle.dm_scope.specs.Sorted.{names_of}
 use Rattle.dm_retry.specs.Kinds.{re_exported}
 use Rattle.dm_retry.specs.Rounds.{path_meaning}
-use Rattle.hir_def_map.specs.declared.result.ResolvePathResult.{ResolvePathResult}
+use Rattle.dm_paths.specs.declared.result.ResolvePathResult.{ResolvePathResult}
 use Rattle.dm_collector.specs.declared.globs.Glob.{Glob}
 use Rattle.dm_collector.specs.declared.sources.GlobImport.{GlobImport}
 use Rattle.dm_collector.specs.declared.sources.GlobSource.{GlobSource}

@@ -24,7 +24,7 @@ use Rattle.dm_maps.specs.ItemHomes.{homes_of}
 use Rattle.dm_maps.specs.Known.{knows, KnowsAll}
 use Rattle.dm_maps.specs.Trees.{tree_of}
 use Rattle.dm_maps.specs.World.{World}
-use Rattle.hir_def_map.specs.declared.result.ResolvePathResult.{ResolvePathResult}
+use Rattle.dm_paths.specs.declared.result.ResolvePathResult.{ResolvePathResult}
 use Rattle.dm_maps.specs.KnownLaws.{knows-append, knows-left, knows-middle, knows-right, macros-known, types-known, values-known, vis_known}
 use Rattle.dm_retry.specs.Known.{parts}
 use Rattle.dm_retry.specs.declared.import_kind.ImportKind.{ImportKind}

@@ -27,8 +27,8 @@ use Rattle.dm_maps.specs.PushRes.{with_push}
 use Rattle.dm_maps.specs.Stays.{StaysKnown}
 use Rattle.dm_maps.specs.Trees.{tree_of}
 use Rattle.dm_maps.specs.World.{World, scope_of, with_scope}
-use Rattle.hir_def_map.specs.declared.result.ResolveMode.TheVariants as mode
-use Rattle.hir_def_map.specs.Paths.{answer, asked}
+use Rattle.dm_paths.specs.declared.result.ResolveMode.TheVariants as mode
+use Rattle.dm_paths.specs.Paths.{answer, asked}
 use Rattle.dm_retry.specs.Kinds.{by_kind, if_any, is_unnamed}
 use Rattle.dm_retry.specs.Rounds.{Pending, answered, would_write, resolved_items, by_import, to_push, given, globs_with, local_of, marked, meaning, world_after}
 use Rattle.dm_retry.proofs.ScopeLemmas.{idle-scope, idle-globs}

@@ -7,7 +7,7 @@ use Rattle.dm_shadowing.specs.Flags.{Globs, no_globs, with_flag}
 use Rattle.dm_maps.specs.Build.{no_world}
 use Rattle.dm_maps.specs.ItemHomes.{homes_of}
 use Rattle.dm_maps.specs.World.{World}
-use Rattle.hir_def_map.specs.Paths.{answer}
+use Rattle.dm_paths.specs.Paths.{answer}
 use Rattle.hir_def_map.specs.Written.{a_map, a_module, an_item, binds_types, crate_id, leaf, module_with, number, place}
 use Rattle.dm_retry.specs.declared.import_kind.ImportKind.TheVariants as kind
 use Rattle.dm_retry.specs.Rounds.{Pending, State, to_push, round_answer, rounds}

@@ -19,9 +19,9 @@ use Rattle.dm_maps.specs.ItemHomes.{homes_of}
 use Rattle.dm_maps.specs.PushRes.{with_push}
 use Rattle.dm_maps.specs.Trees.{tree_of}
 use Rattle.dm_maps.specs.World.{World, scope_of}
-use Rattle.hir_def_map.specs.declared.result.ResolveMode.TheVariants as mode
-use Rattle.hir_def_map.specs.declared.result.ResolvePathResult.{ResolvePathResult}
-use Rattle.hir_def_map.specs.Paths.{answer, asked}
+use Rattle.dm_paths.specs.declared.result.ResolveMode.TheVariants as mode
+use Rattle.dm_paths.specs.declared.result.ResolvePathResult.{ResolvePathResult}
+use Rattle.dm_paths.specs.Paths.{answer, asked}
 use Rattle.dm_retry.specs.declared.import_kind.ImportKind.{ImportKind}
 use Rattle.dm_retry.specs.Kinds.{by_kind, if_any, is_unnamed}
 use Rattle.dm_retry.specs.Unnamed.{unnamed_answer, with_unnamed}

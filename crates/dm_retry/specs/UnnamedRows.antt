@@ -16,7 +16,7 @@ use Rattle.dm_maps.specs.Build.{no_world}
 use Rattle.dm_maps.specs.ItemHomes.{homes_of}
 use Rattle.dm_maps.specs.Trees.{tree_of}
 use Rattle.dm_maps.specs.World.{World, scope_of}
-use Rattle.hir_def_map.specs.Paths.{answer}
+use Rattle.dm_paths.specs.Paths.{answer}
 use Rattle.hir_def_map.specs.Written.{a_map, a_module, a_struct, an_item, binds_types, crate_id, leaf, module_with, number, place, within, within_crate}
 use Rattle.dm_retry.specs.declared.import_kind.ImportKind.TheVariants as kind
 use Rattle.dm_retry.specs.Rounds.{Pending, State, finds_nothing, to_push, round_answer, rounds}

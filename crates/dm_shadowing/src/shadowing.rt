@@ -1,6 +1,6 @@
-//! Whether a push writes, and how a namespace sees its import: explicit names shadow what a glob bound.
-ghost use Rattle.std.specs.Prelude.{◌≡◌};
-ghost use Rattle.std.specs.Option.{option_and_then, option_copied};
+//! Whether a push replaces what is bound, and how a namespace sees its import: explicit names shadow what a glob bound.
+ghost use Rattle.std.specs.Prelude.{◌≡◌, Some};
+ghost use Rattle.std.specs.Option.{option_and_then};
 ghost use Rattle.dm_shadowing.specs.Shadowing.{is_glob_by, writes};
 
 use crate::reads::Reads;
@@ -29,18 +29,15 @@ pub fn is_glob<I: ImportSource>(import: Option<I>) -> bool
     }
 }
 
-/// Whether a push writes: from what is bound under its name, whether the glob flag of the name stands, and what is
-/// pushed by which import (docs/RULES.md, "Pushes"). Takes no memory.
-pub fn writes<D: Definition, I: ImportSource>(
-    bound: Option<&Item<D, I>>,
+/// Whether a push replaces what is bound under its name: from that, whether the glob flag of the name stands, and what
+/// is pushed by which import (docs/RULES.md, "Pushes"). Takes no memory.
+pub fn replaces<D: Definition, I: ImportSource>(
+    bound: &Item<D, I>,
     flag: bool,
     item: &Item<D, I>,
     import: Option<I>,
 ) -> bool
-    ensures { result ≡ writes ⟦<D as Reads<I>>⟧.reading (option_copied bound) flag item.now import }
+    ensures { result ≡ writes ⟦<D as Reads<I>>⟧.reading (Some bound.now) flag item.now import }
 {
-    let Some(old) = bound else {
-        return true;
-    };
-    !is_glob(import) && (flag || old.is_reresolved_by(&item.def, import))
+    !is_glob(import) && (flag || bound.is_reresolved_by(&item.def, import))
 }

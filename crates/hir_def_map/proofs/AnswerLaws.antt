@@ -22,15 +22,15 @@ use Rattle.dm_base.specs.Tree.{Tree, home, outer, crate_of, in_block_map, same_m
 use Rattle.dm_def_map.specs.Maps.{LocalMap}
 use Rattle.dm_maps.specs.Readings.{Setting, Reading, setting_of, read}
 use Rattle.dm_maps.specs.World.{World}
-use Rattle.hir_def_map.specs.declared.question.Ask.{Ask}
-use Rattle.hir_def_map.specs.declared.result.ReachedFixedPoint.{ReachedFixedPoint}
-use Rattle.hir_def_map.specs.declared.result.ReachedFixedPoint.TheVariants.{Yes, No}
-use Rattle.hir_def_map.specs.declared.result.ResolvePathResult.{ResolvePathResult}
-use Rattle.hir_def_map.specs.Answers.{nothing_no, nothing_yes, reached, stopped, variant_answer, yes_in_block, either_yes, over_answer, merged}
+use Rattle.dm_paths.specs.declared.question.Ask.{Ask}
+use Rattle.dm_paths.specs.declared.result.ReachedFixedPoint.{ReachedFixedPoint}
+use Rattle.dm_paths.specs.declared.result.ReachedFixedPoint.TheVariants.{Yes, No}
+use Rattle.dm_paths.specs.declared.result.ResolvePathResult.{ResolvePathResult}
+use Rattle.dm_paths.specs.Answers.{nothing_no, nothing_yes, reached, stopped, variant_answer, yes_in_block, either_yes, over_answer, merged}
 use Rattle.hir_def_map.specs.Laws.{IsAnswer}
-use Rattle.hir_def_map.specs.declared.place.Place.{Place}
-use Rattle.hir_def_map.specs.declared.place.Place.TheVariants.{In, Preludes}
-use Rattle.hir_def_map.specs.Paths.{is_empty, at_variant, stop, enter, root_item, from_root, from_super, by_first_segment, missed, by_2015_rule, layers, seen_from, single}
+use Rattle.dm_paths.specs.declared.place.Place.{Place}
+use Rattle.dm_paths.specs.declared.place.Place.TheVariants.{In, Preludes}
+use Rattle.dm_paths.specs.Paths.{is_empty, at_variant, stop, enter, root_item, from_root, from_super, by_first_segment, missed, by_2015_rule, layers, seen_from, single}
 use Rattle.hir_def_map.specs.Walk.{Stand, starting, crossed, through, walk}
 use Rattle.hir_def_map.proofs.WalkLemmas.{walk-stop}
 use Rattle.hir_def_map.proofs.StopLemmas.{enter-stop}

@@ -9,10 +9,10 @@ use Rattle.dm_maps.specs.Known.{KnowsAll}
 use Rattle.dm_maps.specs.Readings.{setting_of}
 use Rattle.dm_maps.specs.World.{World}
 use Rattle.hir_def_map.specs.Laws.{IsAnswer, Meaning, Resolves}
-use Rattle.hir_def_map.specs.Paths.{answer, answer_alone, prelude_answer, places}
-use Rattle.hir_def_map.specs.declared.place.Place.TheVariants.{In, Preludes}
-use Rattle.hir_def_map.specs.declared.question.Ask.{Ask}
-use Rattle.hir_def_map.specs.declared.result.ResolvePathResult.{ResolvePathResult}
+use Rattle.dm_paths.specs.Paths.{answer, answer_alone, prelude_answer, places}
+use Rattle.dm_paths.specs.declared.place.Place.TheVariants.{In, Preludes}
+use Rattle.dm_paths.specs.declared.question.Ask.{Ask}
+use Rattle.dm_paths.specs.declared.result.ResolvePathResult.{ResolvePathResult}
 use Rattle.hir_def_map.proofs.AnswerLaws.{merged-names, single-names}
 use Rattle.hir_def_map.proofs.CutLemmas.{answer-cut, alone-cut, preludes-cut}
 

@@ -11,9 +11,9 @@ use Rattle.dm_maps.specs.Cut.{cut, cut_local}
 use Rattle.dm_maps.specs.CutLaws.{setting-cut, read-cut}
 use Rattle.dm_maps.specs.Readings.{read}
 use Rattle.dm_maps.specs.World.{World}
-use Rattle.hir_def_map.specs.declared.place.Place.TheVariants.{In, Preludes}
-use Rattle.hir_def_map.specs.declared.question.Ask.{Ask}
-use Rattle.hir_def_map.specs.Paths.{answer, answer_of, answer_alone, prelude_answer, single}
+use Rattle.dm_paths.specs.declared.place.Place.TheVariants.{In, Preludes}
+use Rattle.dm_paths.specs.declared.question.Ask.{Ask}
+use Rattle.dm_paths.specs.Paths.{answer, answer_of, answer_alone, prelude_answer, single}
 
 reads-cut : (w : World) (L : LocalMap) (N S : List Name) → All (Contains N) S → map (read (cut w N) (cut_local L N)) S ≡ map (read w L) S
 reads-cut w L N [] h = refl

@@ -1,5 +1,5 @@
 -- Which layers a first segment is looked up in.
-use Rattle.std.proofs.Common.{◌≡◌, Bool, false, cond, List, [], ◌∷◌, ap, sym, ◌∙◌, map, nat_eq, length}
+use Rattle.std.proofs.Common.{◌≡◌, Bool, cond, List, ◌∷◌, ap, sym, ◌∙◌, map, nat_eq, length}
 use Rattle.dm_base.specs.declared.mod_path.PathKind.{PathKind}
 use Rattle.dm_base.specs.declared.mod_path.PathKind.TheVariants as kind
 use Rattle.dm_base.specs.declared.per_ns.PerNs.{PerNs}
@@ -10,13 +10,13 @@ use Rattle.dm_names.specs.Names.{Name}
 use Rattle.dm_def_map.specs.Maps.{LocalMap}
 use Rattle.dm_maps.specs.Readings.{Setting, Reading, setting_of, read}
 use Rattle.dm_maps.specs.World.{World}
-use Rattle.hir_def_map.specs.Answers.{nothing_no}
+use Rattle.dm_paths.specs.Answers.{nothing_no}
 use Rattle.hir_def_map.proofs.WalkLemmas.{empty-map}
-use Rattle.hir_def_map.specs.declared.question.Ask.{Ask}
-use Rattle.hir_def_map.specs.declared.result.ResolvePathResult.{ResolvePathResult}
-use Rattle.hir_def_map.specs.Paths.{from_root, from_super, single, by_2015_rule, extern_prelude, layers, layers_by_2015_rule, missed, plain_layers, by_first_segment, stop, enter, seen_from}
-use Rattle.hir_def_map.specs.declared.place.Place.{Place}
-use Rattle.hir_def_map.specs.declared.place.Place.TheVariants.{In}
+use Rattle.dm_paths.specs.declared.question.Ask.{Ask}
+use Rattle.dm_paths.specs.declared.result.ResolvePathResult.{ResolvePathResult}
+use Rattle.dm_paths.specs.Paths.{from_root, from_super, single, by_2015_rule, layers, missed, by_first_segment, stop, enter, seen_from}
+use Rattle.dm_paths.specs.declared.place.Place.{Place}
+use Rattle.dm_paths.specs.declared.place.Place.TheVariants.{In}
 
 -- the answer by a first segment, along names
 pub first-names : (w : World) (L : LocalMap) (q : Ask) (p : Place) (n : Name) (rest segments : List Name) (x : PerNs) (is_last is_missed : Bool)
@@ -30,13 +30,6 @@ first-names w L q p n rest segments x is_last is_missed e last_is x_is missed_is
     ap (λ ns. by_first_segment g q p (map (read w L) ns)) e
     ∙ ap (λ y. ended (missed q (by_2015_rule g q p) y) y) (ap found (empty-map (read w L) rest ∙ sym last_is) ∙ sym x_is)
     ∙ ap (λ m. ended m x) (sym missed_is)
-
--- after `::`, where the 2015 rule does not hold, the extern prelude is the one layer
-pub layers-abs : (w : Setting) (q : Ask) (p : Place) (s : Reading) (is_last : Bool) → by_2015_rule w q p ≡ false → q.kind ≡ kind.Abs → layers w q p s is_last ≡ extern_prelude s ∷ []
-layers-abs w q p s is_last unruled is = ap (λ r. cond r (layers_by_2015_rule w p s) (by q.kind)) unruled ∙ ap by is
-  where
-    by : PathKind → List PerNs
-    by k = elim k [ kind.Abs ↦ extern_prelude s ∷ [] | _ ↦ plain_layers w q p s is_last ]
 
 -- what a module answers alone, by the kind of path
 abbrev pub single_by : Setting → Ask → List Reading → ModuleId → PathKind → ResolvePathResult

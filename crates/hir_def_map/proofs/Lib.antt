@@ -2,7 +2,6 @@ pub mod StopLemmas
 pub mod WalkLemmas
 pub mod KnownLemmas
 pub mod LayerLemmas
-pub mod LayerLaws
 pub mod TypeLaws
 pub mod PlaceLemmas
 pub mod AnswerLaws

@@ -23,14 +23,13 @@ use Rattle.dm_maps.specs.declared.rules.Rules.{Rules}
 use Rattle.dm_maps.specs.declared.rules.Rules.TheVariants.{V1, V2}
 use Rattle.dm_maps.specs.Readings.{Setting, Reading, read, setting_of}
 use Rattle.dm_maps.specs.World.{World}
-use Rattle.hir_def_map.specs.declared.place.Place.{Place}
-use Rattle.hir_def_map.specs.declared.place.Place.TheVariants.{In}
-use Rattle.hir_def_map.specs.declared.question.Ask.{Ask}
-use Rattle.hir_def_map.specs.Answers.{nothing_no}
-use Rattle.hir_def_map.specs.Paths.{are_builtins_first, builtins_of, builtins_or_scope, by_2015_rule, by_first_segment, enter, extern_prelude, fits, fitting, layers, legacy, macro_use_prelude, missed, of_prelude, plain_layers, prelude, seen_from, stop, type_module, unless_block_root}
+use Rattle.dm_paths.specs.declared.place.Place.{Place}
+use Rattle.dm_paths.specs.declared.place.Place.TheVariants.{In}
+use Rattle.dm_paths.specs.declared.question.Ask.{Ask}
+use Rattle.dm_paths.specs.Answers.{nothing_no}
+use Rattle.dm_paths.specs.Paths.{are_builtins_first, builtins_of, builtins_or_scope, by_2015_rule, by_first_segment, enter, extern_prelude, fits, fitting, layers, legacy, macro_use_prelude, missed, of_prelude, plain_layers, prelude, seen_from, stop, type_module, unless_block_root}
 use Rattle.hir_def_map.specs.Walk.{in_types, starting, walk}
-use Rattle.hir_def_map.proofs.LayerLaws.{AreTypes, extern-alone, macro_use-is}
-use Rattle.hir_def_map.proofs.LayerLemmas.{layers-abs}
+use Rattle.dm_paths.specs.LayerLaws.{AreTypes, extern-alone, macro_use-is, layers-abs}
 use Rattle.hir_def_map.proofs.WalkLemmas.{walk-stop}
 
 abbrev Type_item : Type 0

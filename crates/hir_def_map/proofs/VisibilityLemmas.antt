@@ -19,7 +19,7 @@ use Rattle.dm_maps.specs.Trees.{tree_of}
 use Rattle.dm_maps.specs.World.{World, crate_map}
 use Rattle.dm_def_map.specs.Maps.{Map}
 use Rattle.hir_def_map.specs.RawVisibilities.{IsOfWorld, module_reached, block_in, restricted}
-use Rattle.hir_def_map.specs.Paths.{type_module}
+use Rattle.dm_paths.specs.Paths.{type_module}
 use Rattle.hir_def_map.proofs.KnownLemmas.{module_in-known}
 
 -- a module that known items lead to is known

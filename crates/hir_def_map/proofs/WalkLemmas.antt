@@ -18,10 +18,10 @@ use Rattle.dm_def_map.specs.Maps.{LocalMap}
 use Rattle.dm_maps.specs.Readings.{Reading, read}
 use Rattle.dm_maps.specs.Trees.{tree_of}
 use Rattle.dm_maps.specs.World.{World}
-use Rattle.hir_def_map.specs.declared.result.ResolvePathResult.{ResolvePathResult}
+use Rattle.dm_paths.specs.declared.result.ResolvePathResult.{ResolvePathResult}
 use Rattle.hir_def_map.specs.declared.segments.Entered.{Entered}
-use Rattle.hir_def_map.specs.Answers.{from_other_crate}
-use Rattle.hir_def_map.specs.Paths.{Entering, is_empty, at_variant, module_in, stop, seen_in, root_item, enter, enter_within}
+use Rattle.dm_paths.specs.Answers.{from_other_crate}
+use Rattle.dm_paths.specs.Paths.{Entering, is_empty, at_variant, module_in, stop, seen_in, root_item, enter, enter_within}
 use Rattle.hir_def_map.specs.Walk.{Stand, crossed, standing, entry, left_at, through, walk}
 use Rattle.hir_def_map.proofs.StopLemmas.{stop-through, stop-here, own_crate, stop-enters}
 

@@ -8,10 +8,10 @@ use Rattle.dm_def_map.specs.Maps.{LocalMap}
 use Rattle.dm_maps.specs.Cut.{cut, cut_local}
 use Rattle.dm_maps.specs.Known.{KnowsAll}
 use Rattle.dm_maps.specs.World.{World}
-use Rattle.hir_def_map.specs.declared.question.Ask.{Ask}
-use Rattle.hir_def_map.specs.declared.result.ReachedFixedPoint.TheVariants.{No}
-use Rattle.hir_def_map.specs.declared.result.ResolvePathResult.{ResolvePathResult}
-use Rattle.hir_def_map.specs.Answers.{nothing_no}
+use Rattle.dm_paths.specs.declared.question.Ask.{Ask}
+use Rattle.dm_paths.specs.declared.result.ReachedFixedPoint.TheVariants.{No}
+use Rattle.dm_paths.specs.declared.result.ResolvePathResult.{ResolvePathResult}
+use Rattle.dm_paths.specs.Answers.{nothing_no}
 
 -- the segment of a path of n that is left, if one is: one of the path's, and never the first
 abbrev pub IsLeft : ℕ → Option ℕ → Type 0

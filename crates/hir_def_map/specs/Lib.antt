@@ -1,6 +1,3 @@
-pub mod Answers
-pub mod Overlays
-pub mod Paths
 pub mod Questions
 pub mod Laws
 pub mod Walk

@@ -32,9 +32,9 @@ use Rattle.dm_maps.specs.Known.{KnowsAll}
 use Rattle.dm_maps.specs.Trees.{tree_of}
 use Rattle.dm_maps.specs.RawTables.{fields_in, assoc_in, trait_visibility_in}
 use Rattle.dm_maps.specs.World.{World, map_of, numbered_map}
-use Rattle.hir_def_map.specs.declared.result.ResolveMode.TheVariants.{Other}
-use Rattle.hir_def_map.specs.declared.result.ResolvePathResult.{ResolvePathResult}
-use Rattle.hir_def_map.specs.Paths.{asked, answer, type_module}
+use Rattle.dm_paths.specs.declared.result.ResolveMode.TheVariants.{Other}
+use Rattle.dm_paths.specs.declared.result.ResolvePathResult.{ResolvePathResult}
+use Rattle.dm_paths.specs.Paths.{asked, answer, type_module}
 
 -- A raw visibility that a world can resolve: the map is the world's of its id, the module that it is written in lies in
 -- it, and local map and path name only what the world has.

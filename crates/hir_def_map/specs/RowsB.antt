@@ -9,10 +9,10 @@ use Rattle.dm_base.specs.declared.visibility.VisibilityExplicitness.TheVariants.
 use Rattle.dm_def_map.specs.declared.modules.modes.BuiltinShadowMode.TheVariants as shadow
 use Rattle.dm_maps.specs.Build.{no_world}
 use Rattle.dm_maps.specs.World.{World}
-use Rattle.hir_def_map.specs.declared.result.ResolveMode.TheVariants as mode
-use Rattle.hir_def_map.specs.declared.result.ReachedFixedPoint.TheVariants.{Yes, No}
-use Rattle.hir_def_map.specs.declared.question.Ask.{Ask}
-use Rattle.hir_def_map.specs.Paths.{answer, answer_alone, prelude_answer, asked}
+use Rattle.dm_paths.specs.declared.result.ResolveMode.TheVariants as mode
+use Rattle.dm_paths.specs.declared.result.ReachedFixedPoint.TheVariants.{Yes, No}
+use Rattle.dm_paths.specs.declared.question.Ask.{Ask}
+use Rattle.dm_paths.specs.Paths.{answer, answer_alone, prelude_answer, asked}
 use Rattle.hir_def_map.specs.Written.{meant, said, an_item, a_module, a_struct, a_function, by_rules, within, binds_types, crate_id, module_with, a_map, number, place}
 use Rattle.hir_def_map.specs.WorldA.{world_a, externs}
 

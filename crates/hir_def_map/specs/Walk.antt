@@ -8,11 +8,11 @@ use Rattle.dm_base.specs.declared.per_ns.Item.{Item}
 use Rattle.dm_base.specs.declared.per_ns.PerNs.{PerNs}
 use Rattle.dm_base.specs.Tree.{Tree, same_crate, crate_of, home}
 use Rattle.dm_maps.specs.Readings.{Reading}
-use Rattle.hir_def_map.specs.declared.result.ReachedFixedPoint.TheVariants.{Yes}
-use Rattle.hir_def_map.specs.declared.result.ResolvePathResult.{ResolvePathResult}
+use Rattle.dm_paths.specs.declared.result.ReachedFixedPoint.TheVariants.{Yes}
+use Rattle.dm_paths.specs.declared.result.ResolvePathResult.{ResolvePathResult}
 use Rattle.hir_def_map.specs.declared.segments.Entered.{Entered}
-use Rattle.hir_def_map.specs.Answers.{reached, nothing_no, stopped}
-use Rattle.hir_def_map.specs.Paths.{module_in, seen_in, at_adt, is_empty}
+use Rattle.dm_paths.specs.Answers.{reached, nothing_no, stopped}
+use Rattle.dm_paths.specs.Paths.{module_in, seen_in, at_adt, is_empty}
 
 -- an answer after the walk has come into another crate, if it has
 abbrev pub crossed : Bool → ResolvePathResult → ResolvePathResult

@@ -34,11 +34,11 @@ use Rattle.dm_def_map.specs.CrateData.{fresh_data}
 use Rattle.dm_def_map.specs.Maps as maps
 use Rattle.dm_def_map.specs.Maps.{Map, Modules, LocalMap}
 use Rattle.dm_maps.specs.World.{World}
-use Rattle.hir_def_map.specs.declared.result.ResolveMode.{ResolveMode}
-use Rattle.hir_def_map.specs.declared.result.ResolveMode.TheVariants.{Other}
-use Rattle.hir_def_map.specs.declared.result.ReachedFixedPoint.{ReachedFixedPoint}
-use Rattle.hir_def_map.specs.declared.result.ResolvePathResult.{ResolvePathResult}
-use Rattle.hir_def_map.specs.Paths.{answer, asked}
+use Rattle.dm_paths.specs.declared.result.ResolveMode.{ResolveMode}
+use Rattle.dm_paths.specs.declared.result.ResolveMode.TheVariants.{Other}
+use Rattle.dm_paths.specs.declared.result.ReachedFixedPoint.{ReachedFixedPoint}
+use Rattle.dm_paths.specs.declared.result.ResolvePathResult.{ResolvePathResult}
+use Rattle.dm_paths.specs.Paths.{answer, asked}
 
 -- definitions by their numbers
 abbrev pub a_module : ℕ → ModuleDefId

@@ -8,14 +8,10 @@ ghost use Rattle.dm_def_map.specs.Maps.{LocalMap};
 ghost use Rattle.dm_maps.specs.Known.{KnowsAll};
 ghost use Rattle.dm_maps.specs.Readings.{read, setting_of};
 ghost use Rattle.dm_maps.specs.Trees.{tree_of};
-ghost use Rattle.hir_def_map.specs.Paths.{IsKnownPlace, builtins_of, extern_prelude, layers, plain_layers, prelude, unless_block_root};
+ghost use Rattle.dm_paths.specs.Paths.{IsKnownPlace, builtins_of, extern_prelude, layers, plain_layers, prelude, unless_block_root};
 ghost use Rattle.hir_def_map.specs.Walk.{in_types};
-ghost use Rattle.hir_def_map.specs.declared.place.Place.TheVariants.{In};
+ghost use Rattle.dm_paths.specs.declared.place.Place.TheVariants.{In};
 
-use crate::first_segment::{builtins_of, by_2015_rule, layers_by_2015_rule};
-use crate::layers::{extern_prelude, prelude};
-use crate::place::Place;
-use crate::question::Ask;
 use dm_base::ids::{MapId, ModuleId};
 use dm_base::mod_path::PathKind;
 use dm_base::module_tree::ModuleTree;
@@ -23,6 +19,10 @@ use dm_base::name::Name;
 use dm_base::per_ns::TypesItem;
 use dm_maps::local_def_map::LocalDefMap;
 use dm_maps::world::World;
+use dm_paths::first_segment::{builtins_of, by_2015_rule, layers_by_2015_rule};
+use dm_paths::layers::{extern_prelude, prelude};
+use dm_paths::place::Place;
+use dm_paths::question::Ask;
 
 /// The type that the preludes of a map have: that of the extern prelude, or of the prelude module.
 fn prelude_type(world: &World, local: &LocalDefMap, id: MapId, segment: &Name) -> Option<TypesItem>

@@ -7,10 +7,10 @@ ghost use Rattle.dm_maps.specs.Readings.{Reading};
 ghost use Rattle.dm_maps.specs.Trees.{tree_of};
 ghost use Rattle.dm_maps.specs.World as worlds;
 ghost use Rattle.dm_def_map.specs.Maps.{LocalMap};
-ghost use Rattle.hir_def_map.specs.Paths.{answer, enter};
+ghost use Rattle.dm_paths.specs.Paths.{answer, enter};
 ghost use Rattle.hir_def_map.specs.Questions.{IsKnownInCrate, IsKnownQuestion, StaysAsked};
 ghost use Rattle.hir_def_map.specs.RawVisibilities.{IsKnownVisibility};
-ghost use Rattle.hir_def_map.specs.declared.question.Ask.{Ask};
+ghost use Rattle.dm_paths.specs.declared.question.Ask.{Ask};
 
 use dm_base::ids::ModuleId;
 use dm_base::module_tree::ModuleTree;

@@ -5,22 +5,16 @@
 //! of definitions in `item_ids`, `name`, `symbol`, `mod_path`, `source` and `fields_shape`.
 #![tactic(auto)]
 
-mod answers;
-mod first_segment;
 mod first_type;
 pub mod item_scope;
 pub mod laws;
-mod layers;
 pub mod nameres;
-mod overlays;
 pub mod path_resolution;
 pub mod per_ns;
-mod place;
 mod places;
-mod question;
-pub mod result;
 mod segments;
 mod single;
 pub mod visibility;
 
 pub use dm_base::{builtin_type, fields_shape, ids, item_ids, mod_path, name, source, symbol};
+pub use dm_paths::result;

@@ -7,16 +7,13 @@ ghost use Rattle.dm_maps.specs.Known.{knows};
 ghost use Rattle.dm_maps.specs.Trees.{tree_of};
 ghost use Rattle.dm_maps.specs.World.{numbered_map};
 ghost use Rattle.dm_def_map.specs.Maps.{Map, module_at};
-ghost use Rattle.hir_def_map.specs.declared.result.ResolveMode.TheVariants.{Other};
+ghost use Rattle.dm_paths.specs.declared.result.ResolveMode.TheVariants.{Other};
 ghost use Rattle.hir_def_map.specs.Laws.{Finds, Resolves};
-ghost use Rattle.hir_def_map.specs.Paths.{asked, answer, answer_alone, prelude_answer};
+ghost use Rattle.dm_paths.specs.Paths.{asked, answer, answer_alone, prelude_answer};
 ghost use Rattle.hir_def_map.specs.Questions.{IsKnownQuestion, IsKnownInCrate};
 ghost use Rattle.hir_def_map.specs.RawVisibilities.{raw_visibility, IsKnownVisibility, IsOfWorld};
 
-use crate::place::Place;
 use crate::places::answer_outwards;
-use crate::question::Ask;
-use crate::result::{ResolveMode, ResolvePathResult, ResolvePathResultPrefixInfo};
 use crate::single::single;
 use crate::visibility::{RawVisibility, Visibility, module_reached, restricted};
 use dm_base::ids::ModuleId;
@@ -26,6 +23,9 @@ use dm_maps::def_map::DefMap;
 use dm_maps::local_def_map::LocalDefMap;
 use dm_maps::modes::{BuiltinShadowMode, MacroSubNs};
 use dm_maps::world::World;
+use dm_paths::place::Place;
+use dm_paths::question::Ask;
+use dm_paths::result::{ResolveMode, ResolvePathResult, ResolvePathResultPrefixInfo};
 
 /// What a map resolves. No call allocates (docs/RULES.md, "Paths").
 ///

@@ -5,14 +5,10 @@ ghost use Rattle.dm_maps.specs.Known.{KnowsAll};
 ghost use Rattle.dm_check.specs.Holding.{res_holds, local_holds};
 ghost use Rattle.dm_maps.specs.Readings.{setting_of, read};
 ghost use Rattle.dm_maps.specs.Trees.{tree_of};
-ghost use Rattle.hir_def_map.specs.Answers.{merged};
-ghost use Rattle.hir_def_map.specs.Paths.{single, prelude_place, places};
-ghost use Rattle.hir_def_map.specs.declared.place.Place.TheVariants.{In};
+ghost use Rattle.dm_paths.specs.Answers.{merged};
+ghost use Rattle.dm_paths.specs.Paths.{single, prelude_place, places};
+ghost use Rattle.dm_paths.specs.declared.place.Place.TheVariants.{In};
 
-use crate::answers::nothing_no;
-use crate::place::Place;
-use crate::question::Ask;
-use crate::result::ResolvePathResult;
 use crate::single::single;
 use dm_base::ids::{MapId, ModuleId};
 use dm_base::module_tree::ModuleTree;
@@ -20,6 +16,10 @@ use dm_base::name::Name;
 use dm_base::overlay::Overlay;
 use dm_maps::local_def_map::LocalDefMap;
 use dm_maps::world::World;
+use dm_paths::answers::nothing_no;
+use dm_paths::place::Place;
+use dm_paths::question::Ask;
+use dm_paths::result::ResolvePathResult;
 
 /// What the preludes of a module's crate answer, seen from the root of its block; nothing yet where it lies in none.
 #[tactic(auto, unfolding(dm_maps::specs::Readings::setting_of))]

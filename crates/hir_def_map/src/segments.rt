@@ -11,17 +11,18 @@ ghost use Rattle.dm_maps.specs.World.{scope_of};
 ghost use Rattle.dm_def_map.specs.Maps.{LocalMap};
 ghost use Rattle.dm_maps.specs.Readings.{read};
 ghost use Rattle.dm_maps.specs.Trees.{tree_of};
-ghost use Rattle.hir_def_map.specs.Paths.{at_adt, module_in, type_module};
-ghost use Rattle.hir_def_map.specs.Walk.{in_types, standing, starting, entry, left_at, walk};
+ghost use Rattle.dm_paths.specs.Paths.{at_adt};
+ghost use Rattle.hir_def_map.specs.Walk.{crossed, in_types, standing, starting, entry, left_at, walk};
 
-use crate::answers::{crossed, nothing_no, reached, stopped, variant_answer};
-use crate::result::ResolvePathResult;
 use dm_base::ids::{Crate, EnumId, ModuleId};
 use dm_base::item_ids::{AdtId, ModuleDefId};
 use dm_base::module_tree::ModuleTree;
 use dm_base::name::Name;
 use dm_base::per_ns::{Item, PerNs, TypesItem};
 use dm_maps::world::World;
+use dm_paths::answers::{nothing_no, reached, stopped, variant_answer};
+use dm_paths::result::{ReachedFixedPoint, ResolvePathResult, ResolvePathResultPrefixInfo};
+use dm_paths::type_module::module_in;
 
 /// A module that a walk goes into: whether it lies in another crate than the walk began in, from where it is seen and the
 /// crate of that, and which it is.
@@ -137,22 +138,21 @@ fn at_adt(
     }
 }
 
-/// The module that a definition is, if it is one.
-#[inline(always)]
-fn module_in(def: ModuleDefId) -> Option<ModuleId>
-    ensures { result ≡ module_in def }
+/// The answer of a walk that has come into another crate, if it has.
+fn crossed(differing: bool, answer: ResolvePathResult) -> ResolvePathResult
+    ensures { result ≡ crossed differing answer }
 {
-    match def {
-        ModuleDefId::ModuleId(m) => Some(m),
-        _ => None,
+    if !differing {
+        return answer;
     }
-}
-
-/// The module that a type is, if there is one and it is one.
-pub(crate) fn type_module(types: Option<TypesItem>) -> Option<ModuleId>
-    ensures { result ≡ type_module types }
-{
-    module_in(types?.def)
+    ResolvePathResult {
+        reached_fixedpoint: ReachedFixedPoint::Yes,
+        prefix_info: ResolvePathResultPrefixInfo {
+            differing_crate: true,
+            enum_variant: answer.prefix_info.enum_variant,
+        },
+        ..answer
+    }
 }
 
 /// The answer where a segment resolved to a type that is no module, and segments are left.

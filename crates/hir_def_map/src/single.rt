@@ -6,15 +6,10 @@ ghost use Rattle.dm_check.specs.Holding.{res_holds, local_holds};
 ghost use Rattle.dm_def_map.specs.Maps.{LocalMap};
 ghost use Rattle.dm_maps.specs.Readings.{setting_of, read};
 ghost use Rattle.dm_maps.specs.Trees.{tree_of};
-ghost use Rattle.hir_def_map.specs.Answers.{nothing_no};
-ghost use Rattle.hir_def_map.specs.Paths.{stop, enter, root_item, from_root, from_super, by_first_segment, single, IsKnownPlace};
+ghost use Rattle.dm_paths.specs.Answers.{nothing_no};
+ghost use Rattle.dm_paths.specs.Paths.{stop, enter, root_item, from_root, from_super, by_first_segment, single, IsKnownPlace};
 
-use crate::answers::{nothing_no, nothing_yes, yes_in_block};
-use crate::first_segment::{is_missed, layers};
 use crate::first_type::first_type;
-use crate::place::Place;
-use crate::question::Ask;
-use crate::result::ResolvePathResult;
 use crate::segments::walk;
 use dm_base::ids::{Crate, ModuleId};
 use dm_base::item_ids::ModuleDefId;
@@ -25,6 +20,11 @@ use dm_base::per_ns::PerNs;
 use dm_base::visibility::Visibility;
 use dm_maps::local_def_map::LocalDefMap;
 use dm_maps::world::World;
+use dm_paths::answers::{nothing_no, nothing_yes, yes_in_block};
+use dm_paths::first_segment::{is_missed, layers};
+use dm_paths::place::Place;
+use dm_paths::question::Ask;
+use dm_paths::result::ResolvePathResult;
 
 /// The answer at the first stop of the segments, seen from `from`, where `position` segments are behind.
 fn answer_from(

@@ -11,7 +11,6 @@ ghost use Rattle.dm_maps.specs.Known.{KnowsAll};
 ghost use Rattle.hir_def_map.specs.RawVisibilities.{module_reached, block_in, restricted, raw_visibility, or_public, visibility_in, variant_def, visibilities_in, field_visibilities_of, assoc_def, written_at, by_container, assoc_visibility_of, IsKnownVisibility, IsOfWorld};
 
 use crate::path_resolution::ResolvePath;
-use crate::segments::type_module;
 use dm_base::ids::{BlockId, ModuleId};
 use dm_base::item_ids::{AdtId, AssocItemId, ItemContainerId, ModuleDefId, VariantId};
 use dm_base::item_in_ns::ItemInNs;
@@ -20,6 +19,7 @@ pub use dm_base::visibility::{RawVisibility, Visibility, VisibilityExplicitness}
 use dm_maps::def_map::DefMap;
 use dm_maps::local_def_map::LocalDefMap;
 use dm_maps::world::World;
+use dm_paths::type_module::type_module;
 use std::alloc::{AllocError, Global};
 
 /// The module that a path resolves to: none where a segment is left, or the type is no module.

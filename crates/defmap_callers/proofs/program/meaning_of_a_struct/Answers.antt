@@ -13,8 +13,8 @@ use Rattle.dm_def_map.specs.Maps.{LocalMap, Map}
 use Rattle.dm_def_map.specs.declared.modules.modes.BuiltinShadowMode.TheVariants.{Module}
 use Rattle.dm_maps.specs.Build.{fresh_crate}
 use Rattle.dm_maps.specs.World.{World, crate_map}
-use Rattle.hir_def_map.specs.Paths.{answer, asked}
-use Rattle.hir_def_map.specs.declared.result.ResolveMode.TheVariants.{Other}
+use Rattle.dm_paths.specs.Paths.{answer, asked}
+use Rattle.dm_paths.specs.declared.result.ResolveMode.TheVariants.{Other}
 use Rattle.defmap_callers.specs.Program.{is_struct, root, struct_0, tables_of, world_of}
 use Rattle.defmap_callers.proofs.program.meaning_of_a_struct.Goals as goal
 

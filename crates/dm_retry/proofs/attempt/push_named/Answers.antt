@@ -1,8 +1,8 @@
 use Rattle.std.proofs.Common.{◌∙◌, None, Some, sym}
 use Rattle.dm_ids.specs.declared.imports.ImportOrExternCrate.TheVariants as wide
 use Rattle.dm_def_map.specs.declared.modules.modes.BuiltinShadowMode.TheVariants as shadow
-use Rattle.hir_def_map.specs.declared.result.ResolveMode.TheVariants as mode
-use Rattle.hir_def_map.specs.Paths.{asked}
+use Rattle.dm_paths.specs.declared.result.ResolveMode.TheVariants as mode
+use Rattle.dm_paths.specs.Paths.{asked}
 use Rattle.dm_maps.specs.World.{scope_of}
 use Rattle.dm_retry.specs.Rounds.{by_import}
 use Rattle.dm_retry.proofs.ScopeLemmas.{idle-globs}

@@ -8,8 +8,8 @@ use Rattle.dm_check.specs.Holding.{path_holds, vis_holds}
 use Rattle.dm_def_map.specs.declared.modules.modes.BuiltinShadowMode.TheVariants as shadow
 use Rattle.dm_maps.specs.GoesOn.{HasTraitMore}
 use Rattle.dm_maps.specs.Trees.{tree_of}
-use Rattle.hir_def_map.specs.declared.result.ResolveMode.TheVariants as mode
-use Rattle.hir_def_map.specs.Paths.{asked}
+use Rattle.dm_paths.specs.declared.result.ResolveMode.TheVariants as mode
+use Rattle.dm_paths.specs.Paths.{asked}
 use Rattle.dm_maps.specs.KnownLaws.{knows-right}
 use Rattle.dm_retry.proofs.ChangeLemmas.{trait-others, trait-own}
 use Rattle.dm_retry.proofs.KnownLemmas.{home-known, vis-known}

@@ -3,9 +3,9 @@ use Rattle.dm_base.specs.declared.per_ns.PerNs.{PerNs}
 use Rattle.dm_base.specs.Overlays.{over_nothing}
 use Rattle.dm_base.specs.PerNs.{overlay}
 use Rattle.dm_maps.specs.Readings.{read, setting_of}
-use Rattle.hir_def_map.specs.Paths.{extern_prelude}
+use Rattle.dm_paths.specs.Paths.{extern_prelude}
 use Rattle.hir_def_map.proofs.KnownLemmas.{in_types-known}
-use Rattle.hir_def_map.proofs.LayerLemmas.{layers-abs}
+use Rattle.dm_paths.specs.LayerLaws.{layers-abs}
 use Rattle.hir_def_map.proofs.first_type.first_type.Goals as goal
 
 pub returns-then-by_2015_rule-clause-known : goal.returns-then-by_2015_rule-clause-known

@@ -12,7 +12,7 @@ use Rattle.hir_def_map.proofs.KnownLemmas.{in_types-known}
 use Rattle.std.proofs.Common.{Bool, cond}
 use Rattle.dm_ids.specs.declared.ids.MapId.{MapId}
 use Rattle.dm_base.specs.PerNs.{nothing}
-use Rattle.hir_def_map.specs.Paths.{builtins_of, extern_prelude, prelude, unless_block_root}
+use Rattle.dm_paths.specs.Paths.{builtins_of, extern_prelude, prelude, unless_block_root}
 use Rattle.hir_def_map.proofs.TypeLaws.{or-none, or-some}
 use Rattle.hir_def_map.proofs.first_type.outer_type.Goals as goal
 

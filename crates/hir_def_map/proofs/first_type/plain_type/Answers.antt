@@ -1,8 +1,8 @@
 use Rattle.std.proofs.Common.{◌∙◌, ap, false, sym}
 use Rattle.dm_base.specs.PerNs.{overlay}
 use Rattle.dm_maps.specs.Readings.{read, setting_of}
-use Rattle.hir_def_map.specs.Paths.{plain_layers}
-use Rattle.hir_def_map.specs.declared.place.Place.{Place}
+use Rattle.dm_paths.specs.Paths.{plain_layers}
+use Rattle.dm_paths.specs.declared.place.Place.{Place}
 use Rattle.hir_def_map.proofs.TypeLaws.{preludes-types}
 use Rattle.hir_def_map.proofs.first_type.plain_type.Goals as goal
 

@@ -11,7 +11,7 @@ use Rattle.hir_def_map.specs.Walk.{in_types}
 use Rattle.hir_def_map.proofs.KnownLemmas.{in_types-known}
 use Rattle.dm_scope.specs.Scope.{bound_in}
 use Rattle.dm_maps.specs.World.{scope_of}
-use Rattle.hir_def_map.specs.Paths.{builtins_of, extern_prelude, prelude, unless_block_root}
+use Rattle.dm_paths.specs.Paths.{builtins_of, extern_prelude, prelude, unless_block_root}
 use Rattle.hir_def_map.proofs.TypeLaws.{plain-types}
 use Rattle.hir_def_map.proofs.first_type.plain_type_at.Goals as goal
 

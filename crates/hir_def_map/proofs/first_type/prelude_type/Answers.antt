@@ -9,7 +9,7 @@ use Rattle.dm_maps.specs.Known.{KnowsAll}
 use Rattle.dm_maps.specs.Readings.{read, setting_of}
 use Rattle.hir_def_map.specs.Walk.{in_types}
 use Rattle.hir_def_map.proofs.KnownLemmas.{in_types-known}
-use Rattle.hir_def_map.specs.Paths.{extern_prelude, prelude}
+use Rattle.dm_paths.specs.Paths.{extern_prelude, prelude}
 use Rattle.hir_def_map.proofs.TypeLaws.{or-none, or-some}
 use Rattle.hir_def_map.proofs.first_type.prelude_type.Goals as goal
 

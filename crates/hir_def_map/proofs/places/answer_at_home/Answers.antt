@@ -5,13 +5,13 @@ use Rattle.dm_base.specs.Tree.{block_of, crate_of}
 use Rattle.dm_check.specs.Holding.{res_holds}
 use Rattle.dm_maps.specs.Known.{KnowsAll}
 use Rattle.dm_maps.specs.Readings.{read, setting_of}
-use Rattle.hir_def_map.specs.Answers.{merged, over_answer}
-use Rattle.hir_def_map.specs.Overlays.{answer_over_nothing}
-use Rattle.hir_def_map.specs.Paths.{prelude_place, single}
-use Rattle.hir_def_map.specs.declared.place.Place.{Place}
-use Rattle.hir_def_map.specs.declared.place.Place.TheVariants.{In, Preludes}
-use Rattle.hir_def_map.specs.declared.result.ResolvePathResult.{ResolvePathResult}
-use Rattle.hir_def_map.proofs.KnownLemmas.{over-known}
+use Rattle.dm_paths.specs.Answers.{merged, over_answer}
+use Rattle.dm_paths.specs.Overlays.{answer_over_nothing}
+use Rattle.dm_paths.specs.Paths.{prelude_place, single}
+use Rattle.dm_paths.specs.declared.place.Place.{Place}
+use Rattle.dm_paths.specs.declared.place.Place.TheVariants.{In, Preludes}
+use Rattle.dm_paths.specs.declared.result.ResolvePathResult.{ResolvePathResult}
+use Rattle.dm_paths.specs.KnownLaws.{over-known}
 use Rattle.hir_def_map.proofs.places.answer_at_home.Goals as goal
 
 pub returns-in-None-clause-value : goal.returns-in-None-clause-value

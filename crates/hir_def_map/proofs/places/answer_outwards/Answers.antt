@@ -1,8 +1,8 @@
 use Rattle.std.proofs.Common.{◌∙◌, ap, map, sym}
 use Rattle.dm_maps.specs.Readings.{read, setting_of}
 use Rattle.dm_maps.specs.Trees.{tree_of}
-use Rattle.hir_def_map.specs.Answers.{merged}
-use Rattle.hir_def_map.specs.Paths.{single}
+use Rattle.dm_paths.specs.Answers.{merged}
+use Rattle.dm_paths.specs.Paths.{single}
 use Rattle.hir_def_map.proofs.PlaceLemmas.{places-home}
 use Rattle.hir_def_map.proofs.places.answer_outwards.Goals as goal
 

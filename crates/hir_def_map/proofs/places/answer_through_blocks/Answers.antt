@@ -3,12 +3,12 @@ use Rattle.dm_check.specs.Holding.{res_holds}
 use Rattle.dm_maps.specs.Known.{KnowsAll}
 use Rattle.dm_maps.specs.Readings.{read, setting_of}
 use Rattle.dm_maps.specs.Trees.{tree_of}
-use Rattle.hir_def_map.specs.Answers.{over_answer, merged}
-use Rattle.hir_def_map.specs.Paths.{single}
-use Rattle.hir_def_map.specs.declared.place.Place.TheVariants.{In}
-use Rattle.hir_def_map.specs.declared.result.ResolvePathResult.{ResolvePathResult}
-use Rattle.hir_def_map.specs.Overlays.{answers_associative}
-use Rattle.hir_def_map.proofs.KnownLemmas.{over-known}
+use Rattle.dm_paths.specs.Answers.{over_answer, merged}
+use Rattle.dm_paths.specs.Paths.{single}
+use Rattle.dm_paths.specs.declared.place.Place.TheVariants.{In}
+use Rattle.dm_paths.specs.declared.result.ResolvePathResult.{ResolvePathResult}
+use Rattle.dm_paths.specs.Overlays.{answers_associative}
+use Rattle.dm_paths.specs.KnownLaws.{over-known}
 use Rattle.hir_def_map.proofs.PlaceLemmas.{places_in, places-root, places-home}
 use Rattle.hir_def_map.proofs.places.answer_through_blocks.Goals as goal
 

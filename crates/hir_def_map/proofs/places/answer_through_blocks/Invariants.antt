@@ -4,8 +4,8 @@ use Rattle.dm_check.specs.Holding.{res_holds}
 use Rattle.dm_maps.specs.Known.{KnowsAll}
 use Rattle.dm_maps.specs.Readings.{setting_of, read}
 use Rattle.dm_maps.specs.Trees.{tree_of}
-use Rattle.hir_def_map.specs.Answers.{over_answer, merged}
-use Rattle.hir_def_map.specs.Paths.{single}
+use Rattle.dm_paths.specs.Answers.{over_answer, merged}
+use Rattle.dm_paths.specs.Paths.{single}
 use Rattle.hir_def_map.proofs.PlaceLemmas.{places_in}
 use Rattle.hir_def_map.proofs.places.answer_through_blocks.Given as goal
 

@@ -2,10 +2,10 @@ use Rattle.std.proofs.Common.{◌∙◌, ap, sym, map, [], ◌∷◌, None}
 use Rattle.std.specs.Option.{option_and_then, option_map_or}
 use Rattle.dm_base.specs.Tree.{crate_of}
 use Rattle.dm_maps.specs.Readings.{setting_of, read}
-use Rattle.hir_def_map.specs.Answers.{merged}
-use Rattle.hir_def_map.specs.declared.place.Place.TheVariants.{Preludes}
-use Rattle.hir_def_map.specs.Paths.{single}
-use Rattle.hir_def_map.specs.Overlays.{answer_over_nothing}
+use Rattle.dm_paths.specs.Answers.{merged}
+use Rattle.dm_paths.specs.declared.place.Place.TheVariants.{Preludes}
+use Rattle.dm_paths.specs.Paths.{single}
+use Rattle.dm_paths.specs.Overlays.{answer_over_nothing}
 use Rattle.hir_def_map.proofs.places.preludes_of.Goals as goal
 
 pub returns-in-Some-block_root_of-clause-value : goal.returns-in-Some-block_root_of-clause-value

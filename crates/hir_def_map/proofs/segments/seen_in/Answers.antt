@@ -7,7 +7,7 @@ use Rattle.dm_maps.specs.Known.{KnowsAll}
 use Rattle.dm_check.specs.Holding.{res_holds}
 use Rattle.dm_maps.specs.Trees.{tree_of}
 use Rattle.dm_maps.specs.KnownLaws.{type_vis-known, value_vis-known, macro_vis-known}
-use Rattle.hir_def_map.proofs.KnownLemmas.{seen_by-known}
+use Rattle.dm_paths.specs.KnownLaws.{seen_by-known}
 use Rattle.hir_def_map.proofs.segments.seen_in.Goals as goal
 
 pub seen_item-requires-clause-named : goal.seen_item-requires-clause-named

@@ -13,7 +13,8 @@ use Rattle.dm_maps.specs.Trees.{tree_of}
 use Rattle.dm_maps.specs.World.{scope_of}
 use Rattle.hir_def_map.specs.Walk.{in_types}
 use Rattle.dm_maps.specs.KnownLaws.{type_vis-known}
-use Rattle.hir_def_map.proofs.KnownLemmas.{seen_by-known, in_types-known}
+use Rattle.dm_paths.specs.KnownLaws.{seen_by-known}
+use Rattle.hir_def_map.proofs.KnownLemmas.{in_types-known}
 use Rattle.hir_def_map.proofs.segments.seen_type_in.Goals as goal
 
 pub seen_item-requires-clause-named : goal.seen_item-requires-clause-named

@@ -5,8 +5,8 @@ use Rattle.dm_check.specs.Holding.{res_holds}
 use Rattle.dm_maps.specs.Known.{KnowsAll}
 use Rattle.dm_maps.specs.Readings.{read}
 use Rattle.dm_maps.specs.Trees.{tree_of}
-use Rattle.hir_def_map.specs.declared.result.ResolvePathResult.{ResolvePathResult}
-use Rattle.hir_def_map.specs.Paths.{is_empty}
+use Rattle.dm_paths.specs.declared.result.ResolvePathResult.{ResolvePathResult}
+use Rattle.dm_paths.specs.Paths.{is_empty}
 use Rattle.hir_def_map.specs.Walk.{in_types, crossed, left_at, standing, walk}
 use Rattle.hir_def_map.proofs.KnownLemmas.{crossed-known, module_in-known}
 use Rattle.hir_def_map.proofs.WalkLemmas.{walk-leaves, walk-on}

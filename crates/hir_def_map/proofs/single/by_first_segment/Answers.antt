@@ -1,8 +1,8 @@
 use Rattle.std.proofs.Common.{◌∙◌, ap, sym, map, cond, true}
 use Rattle.dm_ids.specs.declared.ids.ModuleId.{ModuleId}
 use Rattle.dm_maps.specs.Readings.{setting_of, read}
-use Rattle.hir_def_map.specs.Answers.{nothing_no}
-use Rattle.hir_def_map.specs.Paths.{by_first_segment, enter, stop}
+use Rattle.dm_paths.specs.Answers.{nothing_no}
+use Rattle.dm_paths.specs.Paths.{by_first_segment, enter, stop}
 use Rattle.hir_def_map.proofs.LayerLemmas.{first-names}
 use Rattle.hir_def_map.proofs.single.by_first_segment.Goals as goal
 

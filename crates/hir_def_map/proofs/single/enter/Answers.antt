@@ -2,8 +2,8 @@ use Rattle.std.proofs.Common.{◌∙◌, ap, sym, map, is_some}
 use Rattle.dm_base.specs.Tree.{in_block_map}
 use Rattle.dm_maps.specs.Readings.{read}
 use Rattle.dm_maps.specs.Trees.{tree_of}
-use Rattle.hir_def_map.specs.Answers.{yes_in_block}
-use Rattle.hir_def_map.specs.Paths.{stop, enter, root_item}
+use Rattle.dm_paths.specs.Answers.{yes_in_block}
+use Rattle.dm_paths.specs.Paths.{stop, enter, root_item}
 use Rattle.hir_def_map.proofs.StopLemmas.{enter-stop}
 use Rattle.hir_def_map.proofs.single.enter.Goals as goal
 

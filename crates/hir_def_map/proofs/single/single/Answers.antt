@@ -1,7 +1,7 @@
 use Rattle.std.proofs.Common.{◌∙◌, ap, sym, map}
 use Rattle.dm_base.specs.declared.mod_path.PathKind.TheVariants as kind
 use Rattle.dm_maps.specs.Readings.{setting_of, read}
-use Rattle.hir_def_map.specs.Paths.{from_root}
+use Rattle.dm_paths.specs.Paths.{from_root}
 use Rattle.hir_def_map.proofs.LayerLemmas.{single-kind}
 use Rattle.hir_def_map.proofs.single.single.Goals as goal
 

@@ -3,8 +3,8 @@ use Rattle.dm_names.specs.Names.{Name}
 use Rattle.dm_ids.specs.declared.ids.ModuleId.{ModuleId}
 use Rattle.dm_base.specs.PerNs.{overlay}
 use Rattle.dm_maps.specs.Readings.{read, setting_of}
-use Rattle.hir_def_map.specs.Answers.{nothing_no}
-use Rattle.hir_def_map.specs.Paths.{by_2015_rule, by_first_segment, enter, layers, missed, stop}
+use Rattle.dm_paths.specs.Answers.{nothing_no}
+use Rattle.dm_paths.specs.Paths.{by_2015_rule, by_first_segment, enter, layers, missed, stop}
 use Rattle.hir_def_map.specs.Walk.{in_types}
 use Rattle.hir_def_map.proofs.TypeLaws.{ends-by-type}
 use Rattle.hir_def_map.proofs.single.through_first.Goals as goal

@@ -1,7 +1,7 @@
 use Rattle.std.proofs.Common.{List, [], None, refl, subst, sym}
 use Rattle.dm_def_map.specs.declared.modules.modes.BuiltinShadowMode.TheVariants as shadow
-use Rattle.hir_def_map.specs.declared.result.ResolveMode.TheVariants as mode
-use Rattle.hir_def_map.specs.Paths.{asked}
+use Rattle.dm_paths.specs.declared.result.ResolveMode.TheVariants as mode
+use Rattle.dm_paths.specs.Paths.{asked}
 use Rattle.dm_maps.specs.GoesOn.{seen_type}
 use Rattle.dm_maps.specs.World.{scope_of}
 use Rattle.dm_retry.specs.Rounds.{Pending, State}
