@@ -9,6 +9,7 @@ use dm_base::visibility::Visibility;
 use dm_maps::world::World;
 use hir_def_map::visibility::AssocVisibility;
 use std::alloc::{AllocError, Global};
+use std::fmt::Write;
 
 /// What an item is, with its number.
 fn words_of(id: AssocItemId) -> (&'static str, u32) {
@@ -54,13 +55,19 @@ fn seen_by(alloc: Global, world: &World, id: AssocItemId) -> Result<String, Allo
     }
 }
 
-/// An associated item: where it is written, what it stands in, and who sees it.
-fn assoc_text(alloc: Global, world: &World, place: AssocPlace) -> Result<String, AllocError> {
+/// Adds an associated item: where it is written, what it stands in, and who sees it.
+fn push_assoc(
+    out: &mut String,
+    alloc: Global,
+    world: &World,
+    place: AssocPlace,
+) -> Result<(), AllocError> {
     let (word, number) = words_of(place.id);
     let (container, of) = container_of(world, place.id);
     let seen = seen_by(alloc, world, place.id)?;
     let (item, file) = (place.item, place.file.0);
-    format!(in alloc;
+    write!(
+        out,
         "{word} {number}: item {item} of file {file}, in {container} {of}, seen by {seen}\n"
     )
 }
@@ -69,7 +76,7 @@ fn assoc_text(alloc: Global, world: &World, place: AssocPlace) -> Result<String,
 pub(crate) fn assoc_lines(alloc: Global, settled: &Settled) -> Result<String, AllocError> {
     let mut out = String::new(alloc);
     for place in &settled.collected.assocs {
-        out.push_str(assoc_text(alloc, settled.world(), *place)?.as_str())?;
+        push_assoc(&mut out, alloc, settled.world(), *place)?;
     }
     Ok(out)
 }

@@ -28,14 +28,18 @@ fn told(alloc: Global, text: Vec<u8>) -> Result<String, CollectFault> {
     Ok(text)
 }
 
-/// The same of the first file of a fixture.
-pub(crate) fn called(alloc: Global, fixture: &Fixture<'_>) -> Result<String, AllocError> {
+/// Adds the same of the first file of a fixture.
+pub(crate) fn push_called(
+    out: &mut String,
+    alloc: Global,
+    fixture: &Fixture<'_>,
+) -> Result<(), AllocError> {
     let Some(file) = fixture.files.first() else {
-        return Ok(String::new(alloc));
+        return Ok(());
     };
     let text = Vec::from_slice(alloc, file.text.as_bytes())?;
     match told(alloc, text) {
-        Ok(text) => Ok(text),
-        Err(_fault) => String::from_str(alloc, "failed\n"),
+        Ok(text) => out.push_str(text.as_str()),
+        Err(_fault) => out.push_str("failed\n"),
     }
 }

@@ -47,8 +47,12 @@ fn options_of(alloc: Global, krate: FixtureCrate<'_>) -> Result<CfgOptions, Allo
 
 /// The number of the crate of a name.
 fn numbered(fixture: &Fixture<'_>, name: &str) -> Option<Crate> {
-    let number = fixture.crates.iter().position(|krate| krate.name == name)?;
-    Some(Crate(u32::try_from(number).ok()?))
+    for (number, krate) in fixture.crates.iter().enumerate() {
+        if krate.name == name {
+            return Some(Crate(u32::try_from(number).ok()?));
+        }
+    }
+    None
 }
 
 /// What a word of `deps` says: the name of the dependency, and its crate.

@@ -26,6 +26,7 @@ use dm_maps::world::maps_of::{AskWorld, crate_def_map};
 use dm_retry::retry::Retry;
 use dm_scope::diagnostics::{DefDiagnostic, DefDiagnosticKind};
 use std::alloc::{AllocError, Global};
+use std::fmt::Write;
 
 /// Adds more diagnostics.
 fn push_all(found: &mut Vec<Diagnostic>, more: Vec<Diagnostic>) -> Result<(), AllocError> {
@@ -134,8 +135,7 @@ fn text_of(alloc: Global, diagnostic: &DefDiagnostic) -> Result<String, AllocErr
         DefDiagnosticKind::UnresolvedModule { candidates, .. } => {
             let mut text = format!(in alloc; "module {at}: no module at")?;
             for path in candidates {
-                text.push(' ')?;
-                text.push_str(path.as_str())?;
+                write!(text, " {path}")?;
             }
             Ok(text)
         }
@@ -194,15 +194,18 @@ fn push_of_map(
     Ok(())
 }
 
-/// The paths that a loader has yet to read for a crate.
-fn missing_of(alloc: Global, list: &CrateModules, files: &FileTable) -> Result<String, AllocError> {
-    let mut out = String::new(alloc);
-    let missing = missing_files(alloc, list, files)?;
-    for path in missing.paths() {
+/// Adds the paths that a loader has yet to read for a crate.
+fn push_missing(
+    out: &mut String,
+    alloc: Global,
+    list: &CrateModules,
+    files: &FileTable,
+) -> Result<(), AllocError> {
+    for path in missing_files(alloc, list, files)?.paths() {
         let path = std::str::from_utf8(path.as_slice()).unwrap_or("?");
-        out.push_str(format!(in alloc; "to be read: {path}\n")?.as_str())?;
+        write!(out, "to be read: {path}\n")?;
     }
-    Ok(out)
+    Ok(())
 }
 
 /// What the def maps of the crates have, in lines, and the files that these lack.
@@ -223,7 +226,7 @@ pub(crate) fn in_maps(alloc: Global, settled: &mut Settled) -> Result<String, Al
     for (number, list) in lists.iter().enumerate() {
         let calls = calls.as_slice();
         push_of_map(&mut messages, alloc, world, list, calls, number)?;
-        missing.push_str(missing_of(alloc, list, &settled.files)?.as_str())?;
+        push_missing(&mut missing, alloc, list, &settled.files)?;
     }
     let mut out = lines(alloc, &settled.files, messages)?;
     out.push_str(missing.as_str())?;

@@ -1,7 +1,7 @@
 //! What a fixture leaves: the def map of each of its crates, what is told of them, and how many imports and macro calls are
 //! unknown.
 use crate::assocs::assoc_lines;
-use crate::called::called;
+use crate::called::push_called;
 use crate::fixture::Fixture;
 use crate::graph::{files_of, graph_of};
 use crate::in_maps::in_maps;
@@ -29,6 +29,7 @@ use dm_collector::unresolved_names::list_unresolved;
 use dm_maps::world::World;
 use dm_maps::world::maps_of::{AskWorld, crate_def_map};
 use std::alloc::{AllocError, Global};
+use std::fmt::Write;
 
 /// How many modules a crate of a fixture may have, and how many rounds its imports may take.
 const LIMIT: u32 = 8_192;
@@ -124,10 +125,17 @@ fn settled_by(alloc: Global, fixture: &Fixture<'_>) -> Result<Option<Settled>, A
 
 /// Whether the path of a glob means no module and no enum.
 fn is_unresolved(world: &World, glob: &GlobImport) -> bool {
-    if !glob.is_known(world) {
-        return false;
+    glob.is_known(world) && glob.resolved(world).is_none()
+}
+
+/// Where a use of a crate is written.
+fn use_in(uses: &[UsePlace], use_: UseId) -> Option<UsePlace> {
+    for place in uses {
+        if place.use_ == use_ {
+            return Some(*place);
+        }
     }
-    glob.resolved(world).is_none()
+    None
 }
 
 /// The items of a crate.
@@ -150,8 +158,8 @@ impl Settled {
     /// The crate of a use, and where it is written.
     fn place_of(&self, use_: UseId) -> Option<(usize, UsePlace)> {
         for (krate, table) in self.collected.tables.iter().enumerate() {
-            if let Some(place) = table.uses().iter().find(|place| place.use_ == use_) {
-                return Some((krate, *place));
+            if let Some(place) = use_in(table.uses(), use_) {
+                return Some((krate, place));
             }
         }
         None
@@ -322,8 +330,7 @@ fn push_dumps(
 ) -> Result<(), AllocError> {
     for (number, krate) in fixture.crates.iter().enumerate() {
         let dump = dump_of(alloc, world, number)?;
-        let shown = format!(in alloc; "# {}\n{dump}", krate.name)?;
-        out.push_str(shown.as_str())?;
+        write!(out, "# {}\n{dump}", krate.name)?;
     }
     Ok(())
 }
@@ -331,15 +338,13 @@ fn push_dumps(
 /// Adds how much is unknown in each crate.
 fn push_unknown(
     out: &mut String,
-    alloc: Global,
     unknown: &[u32],
     fixture: &Fixture<'_>,
 ) -> Result<(), AllocError> {
     for (number, krate) in fixture.crates.iter().enumerate() {
         let count = unknown.get(number).copied().unwrap_or(0);
         if count > 0 {
-            let shown = format!(in alloc; "{}: {count} unknown\n", krate.name)?;
-            out.push_str(shown.as_str())?;
+            write!(out, "{}: {count} unknown\n", krate.name)?;
         }
     }
     Ok(())
@@ -354,7 +359,7 @@ fn push_told(
 ) -> Result<(), AllocError> {
     let Found { messages, unknown } = settled.found(alloc)?;
     out.push_str(lines(alloc, &settled.files, messages)?.as_str())?;
-    push_unknown(out, alloc, unknown.as_slice(), fixture)
+    push_unknown(out, unknown.as_slice(), fixture)
 }
 
 /// Adds what is shown of some fixtures alone.
@@ -374,28 +379,31 @@ fn push_more(
     Ok(())
 }
 
-/// Adds what the callers of docs/USING.md answer of those fixtures that they are given.
-fn push_called(out: &mut String, alloc: Global, fixture: &Fixture<'_>) -> Result<(), AllocError> {
-    if fixture.name.starts_with(CALLED) {
-        out.push_str(called(alloc, fixture)?.as_str())?;
-    }
-    Ok(())
+/// Adds what a settled fixture leaves.
+fn push_settled(
+    out: &mut String,
+    alloc: Global,
+    settled: &mut Settled,
+    fixture: &Fixture<'_>,
+) -> Result<(), AllocError> {
+    push_dumps(out, alloc, settled.world(), fixture)?;
+    push_told(out, alloc, settled, fixture)?;
+    push_more(out, alloc, settled, fixture.name)
 }
 
-/// Adds what a fixture leaves.
-fn push_left(out: &mut String, alloc: Global, fixture: &Fixture<'_>) -> Result<(), AllocError> {
+/// Adds what a fixture leaves, under its name; and what the callers of docs/USING.md answer, if it is given to them.
+pub(crate) fn push_left(
+    out: &mut String,
+    alloc: Global,
+    fixture: &Fixture<'_>,
+) -> Result<(), AllocError> {
+    write!(out, "=== {}\n", fixture.name)?;
     let Some(mut settled) = settled_by(alloc, fixture)? else {
         return out.push_str("failed\n");
     };
-    push_dumps(out, alloc, settled.world(), fixture)?;
-    push_told(out, alloc, &settled, fixture)?;
-    push_more(out, alloc, &mut settled, fixture.name)?;
-    push_called(out, alloc, fixture)
-}
-
-/// What a fixture leaves, under its name.
-pub(crate) fn left_by(alloc: Global, fixture: &Fixture<'_>) -> Result<String, AllocError> {
-    let mut out = format!(in alloc; "=== {}\n", fixture.name)?;
-    push_left(&mut out, alloc, fixture)?;
-    Ok(out)
+    push_settled(out, alloc, &mut settled, fixture)?;
+    if fixture.name.starts_with(CALLED) {
+        push_called(out, alloc, fixture)?;
+    }
+    Ok(())
 }

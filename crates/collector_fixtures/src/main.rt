@@ -11,7 +11,7 @@ mod lists;
 mod macro_view;
 
 use crate::fixture::fixtures;
-use crate::left::left_by;
+use crate::left::push_left;
 use std::alloc::{AllocError, Global};
 use std::io::{Read, Write};
 use std::process::ExitCode;
@@ -21,7 +21,7 @@ fn run(alloc: Global, input: &[u8]) -> Result<String, AllocError> {
     let text = std::str::from_utf8(input).unwrap_or("");
     let found = fixtures(alloc, text)?;
     for fixture in &found {
-        out.push_str(left_by(alloc, fixture)?.as_str())?;
+        push_left(&mut out, alloc, fixture)?;
     }
     Ok(out)
 }

@@ -5,14 +5,15 @@ use crate::failure::{Failure, Status};
 use crate::imports::imports_text;
 use crate::inputs::read_inputs;
 use crate::places::Lines;
-use crate::resolve::{Teller, module_at};
+use crate::resolve::{meaning_text, module_at};
 use crate::settled::Settled;
 use crate::settling::{SettledInputs, settle_inputs};
-use crate::stats::{Stopwatch, count_lines};
+use crate::stats::{Stopwatch, push_counts};
 use crate::tree::tree_text;
-use crate::unresolved::{UnknownCount, Unresolved, find_unresolved, message_lines, nothing};
+use crate::unresolved::{UnknownCount, find_unresolved, nothing, push_messages};
 use crate::written_path::written_path;
 use std::alloc::{AllocError, Global};
+use std::fmt::Write;
 use std::rt::{Clock, Files};
 
 /// What the program prints, and the status that it ends with.
@@ -38,53 +39,34 @@ impl Drop for Answer {
 fn ended(alloc: Global, complaints: &Complaints) -> Result<String, AllocError> {
     let mut text = String::new(alloc);
     for line in complaints.lines() {
-        text.push_str(line.as_str())?;
-        text.push_str("\n")?;
+        write!(text, "{line}\n")?;
     }
     Ok(text)
 }
 
-/// A line for what is unknown of a crate.
-fn unknown_line(alloc: Global, name: &str, count: UnknownCount) -> Result<String, AllocError> {
-    let mut line = String::new(alloc);
+/// Adds lines for what is unknown of a crate.
+fn push_unknown(out: &mut String, name: &str, count: UnknownCount) -> Result<(), AllocError> {
     let UnknownCount {
         by_macros,
         by_standard,
         calls,
     } = count;
     if by_macros > 0 {
-        let told = format!(in alloc;
+        write!(
+            out,
             "{name}: {by_macros} imports unknown, which macros may bring\n"
         )?;
-        line.push_str(told.as_str())?;
     }
     if by_standard > 0 {
-        let told = format!(in alloc;
+        write!(
+            out,
             "{name}: {by_standard} imports unknown, from the standard library: give its folder by --sysroot\n"
         )?;
-        line.push_str(told.as_str())?;
     }
     if calls > 0 {
-        let told = format!(in alloc; "{name}: {calls} macro calls unknown\n")?;
-        line.push_str(told.as_str())?;
+        write!(out, "{name}: {calls} macro calls unknown\n")?;
     }
-    Ok(line)
-}
-
-/// What is not known of what leads nowhere, by crate.
-fn unknown_lines(
-    alloc: Global,
-    settled: &Settled,
-    found: &Unresolved,
-) -> Result<String, AllocError> {
-    let mut lines = String::new(alloc);
-    for (krate, count) in found.unknown.iter().enumerate() {
-        if let Some(name) = settled.names.get(krate) {
-            let line = unknown_line(alloc, name.as_str(), *count)?;
-            lines.push_str(line.as_str())?;
-        }
-    }
-    Ok(lines)
+    Ok(())
 }
 
 /// The answer to `unresolved`.
@@ -96,9 +78,12 @@ fn unresolved_answer(
 ) -> Result<Answer, AllocError> {
     let lines = Lines::new(alloc, &settled.files)?;
     let mut found = find_unresolved(alloc, settled, given.sysroot.is_some())?;
-    let out = message_lines(alloc, &lines, &mut found.told)?;
+    let mut out = String::new(alloc);
+    push_messages(&mut out, &lines, &mut found.told)?;
     let mut told = ended(alloc, complaints)?;
-    told.push_str(unknown_lines(alloc, settled, &found)?.as_str())?;
+    for (name, count) in settled.names.iter().zip(&found.unknown) {
+        push_unknown(&mut told, name.as_str(), *count)?;
+    }
     let status = if !complaints.is_empty() {
         Status::Unreadable
     } else if found.told.is_empty() {
@@ -117,10 +102,10 @@ fn tree_answer(
 ) -> Result<Answer, AllocError> {
     let lines = Lines::new(alloc, &settled.files)?;
     let mut missing = nothing(alloc, 0)?;
-    missing.add_modules(alloc, settled)?;
+    missing.add_modules(alloc, settled.lists())?;
     let is_whole = missing.told.is_empty() && complaints.is_empty();
     let mut told = ended(alloc, complaints)?;
-    told.push_str(message_lines(alloc, &lines, &mut missing.told)?.as_str())?;
+    push_messages(&mut told, &lines, &mut missing.told)?;
     Ok(Answer {
         out: tree_text(alloc, settled, &lines)?,
         told,
@@ -146,10 +131,7 @@ fn resolve_answer(
     };
     let m = module_at(alloc, settled, home)?;
     let lines = Lines::new(alloc, &settled.files)?;
-    let mut teller = Teller::new(alloc, settled, &lines, m);
-    teller.add_path(&path)?;
-    let is_found = teller.is_found;
-    let out = teller.into_text();
+    let (out, is_found) = meaning_text(alloc, settled, &lines, m, &path)?;
     Ok(Answer {
         out,
         told: ended(alloc, complaints)?,
@@ -182,10 +164,6 @@ fn imports_answer(
     })
 }
 
-fn or_failed(answered: Result<Answer, AllocError>) -> Result<Answer, Failure> {
-    Ok(answered?)
-}
-
 /// The answer to a wish.
 fn wished(
     alloc: Global,
@@ -194,24 +172,11 @@ fn wished(
     complaints: &Complaints,
 ) -> Result<Answer, Failure> {
     match given.wish {
-        Wish::Tree => or_failed(tree_answer(alloc, settled, complaints)),
-        Wish::Unresolved => or_failed(unresolved_answer(alloc, settled, given, complaints)),
-        Wish::Imports => or_failed(imports_answer(alloc, settled, given, complaints)),
+        Wish::Tree => Ok(tree_answer(alloc, settled, complaints)?),
+        Wish::Unresolved => Ok(unresolved_answer(alloc, settled, given, complaints)?),
+        Wish::Imports => Ok(imports_answer(alloc, settled, given, complaints)?),
         Wish::Resolve { path, home } => resolve_answer(alloc, settled, path, home, complaints),
     }
-}
-
-/// Adds what was read and done, and how long each stage took.
-fn add_stats(
-    answered: &mut Answer,
-    alloc: Global,
-    made: &SettledInputs,
-    watch: &Stopwatch,
-) -> Result<(), AllocError> {
-    let counts = count_lines(alloc, &made.settled, made.effort)?;
-    answered.told.push_str(counts.as_str())?;
-    answered.told.push_str(watch.lines(alloc)?.as_str())?;
-    Ok(())
 }
 
 /// The answer by the settled crates.
@@ -225,7 +190,8 @@ fn answer_by<R: AllocGlobal + Clock>(
     let mut answered = wished(alloc, &made.settled, given, &made.complaints)?;
     watch.end(rt, "answering")?;
     if given.has_stats {
-        add_stats(&mut answered, alloc, made, watch)?;
+        push_counts(&mut answered.told, &made.settled, made.effort)?;
+        watch.push_lines(&mut answered.told)?;
     }
     Ok(answered)
 }

@@ -134,6 +134,16 @@ const HOME: ValueOption = ValueOption {
     action: ArgAction::Set,
 };
 
+/// What the subcommands say of themselves.
+const TREE: &'static str =
+    "Prints the modules of a crate, with what each binds, who sees it and by which import it came";
+
+const UNRESOLVED: &'static str =
+    "Prints what leads nowhere, as FILE:LINE:COLUMN: message; status 1 if anything does";
+
+const IMPORTS: &'static str =
+    "Prints what each import of a crate means, as FILE:LINE:COLUMN: PATH; ...";
+
 fn value<'a>(alloc: Global, option: &'static ValueOption) -> Arg<'a> {
     Arg::new(alloc, option.id)
         .long(option.id)
@@ -150,13 +160,12 @@ fn position<'a>(alloc: Global, id: &'a str, shown: &'a str, help: &'a str) -> Ar
         .action(ArgAction::Set)
 }
 
-fn with_root<'a>(alloc: Global, command: Command<'a>) -> Result<Command<'a>, AllocError> {
-    command.arg(position(
-        alloc,
-        "root",
-        "ROOT.rs",
-        "The file of the crate's root; - reads one file from standard input",
-    ))
+/// A subcommand that takes the file of a root.
+fn rooted<'a>(alloc: Global, name: &'a str, about: &'a str) -> Result<Command<'a>, AllocError> {
+    let help = "The file of the crate's root; - reads one file from standard input";
+    Command::new(alloc, name)
+        .about(about)
+        .arg(position(alloc, "root", "ROOT.rs", help))
 }
 
 /// A command with the options that each subcommand has.
@@ -172,30 +181,18 @@ fn with_options<'a>(alloc: Global, command: Command<'a>) -> Result<Command<'a>, 
     command.arg(stats)
 }
 
-fn tree_command<'a>(alloc: Global) -> Result<Command<'a>, AllocError> {
-    let about =
-        "Prints the modules of a crate, with what each binds, who sees it and by which import it came";
-    let command = Command::new(alloc, "tree").about(about);
-    with_options(alloc, with_root(alloc, command)?)
-}
-
-fn unresolved_command<'a>(alloc: Global) -> Result<Command<'a>, AllocError> {
-    let about =
-        "Prints what leads nowhere, as FILE:LINE:COLUMN: message; status 1 if anything does";
-    let command = Command::new(alloc, "unresolved").about(about);
-    with_options(alloc, with_root(alloc, command)?)
-}
-
-fn imports_command<'a>(alloc: Global) -> Result<Command<'a>, AllocError> {
-    let about = "Prints what each import of a crate means, as FILE:LINE:COLUMN: PATH; ...";
-    let command = Command::new(alloc, "imports").about(about);
-    with_options(alloc, with_root(alloc, command)?)
+/// A subcommand that takes nothing else.
+fn plain_command<'a>(
+    alloc: Global,
+    name: &'a str,
+    about: &'a str,
+) -> Result<Command<'a>, AllocError> {
+    with_options(alloc, rooted(alloc, name, about)?)
 }
 
 fn resolve_command<'a>(alloc: Global) -> Result<Command<'a>, AllocError> {
     let about = "Prints what a path means in each namespace, and through which imports it goes";
-    let command = Command::new(alloc, "resolve").about(about);
-    let command = with_root(alloc, command)?
+    let command = rooted(alloc, "resolve", about)?
         .arg(position(alloc, "path", "PATH", "The path, as a::b::C"))?
         .arg(value(alloc, &HOME))?;
     with_options(alloc, command)
@@ -208,10 +205,10 @@ pub(crate) fn command_line<'a>(alloc: Global) -> Result<Command<'a>, AllocError>
         .version("0.1.0")
         .subcommand_required(true)
         .arg_required_else_help(true)
-        .subcommand(tree_command(alloc)?)?
+        .subcommand(plain_command(alloc, "tree", TREE)?)?
         .subcommand(resolve_command(alloc)?)?
-        .subcommand(unresolved_command(alloc)?)?
-        .subcommand(imports_command(alloc)?)
+        .subcommand(plain_command(alloc, "unresolved", UNRESOLVED)?)?
+        .subcommand(plain_command(alloc, "imports", IMPORTS)?)
 }
 
 /// The edition of a word.

@@ -46,7 +46,12 @@ impl<'a> CargoTarget<'a> {
 
 /// Whether a list has a text.
 fn has(words: &[Value], wanted: &str) -> bool {
-    words.iter().any(|word| word.as_str() == Some(wanted))
+    for word in words {
+        if word.as_str() == Some(wanted) {
+            return true;
+        }
+    }
+    false
 }
 
 /// What the words of a target's kind say.

@@ -18,9 +18,12 @@ pub(crate) struct CfgLine<'a> {
     pub(crate) value: Option<&'a str>,
 }
 
+fn is_name_char(c: char) -> bool {
+    c.is_ascii_alphanumeric() || c == '_' || c == '-'
+}
+
 fn is_name(text: &str) -> bool {
-    let is_word = |c: char| c.is_ascii_alphanumeric() || c == '_' || c == '-';
-    !text.is_empty() && text.chars().all(is_word)
+    !text.is_empty() && text.chars().all(is_name_char)
 }
 
 /// The text between two quotation marks.

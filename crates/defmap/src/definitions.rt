@@ -30,26 +30,32 @@ fn kind_word(def: ModuleDefId) -> &'static str {
 
 /// The name that a scope declares a definition under as a type.
 fn type_name(scope: &ItemScope, def: ModuleDefId) -> Option<&Name> {
-    let found = scope
-        .types()
-        .find(|(_name, item)| item.import.is_none() && item.def == def)?;
-    Some(found.0)
+    for (name, item) in scope.types() {
+        if item.import.is_none() && item.def == def {
+            return Some(name);
+        }
+    }
+    None
 }
 
 /// The same as a value.
 fn value_name(scope: &ItemScope, def: ModuleDefId) -> Option<&Name> {
-    let found = scope
-        .values()
-        .find(|(_name, item)| item.import.is_none() && item.def == def)?;
-    Some(found.0)
+    for (name, item) in scope.values() {
+        if item.import.is_none() && item.def == def {
+            return Some(name);
+        }
+    }
+    None
 }
 
 /// The name that a scope declares a macro under.
 fn own_macro_name(scope: &ItemScope, id: MacroId) -> Option<&Name> {
-    let found = scope
-        .macros()
-        .find(|(_name, item)| item.import.is_none() && item.def == id)?;
-    Some(found.0)
+    for (name, item) in scope.macros() {
+        if item.import.is_none() && item.def == id {
+            return Some(name);
+        }
+    }
+    None
 }
 
 /// The name that a scope declares a definition under.
@@ -67,7 +73,7 @@ fn declared_name(scope: &ItemScope, def: ModuleDefId) -> Option<&Name> {
 fn macro_name(world: &World, home: ModuleId, id: MacroId) -> Option<&Name> {
     if let Some(scope) = world.scope_of(home) {
         for (name, macros) in scope.legacy_macros() {
-            if macros.iter().any(|one| *one == id) {
+            if macros.contains(&id) {
                 return Some(name);
             }
         }

@@ -1,7 +1,7 @@
 //! The crate graph of some plans.
 use crate::cfg_file::options_of;
 use crate::complaints::Complaints;
-use crate::plan::{CratePlan, DependencyPlan};
+use crate::plan::CratePlan;
 use crate_modules::crate_data::CrateData;
 use crate_modules::crate_graph::CrateGraph;
 use crate_modules::crate_order::OrderFault;
@@ -9,6 +9,7 @@ use crate_modules::dependency::Dependency;
 use dm_ids::ids::{Crate, FileId};
 use dm_ids::name::Name;
 use std::alloc::{AllocError, Global};
+use std::fmt::Write;
 
 /// A graph, and the number in it of each plan whose root was read.
 pub(crate) struct PlannedGraph {
@@ -34,27 +35,6 @@ fn number_of(numbers: &[Option<Crate>], plan: usize) -> Option<Crate> {
 }
 
 /// Adds what a crate depends on, of what is in the graph.
-fn add_dependency(
-    graph: &mut CrateGraph,
-    alloc: Global,
-    numbers: &[Option<Crate>],
-    from: Crate,
-    planned: &DependencyPlan,
-) -> Result<(), AllocError> {
-    let Some(crate_id) = number_of(numbers, planned.krate) else {
-        return Ok(());
-    };
-    let dependency = Dependency {
-        crate_id,
-        name: Name::new(alloc, planned.name.as_str())?,
-        prelude: planned.prelude,
-    };
-    if graph.contains(from) && graph.contains(crate_id) {
-        graph.add_dep(from, dependency)?;
-    }
-    Ok(())
-}
-
 fn add_dependencies(
     graph: &mut CrateGraph,
     alloc: Global,
@@ -66,7 +46,17 @@ fn add_dependencies(
         return Ok(());
     };
     for planned in &plan.dependencies {
-        add_dependency(graph, alloc, numbers, from, planned)?;
+        let Some(crate_id) = number_of(numbers, planned.krate) else {
+            continue;
+        };
+        let dependency = Dependency {
+            crate_id,
+            name: Name::new(alloc, planned.name.as_str())?,
+            prelude: planned.prelude,
+        };
+        if graph.contains(from) && graph.contains(crate_id) {
+            graph.add_dep(from, dependency)?;
+        }
     }
     Ok(())
 }
@@ -123,14 +113,17 @@ pub(crate) fn graph_of(
     Ok(made)
 }
 
-/// The name of the crate of a number in a graph.
-fn name_in<'a>(plans: &'a [CratePlan], made: &PlannedGraph, krate: Crate) -> &'a str {
-    let plan = made
-        .plans_of
+/// The plan of a crate of a graph, by its number among some plans; no such number where it has none.
+fn plan_of(plans_of: &[usize], krate: Crate) -> usize {
+    plans_of
         .get(krate.0 as usize)
         .copied()
-        .unwrap_or(usize::MAX);
-    match plans.get(plan) {
+        .unwrap_or(usize::MAX)
+}
+
+/// The name of the crate of a number in a graph.
+fn name_in<'a>(plans: &'a [CratePlan], plans_of: &[usize], krate: Crate) -> &'a str {
+    match plans.get(plan_of(plans_of, krate)) {
         None => "?",
         Some(plan) => plan.name.as_str(),
     }
@@ -140,52 +133,39 @@ fn name_in<'a>(plans: &'a [CratePlan], made: &PlannedGraph, krate: Crate) -> &'a
 fn circle_line(
     alloc: Global,
     plans: &[CratePlan],
-    made: &PlannedGraph,
+    plans_of: &[usize],
     circle: &[Crate],
 ) -> Result<String, AllocError> {
     let mut line = String::from_str(alloc, "crates depend on each other in a circle: ")?;
     for krate in circle {
-        line.push_str(name_in(plans, made, *krate))?;
-        line.push_str(" on ")?;
+        write!(line, "{} on ", name_in(plans, plans_of, *krate))?;
     }
-    match circle.first() {
-        None => {}
-        Some(first) => line.push_str(name_in(plans, made, *first))?,
-    }
-    line.push_str(": take one of these dependencies away (the last was left out)")?;
-    Ok(line)
-}
-
-/// Takes away the dependency that closes a circle.
-fn open_circle(plans: &mut [CratePlan], made: &PlannedGraph, circle: &[Crate]) {
-    let (Some(first), Some(last)) = (circle.first(), circle.last()) else {
-        return;
+    let first = match circle.first() {
+        None => "",
+        Some(first) => name_in(plans, plans_of, *first),
     };
-    let from = made
-        .plans_of
-        .get(last.0 as usize)
-        .copied()
-        .unwrap_or(usize::MAX);
-    let to = made
-        .plans_of
-        .get(first.0 as usize)
-        .copied()
-        .unwrap_or(usize::MAX);
-    if let Some(plan) = plans.get_mut(from) {
-        plan.forget(to);
-    }
+    write!(
+        line,
+        "{first}: take one of these dependencies away (the last was left out)"
+    )?;
+    Ok(line)
 }
 
 /// Complains of a circle, and takes away the dependency that closes it.
 fn complain_of(
     alloc: Global,
     plans: &mut [CratePlan],
-    made: &PlannedGraph,
+    plans_of: &[usize],
     circle: &[Crate],
     complaints: &mut Complaints,
 ) -> Result<(), AllocError> {
-    complaints.add(circle_line(alloc, plans, made, circle)?)?;
-    open_circle(plans, made, circle);
+    complaints.add(circle_line(alloc, plans, plans_of, circle)?)?;
+    let (Some(first), Some(last)) = (circle.first(), circle.last()) else {
+        return Ok(());
+    };
+    if let Some(plan) = plans.get_mut(plan_of(plans_of, *last)) {
+        plan.forget(plan_of(plans_of, *first));
+    }
     Ok(())
 }
 
@@ -214,7 +194,7 @@ pub(crate) fn ordered_graph(
             Err(OrderFault::Cycle(circle)) => complain_of(
                 alloc,
                 plans.as_mut_slice(),
-                &made,
+                made.plans_of.as_slice(),
                 circle.as_slice(),
                 complaints,
             )?,

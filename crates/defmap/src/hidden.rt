@@ -9,6 +9,7 @@
 use crate::macro_exports::exporting_roots;
 use crate::macro_homes::MacroHome;
 use crate::meanings::import_meaning;
+use crate::notes::{Cause, Notes};
 use crate::settled::Settled;
 use crate::written_path::prefix_of;
 use dm_base::ids::ModuleId;
@@ -18,27 +19,8 @@ use dm_base::mod_path::{ModPath, PathKind};
 use dm_base::name::Name;
 use dm_collector::sources::{GlobImport, GlobSource};
 use dm_maps::world::World;
-use indexmap::{IndexMap, IndexSet};
+use indexmap::IndexSet;
 use std::alloc::{AllocError, Global};
-
-/// The crates of the standard library.
-const STANDARD: [&'static str; 5] = ["core", "alloc", "std", "test", "proc_macro"];
-
-/// Why an import is unknown.
-#[derive(Clone, Copy, PartialEq, Eq, Debug)]
-pub(crate) enum Cause {
-    /// A macro may bring what it needs.
-    Macro,
-    /// It needs the standard library.
-    Standard,
-}
-
-/// Why an import of a name is unknown, and the place of the last name that was noted before of the same module.
-#[derive(Clone, Copy)]
-struct NotedName {
-    cause: Cause,
-    before: Option<usize>,
-}
 
 /// What is hidden in a world.
 pub(crate) struct Hidden<'a> {
@@ -46,19 +28,7 @@ pub(crate) struct Hidden<'a> {
     settled: &'a Settled,
     /// Whether the crates of the standard library are given.
     has_sysroot: bool,
-    by_macros: IndexSet<ModuleId>,
-    by_standard: IndexSet<ModuleId>,
-    /// The roots that macros may bring macros to.
-    exporting: IndexSet<ModuleId>,
-    /// The unknown imports, by their places among the named ones.
-    named: IndexMap<usize, Cause>,
-    /// The same, by the modules that they stand in and the names that they would bind, and by the modules that have globs
-    /// of these.
-    by_name: IndexMap<(ModuleId, &'a str), NotedName>,
-    /// Where among these the last name of a module stands.
-    last_names: IndexMap<ModuleId, usize>,
-    /// The globs that hide names, by their places.
-    globs: IndexMap<usize, Cause>,
+    pub(crate) notes: Notes<'a>,
 }
 
 /// A hand-written `Drop`, to keep proofs small: what drops one has one call to prove.
@@ -68,13 +38,7 @@ impl<'a> Drop for Hidden<'a> {
             alloc: _alloc,
             settled: _settled,
             has_sysroot: _has_sysroot,
-            by_macros: _by_macros,
-            by_standard: _by_standard,
-            exporting: _exporting,
-            named: _named,
-            by_name: _by_name,
-            last_names: _last_names,
-            globs: _globs,
+            notes: _notes,
         } = self;
     }
 }
@@ -88,8 +52,12 @@ struct Missing<'b> {
     is_last: bool,
 }
 
+/// Whether a crate of the standard library has a name.
 fn is_standard(name: &Name) -> bool {
-    STANDARD.iter().any(|one| *one == name.as_str())
+    matches!(
+        name.as_str(),
+        "core" | "alloc" | "std" | "test" | "proc_macro"
+    )
 }
 
 /// The module that a beginning of an import's path means.
@@ -162,17 +130,6 @@ fn missing_of<'b>(
     })
 }
 
-/// The module that a glob has its names from.
-fn source_module(world: &World, glob: &GlobImport) -> Option<ModuleId> {
-    if !glob.is_known(world) {
-        return None;
-    }
-    match glob.resolved(world)?.from {
-        GlobSource::Module(m) => Some(m),
-        GlobSource::Enum(_enum) => None,
-    }
-}
-
 /// The modules that macro calls stand in.
 fn modules_of(alloc: Global, homes: &[MacroHome]) -> Result<IndexSet<ModuleId>, AllocError> {
     let mut modules = IndexSet::new(alloc);
@@ -191,17 +148,13 @@ impl<'a> Hidden<'a> {
         homes: &[MacroHome],
     ) -> Result<Hidden<'a>, AllocError> {
         let unresolved = settled.collected.retry.unresolved()?;
+        let by_macros = modules_of(alloc, homes)?;
+        let exporting = exporting_roots(alloc, settled, homes)?;
         let mut hidden = Hidden {
             alloc,
             settled,
             has_sysroot,
-            by_macros: modules_of(alloc, homes)?,
-            by_standard: IndexSet::new(alloc),
-            exporting: exporting_roots(alloc, settled, homes)?,
-            named: IndexMap::new(alloc),
-            by_name: IndexMap::new(alloc),
-            last_names: IndexMap::new(alloc),
-            globs: IndexMap::new(alloc),
+            notes: Notes::new(alloc, by_macros, exporting),
         };
         hidden.find_all(unresolved.as_slice())?;
         Ok(hidden)
@@ -231,32 +184,6 @@ impl<'a> Hidden<'a> {
         self.alloc
     }
 
-    /// Why a module hides names, if it does.
-    fn cause_in(&self, module: ModuleId) -> Option<Cause> {
-        if self.by_macros.contains(&module) {
-            Some(Cause::Macro)
-        } else if self.by_standard.contains(&module) {
-            Some(Cause::Standard)
-        } else {
-            None
-        }
-    }
-
-    /// Why the import of a module that would bind a name is unknown, if it is.
-    fn cause_by_name(&self, module: ModuleId, name: &Name) -> Option<Cause> {
-        match self.by_name.get(&(module, name.as_str())) {
-            None => None,
-            Some(noted) => Some(noted.cause),
-        }
-    }
-
-    /// Whether a macro may bring a name of a module.
-    pub(crate) fn may_bring(&self, module: ModuleId, name: &Name) -> bool {
-        self.cause_in(module).is_some()
-            || self.exporting.contains(&module)
-            || self.cause_by_name(module, name).is_some()
-    }
-
     /// Why a path that leads nowhere is unknown, if it is.
     pub(crate) fn cause_of(
         &self,
@@ -270,63 +197,10 @@ impl<'a> Hidden<'a> {
         if missing.is_first && !self.has_sysroot && is_standard(name) {
             return Ok(Some(Cause::Standard));
         }
-        if missing.is_last && self.exporting.contains(&missing.module) {
+        if missing.is_last && self.notes.is_exporting(missing.module) {
             return Ok(Some(Cause::Macro));
         }
-        match self.cause_in(missing.module) {
-            Some(cause) => Ok(Some(cause)),
-            None => Ok(self.cause_by_name(missing.module, name)),
-        }
-    }
-
-    /// Notes that a name of a module is unknown. Tells whether that is new.
-    fn note_name(
-        &mut self,
-        module: ModuleId,
-        name: &'a str,
-        cause: Cause,
-    ) -> Result<bool, AllocError> {
-        if self.by_name.contains_key(&(module, name)) {
-            return Ok(false);
-        }
-        let noted = NotedName {
-            cause,
-            before: self.last_names.get(&module).copied(),
-        };
-        self.last_names.insert(module, self.by_name.len())?;
-        self.by_name.insert((module, name), noted)?;
-        Ok(true)
-    }
-
-    /// The unknown names of a module, each with why it is unknown.
-    fn names_in(&self, module: ModuleId) -> Result<Vec<(&'a str, Cause)>, AllocError> {
-        let mut found = Vec::new(self.alloc);
-        let mut next = self.last_names.get(&module).copied();
-        for _name in 0..self.by_name.len() {
-            let Some(place) = next else {
-                break;
-            };
-            let Some((named, noted)) = self.by_name.get_index(place) else {
-                break;
-            };
-            found.push((named.1, noted.cause))?;
-            next = noted.before;
-        }
-        Ok(found)
-    }
-
-    /// Notes the unknown names that a glob would bring. Tells whether there is a new one.
-    fn find_brought(&mut self, glob: &GlobImport) -> Result<bool, AllocError> {
-        let Some(from) = source_module(self.settled.world(), glob) else {
-            return Ok(false);
-        };
-        let mut has_new = false;
-        for (name, cause) in self.names_in(from)? {
-            if self.note_name(glob.into, name, cause)? {
-                has_new = true;
-            }
-        }
-        Ok(has_new)
+        Ok(self.notes.cause_of_name(missing.module, name))
     }
 
     /// Notes the named imports that are unknown by what is noted. Tells whether there is a new one.
@@ -334,72 +208,53 @@ impl<'a> Hidden<'a> {
         let settled = self.settled;
         let mut has_new = false;
         for place in unresolved {
+            if self.notes.cause_of_named(*place).is_some() {
+                continue;
+            }
             let Some(pending) = settled.collected.retry.get(*place) else {
                 continue;
             };
-            if self.cause_of_named(*place).is_some() {
-                continue;
-            }
-            if let Some(cause) = self.cause_of(pending.origin(), pending.path())? {
-                self.named.insert(*place, cause)?;
-                self.note_name(pending.origin(), pending.name().as_str(), cause)?;
+            let home = pending.origin();
+            if let Some(cause) = self.cause_of(home, pending.path())? {
+                self.notes.note_named(*place, home, pending.name(), cause)?;
                 has_new = true;
             }
         }
         Ok(has_new)
     }
 
-    /// Lets a module hide names.
-    fn hide(&mut self, module: ModuleId, cause: Cause) -> Result<bool, AllocError> {
-        match cause {
-            Cause::Macro => Ok(self.by_macros.insert(module)?),
-            Cause::Standard => Ok(self.by_standard.insert(module)?),
-        }
-    }
-
-    /// Why the source of a glob hides names, or why there is none, if that is unknown.
-    fn cause_of_source(&self, glob: &GlobImport) -> Result<Option<Cause>, AllocError> {
+    /// Notes a glob that is unknown or of a module that hides names, and the unknown names that it would bring. Tells
+    /// whether there is something new.
+    fn find_glob(&mut self, place: usize, glob: &GlobImport) -> Result<bool, AllocError> {
         let world = self.settled.world();
         if !glob.is_known(world) {
-            return Ok(None);
+            return Ok(false);
         }
-        match glob.resolved(world) {
-            None => self.cause_of(glob.into, &glob.path),
+        let (has_new, cause) = match glob.resolved(world) {
+            None => (false, self.cause_of(glob.into, &glob.path)?),
             Some(found) => match found.from {
-                GlobSource::Module(m) => Ok(self.cause_in(m)),
-                GlobSource::Enum(_enum) => Ok(None),
+                GlobSource::Module(m) => (self.notes.bring(m, glob.into)?, self.notes.cause_in(m)),
+                GlobSource::Enum(_enum) => (false, None),
             },
+        };
+        match cause {
+            None => Ok(has_new),
+            Some(cause) => {
+                self.notes.note_glob(place, glob.into, cause)?;
+                Ok(true)
+            }
         }
     }
 
-    /// Notes the globs that are unknown or of modules that hide names, and the unknown names that globs would bring. Tells
-    /// whether there is a new one.
+    /// Notes what is to be noted of globs. Tells whether there is something new.
     fn find_globs(&mut self) -> Result<bool, AllocError> {
         let settled = self.settled;
         let mut has_new = false;
         for (place, glob) in settled.collected.globs.iter().enumerate() {
-            if self.cause_of_glob(place).is_some() {
-                continue;
-            }
-            if self.find_brought(glob)? {
-                has_new = true;
-            }
-            if let Some(cause) = self.cause_of_source(glob)? {
-                self.globs.insert(place, cause)?;
-                self.hide(glob.into, cause)?;
+            if self.notes.cause_of_glob(place).is_none() && self.find_glob(place, glob)? {
                 has_new = true;
             }
         }
         Ok(has_new)
-    }
-
-    /// Why a named import is unknown, if it is.
-    pub(crate) fn cause_of_named(&self, place: usize) -> Option<Cause> {
-        self.named.get(&place).copied()
-    }
-
-    /// Why a glob is unknown, or brings hidden names, if it does.
-    pub(crate) fn cause_of_glob(&self, place: usize) -> Option<Cause> {
-        self.globs.get(&place).copied()
     }
 }

@@ -8,13 +8,14 @@ use crate::path_text::path_text;
 use crate::places::{Lines, use_spot};
 use crate::prelude_use::prelude_use;
 use crate::settled::Settled;
-use dm_base::ids::{Crate, ModuleId, UseId, UseTreeIdx};
-use dm_base::item_in_ns::ItemModules;
+use crate::shown::is_own;
+use dm_base::ids::{ModuleId, UseId, UseTreeIdx};
 use dm_base::mod_path::ModPath;
 use dm_base::per_ns::{Namespace, PerNs};
 use dm_retry::import_kind::ImportKind;
 use indexmap::IndexSet;
 use std::alloc::{AllocError, Global};
+use std::fmt::Write;
 
 /// What an import of a kind takes of some items.
 fn taken(kind: ImportKind, found: PerNs) -> PerNs {
@@ -27,23 +28,25 @@ fn taken(kind: ImportKind, found: PerNs) -> PerNs {
     }
 }
 
-/// The words for what something is in each namespace.
-fn meant_words(alloc: Global, settled: &Settled, found: PerNs) -> Result<String, AllocError> {
-    let mut words = String::new(alloc);
+/// Adds the words for what something is in each namespace.
+fn push_meant(
+    out: &mut String,
+    alloc: Global,
+    settled: &Settled,
+    found: PerNs,
+) -> Result<(), AllocError> {
     let namespaces = [
         ("type", Namespace::Types),
         ("value", Namespace::Values),
         ("macro", Namespace::Macros),
     ];
     for (word, namespace) in &namespaces {
-        let Some(meant) = meant_in(found, *namespace) else {
-            continue;
-        };
-        let shown = definition_text(alloc, settled, meant.def)?;
-        let told = format!(in alloc; "; {word} {shown}")?;
-        words.push_str(told.as_str())?;
+        if let Some(meant) = meant_in(found, *namespace) {
+            let shown = definition_text(alloc, settled, meant.def)?;
+            write!(out, "; {word} {shown}")?;
+        }
     }
-    Ok(words)
+    Ok(())
 }
 
 /// What lists imports.
@@ -83,39 +86,16 @@ impl<'s, 'h, 'l, 'f> Listing<'s, 'h, 'l, 'f> {
     ) -> Result<(), AllocError> {
         let (use_, idx) = leaf;
         if let Some(spot) = use_spot(self.alloc, self.settled, use_, idx)? {
-            let place = self.lines.place(self.alloc, spot.file, spot.offset)?;
-            self.out.push_str(place.as_str())?;
+            self.lines.push_place(&mut self.out, spot)?;
         }
         let written = path_text(self.alloc, path)?;
-        self.out.push_str(": ")?;
-        self.out.push_str(written.as_str())?;
-        self.out.push_str(if kind.is_none() { "::*" } else { "" })?;
-        let words = match imported(self.settled.world(), home, path) {
-            None => String::new(self.alloc),
-            Some(found) => {
-                let meant = taken(kind.unwrap_or(ImportKind::TypeOnly), found);
-                meant_words(self.alloc, self.settled, meant)?
-            }
-        };
-        self.out.push_str(words.as_str())?;
-        self.out.push_str(reservation)?;
-        self.out.push_str("\n")?;
-        Ok(())
-    }
-
-    fn is_own(&self, home: ModuleId) -> bool {
-        self.settled.world().module_krate(home) == Some(Crate(0))
-    }
-
-    /// What is not known of a named import.
-    fn reservation(&self, place: usize) -> &'static str {
-        if self.hidden.cause_of_named(place).is_some() {
-            "; unknown"
-        } else if self.partly.contains(&place) {
-            "; more unknown"
-        } else {
-            ""
+        let star = if kind.is_none() { "::*" } else { "" };
+        write!(self.out, ": {written}{star}")?;
+        if let Some(found) = imported(self.settled.world(), home, path) {
+            let meant = taken(kind.unwrap_or(ImportKind::TypeOnly), found);
+            push_meant(&mut self.out, self.alloc, self.settled, meant)?;
         }
+        write!(self.out, "{reservation}\n")
     }
 
     fn add_named(&mut self) -> Result<(), AllocError> {
@@ -125,18 +105,26 @@ impl<'s, 'h, 'l, 'f> Listing<'s, 'h, 'l, 'f> {
             let Some(pending) = retry.get(place) else {
                 continue;
             };
-            if self.is_own(pending.origin()) {
-                let import = pending.import();
-                let leaf = (import.use_, import.idx);
-                let reservation = self.reservation(place);
-                self.add(
-                    pending.origin(),
-                    pending.path(),
-                    leaf,
-                    Some(pending.kind()),
-                    reservation,
-                )?;
+            let home = pending.origin();
+            if !is_own(settled.world(), home) {
+                continue;
             }
+            let reservation = if self.hidden.notes.cause_of_named(place).is_some() {
+                "; unknown"
+            } else if self.partly.contains(&place) {
+                "; more unknown"
+            } else {
+                ""
+            };
+            let import = pending.import();
+            let leaf = (import.use_, import.idx);
+            self.add(
+                home,
+                pending.path(),
+                leaf,
+                Some(pending.kind()),
+                reservation,
+            )?;
         }
         Ok(())
     }
@@ -162,18 +150,12 @@ impl<'s, 'h, 'l, 'f> Listing<'s, 'h, 'l, 'f> {
         out
     }
 
-    fn add_all(&mut self) -> Result<(), AllocError> {
-        self.add_named()?;
-        self.add_globs()?;
-        self.add_prelude()
-    }
-
     fn add_globs(&mut self) -> Result<(), AllocError> {
         let settled = self.settled;
         for (place, glob) in settled.collected.globs.iter().enumerate() {
-            if self.is_own(glob.into) {
+            if is_own(settled.world(), glob.into) {
                 let leaf = (glob.import.use_, glob.import.idx);
-                let is_unknown = self.hidden.cause_of_glob(place).is_some();
+                let is_unknown = self.hidden.notes.cause_of_glob(place).is_some();
                 let reservation = if is_unknown { "; unknown" } else { "" };
                 self.add(glob.into, &glob.path, leaf, None, reservation)?;
             }
@@ -192,7 +174,9 @@ fn listed(lines: &Lines<'_>, hidden: &Hidden<'_>) -> Result<String, AllocError> 
         partly: partly_unknown(hidden)?,
         out: String::new(hidden.alloc()),
     };
-    listing.add_all()?;
+    listing.add_named()?;
+    listing.add_globs()?;
+    listing.add_prelude()?;
     Ok(listing.into_text())
 }
 
@@ -203,7 +187,8 @@ pub(crate) fn imports_text(
     lines: &Lines<'_>,
     has_sysroot: bool,
 ) -> Result<String, AllocError> {
-    let homes = macro_homes(alloc, settled)?;
+    let tables = settled.collected.tables.as_slice();
+    let homes = macro_homes(alloc, tables, settled.items())?;
     let hidden = Hidden::of(alloc, settled, has_sysroot, homes.as_slice())?;
     listed(lines, &hidden)
 }

@@ -40,7 +40,6 @@ pub(crate) struct Manner<'a> {
 }
 
 /// A file of a crate, as the one of some module.
-#[derive(Drop)]
 struct Visit {
     file: FileId,
     dir: ModDir,
@@ -48,17 +47,31 @@ struct Visit {
     around: Option<usize>,
 }
 
+/// A hand-written `Drop`, to keep proofs small: what drops one has one call to prove.
+impl Drop for Visit {
+    fn drop(self) {
+        let Visit {
+            file: _file,
+            dir: _dir,
+            around: _around,
+        } = self;
+    }
+}
+
 /// Whether a file is that of a visit or one around it.
 fn is_around(visits: &[Visit], number: usize, file: FileId) -> bool {
-    let mut next = Some(number);
+    let mut next = number;
     for _visit in 0..visits.len() {
-        let Some(visit) = next.and_then(|number| visits.get(number)) else {
+        let Some(visit) = visits.get(next) else {
             return false;
         };
         if visit.file == file {
             return true;
         }
-        next = visit.around;
+        let Some(around) = visit.around else {
+            return false;
+        };
+        next = around;
     }
     false
 }

@@ -1,7 +1,8 @@
 //! The macro calls among the items of a crate that lead nowhere.
-use crate::hidden::{Cause, Hidden};
+use crate::hidden::Hidden;
 use crate::macro_homes::MacroHome;
 use crate::meanings::macro_meaning;
+use crate::notes::Cause;
 use crate::settled::Settled;
 use crate::shown::outwards;
 use crate_items::declared_item::DeclaredItem;
@@ -32,8 +33,8 @@ fn only_name(path: &ModPath) -> Option<&Name> {
 }
 
 /// Whether a crate declares a macro under a name, wherever that is in scope.
-fn is_declared(settled: &Settled, krate: usize, name: &Name) -> bool {
-    let Some(items) = settled.items().get(krate) else {
+fn is_declared(items: &[Vec<DeclaredItem>], krate: usize, name: &Name) -> bool {
+    let Some(items) = items.get(krate) else {
         return false;
     };
     for item in items {
@@ -47,14 +48,19 @@ fn is_declared(settled: &Settled, krate: usize, name: &Name) -> bool {
 
 /// Whether a macro of a name is in textual scope in a module or in one around it.
 fn is_textual(world: &World, around: &[ModuleId], name: &Name) -> bool {
-    around.iter().any(|m| world.legacy_of(*m, name).is_some())
+    for m in around {
+        if world.legacy_of(*m, name).is_some() {
+            return true;
+        }
+    }
+    false
 }
 
 /// How many macros are called in a module and in those around it.
 fn calls_around(homes: &[MacroHome], around: &[ModuleId]) -> usize {
     let mut count = 0usize;
     for home in homes {
-        if around.iter().any(|m| *m == home.module) {
+        if around.contains(&home.module) {
             count = count.saturating_add(1);
         }
     }
@@ -75,7 +81,9 @@ fn end_of_name(
     let Some(name) = only_name(&path) else {
         return Ok(CallEnd::Nowhere(path));
     };
-    if is_textual(world, around.as_slice(), name) || is_declared(settled, call.krate, name) {
+    if is_textual(world, around.as_slice(), name)
+        || is_declared(settled.items(), call.krate, name)
+    {
         return Ok(CallEnd::Found);
     }
     if !hidden.has_sysroot() {
@@ -93,7 +101,7 @@ pub(crate) fn path_of(
     settled: &Settled,
     call: MacroHome,
 ) -> Result<Option<ModPath>, AllocError> {
-    let Some(item) = item_of(settled, call) else {
+    let Some(item) = item_of(settled.items(), call) else {
         return Ok(None);
     };
     match settled.lists().get(call.krate) {
@@ -103,8 +111,8 @@ pub(crate) fn path_of(
 }
 
 /// The item that a macro call is.
-pub(crate) fn item_of(settled: &Settled, call: MacroHome) -> Option<&DeclaredItem> {
-    settled.items().get(call.krate)?.get(call.item)
+pub(crate) fn item_of(items: &[Vec<DeclaredItem>], call: MacroHome) -> Option<&DeclaredItem> {
+    items.get(call.krate)?.get(call.item)
 }
 
 /// Where a macro call leads to.

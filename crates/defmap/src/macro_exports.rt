@@ -7,8 +7,9 @@ use crate::macro_homes::MacroHome;
 use crate::places::source_of;
 use crate::settled::Settled;
 use crate_items::declared_item::DeclaredItem;
+use crate_modules::modules::CrateModules;
 use dm_base::ids::{Crate, ModuleId};
-use dm_maps::world::maps_of::crate_def_map;
+use dm_maps::world::World;
 use indexmap::IndexSet;
 use item_tree::item_kind::ItemKind;
 use item_tree::lexeme::{Lexeme, LexemeKind};
@@ -18,13 +19,19 @@ use std::alloc::{AllocError, Global};
 /// The macro that puts the items of a file in its place.
 const INCLUDE: &'static str = "include";
 
-fn is_export(lexeme: Lexeme) -> bool {
-    matches!(lexeme.kind, LexemeKind::Word(Word::MacroExport))
+/// Whether `macro_export` is among lexemes.
+fn is_among(lexemes: &[Lexeme]) -> bool {
+    for lexeme in lexemes {
+        if matches!(lexeme.kind, LexemeKind::Word(Word::MacroExport)) {
+            return true;
+        }
+    }
+    false
 }
 
 /// Whether `macro_export` stands in an item, behind the word that it begins with.
-fn has_export(settled: &Settled, krate: usize, item: &DeclaredItem) -> bool {
-    let Some(source) = source_of(settled, krate, item.file) else {
+fn has_export(lists: &[CrateModules], krate: usize, item: &DeclaredItem) -> bool {
+    let Some(source) = source_of(lists, krate, item.file) else {
         return false;
     };
     let Some(written) = source.items().get(item.item) else {
@@ -32,20 +39,20 @@ fn has_export(settled: &Settled, krate: usize, item: &DeclaredItem) -> bool {
     };
     match source.lexemes().get(written.word..written.behind) {
         None => false,
-        Some(lexemes) => lexemes.iter().any(|lexeme| is_export(*lexeme)),
+        Some(lexemes) => is_among(lexemes),
     }
 }
 
 /// Adds the names of the macros of a crate that export macros.
 fn add_names<'a>(
     names: &mut IndexSet<&'a str>,
-    settled: &Settled,
+    lists: &[CrateModules],
     krate: usize,
     items: &'a [DeclaredItem],
 ) -> Result<(), AllocError> {
     for item in items {
         let is_macro = matches!(item.kind, ItemKind::MacroRules | ItemKind::Macro2);
-        if !is_macro || !has_export(settled, krate, item) {
+        if !is_macro || !has_export(lists, krate, item) {
             continue;
         }
         if let Some(name) = &item.name {
@@ -58,11 +65,12 @@ fn add_names<'a>(
 /// The names of the macros that export macros.
 fn exporting_names<'a>(
     alloc: Global,
-    settled: &'a Settled,
+    lists: &[CrateModules],
+    items: &'a [Vec<DeclaredItem>],
 ) -> Result<IndexSet<&'a str>, AllocError> {
     let mut names = IndexSet::new(alloc);
-    for (krate, items) in settled.items().iter().enumerate() {
-        add_names(&mut names, settled, krate, items.as_slice())?;
+    for (krate, items) in items.iter().enumerate() {
+        add_names(&mut names, lists, krate, items.as_slice())?;
     }
     Ok(names)
 }
@@ -74,8 +82,8 @@ fn may_export(
     names: &IndexSet<&str>,
     call: MacroHome,
 ) -> Result<bool, AllocError> {
-    if let Some(item) = item_of(settled, call) {
-        if has_export(settled, call.krate, item) {
+    if let Some(item) = item_of(settled.items(), call) {
+        if has_export(settled.lists(), call.krate, item) {
             return Ok(true);
         }
     }
@@ -89,15 +97,10 @@ fn may_export(
 }
 
 /// Adds the root of a crate.
-fn add_root(
-    roots: &mut IndexSet<ModuleId>,
-    settled: &Settled,
-    krate: usize,
-) -> Result<(), AllocError> {
+fn add_root(roots: &mut IndexSet<ModuleId>, world: &World, krate: usize) -> Result<(), AllocError> {
     let krate = Crate(u32::try_from(krate).unwrap_or(u32::MAX));
-    let world = settled.world();
-    if world.has_crate(krate) {
-        roots.insert(crate_def_map(world, krate).root_module_id())?;
+    if let Some(root) = world.root_of(krate) {
+        roots.insert(root)?;
     }
     Ok(())
 }
@@ -106,7 +109,7 @@ fn add_root(
 fn add_procedural(roots: &mut IndexSet<ModuleId>, settled: &Settled) -> Result<(), AllocError> {
     for krate in 0..settled.names.len() {
         if settled.is_procedural(krate) {
-            add_root(roots, settled, krate)?;
+            add_root(roots, settled.world(), krate)?;
         }
     }
     Ok(())
@@ -118,12 +121,12 @@ pub(crate) fn exporting_roots(
     settled: &Settled,
     homes: &[MacroHome],
 ) -> Result<IndexSet<ModuleId>, AllocError> {
-    let names = exporting_names(alloc, settled)?;
+    let names = exporting_names(alloc, settled.lists(), settled.items())?;
     let mut roots = IndexSet::new(alloc);
     add_procedural(&mut roots, settled)?;
     for call in homes {
         if may_export(alloc, settled, &names, *call)? {
-            add_root(&mut roots, settled, call.krate)?;
+            add_root(&mut roots, settled.world(), call.krate)?;
         }
     }
     Ok(roots)

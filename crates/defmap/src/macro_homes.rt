@@ -1,6 +1,6 @@
 //! The modules of the world in which macros are called among the items.
-use crate::settled::Settled;
 use crate_items::declared_item::DeclaredItem;
+use crate_tables::crate_table::CrateTable;
 use dm_base::ids::ModuleId;
 use item_tree::item_kind::ItemKind;
 use std::alloc::{AllocError, Global};
@@ -37,10 +37,14 @@ fn add_homes(
 }
 
 /// The modules of all crates in which macros are called.
-pub(crate) fn macro_homes(alloc: Global, settled: &Settled) -> Result<Vec<MacroHome>, AllocError> {
+pub(crate) fn macro_homes(
+    alloc: Global,
+    tables: &[CrateTable],
+    items: &[Vec<DeclaredItem>],
+) -> Result<Vec<MacroHome>, AllocError> {
     let mut homes = Vec::new(alloc);
-    for (krate, table) in settled.collected.tables.iter().enumerate() {
-        if let Some(items) = settled.items().get(krate) {
+    for (krate, table) in tables.iter().enumerate() {
+        if let Some(items) = items.get(krate) {
             add_homes(&mut homes, krate, table.ids(), items.as_slice())?;
         }
     }

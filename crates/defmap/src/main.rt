@@ -21,6 +21,7 @@ mod macro_exports;
 mod macro_homes;
 mod meanings;
 mod metadata;
+mod notes;
 mod offsets;
 mod outlines;
 mod partly;

@@ -24,7 +24,6 @@ impl Drop for Outline {
 }
 
 /// The modules of a file, as they are gone over.
-#[derive(Drop)]
 struct Walk<'a> {
     alloc: Global,
     text: &'a [u8],
@@ -33,6 +32,29 @@ struct Walk<'a> {
     /// The same of each inline module, by its item.
     inner: IndexMap<usize, ModDir>,
     found: Vec<Outline>,
+}
+
+/// A hand-written `Drop`, to keep proofs small: what drops one has one call to prove.
+impl<'a> Drop for Walk<'a> {
+    fn drop(self) {
+        let Walk {
+            alloc: _alloc,
+            text: _text,
+            dir: _dir,
+            inner: _inner,
+            found: _found,
+        } = self;
+    }
+}
+
+/// Whether one of some modules has its items in a file of its own.
+fn has_outline(items: &[ModItem]) -> bool {
+    for item in items {
+        if item.is_outline {
+            return true;
+        }
+    }
+    false
 }
 
 impl<'a> Walk<'a> {
@@ -66,6 +88,17 @@ impl<'a> Walk<'a> {
         }
         Ok(())
     }
+
+    fn into_found(self) -> Vec<Outline> {
+        let Walk {
+            alloc: _alloc,
+            text: _text,
+            dir: _dir,
+            inner: _inner,
+            found,
+        } = self;
+        found
+    }
 }
 
 /// The modules that a file declares whose items stand in files of their own.
@@ -83,17 +116,10 @@ pub(crate) fn outlines_of(
         inner: IndexMap::new(alloc),
         found: Vec::new(alloc),
     };
-    if items.iter().any(|item| item.is_outline) {
+    if has_outline(items) {
         for item in items {
             walk.meet(*item)?;
         }
     }
-    let Walk {
-        alloc: _alloc,
-        text: _text,
-        dir: _dir,
-        inner: _inner,
-        found,
-    } = walk;
-    Ok(found)
+    Ok(walk.into_found())
 }

@@ -9,13 +9,23 @@ use indexmap::IndexSet;
 use std::alloc::{AllocError, Global};
 
 /// What finds such imports.
-#[derive(Drop)]
 struct Finder<'s, 'h> {
     hidden: &'h Hidden<'s>,
     /// Those that are found, by their places among the named ones.
     places: IndexSet<usize>,
     /// The modules that they stand in, and the names that they bind.
     bound: IndexSet<(ModuleId, &'s str)>,
+}
+
+/// A hand-written `Drop`, to keep proofs small: what drops one has one call to prove.
+impl<'s, 'h> Drop for Finder<'s, 'h> {
+    fn drop(self) {
+        let Finder {
+            hidden: _hidden,
+            places: _places,
+            bound: _bound,
+        } = self;
+    }
 }
 
 /// The module that the last name of a path is looked up in.
@@ -42,7 +52,8 @@ impl<'s, 'h> Finder<'s, 'h> {
         match last_module(self.hidden.alloc(), world, home, path)? {
             None => Ok(false),
             Some(module) => Ok(
-                self.hidden.may_bring(module, name)
+                self.hidden.notes.is_exporting(module)
+                    || self.hidden.notes.cause_of_name(module, name).is_some()
                     || self.bound.contains(&(module, name.as_str())),
             ),
         }
@@ -57,8 +68,7 @@ impl<'s, 'h> Finder<'s, 'h> {
             let Some(pending) = retry.get(place) else {
                 continue;
             };
-            let is_told = self.places.contains(&place);
-            if is_told || self.hidden.cause_of_named(place).is_some() {
+            if self.places.contains(&place) || self.hidden.notes.cause_of_named(place).is_some() {
                 continue;
             }
             if self.may_mean_more(pending.origin(), pending.path())? {
@@ -69,6 +79,15 @@ impl<'s, 'h> Finder<'s, 'h> {
             }
         }
         Ok(has_new)
+    }
+
+    fn into_places(self) -> IndexSet<usize> {
+        let Finder {
+            hidden: _hidden,
+            places,
+            bound: _bound,
+        } = self;
+        places
     }
 }
 
@@ -85,10 +104,5 @@ pub(crate) fn partly_unknown(hidden: &Hidden<'_>) -> Result<IndexSet<usize>, All
             break;
         }
     }
-    let Finder {
-        hidden: _hidden,
-        places,
-        bound: _bound,
-    } = finder;
-    Ok(places)
+    Ok(finder.into_places())
 }

@@ -5,11 +5,13 @@ use crate::offsets::{item_offset, leaf_offset};
 use crate::settled::Settled;
 use crate_modules::file_table::FileTable;
 use crate_modules::line_index::LineIndex;
+use crate_modules::modules::CrateModules;
 use crate_modules::source::Source;
 use dm_base::ids::{ExternCrateId, FileId, UseId, UseTreeIdx};
 use dm_base::imports::ImportOrExternCrate;
 use dm_base::item_in_ns::ItemModules;
 use std::alloc::{AllocError, Global};
+use std::fmt::Write;
 
 /// The lines of a file.
 #[derive(Drop)]
@@ -22,9 +24,15 @@ struct FileLines<'a> {
 }
 
 /// The lines of all files, by their numbers.
-#[derive(Drop)]
 pub(crate) struct Lines<'a> {
     files: Vec<FileLines<'a>>,
+}
+
+/// A hand-written `Drop`, to keep proofs small: what drops one has one call to prove.
+impl<'a> Drop for Lines<'a> {
+    fn drop(self) {
+        let Lines { files: _files } = self;
+    }
 }
 
 /// The lines of a text.
@@ -52,22 +60,17 @@ impl<'a> Lines<'a> {
         Ok(Lines { files: all })
     }
 
-    /// The path of a file, the line and the column of a byte of it.
-    pub(crate) fn place(
-        &self,
-        alloc: Global,
-        file: FileId,
-        offset: usize,
-    ) -> Result<String, AllocError> {
-        let Some(lines) = self.files.get(file.0 as usize) else {
-            return String::from_str(alloc, "?");
+    /// Adds the path of the file of a spot, its line and its column.
+    pub(crate) fn push_place(&self, out: &mut String, spot: Spot) -> Result<(), AllocError> {
+        let Some(lines) = self.files.get(spot.file.0 as usize) else {
+            return out.push_str("?");
         };
         let path = lines.path;
-        if offset > lines.len {
-            return String::from_str(alloc, path);
+        if spot.offset > lines.len {
+            return out.push_str(path);
         }
-        let at = lines.index.line_col(offset);
-        format!(in alloc; "{path}:{}:{}", at.line, at.col)
+        let at = lines.index.line_col(spot.offset);
+        write!(out, "{path}:{}:{}", at.line, at.col)
     }
 }
 
@@ -79,8 +82,8 @@ pub(crate) struct Spot {
 }
 
 /// The source of a file in a crate's list.
-pub(crate) fn source_of(settled: &Settled, krate: usize, file: FileId) -> Option<&Source> {
-    settled.lists().get(krate)?.sources().get(file)
+pub(crate) fn source_of(lists: &[CrateModules], krate: usize, file: FileId) -> Option<&Source> {
+    lists.get(krate)?.sources().get(file)
 }
 
 /// Where a leaf of a `use` begins.
@@ -93,7 +96,7 @@ pub(crate) fn use_spot(
     let Some(place) = settled.use_place(use_) else {
         return Ok(None);
     };
-    let Some(source) = source_of(settled, place.krate, place.file) else {
+    let Some(source) = source_of(settled.lists(), place.krate, place.file) else {
         return Ok(None);
     };
     Ok(Some(Spot {
@@ -104,12 +107,12 @@ pub(crate) fn use_spot(
 
 /// Where an item of a crate begins.
 pub(crate) fn item_spot(
-    settled: &Settled,
+    lists: &[CrateModules],
     krate: usize,
     file: FileId,
     item: usize,
 ) -> Option<Spot> {
-    let source = source_of(settled, krate, file)?;
+    let source = source_of(lists, krate, file)?;
     Some(Spot {
         file,
         offset: item_offset(source, item),
@@ -120,11 +123,11 @@ pub(crate) fn item_spot(
 fn extern_spot(settled: &Settled, id: ExternCrateId) -> Option<Spot> {
     let row = settled.collected.externs.get(id.0 as usize)?;
     let krate = settled.world().module_krate(row.home)?;
-    item_spot(settled, krate.0 as usize, row.file, row.item)
+    item_spot(settled.lists(), krate.0 as usize, row.file, row.item)
 }
 
 /// Where the import begins that brought something.
-pub(crate) fn import_spot(
+fn import_spot(
     alloc: Global,
     settled: &Settled,
     import: ImportOrExternCrate,
@@ -136,11 +139,22 @@ pub(crate) fn import_spot(
     }
 }
 
-/// How an import is called.
-pub(crate) fn import_word(import: ImportOrExternCrate) -> &'static str {
-    match import {
+/// Adds how an import is called, and where it begins.
+pub(crate) fn push_import(
+    out: &mut String,
+    alloc: Global,
+    settled: &Settled,
+    lines: &Lines<'_>,
+    import: ImportOrExternCrate,
+) -> Result<(), AllocError> {
+    out.push_str(match import {
         ImportOrExternCrate::Import(_) => "import",
         ImportOrExternCrate::Glob(_) => "glob",
         ImportOrExternCrate::ExternCrate(_) => "extern",
-    }
+    })?;
+    let Some(spot) = import_spot(alloc, settled, import)? else {
+        return Ok(());
+    };
+    out.push_str(" ")?;
+    lines.push_place(out, spot)
 }

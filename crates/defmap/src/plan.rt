@@ -1,6 +1,7 @@
 //! The crates that are to be collected, and what each depends on.
 use dm_ids::source::Edition;
 use std::alloc::{AllocError, Global};
+use std::fmt::Write;
 
 /// A crate that a crate depends on, by its number among the plans.
 pub(crate) struct DependencyPlan {
@@ -74,17 +75,12 @@ impl CratePlan {
 
     /// Adds an option, as a line of `rustc --print cfg`.
     pub(crate) fn set(&mut self, option: &str) -> Result<(), AllocError> {
-        self.cfgs.push_str(option)?;
-        self.cfgs.push_str("\n")?;
-        Ok(())
+        write!(self.cfgs, "{option}\n")
     }
 
     /// Adds a feature to its options.
     pub(crate) fn enable(&mut self, feature: &str) -> Result<(), AllocError> {
-        self.cfgs.push_str("feature=\"")?;
-        self.cfgs.push_str(feature)?;
-        self.cfgs.push_str("\"\n")?;
-        Ok(())
+        write!(self.cfgs, "feature=\"{feature}\"\n")
     }
 
     /// Adds a dependency, unless there is one of this name.
@@ -95,12 +91,10 @@ impl CratePlan {
         krate: usize,
         prelude: bool,
     ) -> Result<(), AllocError> {
-        if self
-            .dependencies
-            .iter()
-            .any(|one| one.name.as_str() == name)
-        {
-            return Ok(());
+        for one in &self.dependencies {
+            if one.name.as_str() == name {
+                return Ok(());
+            }
         }
         self.dependencies.push(DependencyPlan {
             name: String::from_str(alloc, name)?,

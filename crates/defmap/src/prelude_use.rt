@@ -1,23 +1,36 @@
 //! The glob by which the crate that is asked about names its prelude (`#[prelude_import]`).
+use crate::item_places::ItemPlace;
 use crate::settled::Settled;
 use crate_items::declared_import::{DeclaredImport, declared_imports};
 use crate_items::declared_item::DeclaredItem;
+use crate_modules::file_table::FileTable;
+use crate_modules::modules::CrateModules;
 use dm_base::ids::{Crate, ModuleId, UseId};
+use dm_maps::world::World;
 use dm_maps::world::maps_of::crate_def_map;
 use item_tree::imports::ImportKind;
 use std::alloc::{AllocError, Global};
 
 /// A use that names a prelude: the module that it stands in, and its glob.
-#[derive(Drop)]
 pub(crate) struct PreludeUse {
     pub(crate) home: ModuleId,
     pub(crate) use_: UseId,
     pub(crate) glob: DeclaredImport,
 }
 
+/// A hand-written `Drop`, to keep proofs small: what drops one has one call to prove.
+impl Drop for PreludeUse {
+    fn drop(self) {
+        let PreludeUse {
+            home: _home,
+            use_: _use,
+            glob: _glob,
+        } = self;
+    }
+}
+
 /// The root of the crate, and the use that names its prelude.
-fn naming_use(settled: &Settled) -> Option<(ModuleId, UseId)> {
-    let world = settled.world();
+fn naming_use(world: &World) -> Option<(ModuleId, UseId)> {
     if !world.has_crate(Crate(0)) {
         return None;
     }
@@ -26,23 +39,24 @@ fn naming_use(settled: &Settled) -> Option<(ModuleId, UseId)> {
     Some((map.root_module_id(), use_?))
 }
 
-/// The item that a use of the crate is.
-fn item_of(settled: &Settled, use_: UseId) -> Option<&DeclaredItem> {
-    let place = settled.use_place(use_)?;
-    let mut items = settled.items().get(place.krate)?.iter();
-    items.find(|item| item.file.0 == place.file.0 && item.item == place.item)
+/// The item at a place.
+fn item_at(items: &[Vec<DeclaredItem>], place: ItemPlace) -> Option<&DeclaredItem> {
+    for item in items.get(place.krate)? {
+        if item.file.0 == place.file.0 && item.item == place.item {
+            return Some(item);
+        }
+    }
+    None
 }
 
 /// The first glob of an item.
 fn glob_of(
     alloc: Global,
-    settled: &Settled,
+    list: &CrateModules,
+    files: &FileTable,
     item: &DeclaredItem,
 ) -> Result<Option<DeclaredImport>, AllocError> {
-    let Some(list) = settled.lists().first() else {
-        return Ok(None);
-    };
-    for import in declared_imports(alloc, list, &settled.files, item)? {
+    for import in declared_imports(alloc, list, files, item)? {
         if matches!(import.kind, ImportKind::Glob) {
             return Ok(Some(import));
         }
@@ -55,13 +69,17 @@ pub(crate) fn prelude_use(
     alloc: Global,
     settled: &Settled,
 ) -> Result<Option<PreludeUse>, AllocError> {
-    let Some((home, use_)) = naming_use(settled) else {
+    let Some((home, use_)) = naming_use(settled.world()) else {
         return Ok(None);
     };
-    let Some(item) = item_of(settled, use_) else {
+    let Some(place) = settled.use_place(use_) else {
         return Ok(None);
     };
-    match glob_of(alloc, settled, item)? {
+    let item = item_at(settled.items(), *place);
+    let (Some(list), Some(item)) = (settled.lists().first(), item) else {
+        return Ok(None);
+    };
+    match glob_of(alloc, list, &settled.files, item)? {
         None => Ok(None),
         Some(glob) => Ok(Some(PreludeUse { home, use_, glob })),
     }

@@ -3,9 +3,9 @@ use crate::definitions::definition_text;
 use crate::failure::{Failure, Status};
 use crate::meanings::{Meant, meaning, meant_in};
 use crate::path_text::path_text;
-use crate::places::{Lines, import_spot, import_word};
+use crate::places::{Lines, push_import};
 use crate::settled::Settled;
-use crate::shown::{module_path, visibility_text};
+use crate::shown::{module_data, module_path, visibility_text};
 use crate::steps::{glob_of, import_of, steps_of};
 use crate::written_path::{prefix_of, written_path};
 use dm_base::ids::{Crate, ModuleId};
@@ -14,19 +14,49 @@ use dm_base::item_ids::ModuleDefId;
 use dm_base::mod_path::{ModPath, PathKind};
 use dm_base::name::Name;
 use dm_base::per_ns::{Namespace, PerNs};
-use dm_maps::world::maps_of::crate_def_map;
+use dm_maps::world::World;
 use std::alloc::{AllocError, Global};
+use std::fmt::Write;
 
 /// What tells the meaning of a path.
-#[derive(Drop)]
-pub(crate) struct Teller<'s, 'l, 'f> {
+struct Teller<'s, 'l, 'f> {
     alloc: Global,
     settled: &'s Settled,
     lines: &'l Lines<'f>,
     home: ModuleId,
     out: String,
     /// Whether the path means anything.
-    pub(crate) is_found: bool,
+    is_found: bool,
+}
+
+/// A hand-written `Drop`, to keep proofs small: what drops one has one call to prove.
+impl<'s, 'l, 'f> Drop for Teller<'s, 'l, 'f> {
+    fn drop(self) {
+        let Teller {
+            alloc: _alloc,
+            settled: _settled,
+            lines: _lines,
+            home: _home,
+            out: _out,
+            is_found: _is_found,
+        } = self;
+    }
+}
+
+/// The module that names lead to from one on, or the last before the first name that is missing.
+fn inwards<'b>(world: &World, from: ModuleId, names: &'b [Name]) -> (ModuleId, Option<&'b Name>) {
+    let mut m = from;
+    for name in names {
+        let child = match module_data(world, m) {
+            None => None,
+            Some(data) => data.child(name),
+        };
+        match child {
+            None => return (m, Some(name)),
+            Some(child) => m = child,
+        }
+    }
+    (m, None)
 }
 
 /// The module of a path from the root of the crate on.
@@ -36,86 +66,81 @@ pub(crate) fn module_at(alloc: Global, settled: &Settled, text: &str) -> Result<
         let told = format!(in alloc; "no module {text}: give it as crate::a::b")?;
         return Err(Failure::Told(Status::Misused, told));
     };
-    if !world.has_crate(Crate(0)) {
+    let Some(root) = world.root_of(Crate(0)) else {
         let told = format!(in alloc; "no module {text}: the crate has none")?;
         return Err(Failure::Told(Status::Absent, told));
-    }
-    let map = crate_def_map(world, Crate(0));
-    let mut m = map.root_module_id();
-    for name in path.segments() {
-        let child = match map.get(m) {
-            None => None,
-            Some(data) => data.child(name),
-        };
-        let Some(child) = child else {
-            let around = module_path(alloc, settled, m)?;
-            let missing = name.as_str();
-            let told = format!(in alloc; "no module {text}: {around} has no module {missing}")?;
-            return Err(Failure::Told(Status::Absent, told));
-        };
-        m = child;
-    }
-    Ok(m)
+    };
+    let (m, missing) = inwards(world, root, path.segments());
+    let Some(missing) = missing else {
+        return Ok(m);
+    };
+    let around = module_path(alloc, settled, m)?;
+    let missing = missing.as_str();
+    let told = format!(in alloc; "no module {text}: {around} has no module {missing}")?;
+    Err(Failure::Told(Status::Absent, told))
 }
 
 /// The path of an import, as it is written.
 fn path_by<'a>(settled: &'a Settled, import: ImportOrExternCrate) -> Option<&'a ModPath> {
     match import {
-        ImportOrExternCrate::Import(id) => Some(import_of(settled, id)?.path()),
-        ImportOrExternCrate::Glob(id) => Some(&glob_of(settled, id)?.path),
+        ImportOrExternCrate::Import(id) => Some(import_of(&settled.collected.retry, id)?.path()),
+        ImportOrExternCrate::Glob(id) => {
+            Some(&glob_of(settled.collected.globs.as_slice(), id)?.path)
+        }
         ImportOrExternCrate::ExternCrate(_) => None,
     }
 }
 
-impl<'s, 'l, 'f> Teller<'s, 'l, 'f> {
-    pub(crate) fn new(
-        alloc: Global,
-        settled: &'s Settled,
-        lines: &'l Lines<'f>,
-        home: ModuleId,
-    ) -> Teller<'s, 'l, 'f> {
-        Teller {
-            alloc,
-            settled,
-            lines,
-            home,
-            out: String::new(alloc),
-            is_found: false,
-        }
+/// The module that the first name of a path is looked up in, which stands in a module.
+fn first_module(
+    alloc: Global,
+    world: &World,
+    home: ModuleId,
+    path: &ModPath,
+) -> Result<ModuleId, AllocError> {
+    if matches!(path.kind(), PathKind::Plain | PathKind::Abs) {
+        return Ok(home);
     }
+    let beginning = prefix_of(alloc, path, 0)?;
+    let Some(found) = meaning(world, home, &beginning) else {
+        return Ok(home);
+    };
+    match found.resolved_def.types {
+        Some(item) => match item.def {
+            ModuleDefId::ModuleId(m) => Ok(m),
+            _ => Ok(home),
+        },
+        None => Ok(home),
+    }
+}
 
-    /// What was told.
-    pub(crate) fn into_text(self) -> String {
+impl<'s, 'l, 'f> Teller<'s, 'l, 'f> {
+    /// What was told, and whether the path means anything.
+    fn into_parts(self) -> (String, bool) {
         let Teller {
             alloc: _alloc,
             settled: _settled,
             lines: _lines,
             home: _home,
             out,
-            is_found: _is_found,
+            is_found,
         } = self;
-        out
+        (out, is_found)
     }
 
     /// Adds the line of an import that something goes through.
     fn add_step(&mut self, import: ImportOrExternCrate) -> Result<(), AllocError> {
         self.out.push_str("    by ")?;
-        self.out.push_str(import_word(import))?;
-        if let Some(spot) = import_spot(self.alloc, self.settled, import)? {
-            let place = self.lines.place(self.alloc, spot.file, spot.offset)?;
-            self.out.push_str(" ")?;
-            self.out.push_str(place.as_str())?;
-        }
+        push_import(&mut self.out, self.alloc, self.settled, self.lines, import)?;
         if let Some(path) = path_by(self.settled, import) {
             let written = path_text(self.alloc, path)?;
-            self.out.push_str(": ")?;
-            self.out.push_str(written.as_str())?;
-            if matches!(import, ImportOrExternCrate::Glob(_)) {
-                self.out.push_str("::*")?;
-            }
+            let star = match import {
+                ImportOrExternCrate::Glob(_) => "::*",
+                _ => "",
+            };
+            write!(self.out, ": {written}{star}")?;
         }
-        self.out.push_str("\n")?;
-        Ok(())
+        self.out.push_str("\n")
     }
 
     /// Adds the imports that something goes through.
@@ -146,19 +171,11 @@ impl<'s, 'l, 'f> Teller<'s, 'l, 'f> {
         self.is_found = true;
         let shown = definition_text(self.alloc, self.settled, meant.def)?;
         let seen = visibility_text(self.alloc, self.settled, self.home, meant.visibility)?;
-        let line = format!(in self.alloc; "{word} {shown}, {seen}\n")?;
-        self.out.push_str(line.as_str())?;
+        write!(self.out, "{word} {shown}, {seen}\n")?;
         match name {
             None => Ok(()),
             Some(name) => self.add_steps(name, meant, namespace),
         }
-    }
-
-    /// Adds what the path is in each namespace.
-    fn add_all(&mut self, name: Option<&Name>, found: PerNs) -> Result<(), AllocError> {
-        self.add_meant("type ", name, found, Namespace::Types)?;
-        self.add_meant("value", name, found, Namespace::Values)?;
-        self.add_meant("macro", name, found, Namespace::Macros)
     }
 
     /// Adds through which imports a beginning of the path goes.
@@ -176,8 +193,7 @@ impl<'s, 'l, 'f> Teller<'s, 'l, 'f> {
         }
         let written = path_text(self.alloc, &begun)?;
         let shown = definition_text(self.alloc, self.settled, meant.def)?;
-        let line = format!(in self.alloc; "through {written}, {shown}\n")?;
-        self.out.push_str(line.as_str())?;
+        write!(self.out, "through {written}, {shown}\n")?;
         self.add_steps(name, meant, Namespace::Types)
     }
 
@@ -185,8 +201,10 @@ impl<'s, 'l, 'f> Teller<'s, 'l, 'f> {
     fn add_left(&mut self, left: &Name, def: ModuleDefId) -> Result<(), AllocError> {
         let shown = definition_text(self.alloc, self.settled, def)?;
         let name = left.as_str();
-        let line = format!(in self.alloc; "left at {name}: {shown} shows no such name here\n")?;
-        self.out.push_str(line.as_str())?;
+        write!(
+            self.out,
+            "left at {name}: {shown} shows no such name here\n"
+        )?;
         match def {
             ModuleDefId::ModuleId(m) => self.add_dangling(left, m),
             _ => Ok(()),
@@ -222,33 +240,15 @@ impl<'s, 'l, 'f> Teller<'s, 'l, 'f> {
         }
         match path.segments().first() {
             None => Ok(()),
-            Some(first) => self.add_left(first, ModuleDefId::ModuleId(self.first_module(path)?)),
-        }
-    }
-
-    /// The module that the first name of a path is looked up in.
-    fn first_module(&self, path: &ModPath) -> Result<ModuleId, AllocError> {
-        if matches!(path.kind(), PathKind::Plain | PathKind::Abs) {
-            return Ok(self.home);
-        }
-        let beginning = prefix_of(self.alloc, path, 0)?;
-        let found = match meaning(self.settled.world(), self.home, &beginning) {
-            None => None,
-            Some(found) => meant_in(found.resolved_def, Namespace::Types),
-        };
-        match found {
-            Some(
-                Meant {
-                    def: ModuleDefId::ModuleId(m),
-                    ..
-                },
-            ) => Ok(m),
-            _ => Ok(self.home),
+            Some(first) => {
+                let m = first_module(self.alloc, self.settled.world(), self.home, path)?;
+                self.add_left(first, ModuleDefId::ModuleId(m))
+            }
         }
     }
 
     /// Adds what a path means.
-    pub(crate) fn add_path(&mut self, path: &ModPath) -> Result<(), AllocError> {
+    fn add_path(&mut self, path: &ModPath) -> Result<(), AllocError> {
         let Some(found) = meaning(self.settled.world(), self.home, path) else {
             return self.add_end(path);
         };
@@ -258,14 +258,40 @@ impl<'s, 'l, 'f> Teller<'s, 'l, 'f> {
             self.add_beginning(path, begun)?;
         }
         let name = path.segments().get(meant.saturating_sub(1));
-        self.add_all(name, found.resolved_def)?;
+        let found = found.resolved_def;
+        self.add_meant("type ", name, found, Namespace::Types)?;
+        self.add_meant("value", name, found, Namespace::Values)?;
+        self.add_meant("macro", name, found, Namespace::Macros)?;
         if !self.is_found {
             return self.add_end(path);
         }
-        if let Some(left) = path.segments().get(meant) {
-            let line = format!(in self.alloc; "left at {}: no matter of modules\n", left.as_str())?;
-            self.out.push_str(line.as_str())?;
+        match path.segments().get(meant) {
+            None => Ok(()),
+            Some(left) => write!(
+                self.out,
+                "left at {}: no matter of modules\n",
+                left.as_str()
+            ),
         }
-        Ok(())
     }
+}
+
+/// What a path means in a module, in lines, and whether it means anything.
+pub(crate) fn meaning_text(
+    alloc: Global,
+    settled: &Settled,
+    lines: &Lines<'_>,
+    home: ModuleId,
+    path: &ModPath,
+) -> Result<(String, bool), AllocError> {
+    let mut teller = Teller {
+        alloc,
+        settled,
+        lines,
+        home,
+        out: String::new(alloc),
+        is_found: false,
+    };
+    teller.add_path(path)?;
+    Ok(teller.into_parts())
 }

@@ -47,7 +47,7 @@ impl Drop for Settled {
 }
 
 /// Why there is no settled world.
-#[derive(Drop)]
+#[derive(Clone, Copy)]
 pub(crate) enum NotSettled {
     TooManyModules(Crate),
     /// The turns were not enough.

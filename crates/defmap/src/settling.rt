@@ -49,7 +49,7 @@ fn line_of(
     alloc: Global,
     names: &[String],
     limit: u32,
-    why: &NotSettled,
+    why: NotSettled,
 ) -> Result<String, AllocError> {
     match why {
         NotSettled::OutOfMemory => Err(AllocError),
@@ -83,7 +83,7 @@ fn collected_of(
     match world_of(alloc, &made.graph, reading) {
         Ok(settled) => Ok(settled),
         Err(why) => {
-            let line = line_of(alloc, names, reading.limit, &why)?;
+            let line = line_of(alloc, names, reading.limit, why)?;
             Err(Failure::Told(Status::Unreadable, line))
         }
     }

@@ -5,18 +5,24 @@ use dm_base::item_in_ns::ItemModules;
 use dm_base::module_tree::ModuleTree;
 use dm_base::name::Name;
 use dm_base::visibility::Visibility;
+use dm_def_map::modules::module_data::ModuleData;
 use dm_maps::world::World;
 use std::alloc::{AllocError, Global};
+use std::fmt::Write;
+
+/// What the map of a module has of it.
+pub(crate) fn module_data(world: &World, m: ModuleId) -> Option<&ModuleData> {
+    world.map_of(m)?.get(m)
+}
 
 /// The name that a module has in the one that it stands in.
-pub(crate) fn name_in_parent<'a>(
-    world: &'a World,
-    parent: ModuleId,
-    m: ModuleId,
-) -> Option<&'a Name> {
-    let data = world.map_of(parent)?.get(parent)?;
-    let entry = data.children().iter().find(|entry| *entry.1 == m)?;
-    Some(entry.0)
+fn name_in_parent(world: &World, parent: ModuleId, m: ModuleId) -> Option<&Name> {
+    for (name, child) in module_data(world, parent)?.children().iter() {
+        if *child == m {
+            return Some(name);
+        }
+    }
+    None
 }
 
 /// The modules from one outwards to the root of its crate.
@@ -32,12 +38,9 @@ pub(crate) fn outwards(
             return Ok(around);
         };
         around.push(one)?;
-        next = match world.map_of(one) {
+        next = match module_data(world, one) {
             None => None,
-            Some(map) => match map.get(one) {
-                None => None,
-                Some(data) => data.parent(),
-            },
+            Some(data) => data.parent(),
         };
     }
     Ok(around)
@@ -68,14 +71,19 @@ pub(crate) fn module_path(
             continue;
         };
         let name = name_in_parent(world, home, *child);
-        path.push_str("::")?;
-        path.push_str(match name {
+        let name = match name {
             None => "?",
             Some(name) => name.as_str(),
-        })?;
+        };
+        write!(path, "::{name}")?;
         parent = Some(*child);
     }
     Ok(path)
+}
+
+/// Whether a module is of the crate that is asked about.
+pub(crate) fn is_own(world: &World, m: ModuleId) -> bool {
+    world.module_krate(m) == Some(Crate(0))
 }
 
 /// Whether a module is the root of its crate.

@@ -1,8 +1,10 @@
 //! How much was read and done, and how long it took.
 use crate::settled::Settled;
 use crate_modules::file_table::FileTable;
+use crate_modules::modules::CrateModules;
 use dm_base::ids::FileId;
-use std::alloc::{AllocError, Global};
+use std::alloc::AllocError;
+use std::fmt::Write;
 use std::rt::Clock;
 use std::time::{Duration, Instant};
 
@@ -63,16 +65,24 @@ impl Stopwatch {
         Ok(())
     }
 
-    /// A line for each stage.
-    pub(crate) fn lines(&self, alloc: Global) -> Result<String, AllocError> {
-        let mut text = String::new(alloc);
+    /// Adds a line for each stage.
+    pub(crate) fn push_lines(&self, out: &mut String) -> Result<(), AllocError> {
         for stage in &self.stages {
-            let micros = stage.time.as_micros();
-            let line = format!(in alloc; "{}: {micros} us\n", stage.name)?;
-            text.push_str(line.as_str())?;
+            write!(out, "{}: {} us\n", stage.name, stage.time.as_micros())?;
         }
-        Ok(text)
+        Ok(())
     }
+}
+
+/// How many newlines a text has.
+fn newline_count(text: &[u8]) -> usize {
+    let mut count = 0usize;
+    for byte in text {
+        if *byte == b'\n' {
+            count = count.saturating_add(1);
+        }
+    }
+    count
 }
 
 /// How many lines the files have.
@@ -81,36 +91,36 @@ fn line_count(files: &FileTable) -> usize {
     for number in 0..files.len() {
         let id = FileId(u32::try_from(number).unwrap_or(u32::MAX));
         if files.contains(id) {
-            let newlines = files.text(id).iter().filter(|byte| **byte == b'\n').count();
-            count = count.saturating_add(newlines);
+            count = count.saturating_add(newline_count(files.text(id)));
         }
     }
     count
 }
 
 /// How many modules the crates have.
-fn module_count(settled: &Settled) -> usize {
+fn module_count(lists: &[CrateModules]) -> usize {
     let mut count = 0usize;
-    for list in settled.lists() {
+    for list in lists {
         count = count.saturating_add(list.modules().len());
     }
     count
 }
 
-/// Lines with what was read and done.
-pub(crate) fn count_lines(
-    alloc: Global,
+/// Adds lines with what was read and done.
+pub(crate) fn push_counts(
+    out: &mut String,
     settled: &Settled,
     effort: Effort,
-) -> Result<String, AllocError> {
+) -> Result<(), AllocError> {
     let crates = settled.names.len();
     let files = settled.files.len();
     let lines = line_count(&settled.files);
-    let modules = module_count(settled);
+    let modules = module_count(settled.lists());
     let imports = settled.collected.retry.len();
     let globs = settled.collected.globs.len();
     let Effort { rounds, tries } = effort;
-    format!(in alloc;
+    write!(
+        out,
         "crates: {crates}\nfiles: {files}\nlines: {lines}\nmodules: {modules}\nimports: {imports}\nglobs: {globs}\nrounds: {rounds}\ntries: {tries}\n"
     )
 }

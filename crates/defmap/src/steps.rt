@@ -5,15 +5,16 @@ use dm_base::imports::{GlobId, ImportId, ImportOrExternCrate};
 use dm_base::name::Name;
 use dm_base::per_ns::Namespace;
 use dm_collector::sources::{GlobImport, GlobSource};
+use dm_maps::world::World;
 use dm_retry::pending::Pending;
+use dm_retry::retry::Retry;
 use std::alloc::{AllocError, Global};
 
 /// At most so many imports are told.
 const STEPS: usize = 256;
 
 /// The import of an id.
-pub(crate) fn import_of(settled: &Settled, id: ImportId) -> Option<&Pending> {
-    let retry = &settled.collected.retry;
+pub(crate) fn import_of(retry: &Retry, id: ImportId) -> Option<&Pending> {
     for number in 0..retry.len() {
         if let Some(pending) = retry.get(number) {
             if pending.import() == id {
@@ -25,22 +26,28 @@ pub(crate) fn import_of(settled: &Settled, id: ImportId) -> Option<&Pending> {
 }
 
 /// The glob of an id.
-pub(crate) fn glob_of(settled: &Settled, id: GlobId) -> Option<&GlobImport> {
-    let globs = settled.collected.globs.as_slice();
-    globs.iter().find(|glob| glob.import == id)
+pub(crate) fn glob_of(globs: &[GlobImport], id: GlobId) -> Option<&GlobImport> {
+    for glob in globs {
+        if glob.import == id {
+            return Some(glob);
+        }
+    }
+    None
 }
 
 /// What an import under a name leads to, as it is bound where that stands.
-fn through_import(settled: &Settled, id: ImportId, namespace: Namespace) -> Option<Meant> {
-    let pending = import_of(settled, id)?;
-    let found = imported(settled.world(), pending.origin(), pending.path())?;
+fn through_import(world: &World, pending: &Pending, namespace: Namespace) -> Option<Meant> {
+    let found = imported(world, pending.origin(), pending.path())?;
     meant_in(found, namespace)
 }
 
 /// What a glob brings under a name, as it is bound in the glob's source.
-fn through_glob(settled: &Settled, id: GlobId, name: &Name, namespace: Namespace) -> Option<Meant> {
-    let world = settled.world();
-    let glob = glob_of(settled, id)?;
+fn through_glob(
+    world: &World,
+    glob: &GlobImport,
+    name: &Name,
+    namespace: Namespace,
+) -> Option<Meant> {
     if !glob.is_known(world) {
         return None;
     }
@@ -58,6 +65,7 @@ pub(crate) fn steps_of(
     meant: Meant,
     namespace: Namespace,
 ) -> Result<Vec<ImportOrExternCrate>, AllocError> {
+    let retry = &settled.collected.retry;
     let mut steps = Vec::new(alloc);
     let mut known = name.copy(alloc)?;
     let mut next = meant.import;
@@ -68,15 +76,19 @@ pub(crate) fn steps_of(
         steps.push(import)?;
         let before = match import {
             ImportOrExternCrate::ExternCrate(_) => None,
-            ImportOrExternCrate::Glob(id) => through_glob(settled, id, &known, namespace),
-            ImportOrExternCrate::Import(id) => {
-                if let Some(pending) = import_of(settled, id) {
+            ImportOrExternCrate::Glob(id) => match glob_of(settled.collected.globs.as_slice(), id) {
+                None => None,
+                Some(glob) => through_glob(retry.world(), glob, &known, namespace),
+            },
+            ImportOrExternCrate::Import(id) => match import_of(retry, id) {
+                None => None,
+                Some(pending) => {
                     if let Some(last) = pending.path().segments().last() {
                         known = last.copy(alloc)?;
                     }
+                    through_import(retry.world(), pending, namespace)
                 }
-                through_import(settled, id, namespace)
-            }
+            },
         };
         next = match before {
             None => None,

@@ -1,28 +1,36 @@
 //! The modules of a crate, with what each binds.
-use crate::places::{Lines, import_spot, import_word};
+use crate::meanings::meant_in;
+use crate::places::{Lines, push_import};
 use crate::settled::Settled;
-use crate::shown::visibility_text;
+use crate::shown::{module_data, visibility_text};
 use dm_base::ids::{Crate, ModuleId};
-use dm_base::imports::{ImportOrExternCrate, ImportOrGlob};
+use dm_base::imports::ImportOrExternCrate;
 use dm_base::name::Name;
-use dm_base::per_ns::PerNs;
+use dm_base::per_ns::{Namespace, PerNs};
 use dm_base::visibility::Visibility;
 use dm_def_map::modules::module_data::ModuleData;
-use dm_maps::world::World;
-use dm_maps::world::maps_of::crate_def_map;
 use dm_scope::item_scope::ItemScope;
 use dm_scope::name_order::sorted_names;
 use std::alloc::{AllocError, Global};
+use std::fmt::Write;
 
 /// A module that is still to be shown, and its path.
-#[derive(Drop)]
 struct Branch {
     path: String,
     module: ModuleId,
 }
 
+/// A hand-written `Drop`, to keep proofs small: what drops one has one call to prove.
+impl Drop for Branch {
+    fn drop(self) {
+        let Branch {
+            path: _path,
+            module: _module,
+        } = self;
+    }
+}
+
 /// What shows the modules of a crate.
-#[derive(Drop)]
 struct Tree<'s, 'l, 'f> {
     alloc: Global,
     settled: &'s Settled,
@@ -32,11 +40,34 @@ struct Tree<'s, 'l, 'f> {
     home: ModuleId,
 }
 
-fn from_glob(import: ImportOrGlob) -> ImportOrExternCrate {
-    match import {
-        ImportOrGlob::Import(id) => ImportOrExternCrate::Import(id),
-        ImportOrGlob::Glob(id) => ImportOrExternCrate::Glob(id),
+/// A hand-written `Drop`, to keep proofs small: what drops one has one call to prove.
+impl<'s, 'l, 'f> Drop for Tree<'s, 'l, 'f> {
+    fn drop(self) {
+        let Tree {
+            alloc: _alloc,
+            settled: _settled,
+            lines: _lines,
+            out: _out,
+            home: _home,
+        } = self;
     }
+}
+
+/// Puts the children of a module to what is left, the first of them last.
+fn push_children(
+    left: &mut Vec<Branch>,
+    alloc: Global,
+    path: &str,
+    data: &ModuleData,
+) -> Result<(), AllocError> {
+    let names = sorted_names(data.children().keys().as_slice().iter(), alloc)?;
+    for name in names.iter().rev() {
+        if let Some(module) = data.child(*name) {
+            let path = format!(in alloc; "{path}::{}", name.as_str())?;
+            left.push(Branch { path, module })?;
+        }
+    }
+    Ok(())
 }
 
 impl<'s, 'l, 'f> Tree<'s, 'l, 'f> {
@@ -47,100 +78,74 @@ impl<'s, 'l, 'f> Tree<'s, 'l, 'f> {
         visibility: Visibility,
         import: Option<ImportOrExternCrate>,
     ) -> Result<(), AllocError> {
-        self.out.push_str(namespace)?;
         let seen = visibility_text(self.alloc, self.settled, self.home, visibility)?;
-        self.out.push_str(seen.as_str())?;
-        match import {
-            None => Ok(()),
-            Some(import) => self.add_import(import),
-        }
-    }
-
-    fn add_import(&mut self, import: ImportOrExternCrate) -> Result<(), AllocError> {
+        write!(self.out, " {namespace} {seen}")?;
+        let Some(import) = import else {
+            return Ok(());
+        };
         self.out.push_str(" (")?;
-        self.out.push_str(import_word(import))?;
-        if let Some(spot) = import_spot(self.alloc, self.settled, import)? {
-            let place = self.lines.place(self.alloc, spot.file, spot.offset)?;
-            self.out.push_str(" ")?;
-            self.out.push_str(place.as_str())?;
-        }
-        self.out.push_str(")")?;
-        Ok(())
+        push_import(&mut self.out, self.alloc, self.settled, self.lines, import)?;
+        self.out.push_str(")")
     }
 
     /// Adds the line of a name.
     fn add_name(&mut self, name: &Name, items: PerNs) -> Result<(), AllocError> {
-        self.out.push_str("- ")?;
-        self.out.push_str(name.as_str())?;
-        self.out.push_str(" :")?;
+        write!(self.out, "- {} :", name.as_str())?;
         if let Some(item) = items.types {
-            self.add_item(" type ", item.vis, item.import)?;
+            self.add_item("type", item.vis, item.import)?;
         }
-        if let Some(item) = items.values {
-            let import = item.import.map(from_glob);
-            self.add_item(" value ", item.vis, import)?;
+        if let Some(item) = meant_in(items, Namespace::Values) {
+            self.add_item("value", item.visibility, item.import)?;
         }
         if let Some(item) = items.macros {
-            self.add_item(" macro ", item.vis, item.import)?;
+            self.add_item("macro", item.vis, item.import)?;
         }
-        if items.is_none() {
-            self.out.push_str(" _")?;
-        }
-        self.out.push_str("\n")?;
-        Ok(())
+        self.out
+            .push_str(if items.is_none() { " _\n" } else { "\n" })
     }
 
     fn add_unnamed_traits(&mut self, scope: &ItemScope) -> Result<(), AllocError> {
         for (_trait, visibility, import) in scope.unnamed_traits() {
             self.out.push_str("- _ :")?;
-            let brought = import.map(ImportOrExternCrate::Import);
-            self.add_item(" type ", visibility, brought)?;
+            let brought = match import {
+                None => None,
+                Some(id) => Some(ImportOrExternCrate::Import(id)),
+            };
+            self.add_item("type", visibility, brought)?;
             self.out.push_str("\n")?;
         }
         Ok(())
     }
 
-    fn add_scope(&mut self, scope: &ItemScope) -> Result<(), AllocError> {
+    /// Adds a module that is shown under a path.
+    fn add_module(&mut self, path: &str, scope: &ItemScope) -> Result<(), AllocError> {
+        write!(self.out, "{path}\n")?;
         self.add_unnamed_traits(scope)?;
-        let entries = scope.entries()?;
-        for (name, items) in &entries {
+        for (name, items) in &scope.entries()? {
             self.add_name(*name, *items)?;
         }
         Ok(())
     }
 
-    /// Puts the children of a module to what is left, the first of them last.
-    fn add_children(
-        &mut self,
-        left: &mut Vec<Branch>,
-        path: &str,
-        data: &ModuleData,
-    ) -> Result<(), AllocError> {
-        let children = data.children();
-        let names = sorted_names(children.keys().as_slice().iter(), self.alloc)?;
-        for name in names.iter().rev() {
-            if let Some(module) = data.child(*name) {
-                let path = format!(in self.alloc; "{path}::{}", name.as_str())?;
-                left.push(Branch { path, module })?;
-            }
-        }
-        Ok(())
+    /// Adds a module, and puts its children to what is left.
+    fn add_branch(&mut self, left: &mut Vec<Branch>, branch: &Branch) -> Result<(), AllocError> {
+        let Some(data) = module_data(self.settled.world(), branch.module) else {
+            return Ok(());
+        };
+        self.home = branch.module;
+        self.add_module(branch.path.as_str(), data.scope())?;
+        push_children(left, self.alloc, branch.path.as_str(), data)
     }
 
-    /// Adds a module, and puts its children to what is left.
-    fn add_module(&mut self, left: &mut Vec<Branch>, branch: Branch) -> Result<(), AllocError> {
-        self.home = branch.module;
-        let settled = self.settled;
-        let Some(map) = settled.world().map_of(branch.module) else {
-            return Ok(());
-        };
-        let Some(data) = map.get(branch.module) else {
-            return Ok(());
-        };
-        self.out.push_str(branch.path.as_str())?;
-        self.out.push_str("\n")?;
-        self.add_scope(data.scope())?;
-        self.add_children(left, branch.path.as_str(), data)
+    fn into_text(self) -> String {
+        let Tree {
+            alloc: _alloc,
+            settled: _settled,
+            lines: _lines,
+            out,
+            home: _home,
+        } = self;
+        out
     }
 }
 
@@ -150,11 +155,9 @@ pub(crate) fn tree_text(
     settled: &Settled,
     lines: &Lines<'_>,
 ) -> Result<String, AllocError> {
-    let world = settled.world();
-    if !world.has_crate(Crate(0)) {
+    let Some(root) = settled.world().root_of(Crate(0)) else {
         return Ok(String::new(alloc));
-    }
-    let root = crate_def_map(world, Crate(0)).root_module_id();
+    };
     let mut tree = Tree {
         alloc,
         settled,
@@ -172,7 +175,7 @@ pub(crate) fn tree_text(
             break;
         };
         tree.out.push_str(if number == 0 { "" } else { "\n" })?;
-        tree.add_module(&mut left, branch)?;
+        tree.add_branch(&mut left, &branch)?;
     }
-    Ok(tree.out)
+    Ok(tree.into_text())
 }

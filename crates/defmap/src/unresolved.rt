@@ -1,23 +1,36 @@
 //! What leads nowhere in a crate.
-use crate::hidden::{Cause, Hidden};
+use crate::hidden::Hidden;
 use crate::macro_calls::{CallEnd, end_of, item_of};
 use crate::macro_homes::{MacroHome, macro_homes};
+use crate::notes::Cause;
 use crate::path_text::path_text;
 use crate::places::{Lines, Spot, item_spot, use_spot};
 use crate::settled::Settled;
+use crate::shown::is_own;
 use crate_modules::declared_module::ModuleFault;
-use dm_base::ids::{Crate, ModuleId, UseId, UseTreeIdx};
+use crate_modules::modules::CrateModules;
+use dm_base::ids::{ModuleId, UseId, UseTreeIdx};
 use dm_base::item_in_ns::ItemModules;
 use dm_base::mod_path::ModPath;
 use dm_collector::sources::GlobImport;
 use dm_maps::world::World;
 use std::alloc::{AllocError, Global};
+use std::fmt::Write;
 
 /// A message, and what it is about.
-#[derive(Drop)]
 pub(crate) struct Told {
     spot: Option<Spot>,
     message: String,
+}
+
+/// A hand-written `Drop`, to keep proofs small: what drops one has one call to prove.
+impl Drop for Told {
+    fn drop(self) {
+        let Told {
+            spot: _spot,
+            message: _message,
+        } = self;
+    }
 }
 
 /// How many imports of a crate are unknown.
@@ -62,8 +75,8 @@ fn module_message(alloc: Global, fault: &ModuleFault) -> Result<String, AllocErr
     let mut paths = String::from_str(alloc, "unresolved module, tried")?;
     for (place, candidate) in fault.candidates().iter().enumerate() {
         let path = std::str::from_utf8(candidate.path()).unwrap_or("?");
-        paths.push_str(if place == 0 { " " } else { " and " })?;
-        paths.push_str(path)?;
+        let between = if place == 0 { "" } else { " and" };
+        write!(paths, "{between} {path}")?;
     }
     Ok(paths)
 }
@@ -71,10 +84,6 @@ fn module_message(alloc: Global, fault: &ModuleFault) -> Result<String, AllocErr
 /// Whether the path of a glob means no module and no enum.
 fn leads_nowhere(world: &World, glob: &GlobImport) -> bool {
     glob.is_known(world) && glob.resolved(world).is_none()
-}
-
-fn is_own(world: &World, home: ModuleId) -> bool {
-    world.module_krate(home) == Some(Crate(0))
 }
 
 impl Unresolved {
@@ -113,7 +122,7 @@ impl Unresolved {
             let Some(pending) = retry.get(place) else {
                 continue;
             };
-            if let Some(cause) = hidden.cause_of_named(place) {
+            if let Some(cause) = hidden.notes.cause_of_named(place) {
                 self.count(settled.world(), pending.origin(), cause);
             } else if is_own(settled.world(), pending.origin()) {
                 let import = pending.import();
@@ -132,7 +141,7 @@ impl Unresolved {
             if !leads_nowhere(world, glob) {
                 continue;
             }
-            if let Some(cause) = hidden.cause_of_glob(place) {
+            if let Some(cause) = hidden.notes.cause_of_glob(place) {
                 self.count(world, glob.into, cause);
             } else if is_own(world, glob.into) {
                 let leaf = (glob.import.use_, glob.import.idx);
@@ -150,12 +159,12 @@ impl Unresolved {
         call: MacroHome,
         path: &ModPath,
     ) -> Result<(), AllocError> {
-        let Some(item) = item_of(settled, call) else {
+        let Some(item) = item_of(settled.items(), call) else {
             return Ok(());
         };
         let written = path_text(alloc, path)?;
         self.told.push(Told {
-            spot: item_spot(settled, call.krate, item.file, item.item),
+            spot: item_spot(settled.lists(), call.krate, item.file, item.item),
             message: format!(in alloc; "unresolved macro {written}!")?,
         })?;
         Ok(())
@@ -186,15 +195,15 @@ impl Unresolved {
     pub(crate) fn add_modules(
         &mut self,
         alloc: Global,
-        settled: &Settled,
+        lists: &[CrateModules],
     ) -> Result<(), AllocError> {
-        let Some(list) = settled.lists().first() else {
+        let Some(list) = lists.first() else {
             return Ok(());
         };
         for fault in list.faults() {
             let declaration = fault.declaration();
             self.told.push(Told {
-                spot: item_spot(settled, 0, declaration.file, declaration.item),
+                spot: item_spot(lists, 0, declaration.file, declaration.item),
                 message: module_message(alloc, fault)?,
             })?;
         }
@@ -224,10 +233,11 @@ pub(crate) fn find_unresolved(
     settled: &Settled,
     has_sysroot: bool,
 ) -> Result<Unresolved, AllocError> {
-    let homes = macro_homes(alloc, settled)?;
+    let tables = settled.collected.tables.as_slice();
+    let homes = macro_homes(alloc, tables, settled.items())?;
     let hidden = Hidden::of(alloc, settled, has_sysroot, homes.as_slice())?;
     let mut found = nothing(alloc, settled.names.len())?;
-    found.add_modules(alloc, settled)?;
+    found.add_modules(alloc, settled.lists())?;
     found.add_named(&hidden)?;
     found.add_globs(&hidden)?;
     found.add_calls(&hidden, homes.as_slice())?;
@@ -242,22 +252,19 @@ fn order_of(told: &Told) -> (u32, usize) {
     }
 }
 
-/// The messages, each in a line, in the order of the files and their bytes.
-pub(crate) fn message_lines(
-    alloc: Global,
+/// Adds the messages, each in a line, in the order of the files and their bytes.
+pub(crate) fn push_messages(
+    out: &mut String,
     lines: &Lines<'_>,
     told: &mut Vec<Told>,
-) -> Result<String, AllocError> {
+) -> Result<(), AllocError> {
     told.sort_by_key(|one| order_of(one))?;
-    let mut out = String::new(alloc);
     for one in told.iter() {
         if let Some(spot) = one.spot {
-            let place = lines.place(alloc, spot.file, spot.offset)?;
-            out.push_str(place.as_str())?;
+            lines.push_place(out, spot)?;
             out.push_str(": ")?;
         }
-        out.push_str(one.message.as_str())?;
-        out.push_str("\n")?;
+        write!(out, "{}\n", one.message)?;
     }
-    Ok(out)
+    Ok(())
 }
