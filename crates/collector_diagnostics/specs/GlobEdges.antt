@@ -9,7 +9,7 @@ use Rattle.dm_check.specs.declared.held.HeldId.TheVariants as held
 use Rattle.dm_ids.specs.declared.ids.ModuleId.{ModuleId}
 use Rattle.dm_maps.specs.Known.{knows}
 use Rattle.dm_maps.specs.World.{World}
-use Rattle.dm_retry.specs.Rounds.{path_meaning}
+use Rattle.dm_pending.specs.Rounds.{path_meaning}
 
 -- the module that the path of a glob means, if the world has what it names
 abbrev pub source_of : World → ModuleId → Path → Option ModuleId

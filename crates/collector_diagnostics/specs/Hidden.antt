@@ -11,7 +11,7 @@ use Rattle.dm_ids.specs.declared.ids.ModuleId.{ModuleId}
 use Rattle.dm_maps.specs.ItemHomes.{homes_of}
 use Rattle.dm_maps.specs.Readings.{is_2015_in, root_of}
 use Rattle.dm_maps.specs.World.{World}
-use Rattle.dm_retry.specs.Rounds.{path_meaning}
+use Rattle.dm_pending.specs.Rounds.{path_meaning}
 use Rattle.dm_paths.specs.Paths.{type_module}
 use Rattle.dm_paths.specs.declared.result.ResolvePathResult.{ResolvePathResult}
 

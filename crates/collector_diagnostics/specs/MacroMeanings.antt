@@ -10,7 +10,7 @@ use Rattle.dm_ids.specs.declared.ids.ModuleId.{ModuleId}
 use Rattle.dm_ids.specs.declared.item_ids.MacroId.{MacroId}
 use Rattle.dm_maps.specs.Known.{knows}
 use Rattle.dm_maps.specs.World.{World}
-use Rattle.dm_retry.specs.Rounds.{local_of}
+use Rattle.dm_pending.specs.Rounds.{local_of}
 use Rattle.dm_paths.specs.Paths.{answer, asked}
 use Rattle.dm_paths.specs.declared.result.ResolveMode.TheVariants as mode
 use Rattle.dm_paths.specs.declared.result.ResolvePathResult.{ResolvePathResult}

@@ -10,8 +10,8 @@ use Rattle.dm_ids.specs.declared.ids.MapId.{MapId}
 use Rattle.dm_maps.specs.BuildMaps.{lacks_map, with_diagnostic}
 use Rattle.dm_maps.specs.Known.{knows}
 use Rattle.dm_maps.specs.World.{World}
+use Rattle.dm_pending.specs.Rounds.{changed_beside}
 use Rattle.dm_retry.specs.Retries.{Retries}
-use Rattle.dm_retry.specs.Rounds.{changed_beside}
 use Rattle.dm_scope.specs.declared.diagnostics.DefDiagnostic.{DefDiagnostic}
 
 -- the map is the world's, and so is all that the diagnostic names

@@ -7,7 +7,7 @@ use Rattle.crate_diagnostics.specs.declared.diagnostic.Place.TheVariants.{UseTre
 use Rattle.crate_tables.specs.declared.item_place.UsePlace.{UsePlace}
 use Rattle.dm_ids.specs.declared.ids.UseId.{UseId}
 use Rattle.dm_names.specs.declared.ids.UseTreeIdx.{UseTreeIdx}
-use Rattle.dm_retry.specs.Rounds.{Pending, State, unresolved}
+use Rattle.dm_pending.specs.Rounds.{Pending, State, unresolved}
 
 -- where a use is written
 abbrev pub is_of : UseId → UsePlace → Bool

@@ -4,7 +4,7 @@ ghost use Rattle.collector_diagnostics.specs.MacroMeanings as spec;
 ghost use Rattle.dm_check.specs.Holding.{local_holds, path_holds, res_holds};
 ghost use Rattle.dm_check.specs.declared.held.HeldId.TheVariants as held;
 ghost use Rattle.dm_maps.specs.Known.{knows, KnowsAll};
-ghost use Rattle.dm_retry.specs.Rounds.{local_of};
+ghost use Rattle.dm_pending.specs.Rounds.{local_of};
 
 use dm_base::ids::ModuleId;
 use dm_base::item_ids::{MacroId, ModuleDefId};

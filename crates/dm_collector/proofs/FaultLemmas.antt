@@ -11,7 +11,7 @@ use Rattle.dm_collector.specs.MacroUses.{Uses}
 use Rattle.dm_collector.specs.declared.collect_fault.CollectFault.{CollectFault}
 use Rattle.dm_collector.specs.declared.collect_fault.CollectFault.TheVariants as faults
 use Rattle.dm_collector.specs.declared.sources.GlobImport.{GlobImport}
-use Rattle.dm_retry.specs.Rounds.{State}
+use Rattle.dm_pending.specs.Rounds.{State}
 
 -- what a `?` passes on
 pub passed : {A : Type 0} (r : Result A CollectFault) (f : CollectFault) (P : CollectFault → Type 0) → IsErrAnd r (λ e. e ≡ f) → P f → IfErr r P

@@ -14,7 +14,7 @@ use Rattle.dm_ids.specs.declared.item_ids.ModuleDefId.TheVariants as def
 use Rattle.dm_maps.specs.Known.{KnowsAll}
 use Rattle.dm_maps.specs.KnownLaws.{macros-known}
 use Rattle.dm_maps.specs.World.{World}
-use Rattle.dm_retry.specs.Rounds.{State}
+use Rattle.dm_pending.specs.Rounds.{State}
 use Rattle.dm_collector.specs.MacroPreludes.{HasMacros, is_public, missing_macro, public_in}
 use Rattle.dm_collector.specs.MacroUses.{Uses}
 use Rattle.dm_collector.specs.Steps.{Use, writes}

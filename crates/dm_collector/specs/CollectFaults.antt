@@ -18,9 +18,9 @@ use Rattle.dm_collector.specs.declared.collect_fault.CollectFault.TheVariants as
 use Rattle.dm_collector.specs.declared.sources.GlobImport.{GlobImport}
 use Rattle.dm_maps.specs.First.{IsFirstFault, holders}
 use Rattle.dm_maps.specs.World.{World}
-use Rattle.dm_retry.specs.Known.{fault_of}
-use Rattle.dm_retry.specs.Rounds.{Pending, State}
-use Rattle.dm_retry.specs.declared.retry_fault.RetryFault.{RetryFault}
+use Rattle.dm_pending.specs.Known.{fault_of}
+use Rattle.dm_pending.specs.Rounds.{Pending, State}
+use Rattle.dm_pending.specs.declared.retry_fault.RetryFault.{RetryFault}
 use Rattle.dm_shadowing.specs.Flags.{no_globs}
 
 -- the crates of a graph, filled with what it declares, and their world with the associated items

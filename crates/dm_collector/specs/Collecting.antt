@@ -15,7 +15,7 @@ use Rattle.dm_collector.specs.MacroUses.{Uses, macro_uses}
 use Rattle.dm_collector.specs.PreludeGlobs.{unless_named}
 use Rattle.dm_collector.specs.Steps.{IsReached}
 use Rattle.dm_collector.specs.declared.sources.GlobImport.{GlobImport}
-use Rattle.dm_retry.specs.Rounds.{State, marked}
+use Rattle.dm_pending.specs.Rounds.{State, marked}
 use Rattle.dm_shadowing.specs.Flags.{no_globs}
 
 -- What stays known of crates: the list of each one's modules; its table, from which names and imports were taken; the

@@ -10,7 +10,7 @@ use Rattle.dm_base.specs.declared.per_ns.PerNs.{PerNs}
 use Rattle.dm_base.specs.declared.visibility.Visibility.TheVariants.{PubCrate, Public}
 use Rattle.dm_base.specs.Sameness.{same_def}
 use Rattle.dm_base.specs.Tree.{Tree}
-use Rattle.dm_retry.specs.Rounds.{State}
+use Rattle.dm_pending.specs.Rounds.{State}
 use Rattle.hir_def_map.specs.Written.{a_struct, an_item}
 use Rattle.dm_collector.specs.Globs.{vacant}
 use Rattle.dm_collector.specs.Steps.{made, writes_of}

@@ -21,8 +21,8 @@ use Rattle.dm_maps.specs.Trees.{tree_of}
 use Rattle.dm_maps.specs.World.{World, scope_of}
 use Rattle.dm_scope.specs.Scope.{bound_in}
 use Rattle.dm_scope.specs.Sorted.{names_of}
-use Rattle.dm_retry.specs.Kinds.{re_exported}
-use Rattle.dm_retry.specs.Rounds.{path_meaning}
+use Rattle.dm_pending.specs.Kinds.{re_exported}
+use Rattle.dm_pending.specs.Rounds.{path_meaning}
 use Rattle.dm_paths.specs.declared.result.ResolvePathResult.{ResolvePathResult}
 use Rattle.dm_collector.specs.declared.globs.Glob.{Glob}
 use Rattle.dm_collector.specs.declared.sources.GlobImport.{GlobImport}

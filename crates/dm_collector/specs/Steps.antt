@@ -13,8 +13,8 @@ use Rattle.crate_tables.specs.StandardPreludes.{own_map}
 use Rattle.dm_maps.specs.BuildMaps.{with_macro_use}
 use Rattle.dm_maps.specs.GoesOn.{with_macro_seen, with_type_seen, with_unnamed_trait, with_value_seen}
 use Rattle.dm_maps.specs.World.{World}
+use Rattle.dm_pending.specs.Rounds.{State, changed_beside, changed_under, pushed_into, round, round_answer}
 use Rattle.dm_retry.specs.Retries.{Stops}
-use Rattle.dm_retry.specs.Rounds.{State, changed_beside, changed_under, pushed_into, round, round_answer}
 use Rattle.dm_collector.specs.Globs.{missing, resolved}
 use Rattle.dm_collector.specs.MacroPreludes.{missing_macro}
 use Rattle.dm_collector.specs.MacroUses.{Uses}

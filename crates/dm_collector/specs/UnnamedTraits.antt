@@ -11,7 +11,7 @@ use Rattle.dm_maps.specs.GoesOn.{trait_import_holds}
 use Rattle.dm_maps.specs.Known.{knows}
 use Rattle.dm_maps.specs.Trees.{tree_of}
 use Rattle.dm_maps.specs.World.{World, scope_of}
-use Rattle.dm_retry.specs.Unnamed.{is_new_trait}
+use Rattle.dm_pending.specs.Unnamed.{is_new_trait}
 use Rattle.dm_collector.specs.Globs.{resolved}
 use Rattle.dm_collector.specs.declared.globs.Glob.{Glob}
 use Rattle.dm_collector.specs.declared.sources.GlobImport.{GlobImport}

@@ -17,10 +17,10 @@ ghost use Rattle.dm_collector.specs.Steps.{IsReached};
 ghost use Rattle.dm_collector.specs.UnnamedTraits.{HasBroughtBySource};
 ghost use Rattle.dm_collector.specs.Widening.{IsWideBySource};
 ghost use Rattle.dm_collector.specs.declared.collect_fault.CollectFault.TheVariants as faults;
-ghost use Rattle.dm_retry.specs.Known.{fault_of};
-ghost use Rattle.dm_retry.specs.Rounds.{marked};
+ghost use Rattle.dm_pending.specs.Known.{fault_of};
+ghost use Rattle.dm_pending.specs.Rounds.{marked};
+ghost use Rattle.dm_pending.specs.declared.retry_fault.RetryFault.{RetryFault};
 ghost use Rattle.dm_retry.specs.Settling.{IsFixedPoint};
-ghost use Rattle.dm_retry.specs.declared.retry_fault.RetryFault.{RetryFault};
 ghost use Rattle.dm_shadowing.specs.Flags.{no_globs};
 
 use crate::collect_fault::{CollectFault, of_builder, of_declared, of_filling, of_glob, of_order};

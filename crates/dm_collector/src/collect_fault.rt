@@ -12,7 +12,7 @@ ghost use Rattle.dm_collector.specs.Steps.{IsLeftBy};
 ghost use Rattle.dm_collector.specs.declared.glob_fault.GlobFault.TheVariants as globs;
 ghost use Rattle.dm_collector.specs.declared.sources.GlobImport.{GlobImport};
 ghost use Rattle.dm_maps.specs.World.{World};
-ghost use Rattle.dm_retry.specs.Rounds.{Pending, State};
+ghost use Rattle.dm_pending.specs.Rounds.{Pending, State};
 ghost use Rattle.dm_collector.specs.declared.collect_fault.CollectFault.TheVariants as faults;
 
 use crate::glob_fault::GlobFault;

@@ -3,7 +3,7 @@ ghost use Rattle.std.specs.Prelude.{◌≡◌, ◌++◌, IfOk, None, OnErr, OnOk
 ghost use Rattle.dm_check.specs.declared.held.HeldId.TheVariants as held;
 ghost use Rattle.dm_collector.specs.UnresolvedNames as spec;
 ghost use Rattle.dm_maps.specs.Known.{knows};
-ghost use Rattle.dm_retry.specs.Kinds.{is_unnamed};
+ghost use Rattle.dm_pending.specs.Kinds.{is_unnamed};
 
 use dm_base::ids::ModuleId;
 use dm_base::name::Name;

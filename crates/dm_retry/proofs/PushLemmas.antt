@@ -14,11 +14,11 @@ use Rattle.dm_shadowing.specs.Flags.{Globs}
 use Rattle.dm_scope.specs.Push.{push_answer, types_reading}
 use Rattle.dm_maps.specs.Known.{KnowsAll}
 use Rattle.dm_maps.specs.World.{World, scope_of}
-use Rattle.dm_retry.specs.Known.{comes_by, parts, same_leaf}
-use Rattle.dm_retry.specs.Rounds.{Pending, State, awoken, by_import}
-use Rattle.dm_retry.specs.Settled.{IsSettled}
-use Rattle.dm_retry.proofs.AwakeLemmas.{woken}
-use Rattle.dm_retry.proofs.TryLemmas.{IsPushed, others-rest}
+use Rattle.dm_pending.specs.Known.{comes_by, parts, same_leaf}
+use Rattle.dm_pending.specs.Rounds.{Pending, State, awoken, by_import}
+use Rattle.dm_pending.specs.Settled.{IsSettled}
+use Rattle.dm_pending.proofs.AwakeLemmas.{woken}
+use Rattle.dm_pending.proofs.TryLemmas.{IsPushed, others-rest}
 
 -- imports that differ one way differ the other way
 turned : (i j : ImportId) → same_leaf i j ≡ false → same_leaf j i ≡ false

@@ -8,13 +8,13 @@ use Rattle.dm_shadowing.specs.Flags.{Globs}
 use Rattle.dm_maps.specs.Cut.{among}
 use Rattle.dm_maps.specs.Known.{KnowsAll}
 use Rattle.dm_maps.specs.World.{World}
-use Rattle.dm_retry.specs.Known.{parts, same_leaf}
-use Rattle.dm_retry.specs.Rounds.{Pending, State, awoken, would_write, is_due, marked, marked_after, marked_at, name_at, refused_at, tried, try_at}
+use Rattle.dm_pending.specs.Known.{parts, same_leaf}
+use Rattle.dm_pending.specs.Rounds.{Pending, State, awoken, would_write, is_due, marked, marked_after, marked_at, name_at, refused_at, tried, try_at}
+use Rattle.dm_pending.specs.Settled.{IsSettled}
+use Rattle.dm_pending.proofs.TryLemmas.{would_write-marked, idle-table, idle-world}
+use Rattle.dm_pending.proofs.WorldLemmas.{set-own}
 use Rattle.dm_retry.specs.Retries.{RestsAt}
-use Rattle.dm_retry.specs.Settled.{IsSettled}
 use Rattle.dm_retry.proofs.ListLemmas.{get-put}
-use Rattle.dm_retry.proofs.TryLemmas.{would_write-marked, idle-table, idle-world}
-use Rattle.dm_retry.proofs.WorldLemmas.{set-own}
 
 -- An import r at place j after a try of the one at place i: it is one of before but for its mark, and where it is not due, it
 -- was not due, or it is the tried one; and it has no segment of a name that was pushed.

@@ -1,16 +1,2 @@
-pub mod Kinds
-pub mod Unnamed
-pub mod Writes
-pub mod Rounds
-pub mod Waiting
-pub mod Known
-pub mod Doubles
-pub mod Listed
-pub mod Settled
 pub mod Retries
 pub mod Settling
-pub mod Rows
-pub mod RoundRows
-pub mod CircleRows
-pub mod KindRows
-pub mod UnnamedRows

@@ -8,7 +8,7 @@ ghost use Rattle.dm_maps.specs.BuildMaps.{lacks_map, with_diagnostic, with_macro
 ghost use Rattle.dm_maps.specs.GoesOn.{trait_import_holds, with_macro_seen, with_type_seen, with_unnamed_trait, with_value_seen};
 ghost use Rattle.dm_maps.specs.Known.{KnowsAll};
 ghost use Rattle.dm_maps.specs.World.{scope_of};
-ghost use Rattle.dm_retry.specs.Rounds.{changed_beside, changed_under};
+ghost use Rattle.dm_pending.specs.Rounds.{changed_beside, changed_under};
 
 use crate::retry::Retry;
 use dm_base::ids::{ExternCrateId, MapId, ModuleId, TraitId};

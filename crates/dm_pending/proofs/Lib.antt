@@ -1,0 +1,10 @@
+pub mod ScopeLemmas
+pub mod WorldLemmas
+pub mod KnownLemmas
+pub mod TraitLemmas
+pub mod TryLemmas
+pub mod AwakeLemmas
+pub mod ChangeLemmas
+pub mod StartLemmas
+pub mod DoubleLemmas
+pub mod ListedLemmas
