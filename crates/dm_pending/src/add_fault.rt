@@ -1,4 +1,4 @@
-//! Errors of `Retry::add`: why an import is not added.
+//! Why an import is not added to those of a `Retry` (`dm_retry`).
 
 /// Why an import is not added, by the numbers in whose order the reasons are tested.
 #[derive(Clone, Copy, PartialEq, Eq, Debug)]

@@ -58,7 +58,7 @@ impl Model for Pending {
 }
 
 impl Pending {
-    /// The import of a name into a module, by a path, with `visibility`: a plain one. It is due from `Retry::new` on.
+    /// The import of a name into a module, by a path, with `visibility`: a plain one. It is due where rounds begin.
     pub fn new(
         origin: ModuleId,
         name: Name,

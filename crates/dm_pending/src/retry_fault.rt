@@ -1,4 +1,4 @@
-//! Errors of `Retry::new`: why imports are not taken.
+//! Why a `Retry` (`dm_retry`) does not take imports.
 
 /// Why imports are not taken, by the numbers in whose order the reasons are tested.
 #[derive(Clone, Copy, PartialEq, Eq, Debug)]
