@@ -45,17 +45,17 @@ module _ {D I : Type 0} (r : Reading D I) where
 
   -- the namespace after a push
   abbrev pub pushed : Bound D I → Bool → Name → Item D I → Option I → Bound D I
-  pushed s flag name item import = if writes (find_name name s.items) flag item import then bound s name item import else s
+  pushed s flag name item import = if writes r (find_name name s.items) flag item import then bound s name item import else s
 
   -- One push into a namespace, of an item that the push may have there: whether it is effective, the bindings that it
   -- leaves, and the flags.
   abbrev pub is_effective_at : Bound D I → Flags → ModuleId → Name → Option (Item D I) → Option ImportOrExternCrate → Bool
   is_effective_at s fs m name None by = false
-  is_effective_at s fs m name (Some item) by = writes (find_name name s.items) (has_flag fs m name) item (import_of by)
+  is_effective_at s fs m name (Some item) by = writes r (find_name name s.items) (has_flag fs m name) item (import_of r by)
 
   abbrev pub bound_after : Bound D I → Flags → ModuleId → Name → Option (Item D I) → Option ImportOrExternCrate → Bound D I
   bound_after s fs m name None by = s
-  bound_after s fs m name (Some item) by = pushed s (has_flag fs m name) name item (import_of by)
+  bound_after s fs m name (Some item) by = pushed s (has_flag fs m name) name item (import_of r by)
 
   abbrev pub flags_after : Bound D I → Flags → ModuleId → Name → Option (Item D I) → Option ImportOrExternCrate → Flags
-  flags_after s fs m name item by = if is_effective_at s fs m name item by then flagged fs m name (import_of by) else fs
+  flags_after s fs m name item by = if is_effective_at s fs m name item by then flagged r fs m name (import_of r by) else fs
