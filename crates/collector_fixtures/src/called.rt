@@ -1,6 +1,6 @@
 //! What the callers of docs/USING.md answer.
 use crate::fixture::Fixture;
-use collector_callers::text_to_answer::{meaning_in_first, world_of};
+use crate::text_to_answer::{meaning_in_first, world_of};
 use dm_base::mod_path::{ModPath, PathKind};
 use dm_base::name::Name;
 use dm_collector::collect_fault::CollectFault;

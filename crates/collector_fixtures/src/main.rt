@@ -9,6 +9,7 @@ mod in_maps;
 mod left;
 mod lists;
 mod macro_view;
+mod text_to_answer;
 
 use crate::fixture::fixtures;
 use crate::left::push_left;
