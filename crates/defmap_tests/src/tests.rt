@@ -17,6 +17,7 @@ macro_rules! again {
 }
 
 mod base;
+mod rounds;
 mod scopes;
 mod worlds;
 

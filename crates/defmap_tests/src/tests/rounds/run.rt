@@ -1,7 +1,7 @@
 //! One run of a small world: pushes, additions and rounds, as they are drawn from its seed.
-use crate::random::Random;
-use crate::shown::Shown;
-use crate::small_world::small_world;
+use crate::tests::rounds::random::Random;
+use crate::tests::rounds::shown::Shown;
+use crate::tests::rounds::small_world::small_world;
 use dm_base::ids::ModuleId;
 use dm_base::imports::{GlobId, ImportOrExternCrate};
 use dm_base::name::Name;
@@ -74,6 +74,12 @@ impl Counts {
             unresolved: self.unresolved.wrapping_add(other.unresolved),
             unsettled: self.unsettled.wrapping_add(other.unsettled),
         }
+    }
+
+    /// Whether there are more than so many of each thing that runs do, and runs of each kind.
+    pub(crate) fn reach_all(self, count: u64) -> bool {
+        let does_much = self.rounds > count && self.pushes > count && self.written > count;
+        does_much && self.additions > count && self.unresolved > 0 && self.unsettled > 0
     }
 }
 
