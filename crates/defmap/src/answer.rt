@@ -1,17 +1,17 @@
 //! The answer to what is asked.
-use crate::arguments::{Arguments, Wish};
-use crate::complaints::Complaints;
-use crate::failure::{Failure, Status};
 use crate::imports::imports_text;
-use crate::inputs::read_inputs;
 use crate::places::Lines;
 use crate::resolve::{meaning_text, module_at};
 use crate::settled::Settled;
-use crate::settling::{SettledInputs, settle_inputs};
+use crate::settling::{SettledInputs, settle_crates};
 use crate::stats::{Stopwatch, push_counts};
 use crate::tree::tree_text;
 use crate::unresolved::{UnknownCount, find_unresolved, nothing, push_messages};
 use crate::written_path::written_path;
+use defmap_inputs::arguments::{Arguments, Wish};
+use defmap_inputs::complaints::Complaints;
+use defmap_inputs::crates_read::read_crates;
+use defmap_inputs::failure::{Failure, Status};
 use std::alloc::{AllocError, Global};
 use std::fmt::Write;
 use std::rt::{Clock, Files};
@@ -202,9 +202,9 @@ pub(crate) fn give_answer<R: Files + Input + AllocGlobal + Clock>(
     given: &Arguments<'_>,
 ) -> Result<Answer, Failure> {
     let mut watch = Stopwatch::start(rt);
-    let inputs = read_inputs(rt, given)?;
+    let crates = read_crates(rt, given)?;
     watch.end(rt, "reading")?;
-    let made = settle_inputs(rt.alloc(), inputs, given.limit)?;
+    let made = settle_crates(rt.alloc(), crates, given.limit)?;
     watch.end(rt, "settling")?;
     answer_by(rt, given, &made, &mut watch)
 }

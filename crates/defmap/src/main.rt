@@ -2,48 +2,33 @@
 #![tactic(auto)]
 
 mod answer;
-mod arguments;
-mod build_messages;
-mod cargo_target;
-mod cfg_file;
-mod complaints;
 mod definitions;
-mod extern_crates;
-mod failure;
-mod graph;
 mod hidden;
 mod imports;
-mod inputs;
 mod item_places;
-mod loader;
 mod macro_calls;
 mod macro_exports;
 mod macro_homes;
 mod meanings;
-mod metadata;
 mod notes;
 mod offsets;
-mod outlines;
 mod partly;
 mod path_text;
 mod places;
-mod plan;
 mod prelude_use;
-mod reading;
 mod resolve;
 mod settled;
 mod settling;
 mod shown;
 mod stats;
 mod steps;
-mod sysroot;
 mod tree;
 mod unresolved;
 mod written_path;
 
 use crate::answer::give_answer;
-use crate::arguments::{command_line, read_arguments};
-use crate::failure::{Failure, Status};
+use defmap_inputs::arguments::{command_line, read_arguments};
+use defmap_inputs::failure::{Failure, Status};
 use std::process::ExitCode;
 
 /// Prints an answer, and tells the status to end with.

@@ -1,6 +1,5 @@
 //! What a path means in a module.
 use crate::definitions::definition_text;
-use crate::failure::{Failure, Status};
 use crate::meanings::{Meant, meaning, meant_in};
 use crate::path_text::path_text;
 use crate::places::{Lines, push_import};
@@ -8,6 +7,7 @@ use crate::settled::Settled;
 use crate::shown::{module_data, module_path, visibility_text};
 use crate::steps::{glob_of, import_of, steps_of};
 use crate::written_path::{prefix_of, written_path};
+use defmap_inputs::failure::{Failure, Status};
 use dm_base::ids::{Crate, ModuleId};
 use dm_base::imports::ImportOrExternCrate;
 use dm_base::item_ids::ModuleDefId;

@@ -1,13 +1,12 @@
 //! From what was read to the settled world of the crates.
-use crate::complaints::Complaints;
-use crate::failure::{Failure, Status};
-use crate::graph::{PlannedGraph, ordered_graph};
-use crate::inputs::Inputs;
-use crate::plan::CratePlan;
 use crate::settled::{NotSettled, Settled, world_of};
 use crate::stats::Effort;
+use crate_modules::crate_graph::CrateGraph;
 use crate_modules::file_table::FileTable;
 use crate_tables::crate_filling::Reading;
+use defmap_inputs::complaints::Complaints;
+use defmap_inputs::crates_read::CratesRead;
+use defmap_inputs::failure::{Failure, Status};
 use dm_collector::collect::Collected;
 use std::alloc::{AllocError, Global};
 
@@ -27,21 +26,6 @@ impl Drop for SettledInputs {
             complaints: _complaints,
         } = self;
     }
-}
-
-/// The names of the crates of a graph.
-fn names_of(
-    alloc: Global,
-    plans: &[CratePlan],
-    made: &PlannedGraph,
-) -> Result<Vec<String>, AllocError> {
-    let mut names = Vec::new(alloc);
-    for number in &made.plans_of {
-        if let Some(plan) = plans.get(*number) {
-            names.push(plan.name.clone()?)?;
-        }
-    }
-    Ok(names)
 }
 
 /// Why there is no settled world, in a line.
@@ -76,11 +60,11 @@ fn line_of(
 /// The crates of a graph, collected and settled, or a line that says why they are not.
 fn collected_of(
     alloc: Global,
-    made: &PlannedGraph,
+    graph: &CrateGraph,
     reading: &Reading<'_>,
     names: &[String],
 ) -> Result<(Collected, Effort), Failure> {
-    match world_of(alloc, &made.graph, reading) {
+    match world_of(alloc, graph, reading) {
         Ok(settled) => Ok(settled),
         Err(why) => {
             let line = line_of(alloc, names, reading.limit, why)?;
@@ -92,7 +76,7 @@ fn collected_of(
 /// The same, with their files and names.
 fn settle_graph(
     alloc: Global,
-    made: &PlannedGraph,
+    graph: &CrateGraph,
     files: FileTable,
     names: Vec<String>,
     limit: u32,
@@ -101,33 +85,24 @@ fn settle_graph(
         files: &files,
         limit,
     };
-    let (collected, effort) = collected_of(alloc, made, &reading, names.as_slice())?;
-    let settled = Settled::of_graph(alloc, &made.graph, files, names, collected)?;
+    let (collected, effort) = collected_of(alloc, graph, &reading, names.as_slice())?;
+    let settled = Settled::of_graph(alloc, graph, files, names, collected)?;
     Ok((settled, effort))
 }
 
 /// Collects the crates that were read, and settles them.
-pub(crate) fn settle_inputs(
+pub(crate) fn settle_crates(
     alloc: Global,
-    inputs: Inputs,
+    crates: CratesRead,
     limit: u32,
 ) -> Result<SettledInputs, Failure> {
-    let Inputs {
-        cfgs,
-        mut plans,
-        loader,
-        roots,
-    } = inputs;
-    let (files, mut complaints) = loader.into_parts();
-    let made = ordered_graph(
-        alloc,
-        cfgs.as_str(),
-        &mut plans,
-        roots.as_slice(),
-        &mut complaints,
-    )?;
-    let names = names_of(alloc, plans.as_slice(), &made)?;
-    let (settled, effort) = settle_graph(alloc, &made, files, names, limit)?;
+    let CratesRead {
+        graph,
+        files,
+        names,
+        complaints,
+    } = crates;
+    let (settled, effort) = settle_graph(alloc, &graph, files, names, limit)?;
     Ok(SettledInputs {
         settled,
         effort,

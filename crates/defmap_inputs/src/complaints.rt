@@ -2,7 +2,7 @@
 use std::alloc::{AllocError, Global};
 
 /// Lines that say what could not be read, each once.
-pub(crate) struct Complaints {
+pub struct Complaints {
     lines: Vec<String>,
 }
 
@@ -20,11 +20,11 @@ impl Complaints {
         }
     }
 
-    pub(crate) fn is_empty(&self) -> bool {
+    pub fn is_empty(&self) -> bool {
         self.lines.is_empty()
     }
 
-    pub(crate) fn lines(&self) -> &[String] {
+    pub fn lines(&self) -> &[String] {
         self.lines.as_slice()
     }
 

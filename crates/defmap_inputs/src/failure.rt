@@ -5,7 +5,7 @@ use std::process::ExitCode;
 
 /// The status that a run ends with.
 #[derive(Clone, Copy, PartialEq, Eq, Debug)]
-pub(crate) enum Status {
+pub enum Status {
     /// All that was asked was told.
     Fine,
     /// What was asked for is not there.
@@ -17,7 +17,7 @@ pub(crate) enum Status {
 }
 
 impl Status {
-    pub(crate) fn code(self) -> ExitCode {
+    pub fn code(self) -> ExitCode {
         match self {
             Status::Fine => ExitCode::SUCCESS,
             Status::Absent => ExitCode::from(1),
@@ -29,7 +29,7 @@ impl Status {
 
 /// Why there is no answer: the status, and a line that says what to do.
 #[derive(Drop)]
-pub(crate) enum Failure {
+pub enum Failure {
     Told(Status, String),
     OutOfMemory,
     /// The standard output or the standard error takes nothing.
@@ -55,14 +55,14 @@ impl From<io::Error> for Failure {
 }
 
 impl Failure {
-    pub(crate) fn status(&self) -> Status {
+    pub fn status(&self) -> Status {
         match self {
             Failure::Told(status, _line) => *status,
             Failure::OutOfMemory | Failure::NoOutput => Status::Unreadable,
         }
     }
 
-    pub(crate) fn line(&self) -> &str {
+    pub fn line(&self) -> &str {
         match self {
             Failure::Told(_status, line) => line.as_str(),
             Failure::OutOfMemory =>

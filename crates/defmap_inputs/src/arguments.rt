@@ -6,7 +6,7 @@ use std::alloc::{AllocError, Global};
 
 /// What is asked.
 #[derive(Clone, Copy)]
-pub(crate) enum Wish<'a> {
+pub enum Wish<'a> {
     /// The modules of the crate, with what each binds.
     Tree,
     /// What a path means in a module.
@@ -26,10 +26,10 @@ pub(crate) struct ExternWord<'a> {
 }
 
 /// The words of the command line, read.
-pub(crate) struct Arguments<'a> {
-    pub(crate) wish: Wish<'a>,
+pub struct Arguments<'a> {
+    pub wish: Wish<'a>,
     /// The file of the crate's root; `-` is the standard input.
-    pub(crate) root: &'a str,
+    pub root: &'a str,
     pub(crate) edition: Option<Edition>,
     /// Options, each as a line of `rustc --print cfg`.
     pub(crate) cfgs: Vec<&'a str>,
@@ -40,8 +40,8 @@ pub(crate) struct Arguments<'a> {
     /// What cargo printed of the build scripts of the packages.
     pub(crate) build: Option<&'a str>,
     /// How many modules a crate may have.
-    pub(crate) limit: u32,
-    pub(crate) has_stats: bool,
+    pub limit: u32,
+    pub has_stats: bool,
 }
 
 /// A hand-written `Drop`, to keep proofs small: what drops one has one call to prove.
@@ -199,7 +199,7 @@ fn resolve_command<'a>(alloc: Global) -> Result<Command<'a>, AllocError> {
 }
 
 /// The command line of the program.
-pub(crate) fn command_line<'a>(alloc: Global) -> Result<Command<'a>, AllocError> {
+pub fn command_line<'a>(alloc: Global) -> Result<Command<'a>, AllocError> {
     Command::new(alloc, "defmap")
         .about("Resolves the names of a crate, without expanding macros")
         .version("0.1.0")
@@ -296,7 +296,7 @@ fn wish_of<'a>(name: &str, given: &ArgMatches<'a>) -> Wish<'a> {
 }
 
 /// What the words of a subcommand say.
-pub(crate) fn read_arguments<'a>(
+pub fn read_arguments<'a>(
     alloc: Global,
     name: &str,
     given: &ArgMatches<'a>,
