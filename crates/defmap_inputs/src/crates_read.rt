@@ -2,7 +2,7 @@
 use crate::arguments::Arguments;
 use crate::complaints::Complaints;
 use crate::failure::Failure;
-use crate::graph::{PlannedGraph, ordered_graph};
+use crate::graph::ordered_graph;
 use crate::inputs::{Inputs, read_inputs};
 use crate::plan::CratePlan;
 use crate_modules::crate_graph::CrateGraph;
@@ -11,6 +11,7 @@ use std::alloc::{AllocError, Global};
 use std::rt::Files;
 
 /// Crates whose files were read.
+#[derive(Drop)]
 pub struct CratesRead {
     pub graph: CrateGraph,
     pub files: FileTable,
@@ -18,18 +19,6 @@ pub struct CratesRead {
     pub names: Vec<String>,
     /// What could not be read.
     pub complaints: Complaints,
-}
-
-/// A hand-written `Drop`, to keep proofs small: what drops one has one call to prove.
-impl Drop for CratesRead {
-    fn drop(self) {
-        let CratesRead {
-            graph: _graph,
-            files: _files,
-            names: _names,
-            complaints: _complaints,
-        } = self;
-    }
 }
 
 /// The names of the crates of a graph.
@@ -64,13 +53,8 @@ fn in_graph(alloc: Global, inputs: Inputs) -> Result<CratesRead, AllocError> {
         &mut complaints,
     )?;
     let names = names_of(alloc, plans.as_slice(), made.plans_of.as_slice())?;
-    let PlannedGraph {
-        graph,
-        numbers: _numbers,
-        plans_of: _plans_of,
-    } = made;
     Ok(CratesRead {
-        graph,
+        graph: made.into_graph(),
         files,
         names,
         complaints,

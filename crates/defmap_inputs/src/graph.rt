@@ -30,6 +30,18 @@ impl Drop for PlannedGraph {
     }
 }
 
+impl PlannedGraph {
+    /// The graph alone.
+    pub(crate) fn into_graph(self) -> CrateGraph {
+        let PlannedGraph {
+            graph,
+            numbers: _numbers,
+            plans_of: _plans_of,
+        } = self;
+        graph
+    }
+}
+
 fn number_of(numbers: &[Option<Crate>], plan: usize) -> Option<Crate> {
     numbers.get(plan).copied().flatten()
 }
