@@ -84,7 +84,7 @@ fn unresolved_answer(
     for (name, count) in settled.names.iter().zip(&found.unknown) {
         push_unknown(&mut told, name.as_str(), *count)?;
     }
-    let status = if !complaints.is_empty() {
+    let status = if !complaints.lines().is_empty() {
         Status::Unreadable
     } else if found.told.is_empty() {
         Status::Fine
@@ -103,7 +103,7 @@ fn tree_answer(
     let lines = Lines::new(alloc, &settled.files)?;
     let mut missing = nothing(alloc, 0)?;
     missing.add_modules(alloc, settled.lists())?;
-    let is_whole = missing.told.is_empty() && complaints.is_empty();
+    let is_whole = missing.told.is_empty() && complaints.lines().is_empty();
     let mut told = ended(alloc, complaints)?;
     push_messages(&mut told, &lines, &mut missing.told)?;
     Ok(Answer {
@@ -135,7 +135,7 @@ fn resolve_answer(
     Ok(Answer {
         out,
         told: ended(alloc, complaints)?,
-        status: if !complaints.is_empty() {
+        status: if !complaints.lines().is_empty() {
             Status::Unreadable
         } else if is_found {
             Status::Fine
@@ -156,7 +156,7 @@ fn imports_answer(
     Ok(Answer {
         out: imports_text(alloc, settled, &lines, given.sysroot.is_some())?,
         told: ended(alloc, complaints)?,
-        status: if complaints.is_empty() {
+        status: if complaints.lines().is_empty() {
             Status::Fine
         } else {
             Status::Unreadable

@@ -1,5 +1,9 @@
 //! What went wrong beside the answer: lines for the standard error.
+ghost use Rattle.std.specs.Prelude.{◌≡◌, map};
+ghost use Rattle.std.specs.String.{string_bytes};
+
 use std::alloc::{AllocError, Global};
+use std::marker::Model;
 
 /// Lines that say what could not be read, each once.
 pub struct Complaints {
@@ -13,6 +17,15 @@ impl Drop for Complaints {
     }
 }
 
+impl Model for Complaints {
+    ghost use Rattle.std.specs.Prelude.{ℕ, List, map};
+    ghost use Rattle.std.specs.String.{string_bytes};
+
+    ghost Value = { List (List ℕ) };
+
+    ghost view = { λ c. map string_bytes c.lines.items };
+}
+
 impl Complaints {
     pub(crate) fn new(alloc: Global) -> Complaints {
         Complaints {
@@ -20,11 +33,10 @@ impl Complaints {
         }
     }
 
-    pub fn is_empty(&self) -> bool {
-        self.lines.is_empty()
-    }
-
-    pub fn lines(&self) -> &[String] {
+    /// The lines, in the order in which they came.
+    pub fn lines(&self) -> &[String]
+        ensures { map string_bytes result.now ≡ self.now }
+    {
         self.lines.as_slice()
     }
 

@@ -1,4 +1,7 @@
 //! Why the program ends without an answer, and the statuses that it ends with.
+ghost use Rattle.std.specs.Prelude.{◌≡◌};
+ghost use Rattle.defmap_inputs.specs.Failures.{line_of, status_of};
+
 use std::alloc::{AllocError, AllocFailed};
 use std::io;
 use std::process::ExitCode;
@@ -17,6 +20,7 @@ pub enum Status {
 }
 
 impl Status {
+    /// The number of the status: 0 to 3.
     pub fn code(self) -> ExitCode {
         match self {
             Status::Fine => ExitCode::SUCCESS,
@@ -55,14 +59,20 @@ impl From<io::Error> for Failure {
 }
 
 impl Failure {
-    pub fn status(&self) -> Status {
+    /// The status to end with.
+    pub fn status(&self) -> Status
+        ensures { result ≡ status_of self.now }
+    {
         match self {
             Failure::Told(status, _line) => *status,
             Failure::OutOfMemory | Failure::NoOutput => Status::Unreadable,
         }
     }
 
-    pub fn line(&self) -> &str {
+    /// What to tell.
+    pub fn line(&self) -> &str
+        ensures { result.now ≡ line_of self.now }
+    {
         match self {
             Failure::Told(_status, line) => line.as_str(),
             Failure::OutOfMemory =>
