@@ -198,17 +198,25 @@ fn resolve_command<'a>(alloc: Global) -> Result<Command<'a>, AllocError> {
     with_options(alloc, command)
 }
 
-/// The command line of the program.
+/// A command with one more subcommand, unless that failed. What is held at an exit costs its proof: this has one.
+fn with_subcommand<'a>(
+    command: Command<'a>,
+    subcommand: Result<Command<'a>, AllocError>,
+) -> Result<Command<'a>, AllocError> {
+    command.subcommand(subcommand?)
+}
+
+/// The command line of the program. Fails where memory runs out.
 pub fn command_line<'a>(alloc: Global) -> Result<Command<'a>, AllocError> {
-    Command::new(alloc, "defmap")
+    let bare = Command::new(alloc, "defmap")
         .about("Resolves the names of a crate, without expanding macros")
         .version("0.1.0")
         .subcommand_required(true)
-        .arg_required_else_help(true)
-        .subcommand(plain_command(alloc, "tree", TREE)?)?
-        .subcommand(resolve_command(alloc)?)?
-        .subcommand(plain_command(alloc, "unresolved", UNRESOLVED)?)?
-        .subcommand(plain_command(alloc, "imports", IMPORTS)?)
+        .arg_required_else_help(true);
+    let command = with_subcommand(bare, plain_command(alloc, "tree", TREE))?;
+    let command = with_subcommand(command, resolve_command(alloc))?;
+    let command = with_subcommand(command, plain_command(alloc, "unresolved", UNRESOLVED))?;
+    with_subcommand(command, plain_command(alloc, "imports", IMPORTS))
 }
 
 /// The edition of a word.
@@ -295,28 +303,47 @@ fn wish_of<'a>(name: &str, given: &ArgMatches<'a>) -> Wish<'a> {
     }
 }
 
-/// What the words of a subcommand say.
+/// The edition that is given, if one is.
+fn given_edition(alloc: Global, given: &ArgMatches<'_>) -> Result<Option<Edition>, Failure> {
+    match given.get_str("edition") {
+        None => Ok(None),
+        Some(word) => Ok(Some(known_edition(alloc, word)?)),
+    }
+}
+
+/// How many modules a crate may have.
+fn given_limit(alloc: Global, given: &ArgMatches<'_>) -> Result<u32, Failure> {
+    match given.get_str("limit") {
+        None => Ok(LIMIT),
+        Some(word) => known_limit(alloc, word),
+    }
+}
+
+/// The crates that are given.
+fn given_externs<'a>(
+    alloc: Global,
+    given: &ArgMatches<'a>,
+) -> Result<Vec<ExternWord<'a>>, Failure> {
+    let words = all_of(alloc, given, "extern")?;
+    extern_words(alloc, words.as_slice())
+}
+
+/// What the words of a subcommand say. Fails where one says nothing that it may say, and where memory runs out.
 pub fn read_arguments<'a>(
     alloc: Global,
     name: &str,
     given: &ArgMatches<'a>,
 ) -> Result<Arguments<'a>, Failure> {
-    let edition = match given.get_str("edition") {
-        None => None,
-        Some(word) => Some(known_edition(alloc, word)?),
-    };
-    let limit = match given.get_str("limit") {
-        None => LIMIT,
-        Some(word) => known_limit(alloc, word)?,
-    };
-    let externs = all_of(alloc, given, "extern")?;
+    let edition = given_edition(alloc, given)?;
+    let limit = given_limit(alloc, given)?;
+    let externs = given_externs(alloc, given)?;
     Ok(Arguments {
         wish: wish_of(name, given),
         root: given.get_str("root").unwrap_or(""),
         edition,
         cfgs: all_of(alloc, given, "cfg")?,
         cfg_file: given.get_str("cfg-file"),
-        externs: extern_words(alloc, externs.as_slice())?,
+        externs,
         sysroot: given.get_str("sysroot"),
         metadata: given.get_str("metadata"),
         build: given.get_str("build"),

@@ -4,35 +4,47 @@ use crate::failure::Failure;
 use crate::plan::CratePlan;
 use crate::reading::needed_text;
 use serde_json::Value;
-use std::alloc::AllocError;
+use std::alloc::{AllocError, Global};
 use std::rt::Files;
 
 /// What the messages about build scripts are marked by.
 const RAN: &'static str = "build-script-executed";
 
-/// The messages in a file about build scripts that ran; none where no file is named. Lines that are no messages, as those
-/// that the scripts print themselves, are passed over.
+/// The message in a line, if it is one about a build script that ran. Lines that are no messages are passed over, as those
+/// that the scripts print themselves.
+fn message_in(alloc: Global, line: &str) -> Option<Value> {
+    if !line.starts_with('{') {
+        return None;
+    }
+    let message = Value::from_str(alloc, line).ok()?;
+    if text_of(&message, "reason") == RAN {
+        Some(message)
+    } else {
+        None
+    }
+}
+
+/// The messages in a text about build scripts that ran.
+fn messages_in(alloc: Global, text: &str) -> Result<Vec<Value>, AllocError> {
+    let mut messages = Vec::new(alloc);
+    for line in text.lines() {
+        if let Some(message) = message_in(alloc, line) {
+            messages.push(message)?;
+        }
+    }
+    Ok(messages)
+}
+
+/// Those in a file; none where no file is named.
 pub(crate) fn build_messages<R: Files + AllocGlobal>(
     rt: &R,
     path: Option<&str>,
 ) -> Result<Vec<Value>, Failure> {
-    let alloc = rt.alloc();
-    let mut messages = Vec::new(alloc);
     let Some(path) = path else {
-        return Ok(messages);
+        return Ok(Vec::new(rt.alloc()));
     };
     let text = needed_text(rt, path)?;
-    for line in text.as_str().lines() {
-        if !line.starts_with('{') {
-            continue;
-        }
-        if let Ok(message) = Value::from_str(alloc, line) {
-            if text_of(&message, "reason") == RAN {
-                messages.push(message)?;
-            }
-        }
-    }
-    Ok(messages)
+    Ok(messages_in(rt.alloc(), text.as_str())?)
 }
 
 /// Adds the options that a message names to those of a crate.

@@ -71,7 +71,10 @@ fn kind_of(words: &[Value]) -> TargetKind {
 
 /// The text of a member; empty where there is none.
 pub(crate) fn text_of<'a>(value: &'a Value, key: &str) -> &'a str {
-    value.get(key).and_then(Value::as_str).unwrap_or("")
+    match value.get(key) {
+        None => "",
+        Some(member) => member.as_str().unwrap_or(""),
+    }
 }
 
 /// The values of a member that is a list.
