@@ -19,19 +19,30 @@ fn know(
     Ok(())
 }
 
+/// The plan of a crate that knows the crates of the words before a place.
+fn knowing(
+    alloc: Global,
+    name: &str,
+    root: &str,
+    edition: Edition,
+    externs: &[ExternWord<'_>],
+    behind: usize,
+) -> Result<CratePlan, AllocError> {
+    let mut plan = CratePlan::new(alloc, name, root, edition)?;
+    know(&mut plan, alloc, externs, behind)?;
+    Ok(plan)
+}
+
 /// The crate of the command line, and behind it the crates that it knows, each of which knows those given before it.
 pub(crate) fn planned(alloc: Global, given: &Arguments<'_>) -> Result<Vec<CratePlan>, AllocError> {
     let edition = given.edition.unwrap_or(Edition::Edition2021);
     let externs = given.externs.as_slice();
     let mut plans = Vec::new(alloc);
-    let mut own = CratePlan::new(alloc, "crate", given.root, edition)?;
-    know(&mut own, alloc, externs, externs.len())?;
-    plans.push(own)?;
+    let count = externs.len();
+    plans.push(knowing(alloc, "crate", given.root, edition, externs, count)?)?;
     for (place, word) in externs.iter().enumerate() {
         let its_edition = word.edition.unwrap_or(edition);
-        let mut plan = CratePlan::new(alloc, word.name, word.root, its_edition)?;
-        know(&mut plan, alloc, externs, place)?;
-        plans.push(plan)?;
+        plans.push(knowing(alloc, word.name, word.root, its_edition, externs, place)?)?;
     }
     Ok(plans)
 }

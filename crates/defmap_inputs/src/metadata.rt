@@ -56,29 +56,42 @@ fn failed<T>(line: String) -> Result<T, Failure> {
     Err(Failure::Told(Status::Unreadable, line))
 }
 
+/// The packages of the metadata, by their ids.
+fn described_in<'a>(
+    alloc: Global,
+    metadata: &'a Value,
+) -> Result<IndexMap<&'a str, &'a Value>, AllocError> {
+    let mut described = IndexMap::new(alloc);
+    for package in list_of(metadata, "packages") {
+        described.insert(text_of(package, "id"), package)?;
+    }
+    Ok(described)
+}
+
+/// Adds the package of what was resolved.
+fn add_package<'a>(
+    packages: &mut IndexMap<&'a str, Package<'a>>,
+    described: &IndexMap<&'a str, &'a Value>,
+    node: &'a Value,
+) -> Result<(), AllocError> {
+    let id = text_of(node, "id");
+    if let Some(package) = described.get(&id) {
+        let package = *package;
+        packages.insert(id, Package { package, node })?;
+    }
+    Ok(())
+}
+
 /// The packages of the metadata, each with what was resolved of it.
 fn packages_of<'a>(
     alloc: Global,
     metadata: &'a Value,
 ) -> Result<IndexMap<&'a str, Package<'a>>, AllocError> {
-    let mut described: IndexMap<&'a str, &'a Value> = IndexMap::new(alloc);
-    for package in list_of(metadata, "packages") {
-        described.insert(text_of(package, "id"), package)?;
-    }
+    let described = described_in(alloc, metadata)?;
     let mut packages = IndexMap::new(alloc);
-    let Some(resolved) = metadata.get("resolve") else {
-        return Ok(packages);
-    };
-    for node in list_of(resolved, "nodes") {
-        let id = text_of(node, "id");
-        if let Some(package) = described.get(&id) {
-            packages.insert(
-                id,
-                Package {
-                    package: *package,
-                    node,
-                },
-            )?;
+    if let Some(resolved) = metadata.get("resolve") {
+        for node in list_of(resolved, "nodes") {
+            add_package(&mut packages, &described, node)?;
         }
     }
     Ok(packages)
@@ -95,16 +108,14 @@ impl<'a> Workspace<'a> {
         None
     }
 
-    /// Adds the plan of a target.
-    fn add_plan(
+    /// The plan of a target.
+    fn made_plan(
         &self,
-        planning: &mut Planning<'a>,
         id: &'a str,
         target: CargoTarget<'a>,
         root: &str,
         edition: Edition,
-    ) -> Result<usize, AllocError> {
-        let number = planning.plans.len();
+    ) -> Result<CratePlan, AllocError> {
         let mut plan = CratePlan::new(self.alloc, target.name, root, edition)?;
         plan.is_proc_macro = target.is_proc_macro();
         if let Some(package) = self.packages.get(&id) {
@@ -115,7 +126,22 @@ impl<'a> Workspace<'a> {
         if target.kind != TargetKind::BuildScript {
             add_built(&mut plan, self.built, id)?;
         }
-        planning.plans.push(plan)?;
+        Ok(plan)
+    }
+
+    /// Adds the plan of a target.
+    fn add_plan(
+        &self,
+        planning: &mut Planning<'a>,
+        id: &'a str,
+        target: CargoTarget<'a>,
+        root: &str,
+        edition: Edition,
+    ) -> Result<usize, AllocError> {
+        let number = planning.plans.len();
+        planning
+            .plans
+            .push(self.made_plan(id, target, root, edition)?)?;
         planning.sources.push((id, target))?;
         if target.is_library() {
             planning.libraries.insert(id, number)?;
@@ -231,15 +257,18 @@ fn plans_in<'a>(
     Ok(plans)
 }
 
+fn no_metadata<T>(alloc: Global, path: &str) -> Result<T, Failure> {
+    failed(format!(in alloc;
+        "{path}: no metadata: give what `cargo metadata --format-version 1` prints"
+    )?)
+}
+
 /// The metadata in a file.
 fn metadata_at<R: Files + AllocGlobal>(rt: &R, path: &str) -> Result<Value, Failure> {
-    let alloc = rt.alloc();
     let text = needed_text(rt, path)?;
-    match Value::from_str(alloc, text.as_str()) {
+    match Value::from_str(rt.alloc(), text.as_str()) {
         Ok(metadata) if metadata.get("packages").is_some() => Ok(metadata),
-        Ok(_) | Err(_) => failed(format!(in alloc;
-            "{path}: no metadata: give what `cargo metadata --format-version 1` prints"
-        )?),
+        Ok(_) | Err(_) => no_metadata(rt.alloc(), path),
     }
 }
 
@@ -251,27 +280,53 @@ fn whole_path<R: Files + AllocGlobal>(rt: &R, path: &str) -> Result<String, Allo
     }
 }
 
-/// The plans of the crates that the metadata in a file has of the crate that is asked about.
+fn no_target<T>(alloc: Global, path: &str, root: &str) -> Result<T, Failure> {
+    failed(format!(in alloc;
+        "{path}: no target has the root {root}: give the metadata of its package"
+    )?)
+}
+
+/// The plans of the crates that a workspace has of the crate that is asked about. What it was read of has a path.
+fn planned_in<R: Files + AllocGlobal>(
+    rt: &R,
+    given: &Arguments<'_>,
+    path: &str,
+    workspace: &Workspace<'_>,
+) -> Result<Vec<CratePlan>, Failure> {
+    let root = whole_path(rt, given.root)?;
+    match workspace.asked(root.as_str()) {
+        Some((id, target)) => Ok(plans_in(workspace, given, id, target)?),
+        None => no_target(rt.alloc(), path, root.as_str()),
+    }
+}
+
+/// The same, of metadata and of messages about build scripts.
+fn planned_of<R: Files + AllocGlobal>(
+    rt: &R,
+    given: &Arguments<'_>,
+    path: &str,
+    metadata: &Value,
+    built: &[Value],
+    cfgs: &str,
+) -> Result<Vec<CratePlan>, Failure> {
+    let alloc = rt.alloc();
+    let workspace = Workspace {
+        alloc,
+        packages: packages_of(alloc, metadata)?,
+        built,
+        cfgs,
+    };
+    planned_in(rt, given, path, &workspace)
+}
+
+/// The same, of the metadata in a file.
 pub(crate) fn planned_by<R: Files + AllocGlobal>(
     rt: &R,
     given: &Arguments<'_>,
     path: &str,
     cfgs: &str,
 ) -> Result<Vec<CratePlan>, Failure> {
-    let alloc = rt.alloc();
     let metadata = metadata_at(rt, path)?;
     let built = build_messages(rt, given.build)?;
-    let workspace = Workspace {
-        alloc,
-        packages: packages_of(alloc, &metadata)?,
-        built: built.as_slice(),
-        cfgs,
-    };
-    let root = whole_path(rt, given.root)?;
-    match workspace.asked(root.as_str()) {
-        Some((id, target)) => Ok(plans_in(&workspace, given, id, target)?),
-        None => failed(format!(in alloc;
-            "{path}: no target has the root {root}: give the metadata of its package"
-        )?),
-    }
+    planned_of(rt, given, path, &metadata, built.as_slice(), cfgs)
 }
