@@ -16,10 +16,12 @@ use crate_diagnostics::missing_files::missing_files;
 use crate_diagnostics::offsets::place_offset;
 use crate_diagnostics::texts::path_text;
 use crate_diagnostics::unconfigured::unconfigured;
+use crate_modules::crate_data::CrateData;
 use crate_modules::crate_graph::CrateGraph;
 use crate_modules::file_table::FileTable;
 use crate_modules::modules::CrateModules;
 use crate_tables::crate_table::CrateTable;
+use crate_tables::item_place::UsePlace;
 use dm_base::ids::Crate;
 use dm_maps::world::World;
 use dm_maps::world::maps_of::{AskWorld, crate_def_map};
@@ -41,38 +43,72 @@ fn numbered(number: usize) -> Crate {
     Crate(u32::try_from(number).unwrap_or(u32::MAX))
 }
 
-/// What is told of the crate of a number.
-fn told_of(alloc: Global, settled: &Settled, number: usize) -> Result<Vec<Diagnostic>, AllocError> {
-    let mut found = Vec::new(alloc);
+/// Adds what is told of the declarations of a crate.
+fn add_declared(
+    found: &mut Vec<Diagnostic>,
+    alloc: Global,
+    files: &FileTable,
+    krate: &CrateData,
+    list: &CrateModules,
+) -> Result<(), AllocError> {
+    let items = items_of(alloc, krate, list, files)?;
+    let items = items.as_slice();
+    let deps = krate.dependencies();
+    push_all(found, declaration_faults(alloc, list, files, deps, items)?)?;
+    push_all(found, unconfigured(alloc, list, items)?)
+}
+
+/// Adds what is told of the macro calls of the crate of a number.
+fn add_calls(
+    found: &mut Vec<Diagnostic>,
+    alloc: Global,
+    settled: &Settled,
+    number: usize,
+) -> Result<(), AllocError> {
+    let calls = calls_of(alloc, settled, number)?;
+    push_all(found, unresolved_macro_calls(alloc, calls.as_slice())?)
+}
+
+/// Adds what is told of the imports and globs of a crate.
+fn add_unresolved(
+    found: &mut Vec<Diagnostic>,
+    alloc: Global,
+    settled: &Settled,
+    uses: &[UsePlace],
+) -> Result<(), AllocError> {
+    let collected = &settled.collected;
+    push_all(found, unresolved_imports(alloc, &collected.retry, uses)?)?;
+    let globs = collected.globs.as_slice();
+    push_all(
+        found,
+        unresolved_globs(alloc, settled.world(), uses, globs)?,
+    )
+}
+
+/// Adds what is told of the crate of a number.
+fn add_told(
+    found: &mut Vec<Diagnostic>,
+    alloc: Global,
+    settled: &Settled,
+    number: usize,
+) -> Result<(), AllocError> {
     let collected = &settled.collected;
     let (Some(krate), Some(list), Some(table)) = (
         settled.graph.crates().get(number),
         collected.lists.get(number),
         collected.tables.get(number),
     ) else {
-        return Ok(found);
+        return Ok(());
     };
-    let files = &settled.files;
-    let items = items_of(alloc, krate, list, files)?;
-    let items = items.as_slice();
-    let deps = krate.dependencies();
-    push_all(
-        &mut found,
-        declaration_faults(alloc, list, files, deps, items)?,
-    )?;
-    push_all(&mut found, unconfigured(alloc, list, items)?)?;
-    let calls = calls_of(alloc, settled, number)?;
-    push_all(&mut found, unresolved_macro_calls(alloc, calls.as_slice())?)?;
-    let uses = table.uses();
-    push_all(
-        &mut found,
-        unresolved_imports(alloc, &collected.retry, uses)?,
-    )?;
-    let globs = collected.globs.as_slice();
-    push_all(
-        &mut found,
-        unresolved_globs(alloc, settled.world(), uses, globs)?,
-    )?;
+    add_declared(found, alloc, &settled.files, krate, list)?;
+    add_calls(found, alloc, settled, number)?;
+    add_unresolved(found, alloc, settled, table.uses())
+}
+
+/// What is told of the crate of a number.
+fn told_of(alloc: Global, settled: &Settled, number: usize) -> Result<Vec<Diagnostic>, AllocError> {
+    let mut found = Vec::new(alloc);
+    add_told(&mut found, alloc, settled, number)?;
     Ok(found)
 }
 
@@ -208,27 +244,42 @@ fn push_missing(
     Ok(())
 }
 
+/// Adds what is told to the def maps. Answers with the table of macro calls.
+fn placed(alloc: Global, settled: &mut Settled) -> Result<Vec<CallPlace>, AllocError> {
+    let told = told_of_all(alloc, settled)?;
+    let collected = &mut settled.collected;
+    add_to_maps(
+        alloc,
+        &mut collected.retry,
+        &settled.graph,
+        collected.lists.as_slice(),
+        collected.tables.as_slice(),
+        told.as_slice(),
+    )
+}
+
+/// What the def maps of the crates have.
+fn messages_of(
+    alloc: Global,
+    world: &World,
+    lists: &[CrateModules],
+    calls: &[CallPlace],
+) -> Result<Vec<Message>, AllocError> {
+    let mut messages = Vec::new(alloc);
+    for (number, list) in lists.iter().enumerate() {
+        push_of_map(&mut messages, alloc, world, list, calls, number)?;
+    }
+    Ok(messages)
+}
+
 /// What the def maps of the crates have, in lines, and the files that these lack.
 pub(crate) fn in_maps(alloc: Global, settled: &mut Settled) -> Result<String, AllocError> {
-    let told = told_of_all(alloc, settled)?;
+    let calls = placed(alloc, settled)?;
     let lists = settled.collected.lists.as_slice();
-    let calls = add_to_maps(
-        alloc,
-        &mut settled.collected.retry,
-        &settled.graph,
-        lists,
-        settled.collected.tables.as_slice(),
-        told.as_slice(),
-    )?;
-    let world = settled.collected.retry.world();
-    let mut messages = Vec::new(alloc);
-    let mut missing = String::new(alloc);
-    for (number, list) in lists.iter().enumerate() {
-        let calls = calls.as_slice();
-        push_of_map(&mut messages, alloc, world, list, calls, number)?;
-        push_missing(&mut missing, alloc, list, &settled.files)?;
-    }
+    let messages = messages_of(alloc, settled.world(), lists, calls.as_slice())?;
     let mut out = lines(alloc, &settled.files, messages)?;
-    out.push_str(missing.as_str())?;
+    for list in lists {
+        push_missing(&mut out, alloc, list, &settled.files)?;
+    }
     Ok(out)
 }

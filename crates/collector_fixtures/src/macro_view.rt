@@ -66,20 +66,38 @@ fn edges_of(alloc: Global, settled: &Settled) -> Result<Vec<GlobEdge>, AllocErro
     Ok(edges)
 }
 
+/// The macro calls of all crates.
+fn all_calls(alloc: Global, settled: &Settled) -> Result<Vec<MacroCall>, AllocError> {
+    let mut calls = Vec::new(alloc);
+    for number in 0..settled.collected.lists.len() {
+        for call in calls_of(alloc, settled, number)? {
+            calls.push(call)?;
+        }
+    }
+    Ok(calls)
+}
+
+/// The modules that calls in these leave open.
+fn opened(
+    alloc: Global,
+    homes: Result<Vec<ModuleId>, AllocError>,
+    edges: &[GlobEdge],
+) -> Result<OpenModules, AllocError> {
+    let homes = homes?;
+    OpenModules::new(alloc, homes.as_slice(), edges)
+}
+
 impl MacroView {
     /// That of settled crates.
     pub(crate) fn new(alloc: Global, settled: &Settled) -> Result<MacroView, AllocError> {
-        let mut calls = Vec::new(alloc);
-        for number in 0..settled.collected.lists.len() {
-            for call in calls_of(alloc, settled, number)? {
-                calls.push(call)?;
-            }
-        }
+        let calls = all_calls(alloc, settled)?;
         let edges = edges_of(alloc, settled)?;
-        let all = homes(alloc, calls.as_slice())?;
-        let known = known_homes(alloc, calls.as_slice())?;
-        let for_imports = OpenModules::new(alloc, all.as_slice(), edges.as_slice())?;
-        let for_calls = OpenModules::new(alloc, known.as_slice(), edges.as_slice())?;
+        let for_imports = opened(alloc, homes(alloc, calls.as_slice()), edges.as_slice())?;
+        let for_calls = opened(
+            alloc,
+            known_homes(alloc, calls.as_slice()),
+            edges.as_slice(),
+        )?;
         Ok(MacroView {
             calls,
             for_imports,
