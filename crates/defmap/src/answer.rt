@@ -6,12 +6,14 @@ use crate::settled::Settled;
 use crate::settling::{SettledInputs, settle_crates};
 use crate::stats::{Stopwatch, push_counts};
 use crate::tree::tree_text;
-use crate::unresolved::{UnknownCount, find_unresolved, nothing, push_messages};
+use crate::unresolved::{Told, UnknownCount, find_unresolved, nothing, push_messages};
 use crate::written_path::written_path;
 use defmap_inputs::arguments::{Arguments, Wish};
 use defmap_inputs::complaints::Complaints;
 use defmap_inputs::crates_read::read_crates;
 use defmap_inputs::failure::{Failure, Status};
+use dm_base::ids::ModuleId;
+use dm_base::mod_path::ModPath;
 use std::alloc::{AllocError, Global};
 use std::fmt::Write;
 use std::rt::{Clock, Files};
@@ -69,6 +71,32 @@ fn push_unknown(out: &mut String, name: &str, count: UnknownCount) -> Result<(),
     Ok(())
 }
 
+/// What is told beside the answer to `unresolved`.
+fn unknown_told(
+    alloc: Global,
+    settled: &Settled,
+    unknown: &[UnknownCount],
+    complaints: &Complaints,
+) -> Result<String, AllocError> {
+    let mut told = ended(alloc, complaints)?;
+    for (name, count) in settled.names.iter().zip(unknown) {
+        push_unknown(&mut told, name.as_str(), *count)?;
+    }
+    Ok(told)
+}
+
+/// The messages, in lines.
+fn messages_text(
+    alloc: Global,
+    settled: &Settled,
+    told: &mut Vec<Told>,
+) -> Result<String, AllocError> {
+    let lines = Lines::new(alloc, &settled.files)?;
+    let mut out = String::new(alloc);
+    push_messages(&mut out, &lines, told)?;
+    Ok(out)
+}
+
 /// The answer to `unresolved`.
 fn unresolved_answer(
     alloc: Global,
@@ -76,14 +104,9 @@ fn unresolved_answer(
     given: &Arguments<'_>,
     complaints: &Complaints,
 ) -> Result<Answer, AllocError> {
-    let lines = Lines::new(alloc, &settled.files)?;
     let mut found = find_unresolved(alloc, settled, given.sysroot.is_some())?;
-    let mut out = String::new(alloc);
-    push_messages(&mut out, &lines, &mut found.told)?;
-    let mut told = ended(alloc, complaints)?;
-    for (name, count) in settled.names.iter().zip(&found.unknown) {
-        push_unknown(&mut told, name.as_str(), *count)?;
-    }
+    let out = messages_text(alloc, settled, &mut found.told)?;
+    let told = unknown_told(alloc, settled, found.unknown.as_slice(), complaints)?;
     let status = if !complaints.lines().is_empty() {
         Status::Unreadable
     } else if found.told.is_empty() {
@@ -94,20 +117,30 @@ fn unresolved_answer(
     Ok(Answer { out, told, status })
 }
 
+/// What could not be read, in lines, and whether there is nothing of it.
+fn missing_told(
+    alloc: Global,
+    settled: &Settled,
+    complaints: &Complaints,
+) -> Result<(String, bool), AllocError> {
+    let mut missing = nothing(alloc, 0)?;
+    missing.add_modules(alloc, settled.lists())?;
+    let is_whole = missing.told.is_empty() && complaints.lines().is_empty();
+    let mut told = ended(alloc, complaints)?;
+    let modules = messages_text(alloc, settled, &mut missing.told)?;
+    told.push_str(modules.as_str())?;
+    Ok((told, is_whole))
+}
+
 /// The answer to `tree`.
 fn tree_answer(
     alloc: Global,
     settled: &Settled,
     complaints: &Complaints,
 ) -> Result<Answer, AllocError> {
-    let lines = Lines::new(alloc, &settled.files)?;
-    let mut missing = nothing(alloc, 0)?;
-    missing.add_modules(alloc, settled.lists())?;
-    let is_whole = missing.told.is_empty() && complaints.lines().is_empty();
-    let mut told = ended(alloc, complaints)?;
-    push_messages(&mut told, &lines, &mut missing.told)?;
+    let (told, is_whole) = missing_told(alloc, settled, complaints)?;
     Ok(Answer {
-        out: tree_text(alloc, settled, &lines)?,
+        out: tree_text(alloc, settled)?,
         told,
         status: if is_whole {
             Status::Fine
@@ -117,21 +150,20 @@ fn tree_answer(
     })
 }
 
-/// The answer to `resolve`.
-fn resolve_answer(
+fn no_path<T>(alloc: Global, written: &str) -> Result<T, Failure> {
+    let told = format!(in alloc; "no path {written}: give names with two colons between")?;
+    Err(Failure::Told(Status::Misused, told))
+}
+
+/// The answer to what a path means in a module.
+fn meaning_answer(
     alloc: Global,
     settled: &Settled,
-    written: &str,
-    home: &str,
+    home: ModuleId,
+    path: &ModPath,
     complaints: &Complaints,
-) -> Result<Answer, Failure> {
-    let Some(path) = written_path(alloc, written)? else {
-        let told = format!(in alloc; "no path {written}: give names with two colons between")?;
-        return Err(Failure::Told(Status::Misused, told));
-    };
-    let m = module_at(alloc, settled, home)?;
-    let lines = Lines::new(alloc, &settled.files)?;
-    let (out, is_found) = meaning_text(alloc, settled, &lines, m, &path)?;
+) -> Result<Answer, AllocError> {
+    let (out, is_found) = meaning_text(alloc, settled, home, path)?;
     Ok(Answer {
         out,
         told: ended(alloc, complaints)?,
@@ -145,6 +177,21 @@ fn resolve_answer(
     })
 }
 
+/// The answer to `resolve`.
+fn resolve_answer(
+    alloc: Global,
+    settled: &Settled,
+    written: &str,
+    home: &str,
+    complaints: &Complaints,
+) -> Result<Answer, Failure> {
+    let Some(path) = written_path(alloc, written)? else {
+        return no_path(alloc, written);
+    };
+    let home = module_at(alloc, settled, home)?;
+    Ok(meaning_answer(alloc, settled, home, &path, complaints)?)
+}
+
 /// The answer to `imports`.
 fn imports_answer(
     alloc: Global,
@@ -152,9 +199,8 @@ fn imports_answer(
     given: &Arguments<'_>,
     complaints: &Complaints,
 ) -> Result<Answer, AllocError> {
-    let lines = Lines::new(alloc, &settled.files)?;
     Ok(Answer {
-        out: imports_text(alloc, settled, &lines, given.sysroot.is_some())?,
+        out: imports_text(alloc, settled, given.sysroot.is_some())?,
         told: ended(alloc, complaints)?,
         status: if complaints.lines().is_empty() {
             Status::Fine

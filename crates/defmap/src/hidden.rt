@@ -139,6 +139,13 @@ fn modules_of(alloc: Global, homes: &[MacroHome]) -> Result<IndexSet<ModuleId>, 
     Ok(modules)
 }
 
+/// What is noted at first: the modules of macro calls, and the roots of what exports macros.
+fn begun(alloc: Global, settled: &Settled, homes: &[MacroHome]) -> Result<Notes, AllocError> {
+    let by_macros = modules_of(alloc, homes)?;
+    let exporting = exporting_roots(alloc, settled, homes)?;
+    Ok(Notes::new(alloc, by_macros, exporting))
+}
+
 impl<'a> Hidden<'a> {
     /// What is hidden in the settled world.
     pub(crate) fn of(
@@ -148,13 +155,11 @@ impl<'a> Hidden<'a> {
         homes: &[MacroHome],
     ) -> Result<Hidden<'a>, AllocError> {
         let unresolved = settled.collected.retry.unresolved()?;
-        let by_macros = modules_of(alloc, homes)?;
-        let exporting = exporting_roots(alloc, settled, homes)?;
         let mut hidden = Hidden {
             alloc,
             settled,
             has_sysroot,
-            notes: Notes::new(alloc, by_macros, exporting),
+            notes: begun(alloc, settled, homes)?,
         };
         hidden.find_all(unresolved.as_slice())?;
         Ok(hidden)

@@ -75,6 +75,12 @@ impl<'s, 'h, 'l, 'f> Drop for Listing<'s, 'h, 'l, 'f> {
 }
 
 impl<'s, 'h, 'l, 'f> Listing<'s, 'h, 'l, 'f> {
+    /// Adds a path, as it is written.
+    fn add_written(&mut self, path: &ModPath, star: &str) -> Result<(), AllocError> {
+        let written = path_text(self.alloc, path)?;
+        write!(self.out, ": {written}{star}")
+    }
+
     /// Adds the line of an import.
     fn add(
         &mut self,
@@ -88,14 +94,19 @@ impl<'s, 'h, 'l, 'f> Listing<'s, 'h, 'l, 'f> {
         if let Some(spot) = use_spot(self.alloc, self.settled, use_, idx)? {
             self.lines.push_place(&mut self.out, spot)?;
         }
-        let written = path_text(self.alloc, path)?;
-        let star = if kind.is_none() { "::*" } else { "" };
-        write!(self.out, ": {written}{star}")?;
+        self.add_written(path, if kind.is_none() { "::*" } else { "" })?;
         if let Some(found) = imported(self.settled.world(), home, path) {
             let meant = taken(kind.unwrap_or(ImportKind::TypeOnly), found);
             push_meant(&mut self.out, self.alloc, self.settled, meant)?;
         }
         write!(self.out, "{reservation}\n")
+    }
+
+    /// Adds all imports, by kind.
+    fn add_all(&mut self) -> Result<(), AllocError> {
+        self.add_named()?;
+        self.add_globs()?;
+        self.add_prelude()
     }
 
     fn add_named(&mut self) -> Result<(), AllocError> {
@@ -174,9 +185,7 @@ fn listed(lines: &Lines<'_>, hidden: &Hidden<'_>) -> Result<String, AllocError> 
         partly: partly_unknown(hidden)?,
         out: String::new(hidden.alloc()),
     };
-    listing.add_named()?;
-    listing.add_globs()?;
-    listing.add_prelude()?;
+    listing.add_all()?;
     Ok(listing.into_text())
 }
 
@@ -184,11 +193,11 @@ fn listed(lines: &Lines<'_>, hidden: &Hidden<'_>) -> Result<String, AllocError> 
 pub(crate) fn imports_text(
     alloc: Global,
     settled: &Settled,
-    lines: &Lines<'_>,
     has_sysroot: bool,
 ) -> Result<String, AllocError> {
     let tables = settled.collected.tables.as_slice();
     let homes = macro_homes(alloc, tables, settled.items())?;
     let hidden = Hidden::of(alloc, settled, has_sysroot, homes.as_slice())?;
-    listed(lines, &hidden)
+    let lines = Lines::new(alloc, &settled.files)?;
+    listed(&lines, &hidden)
 }

@@ -59,25 +59,38 @@ fn inwards<'b>(world: &World, from: ModuleId, names: &'b [Name]) -> (ModuleId, O
     (m, None)
 }
 
-/// The module of a path from the root of the crate on.
-pub(crate) fn module_at(alloc: Global, settled: &Settled, text: &str) -> Result<ModuleId, Failure> {
-    let world = settled.world();
-    let Some(path) = written_path(alloc, text)? else {
-        let told = format!(in alloc; "no module {text}: give it as crate::a::b")?;
-        return Err(Failure::Told(Status::Misused, told));
-    };
-    let Some(root) = world.root_of(Crate(0)) else {
-        let told = format!(in alloc; "no module {text}: the crate has none")?;
-        return Err(Failure::Told(Status::Absent, told));
-    };
-    let (m, missing) = inwards(world, root, path.segments());
-    let Some(missing) = missing else {
-        return Ok(m);
-    };
+fn no_module<T>(alloc: Global, text: &str, status: Status, why: &str) -> Result<T, Failure> {
+    let told = format!(in alloc; "no module {text}: {why}")?;
+    Err(Failure::Told(status, told))
+}
+
+/// What says that a module lacks a child.
+fn no_child<T>(
+    alloc: Global,
+    settled: &Settled,
+    text: &str,
+    m: ModuleId,
+    missing: &Name,
+) -> Result<T, Failure> {
     let around = module_path(alloc, settled, m)?;
     let missing = missing.as_str();
     let told = format!(in alloc; "no module {text}: {around} has no module {missing}")?;
     Err(Failure::Told(Status::Absent, told))
+}
+
+/// The module of a path from the root of the crate on.
+pub(crate) fn module_at(alloc: Global, settled: &Settled, text: &str) -> Result<ModuleId, Failure> {
+    let world = settled.world();
+    let Some(path) = written_path(alloc, text)? else {
+        return no_module(alloc, text, Status::Misused, "give it as crate::a::b");
+    };
+    let Some(root) = world.root_of(Crate(0)) else {
+        return no_module(alloc, text, Status::Absent, "the crate has none");
+    };
+    match inwards(world, root, path.segments()) {
+        (m, None) => Ok(m),
+        (m, Some(missing)) => no_child(alloc, settled, text, m, missing),
+    }
 }
 
 /// The path of an import, as it is written.
@@ -157,6 +170,13 @@ impl<'s, 'l, 'f> Teller<'s, 'l, 'f> {
         Ok(())
     }
 
+    /// Adds the line of what the path is in a namespace.
+    fn add_shown(&mut self, word: &str, meant: Meant) -> Result<(), AllocError> {
+        let shown = definition_text(self.alloc, self.settled, meant.def)?;
+        let seen = visibility_text(self.alloc, self.settled, self.home, meant.visibility)?;
+        write!(self.out, "{word} {shown}, {seen}\n")
+    }
+
     /// Adds what the path is in a namespace.
     fn add_meant(
         &mut self,
@@ -169,13 +189,18 @@ impl<'s, 'l, 'f> Teller<'s, 'l, 'f> {
             return Ok(());
         };
         self.is_found = true;
-        let shown = definition_text(self.alloc, self.settled, meant.def)?;
-        let seen = visibility_text(self.alloc, self.settled, self.home, meant.visibility)?;
-        write!(self.out, "{word} {shown}, {seen}\n")?;
+        self.add_shown(word, meant)?;
         match name {
             None => Ok(()),
             Some(name) => self.add_steps(name, meant, namespace),
         }
+    }
+
+    /// Adds the line of a beginning of the path.
+    fn add_through(&mut self, begun: &ModPath, def: ModuleDefId) -> Result<(), AllocError> {
+        let written = path_text(self.alloc, begun)?;
+        let shown = definition_text(self.alloc, self.settled, def)?;
+        write!(self.out, "through {written}, {shown}\n")
     }
 
     /// Adds through which imports a beginning of the path goes.
@@ -191,9 +216,7 @@ impl<'s, 'l, 'f> Teller<'s, 'l, 'f> {
         if meant.import.is_none() {
             return Ok(());
         }
-        let written = path_text(self.alloc, &begun)?;
-        let shown = definition_text(self.alloc, self.settled, meant.def)?;
-        write!(self.out, "through {written}, {shown}\n")?;
+        self.add_through(&begun, meant.def)?;
         self.add_steps(name, meant, Namespace::Types)
     }
 
@@ -280,14 +303,14 @@ impl<'s, 'l, 'f> Teller<'s, 'l, 'f> {
 pub(crate) fn meaning_text(
     alloc: Global,
     settled: &Settled,
-    lines: &Lines<'_>,
     home: ModuleId,
     path: &ModPath,
 ) -> Result<(String, bool), AllocError> {
+    let lines = Lines::new(alloc, &settled.files)?;
     let mut teller = Teller {
         alloc,
         settled,
-        lines,
+        lines: &lines,
         home,
         out: String::new(alloc),
         is_found: false,

@@ -110,23 +110,29 @@ fn settle_all(
     Err(NotSettled::Unsettled)
 }
 
+/// Settles what was collected, lists the names that are unresolved then, and settles again. Answers with what that took.
+fn settle_whole(alloc: Global, collected: &mut Collected) -> Result<Effort, NotSettled> {
+    let mut effort = Effort {
+        rounds: 0,
+        tries: 0,
+    };
+    settle_all(alloc, collected, &mut effort)?;
+    list_unresolved(alloc, &mut collected.retry)?;
+    settle_all(alloc, collected, &mut effort)?;
+    Ok(effort)
+}
+
 /// The world of a graph, and what it took to settle it.
 pub(crate) fn world_of(
     alloc: Global,
     graph: &CrateGraph,
     reading: &Reading<'_>,
 ) -> Result<(Collected, Effort), NotSettled> {
-    let mut effort = Effort {
-        rounds: 0,
-        tries: 0,
-    };
     let mut collected = match collect(alloc, graph, reading, 0) {
         Ok(collected) => collected,
         Err(fault) => return Err(of_fault(fault)),
     };
-    settle_all(alloc, &mut collected, &mut effort)?;
-    list_unresolved(alloc, &mut collected.retry)?;
-    settle_all(alloc, &mut collected, &mut effort)?;
+    let effort = settle_whole(alloc, &mut collected)?;
     Ok((collected, effort))
 }
 
@@ -148,6 +154,29 @@ fn procedural_crates(
     Ok(procedural)
 }
 
+/// What tells where the items of crates stand, and which are procedural macros.
+#[derive(Drop)]
+struct Listed {
+    items: Vec<Vec<DeclaredItem>>,
+    uses: IndexMap<UseId, ItemPlace>,
+    procedural: Vec<bool>,
+}
+
+/// That of the crates of a graph.
+fn listed(
+    alloc: Global,
+    graph: &CrateGraph,
+    files: &FileTable,
+    collected: &Collected,
+) -> Result<Listed, AllocError> {
+    let lists = collected.lists.as_slice();
+    Ok(Listed {
+        items: all_items(alloc, graph, lists, files)?,
+        uses: use_places(alloc, collected.tables.as_slice())?,
+        procedural: procedural_crates(alloc, graph, lists.len())?,
+    })
+}
+
 impl Settled {
     /// The settled crates of a graph, with what tells where their items stand.
     pub(crate) fn of_graph(
@@ -157,9 +186,11 @@ impl Settled {
         names: Vec<String>,
         collected: Collected,
     ) -> Result<Settled, AllocError> {
-        let items = all_items(alloc, graph, collected.lists.as_slice(), &files)?;
-        let uses = use_places(alloc, collected.tables.as_slice())?;
-        let procedural = procedural_crates(alloc, graph, collected.lists.len())?;
+        let Listed {
+            items,
+            uses,
+            procedural,
+        } = listed(alloc, graph, &files, &collected)?;
         Ok(Settled {
             files,
             items,

@@ -58,16 +58,16 @@ fn through_glob(
 }
 
 /// The imports that brought something which is bound under a name, the last first.
-pub(crate) fn steps_of(
+pub(crate) fn steps_of<'a>(
     alloc: Global,
-    settled: &Settled,
-    name: &Name,
+    settled: &'a Settled,
+    name: &'a Name,
     meant: Meant,
     namespace: Namespace,
 ) -> Result<Vec<ImportOrExternCrate>, AllocError> {
     let retry = &settled.collected.retry;
     let mut steps = Vec::new(alloc);
-    let mut known = name.copy(alloc)?;
+    let mut known = name;
     let mut next = meant.import;
     for _step in 0..STEPS {
         let Some(import) = next else {
@@ -78,13 +78,13 @@ pub(crate) fn steps_of(
             ImportOrExternCrate::ExternCrate(_) => None,
             ImportOrExternCrate::Glob(id) => match glob_of(settled.collected.globs.as_slice(), id) {
                 None => None,
-                Some(glob) => through_glob(retry.world(), glob, &known, namespace),
+                Some(glob) => through_glob(retry.world(), glob, known, namespace),
             },
             ImportOrExternCrate::Import(id) => match import_of(retry, id) {
                 None => None,
                 Some(pending) => {
                     if let Some(last) = pending.path().segments().last() {
-                        known = last.copy(alloc)?;
+                        known = last;
                     }
                     through_import(retry.world(), pending, namespace)
                 }

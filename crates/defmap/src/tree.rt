@@ -71,6 +71,12 @@ fn push_children(
 }
 
 impl<'s, 'l, 'f> Tree<'s, 'l, 'f> {
+    /// Adds who sees what a name is in a namespace.
+    fn add_seen(&mut self, namespace: &str, visibility: Visibility) -> Result<(), AllocError> {
+        let seen = visibility_text(self.alloc, self.settled, self.home, visibility)?;
+        write!(self.out, " {namespace} {seen}")
+    }
+
     /// Adds what a name is in a namespace: who sees it, and the import that brought it.
     fn add_item(
         &mut self,
@@ -78,8 +84,7 @@ impl<'s, 'l, 'f> Tree<'s, 'l, 'f> {
         visibility: Visibility,
         import: Option<ImportOrExternCrate>,
     ) -> Result<(), AllocError> {
-        let seen = visibility_text(self.alloc, self.settled, self.home, visibility)?;
-        write!(self.out, " {namespace} {seen}")?;
+        self.add_seen(namespace, visibility)?;
         let Some(import) = import else {
             return Ok(());
         };
@@ -137,6 +142,18 @@ impl<'s, 'l, 'f> Tree<'s, 'l, 'f> {
         push_children(left, self.alloc, branch.path.as_str(), data)
     }
 
+    /// Adds the modules that are left, and those below them.
+    fn add_all(&mut self, mut left: Vec<Branch>) -> Result<(), AllocError> {
+        for number in 0..u64::MAX {
+            let Some(branch) = left.pop() else {
+                break;
+            };
+            self.out.push_str(if number == 0 { "" } else { "\n" })?;
+            self.add_branch(&mut left, &branch)?;
+        }
+        Ok(())
+    }
+
     fn into_text(self) -> String {
         let Tree {
             alloc: _alloc,
@@ -149,33 +166,27 @@ impl<'s, 'l, 'f> Tree<'s, 'l, 'f> {
     }
 }
 
+/// The root, which is left at first.
+fn begun(alloc: Global, root: ModuleId) -> Result<Vec<Branch>, AllocError> {
+    let mut left = Vec::new(alloc);
+    let path = String::from_str(alloc, "crate")?;
+    left.push(Branch { path, module: root })?;
+    Ok(left)
+}
+
 /// The modules of the crate that is asked about, each with what it binds.
-pub(crate) fn tree_text(
-    alloc: Global,
-    settled: &Settled,
-    lines: &Lines<'_>,
-) -> Result<String, AllocError> {
+pub(crate) fn tree_text(alloc: Global, settled: &Settled) -> Result<String, AllocError> {
     let Some(root) = settled.world().root_of(Crate(0)) else {
         return Ok(String::new(alloc));
     };
+    let lines = Lines::new(alloc, &settled.files)?;
     let mut tree = Tree {
         alloc,
         settled,
-        lines,
+        lines: &lines,
         out: String::new(alloc),
         home: root,
     };
-    let mut left = Vec::new(alloc);
-    left.push(Branch {
-        path: String::from_str(alloc, "crate")?,
-        module: root,
-    })?;
-    for number in 0..u64::MAX {
-        let Some(branch) = left.pop() else {
-            break;
-        };
-        tree.out.push_str(if number == 0 { "" } else { "\n" })?;
-        tree.add_branch(&mut left, &branch)?;
-    }
+    tree.add_all(begun(alloc, root)?)?;
     Ok(tree.into_text())
 }

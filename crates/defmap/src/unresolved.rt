@@ -191,6 +191,20 @@ impl Unresolved {
         Ok(())
     }
 
+    /// Adds all that leads nowhere.
+    fn add_all(
+        &mut self,
+        alloc: Global,
+        settled: &Settled,
+        hidden: &Hidden<'_>,
+        homes: &[MacroHome],
+    ) -> Result<(), AllocError> {
+        self.add_modules(alloc, settled.lists())?;
+        self.add_named(hidden)?;
+        self.add_globs(hidden)?;
+        self.add_calls(hidden, homes)
+    }
+
     /// Adds the modules of the crate that have no file.
     pub(crate) fn add_modules(
         &mut self,
@@ -227,6 +241,18 @@ pub(crate) fn nothing(alloc: Global, crates: usize) -> Result<Unresolved, AllocE
     })
 }
 
+/// What leads nowhere in the crate that is asked about, where it is known what is hidden.
+fn unresolved_in(
+    alloc: Global,
+    settled: &Settled,
+    hidden: &Hidden<'_>,
+    homes: &[MacroHome],
+) -> Result<Unresolved, AllocError> {
+    let mut found = nothing(alloc, settled.names.len())?;
+    found.add_all(alloc, settled, hidden, homes)?;
+    Ok(found)
+}
+
 /// What leads nowhere in the crate that is asked about.
 pub(crate) fn find_unresolved(
     alloc: Global,
@@ -236,12 +262,7 @@ pub(crate) fn find_unresolved(
     let tables = settled.collected.tables.as_slice();
     let homes = macro_homes(alloc, tables, settled.items())?;
     let hidden = Hidden::of(alloc, settled, has_sysroot, homes.as_slice())?;
-    let mut found = nothing(alloc, settled.names.len())?;
-    found.add_modules(alloc, settled.lists())?;
-    found.add_named(&hidden)?;
-    found.add_globs(&hidden)?;
-    found.add_calls(&hidden, homes.as_slice())?;
-    Ok(found)
+    unresolved_in(alloc, settled, &hidden, homes.as_slice())
 }
 
 /// What a message is sorted by.
