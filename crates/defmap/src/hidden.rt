@@ -140,7 +140,11 @@ fn modules_of(alloc: Global, homes: &[MacroHome]) -> Result<IndexSet<ModuleId>, 
 }
 
 /// What is noted at first: the modules of macro calls, and the roots of what exports macros.
-fn begun(alloc: Global, settled: &Settled, homes: &[MacroHome]) -> Result<Notes, AllocError> {
+fn begun<'a>(
+    alloc: Global,
+    settled: &Settled,
+    homes: &[MacroHome],
+) -> Result<Notes<'a>, AllocError> {
     let by_macros = modules_of(alloc, homes)?;
     let exporting = exporting_roots(alloc, settled, homes)?;
     Ok(Notes::new(alloc, by_macros, exporting))

@@ -35,7 +35,7 @@ pub struct Arguments<'a> {
     pub(crate) cfgs: Vec<&'a str>,
     pub(crate) cfg_file: Option<&'a str>,
     pub(crate) externs: Vec<ExternWord<'a>>,
-    pub(crate) sysroot: Option<&'a str>,
+    pub sysroot: Option<&'a str>,
     pub(crate) metadata: Option<&'a str>,
     /// What cargo printed of the build scripts of the packages.
     pub(crate) build: Option<&'a str>,
