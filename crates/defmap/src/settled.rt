@@ -156,7 +156,7 @@ fn procedural_crates(
 
 /// What tells where the items of crates stand, and which are procedural macros.
 #[derive(Drop)]
-struct Listed {
+struct ItemLists {
     items: Vec<Vec<DeclaredItem>>,
     uses: IndexMap<UseId, ItemPlace>,
     procedural: Vec<bool>,
@@ -168,9 +168,9 @@ fn listed(
     graph: &CrateGraph,
     files: &FileTable,
     collected: &Collected,
-) -> Result<Listed, AllocError> {
+) -> Result<ItemLists, AllocError> {
     let lists = collected.lists.as_slice();
-    Ok(Listed {
+    Ok(ItemLists {
         items: all_items(alloc, graph, lists, files)?,
         uses: use_places(alloc, collected.tables.as_slice())?,
         procedural: procedural_crates(alloc, graph, lists.len())?,
@@ -186,7 +186,7 @@ impl Settled {
         names: Vec<String>,
         collected: Collected,
     ) -> Result<Settled, AllocError> {
-        let Listed {
+        let ItemLists {
             items,
             uses,
             procedural,
