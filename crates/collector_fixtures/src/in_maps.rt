@@ -273,13 +273,18 @@ fn messages_of(
 }
 
 /// What the def maps of the crates have, in lines, and the files that these lack.
-pub(crate) fn in_maps(alloc: Global, settled: &mut Settled) -> Result<String, AllocError> {
-    let calls = placed(alloc, settled)?;
+fn lines_of(alloc: Global, settled: &Settled, calls: &[CallPlace]) -> Result<String, AllocError> {
     let lists = settled.collected.lists.as_slice();
-    let messages = messages_of(alloc, settled.world(), lists, calls.as_slice())?;
+    let messages = messages_of(alloc, settled.world(), lists, calls)?;
     let mut out = lines(alloc, &settled.files, messages)?;
     for list in lists {
         push_missing(&mut out, alloc, list, &settled.files)?;
     }
     Ok(out)
+}
+
+/// The same, once what is told is added to the def maps.
+pub(crate) fn in_maps(alloc: Global, settled: &mut Settled) -> Result<String, AllocError> {
+    let calls = placed(alloc, settled)?;
+    lines_of(alloc, settled, calls.as_slice())
 }
