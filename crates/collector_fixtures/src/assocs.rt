@@ -3,7 +3,7 @@ ghost use Rattle.std.specs.Prelude.{◌≡◌};
 ghost use Rattle.hir_def_map.specs.RawVisibilities.{assoc_def};
 
 use crate::left::Settled;
-use assoc_items::filling::AssocPlace;
+use crate_tables::assoc_items::filling::AssocPlace;
 use dm_base::item_ids::{AssocItemId, ItemContainerId, ModuleDefId};
 use dm_base::visibility::Visibility;
 use dm_maps::world::World;

@@ -3,7 +3,7 @@
 //! A fixture begins with a line `=== NAME`. A line `//- PATH` begins a file; words behind it make it the root of a crate:
 //! `crate:NAME`, `edition:2018`, `deps:a,name=b` for what is in the extern prelude, `hidden:a` for what `extern crate`
 //! alone finds, `cfg:a,b`, and `proc-macro` for a crate of procedural macros.
-use dm_ids::source::Edition;
+use dm_base::source::Edition;
 use std::alloc::{AllocError, Global};
 use std::fmt::Write;
 

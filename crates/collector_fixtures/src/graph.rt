@@ -1,12 +1,12 @@
 //! The files and the crate graph of a fixture.
 use crate::fixture::{Fixture, FixtureCrate};
-use crate_modules::crate_data::CrateData;
-use crate_modules::crate_graph::CrateGraph;
-use crate_modules::dependency::Dependency;
-use crate_modules::file_table::{AddFileError, FileTable};
-use dm_ids::ids::Crate;
-use dm_ids::name::Name;
-use dm_ids::symbol::Symbol;
+use crate_items::files::crate_data::CrateData;
+use crate_items::files::crate_graph::CrateGraph;
+use crate_items::files::dependency::Dependency;
+use crate_items::files::file_table::{AddFileError, FileTable};
+use dm_base::ids::Crate;
+use dm_base::name::Name;
+use dm_base::symbol::Symbol;
 use item_tree::cfg::CfgOptions;
 use std::alloc::{AllocError, Global};
 

@@ -1,15 +1,15 @@
 //! What macros that are not expanded may hide.
 use crate::left::{Settled, items_of};
-use collector_diagnostics::glob_edges::glob_edge;
-use collector_diagnostics::hidden::is_hidden;
-use collector_diagnostics::hidden_calls::is_call_hidden;
-use collector_diagnostics::macro_calls::{MacroCall, homes, known_homes, macro_calls};
-use collector_diagnostics::macro_meaning::knows_module;
-use collector_diagnostics::open_modules::{GlobEdge, OpenModules};
+use def_diagnostics::glob_edges::glob_edge;
+use def_diagnostics::hidden::is_hidden;
+use def_diagnostics::hidden_calls::is_call_hidden;
+use def_diagnostics::macro_calls::{MacroCall, homes, known_homes, macro_calls};
+use def_diagnostics::macro_meaning::knows_module;
+use def_diagnostics::open_modules::{GlobEdge, OpenModules};
 use dm_base::ids::ModuleId;
 use dm_base::mod_path::ModPath;
 use dm_maps::world::World;
-use dm_world::knows::KnowsPaths;
+use dm_maps::world::knows_paths::KnowsPaths;
 use std::alloc::{AllocError, Global};
 
 /// The macro calls of all crates, and the modules that these leave open.

@@ -1,20 +1,20 @@
 //! From a text to a settled world, and from there to an answer.
 ghost use Rattle.std.specs.Prelude.{◌≡◌, true, All, IfOk, IsTrue, Some, slice_get};
-ghost use Rattle.dm_check.specs.Holding.{path_holds, res_holds};
-ghost use Rattle.dm_check.specs.declared.held.HeldId.TheVariants as held;
+ghost use Rattle.dm_maps.specs.Holding.{path_holds, res_holds};
+ghost use Rattle.dm_maps.specs.declared.check.held.HeldId.TheVariants as held;
 ghost use Rattle.dm_collector.specs.Globs.{IsFilledBySource};
 ghost use Rattle.dm_def_map.specs.Maps.{LocalMap, Map};
 ghost use Rattle.dm_def_map.specs.declared.modules.modes.BuiltinShadowMode.TheVariants.{Module};
-ghost use Rattle.dm_names.specs.declared.ids.Crate.{Crate};
+ghost use Rattle.dm_base.specs.declared.ids.Crate.{Crate};
 ghost use Rattle.dm_maps.specs.Known.{knows, KnowsAll};
 ghost use Rattle.dm_maps.specs.World.{crate_map};
 ghost use Rattle.dm_retry.specs.Settling.{IsFixedPoint};
-ghost use Rattle.dm_paths.specs.Paths.{answer, asked};
-ghost use Rattle.dm_paths.specs.declared.result.ResolveMode.TheVariants.{Other};
+ghost use Rattle.hir_def_map.specs.Paths.{answer, asked};
+ghost use Rattle.hir_def_map.specs.declared.path_resolution.result.ResolveMode.TheVariants.{Other};
 
-use crate_modules::crate_data::CrateData;
-use crate_modules::crate_graph::CrateGraph;
-use crate_modules::file_table::FileTable;
+use crate_items::files::crate_data::CrateData;
+use crate_items::files::crate_graph::CrateGraph;
+use crate_items::files::file_table::FileTable;
 use crate_tables::crate_filling::Reading;
 use defmap_callers::paths::meaning_in_root;
 use dm_base::ids::{Crate, FileId};
@@ -24,7 +24,7 @@ use dm_base::source::Edition;
 use dm_collector::collect::{Collected, collect};
 use dm_collector::collect_fault::CollectFault;
 use dm_maps::world::World;
-use dm_world::knows::KnowsPaths;
+use dm_maps::world::knows_paths::KnowsPaths;
 use item_tree::cfg::CfgOptions;
 use std::alloc::{AllocError, Global};
 

@@ -6,11 +6,11 @@ use Rattle.std.proofs.lemmas.List.{drop_all}
 use Rattle.std.proofs.lemmas.List.Elements.{All-append, All-cons, All-map, All-nil}
 use Rattle.crate_items.specs.FileItems.{rank_of}
 use Rattle.crate_items.specs.ModuleItems.{AreItemsIn, AreItemsOf, IsBelow, row_of}
-use Rattle.crate_items.specs.declared.module_items.ItemHome.{ItemHome}
-use Rattle.crate_items.specs.declared.module_items.ModuleItem.{ModuleItem}
-use Rattle.crate_items.specs.declared.file_items.Homed.{Homed}
-use Rattle.crate_modules.specs.Modules.{is_same}
-use Rattle.crate_modules.specs.Sources.{Source}
+use Rattle.crate_items.specs.declared.items.module_items.ItemHome.{ItemHome}
+use Rattle.crate_items.specs.declared.items.module_items.ModuleItem.{ModuleItem}
+use Rattle.crate_items.specs.declared.items.file_items.Homed.{Homed}
+use Rattle.crate_items.specs.Modules.{is_same}
+use Rattle.crate_items.specs.Sources.{Source}
 
 -- the ranks up to that of a module, without those of modules before it
 pub same_rank : (home : Option ℕ) (x : Option ℕ) → (nat_lt (rank_of home - 1) (rank_of x) && nat_le (rank_of x) (rank_of home)) ≡ is_same x home

@@ -5,9 +5,9 @@ use Rattle.std.specs.Global.{Vec}
 use Rattle.std.specs.Map.{lookup}
 use Rattle.crate_items.specs.FileItems.{AreByModule, items_known}
 use Rattle.crate_items.specs.ModuleItems.{AreTables}
-use Rattle.crate_items.specs.declared.file_items.Homed.{Homed}
-use Rattle.crate_modules.specs.Files.{id_of}
-use Rattle.crate_modules.specs.Sources.{Source, source_at}
+use Rattle.crate_items.specs.declared.items.file_items.Homed.{Homed}
+use Rattle.crate_items.specs.Files.{id_of}
+use Rattle.crate_items.specs.Sources.{Source, source_at}
 
 abbrev pub Rows : Type 0
 Rows = List (ℕ × Vec Homed)

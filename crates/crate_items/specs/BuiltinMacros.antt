@@ -3,15 +3,15 @@ use Rattle.std.specs.Prelude.{◌||◌, ℕ, Bool, true, false, List, Option, No
 use Rattle.std.specs.List.{list_any}
 use Rattle.std.specs.Str.{bytes_eq}
 use Rattle.crate_items.specs.ItemAttributes.{item_attributes}
-use Rattle.crate_items.specs.declared.declared_item.DeclaredItem.{DeclaredItem}
-use Rattle.crate_modules.specs.Modules.{Listing}
-use Rattle.dm_names.specs.Names.{Name}
-use Rattle.dm_ids.specs.declared.macros.MacroExpander.{MacroExpander}
-use Rattle.dm_ids.specs.declared.macros.MacroExpander.TheVariants as expander
-use Rattle.item_tree.specs.declared.attribute.AttributeKind.{AttributeKind}
-use Rattle.item_tree.specs.declared.attribute.AttributeKind.TheVariants as says
-use Rattle.item_tree.specs.declared.item_kind.ItemKind.{ItemKind}
-use Rattle.item_tree.specs.declared.item_kind.ItemKind.TheVariants as item
+use Rattle.crate_items.specs.declared.items.declared_item.DeclaredItem.{DeclaredItem}
+use Rattle.crate_items.specs.Modules.{Listing}
+use Rattle.dm_base.specs.Names.{Name}
+use Rattle.dm_base.specs.declared.macros.MacroExpander.{MacroExpander}
+use Rattle.dm_base.specs.declared.macros.MacroExpander.TheVariants as expander
+use Rattle.item_tree.specs.declared.attributes.attribute.AttributeKind.{AttributeKind}
+use Rattle.item_tree.specs.declared.attributes.attribute.AttributeKind.TheVariants as says
+use Rattle.item_tree.specs.declared.items.item_kind.ItemKind.{ItemKind}
+use Rattle.item_tree.specs.declared.items.item_kind.ItemKind.TheVariants as item
 
 abbrev pub is_builtin : AttributeKind → Bool
 is_builtin says.RustcBuiltinMacro = true

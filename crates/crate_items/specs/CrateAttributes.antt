@@ -6,19 +6,19 @@ use Rattle.std.specs.Str.{is_utf8}
 use Rattle.std.specs.Str.Parse.{digits_value}
 use Rattle.crate_items.specs.ItemAttributes.{file_attributes}
 use Rattle.crate_items.specs.LexemeNames.{lexeme_names}
-use Rattle.crate_items.specs.declared.crate_attributes.CrateAttribute.{CrateAttribute}
-use Rattle.crate_items.specs.declared.crate_attributes.CrateAttribute.TheVariants as sets
-use Rattle.crate_modules.specs.Files.{SourceFile, text_of}
-use Rattle.crate_modules.specs.ModuleVisibilities.{lexemes_known}
-use Rattle.crate_modules.specs.Modules.{Listing}
-use Rattle.crate_modules.specs.Sources.{source_at}
-use Rattle.dm_names.specs.Names.{Name}
-use Rattle.dm_names.specs.declared.ids.FileId.{FileId}
+use Rattle.crate_items.specs.declared.items.crate_attributes.CrateAttribute.{CrateAttribute}
+use Rattle.crate_items.specs.declared.items.crate_attributes.CrateAttribute.TheVariants as sets
+use Rattle.crate_items.specs.Files.{SourceFile, text_of}
+use Rattle.crate_items.specs.ModuleVisibilities.{lexemes_known}
+use Rattle.crate_items.specs.Modules.{Listing}
+use Rattle.crate_items.specs.Sources.{source_at}
+use Rattle.dm_base.specs.Names.{Name}
+use Rattle.dm_base.specs.declared.ids.FileId.{FileId}
 use Rattle.item_tree.specs.AttributeKinds.{lexemes_in}
 use Rattle.item_tree.specs.Spans.{string_text}
-use Rattle.item_tree.specs.declared.attribute.AttributeKind.{AttributeKind}
-use Rattle.item_tree.specs.declared.attribute.AttributeKind.TheVariants as says
-use Rattle.item_tree.specs.declared.lexeme.Lexeme.{Lexeme}
+use Rattle.item_tree.specs.declared.attributes.attribute.AttributeKind.{AttributeKind}
+use Rattle.item_tree.specs.declared.attributes.attribute.AttributeKind.TheVariants as says
+use Rattle.item_tree.specs.declared.lexer.lexeme.Lexeme.{Lexeme}
 
 -- decimal digits, one at least, of a value below 2^32; zeros may lead
 abbrev pub number : List ℕ → Option ℕ

@@ -2,27 +2,27 @@
 use Rattle.std.specs.Prelude.{◌&&◌, ℕ, Bool, true, List, [], ◌∷◌, Option, Some, None, slice_get, if◌then◌else◌}
 use Rattle.std.specs.List.{flat_map}
 use Rattle.crate_items.specs.RawVisibilities.{raw_of}
-use Rattle.crate_modules.specs.Files.{SourceFile, text_of}
-use Rattle.crate_modules.specs.Modules.{Listing}
-use Rattle.crate_modules.specs.Sources.{Source, source_at}
+use Rattle.crate_items.specs.Files.{SourceFile, text_of}
+use Rattle.crate_items.specs.Modules.{Listing}
+use Rattle.crate_items.specs.Sources.{Source, source_at}
 use Rattle.dm_base.specs.declared.visibility.RawVisibility.{RawVisibility}
-use Rattle.dm_names.specs.declared.ids.FileId.{FileId}
+use Rattle.dm_base.specs.declared.ids.FileId.{FileId}
 use Rattle.item_tree.specs.Fields.{item_fields}
 use Rattle.item_tree.specs.ItemAttributes.{is_cfg_enabled}
 use Rattle.item_tree.specs.Members.{members_of}
 use Rattle.item_tree.specs.Visibilities.{raw_visibility}
 use Rattle.item_tree.specs.declared.cfg.CfgAtom.{CfgAtom}
-use Rattle.item_tree.specs.declared.item_kind.ItemKind.{ItemKind}
-use Rattle.item_tree.specs.declared.item_kind.ItemKind.TheVariants as item
+use Rattle.item_tree.specs.declared.items.item_kind.ItemKind.{ItemKind}
+use Rattle.item_tree.specs.declared.items.item_kind.ItemKind.TheVariants as item
 use Rattle.item_tree.specs.declared.items.Item.{Item}
-use Rattle.item_tree.specs.declared.lexeme.Lexeme.{Lexeme}
-use Rattle.item_tree.specs.declared.members.Fields.{Fields}
-use Rattle.item_tree.specs.declared.members.FieldsShape.{FieldsShape}
-use Rattle.item_tree.specs.declared.members.FieldsShape.TheVariants as shape
-use Rattle.item_tree.specs.declared.members.Member.{Member}
-use Rattle.item_tree.specs.declared.members.MemberKind.{MemberKind}
-use Rattle.item_tree.specs.declared.members.MemberKind.TheVariants as members
-use Rattle.item_tree.specs.declared.visibility.RawVisibility.{RawVisibility as Written}
+use Rattle.item_tree.specs.declared.lexer.lexeme.Lexeme.{Lexeme}
+use Rattle.item_tree.specs.declared.items.members.Fields.{Fields}
+use Rattle.item_tree.specs.declared.items.members.FieldsShape.{FieldsShape}
+use Rattle.item_tree.specs.declared.items.members.FieldsShape.TheVariants as shape
+use Rattle.item_tree.specs.declared.items.members.Member.{Member}
+use Rattle.item_tree.specs.declared.items.members.MemberKind.{MemberKind}
+use Rattle.item_tree.specs.declared.items.members.MemberKind.TheVariants as members
+use Rattle.item_tree.specs.declared.items.visibility.RawVisibility.{RawVisibility as Written}
 
 -- fields in braces have names, those in parentheses have none
 abbrev pub field_kind : FieldsShape → Option MemberKind

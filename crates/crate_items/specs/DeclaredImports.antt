@@ -2,29 +2,29 @@
 use Rattle.std.specs.Prelude.{◌+◌, ◌-◌, ◌++◌, ℕ, true, false, List, [], ◌∷◌, Option, Some, None, length, slice_get}
 use Rattle.crate_items.specs.LexemeNames.{kind_at, name_at}
 use Rattle.crate_items.specs.UsePaths.{path_of}
-use Rattle.crate_items.specs.declared.declared_import.Binding.{Binding}
-use Rattle.crate_items.specs.declared.declared_import.DeclaredImport.{DeclaredImport}
-use Rattle.crate_items.specs.declared.declared_import.Leaf.{Leaf}
-use Rattle.crate_items.specs.declared.declared_item.DeclaredItem.{DeclaredItem}
-use Rattle.crate_modules.specs.Files.{SourceFile, text_of}
-use Rattle.crate_modules.specs.Modules.{Listing}
-use Rattle.crate_modules.specs.Sources.{Source, source_at}
+use Rattle.crate_items.specs.declared.items.declared_import.Binding.{Binding}
+use Rattle.crate_items.specs.declared.items.declared_import.DeclaredImport.{DeclaredImport}
+use Rattle.crate_items.specs.declared.items.declared_import.Leaf.{Leaf}
+use Rattle.crate_items.specs.declared.items.declared_item.DeclaredItem.{DeclaredItem}
+use Rattle.crate_items.specs.Files.{SourceFile, text_of}
+use Rattle.crate_items.specs.Modules.{Listing}
+use Rattle.crate_items.specs.Sources.{Source, source_at}
 use Rattle.dm_base.specs.Path.{Path}
-use Rattle.dm_names.specs.Names.{Name}
-use Rattle.dm_names.specs.declared.ids.UseTreeIdx.{UseTreeIdx}
+use Rattle.dm_base.specs.Names.{Name}
+use Rattle.dm_base.specs.declared.ids.UseTreeIdx.{UseTreeIdx}
 use Rattle.item_tree.specs.Ids.{use_tree_idx}
 use Rattle.item_tree.specs.Imports.{import_kind, import_path}
 use Rattle.item_tree.specs.UseTrees.{use_trees_of}
-use Rattle.item_tree.specs.declared.imports.ImportKind.{ImportKind}
-use Rattle.item_tree.specs.declared.imports.ImportKind.TheVariants as imports
-use Rattle.item_tree.specs.declared.item_kind.ItemKind.{ItemKind}
-use Rattle.item_tree.specs.declared.item_kind.ItemKind.TheVariants as item
+use Rattle.item_tree.specs.declared.items.imports.ImportKind.{ImportKind}
+use Rattle.item_tree.specs.declared.items.imports.ImportKind.TheVariants as imports
+use Rattle.item_tree.specs.declared.items.item_kind.ItemKind.{ItemKind}
+use Rattle.item_tree.specs.declared.items.item_kind.ItemKind.TheVariants as item
 use Rattle.item_tree.specs.declared.items.Item.{Item}
-use Rattle.item_tree.specs.declared.lexeme.Lexeme.{Lexeme}
-use Rattle.item_tree.specs.declared.lexeme.LexemeKind.{LexemeKind}
-use Rattle.item_tree.specs.declared.lexeme.LexemeKind.TheVariants.{Word}
-use Rattle.item_tree.specs.declared.use_tree.UseTree.{UseTree}
-use Rattle.item_tree.specs.declared.word.Word.TheVariants as word
+use Rattle.item_tree.specs.declared.lexer.lexeme.Lexeme.{Lexeme}
+use Rattle.item_tree.specs.declared.lexer.lexeme.LexemeKind.{LexemeKind}
+use Rattle.item_tree.specs.declared.lexer.lexeme.LexemeKind.TheVariants.{Word}
+use Rattle.item_tree.specs.declared.items.use_tree.UseTree.{UseTree}
+use Rattle.item_tree.specs.declared.lexer.word.Word.TheVariants as word
 
 abbrev pub named : Option Name → Option Binding
 named None = None

@@ -2,26 +2,26 @@
 use Rattle.std.specs.Prelude.{ℕ, List, [], ◌∷◌, Option, Some, None, length, slice_get, nat_lt, if◌then◌else◌}
 use Rattle.crate_items.specs.LexemeNames.{kind_at, name_at}
 use Rattle.crate_items.specs.Shapes.{item_shape}
-use Rattle.crate_items.specs.declared.declared_item.DeclaredItem.{DeclaredItem}
-use Rattle.crate_items.specs.declared.declared_item.LinkedCrate.{LinkedCrate}
-use Rattle.crate_items.specs.declared.declared_item.LinkedCrate.TheVariants.{Itself, Named}
-use Rattle.crate_items.specs.declared.module_items.ModuleItem.{ModuleItem}
-use Rattle.crate_modules.specs.Files.{SourceFile, text_of}
-use Rattle.crate_modules.specs.ModuleVisibilities.{visibility_in}
-use Rattle.crate_modules.specs.Modules.{Listing}
-use Rattle.crate_modules.specs.Sources.{Source, source_at}
-use Rattle.dm_names.specs.Names.{Name}
-use Rattle.dm_names.specs.declared.edition.Edition.{Edition}
+use Rattle.crate_items.specs.declared.items.declared_item.DeclaredItem.{DeclaredItem}
+use Rattle.crate_items.specs.declared.items.declared_item.LinkedCrate.{LinkedCrate}
+use Rattle.crate_items.specs.declared.items.declared_item.LinkedCrate.TheVariants.{Itself, Named}
+use Rattle.crate_items.specs.declared.items.module_items.ModuleItem.{ModuleItem}
+use Rattle.crate_items.specs.Files.{SourceFile, text_of}
+use Rattle.crate_items.specs.ModuleVisibilities.{visibility_in}
+use Rattle.crate_items.specs.Modules.{Listing}
+use Rattle.crate_items.specs.Sources.{Source, source_at}
+use Rattle.dm_base.specs.Names.{Name}
+use Rattle.dm_base.specs.declared.edition.Edition.{Edition}
 use Rattle.item_tree.specs.Paths.{extern_crate_alias}
 use Rattle.item_tree.specs.Visibilities.{raw_visibility}
-use Rattle.item_tree.specs.declared.item_kind.ItemKind.{ItemKind}
-use Rattle.item_tree.specs.declared.item_kind.ItemKind.TheVariants as item
+use Rattle.item_tree.specs.declared.items.item_kind.ItemKind.{ItemKind}
+use Rattle.item_tree.specs.declared.items.item_kind.ItemKind.TheVariants as item
 use Rattle.item_tree.specs.declared.items.Item.{Item}
-use Rattle.item_tree.specs.declared.lexeme.Lexeme.{Lexeme}
-use Rattle.item_tree.specs.declared.lexeme.LexemeKind.{LexemeKind}
-use Rattle.item_tree.specs.declared.lexeme.LexemeKind.TheVariants.{Word}
-use Rattle.item_tree.specs.declared.visibility.RawVisibility.{RawVisibility}
-use Rattle.item_tree.specs.declared.word.Word.TheVariants as word
+use Rattle.item_tree.specs.declared.lexer.lexeme.Lexeme.{Lexeme}
+use Rattle.item_tree.specs.declared.lexer.lexeme.LexemeKind.{LexemeKind}
+use Rattle.item_tree.specs.declared.lexer.lexeme.LexemeKind.TheVariants.{Word}
+use Rattle.item_tree.specs.declared.items.visibility.RawVisibility.{RawVisibility}
+use Rattle.item_tree.specs.declared.lexer.word.Word.TheVariants as word
 
 abbrev pub or_own : Option ℕ → ℕ → ℕ
 or_own None name = name

@@ -3,16 +3,16 @@ use Rattle.std.specs.Prelude.{ℕ, Bool, true, false, List, []}
 use Rattle.std.specs.List.{flat_map, list_any}
 use Rattle.crate_items.specs.ItemAttributes.{item_attributes}
 use Rattle.crate_items.specs.LexemeNames.{lexeme_names}
-use Rattle.crate_items.specs.declared.declared_item.DeclaredItem.{DeclaredItem}
-use Rattle.crate_modules.specs.Files.{SourceFile, text_of}
-use Rattle.crate_modules.specs.ModuleVisibilities.{lexemes_known}
-use Rattle.crate_modules.specs.Modules.{Listing}
-use Rattle.crate_modules.specs.Sources.{source_at}
-use Rattle.dm_names.specs.Names.{Name}
+use Rattle.crate_items.specs.declared.items.declared_item.DeclaredItem.{DeclaredItem}
+use Rattle.crate_items.specs.Files.{SourceFile, text_of}
+use Rattle.crate_items.specs.ModuleVisibilities.{lexemes_known}
+use Rattle.crate_items.specs.Modules.{Listing}
+use Rattle.crate_items.specs.Sources.{source_at}
+use Rattle.dm_base.specs.Names.{Name}
 use Rattle.item_tree.specs.AttributeKinds.{lexemes_in}
-use Rattle.item_tree.specs.declared.attribute.AttributeKind.{AttributeKind}
-use Rattle.item_tree.specs.declared.attribute.AttributeKind.TheVariants as says
-use Rattle.item_tree.specs.declared.lexeme.Lexeme.{Lexeme}
+use Rattle.item_tree.specs.declared.attributes.attribute.AttributeKind.{AttributeKind}
+use Rattle.item_tree.specs.declared.attributes.attribute.AttributeKind.TheVariants as says
+use Rattle.item_tree.specs.declared.lexer.lexeme.Lexeme.{Lexeme}
 
 abbrev pub is_export : AttributeKind → Bool
 is_export says.MacroExport = true

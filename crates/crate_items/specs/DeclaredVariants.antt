@@ -5,23 +5,23 @@ use Rattle.crate_items.specs.DeclaredFields.{fields_in}
 use Rattle.crate_items.specs.DeclaredItems.{written}
 use Rattle.crate_items.specs.LexemeNames.{name_at}
 use Rattle.crate_items.specs.Shapes.{as_shape}
-use Rattle.crate_items.specs.declared.declared_item.DeclaredItem.{DeclaredItem}
-use Rattle.crate_items.specs.declared.declared_variant.DeclaredVariant.{DeclaredVariant}
-use Rattle.crate_modules.specs.Files.{SourceFile, text_of}
-use Rattle.crate_modules.specs.Modules.{Listing}
-use Rattle.crate_modules.specs.Sources.{Source, source_at}
+use Rattle.crate_items.specs.declared.items.declared_item.DeclaredItem.{DeclaredItem}
+use Rattle.crate_items.specs.declared.items.declared_variant.DeclaredVariant.{DeclaredVariant}
+use Rattle.crate_items.specs.Files.{SourceFile, text_of}
+use Rattle.crate_items.specs.Modules.{Listing}
+use Rattle.crate_items.specs.Sources.{Source, source_at}
 use Rattle.dm_base.specs.declared.visibility.RawVisibility.{RawVisibility}
-use Rattle.dm_names.specs.Names.{Name}
+use Rattle.dm_base.specs.Names.{Name}
 use Rattle.item_tree.specs.ItemAttributes.{is_cfg_enabled}
 use Rattle.item_tree.specs.Members.{members_of}
 use Rattle.item_tree.specs.declared.cfg.CfgAtom.{CfgAtom}
-use Rattle.item_tree.specs.declared.item_kind.ItemKind.{ItemKind}
-use Rattle.item_tree.specs.declared.item_kind.ItemKind.TheVariants as item
+use Rattle.item_tree.specs.declared.items.item_kind.ItemKind.{ItemKind}
+use Rattle.item_tree.specs.declared.items.item_kind.ItemKind.TheVariants as item
 use Rattle.item_tree.specs.declared.items.Item.{Item}
 use Rattle.item_tree.specs.declared.items.Range.{Range}
-use Rattle.item_tree.specs.declared.members.Member.{Member}
-use Rattle.item_tree.specs.declared.members.MemberKind.TheVariants as members
-use Rattle.item_tree.specs.declared.visibility.RawVisibility.{RawVisibility as Written}
+use Rattle.item_tree.specs.declared.items.members.Member.{Member}
+use Rattle.item_tree.specs.declared.items.members.MemberKind.TheVariants as members
+use Rattle.item_tree.specs.declared.items.visibility.RawVisibility.{RawVisibility as Written}
 
 -- a member has a name, and each `cfg` that stands before it may hold
 abbrev pub is_left : List CfgAtom → List ℕ → Source → Member → Bool

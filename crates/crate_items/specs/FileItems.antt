@@ -2,12 +2,12 @@
 use Rattle.std.specs.Prelude.{◌≡◌, ◌+◌, ◌&&◌, ◌++◌, ℕ, Bool, true, false, List, [], ◌∷◌, Option, Some, None, filter, slice_get, if◌then◌else◌}
 use Rattle.std.specs.List.Sorted.{IsNonDecreasingBy, IsPermutation, IsSortedByKey, IsStableByKey}
 use Rattle.std.specs.Ordering.{nat_cmp}
-use Rattle.crate_items.specs.declared.file_items.Homed.{Homed}
-use Rattle.crate_modules.specs.Modules.{is_same}
-use Rattle.crate_modules.specs.Sources.{Source}
-use Rattle.crate_modules.specs.declared.standing.Standing.{Standing}
-use Rattle.item_tree.specs.declared.item_kind.ItemKind.{ItemKind}
-use Rattle.item_tree.specs.declared.item_kind.ItemKind.TheVariants as item
+use Rattle.crate_items.specs.declared.items.file_items.Homed.{Homed}
+use Rattle.crate_items.specs.Modules.{is_same}
+use Rattle.crate_items.specs.Sources.{Source}
+use Rattle.crate_items.specs.declared.modules.standing.Standing.{Standing}
+use Rattle.item_tree.specs.declared.items.item_kind.ItemKind.{ItemKind}
+use Rattle.item_tree.specs.declared.items.item_kind.ItemKind.TheVariants as item
 use Rattle.item_tree.specs.declared.items.Item.{Item}
 
 -- errors, inner attributes, and what only chooses among items are no items of a module

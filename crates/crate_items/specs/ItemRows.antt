@@ -3,22 +3,22 @@ use Rattle.std.specs.Prelude.{◌≡◌, ℕ, true, false, List, [], ◌∷◌, 
 use Rattle.crate_items.specs.DeclaredImports.{imports_of_trees}
 use Rattle.crate_items.specs.FileItems.{homed_from}
 use Rattle.crate_items.specs.UsePaths.{path_of}
-use Rattle.crate_items.specs.declared.declared_import.DeclaredImport.{DeclaredImport}
-use Rattle.crate_items.specs.declared.file_items.Homed.{Homed}
-use Rattle.crate_modules.specs.ModuleRows.{colon_at, item_of, stands, word_at}
-use Rattle.crate_modules.specs.Sources.{Source}
+use Rattle.crate_items.specs.declared.items.declared_import.DeclaredImport.{DeclaredImport}
+use Rattle.crate_items.specs.declared.items.file_items.Homed.{Homed}
+use Rattle.crate_items.specs.ModuleRows.{colon_at, item_of, stands, word_at}
+use Rattle.crate_items.specs.Sources.{Source}
 use Rattle.dm_base.specs.Path.{Path}
 use Rattle.dm_base.specs.declared.mod_path.PathKind.{PathKind}
 use Rattle.dm_base.specs.declared.mod_path.PathKind.TheVariants as path
-use Rattle.item_tree.specs.declared.imports.ImportKind.{ImportKind}
-use Rattle.item_tree.specs.declared.imports.ImportKind.TheVariants as imports
-use Rattle.item_tree.specs.declared.item_kind.ItemKind.TheVariants as item
+use Rattle.item_tree.specs.declared.items.imports.ImportKind.{ImportKind}
+use Rattle.item_tree.specs.declared.items.imports.ImportKind.TheVariants as imports
+use Rattle.item_tree.specs.declared.items.item_kind.ItemKind.TheVariants as item
 use Rattle.item_tree.specs.declared.items.Item.{Item}
-use Rattle.item_tree.specs.declared.lexeme.Lexeme.{Lexeme}
-use Rattle.item_tree.specs.declared.use_tree.UseTree.{UseTree}
-use Rattle.item_tree.specs.declared.use_tree.UseTreeKind.{UseTreeKind}
-use Rattle.item_tree.specs.declared.use_tree.UseTreeKind.TheVariants as tree
-use Rattle.item_tree.specs.declared.word.Word.TheVariants as word
+use Rattle.item_tree.specs.declared.lexer.lexeme.Lexeme.{Lexeme}
+use Rattle.item_tree.specs.declared.items.use_tree.UseTree.{UseTree}
+use Rattle.item_tree.specs.declared.items.use_tree.UseTreeKind.{UseTreeKind}
+use Rattle.item_tree.specs.declared.items.use_tree.UseTreeKind.TheVariants as tree
+use Rattle.item_tree.specs.declared.lexer.word.Word.TheVariants as word
 
 -- an `extern` block with a function and one that the crate has not, in an inline module; an implementation with a
 -- function; and an error

@@ -1,14 +1,14 @@
 -- What lexemes name.
 use Rattle.std.specs.Prelude.{ℕ, Bool, true, false, not, List, [], ◌∷◌, Option, Some, None, slice_get, if◌then◌else◌}
-use Rattle.crate_modules.specs.Modules.{as_name}
-use Rattle.dm_names.specs.Names.{Name}
+use Rattle.crate_items.specs.Modules.{as_name}
+use Rattle.dm_base.specs.Names.{Name}
 use Rattle.item_tree.specs.Spans.{name_text}
 use Rattle.item_tree.specs.Visibilities.{lexeme_at}
-use Rattle.item_tree.specs.declared.lexeme.Lexeme.{Lexeme}
-use Rattle.item_tree.specs.declared.lexeme.LexemeKind.{LexemeKind}
-use Rattle.item_tree.specs.declared.lexeme.LexemeKind.TheVariants as kind
-use Rattle.item_tree.specs.declared.word.Word.{Word}
-use Rattle.item_tree.specs.declared.word.Word.TheVariants as word
+use Rattle.item_tree.specs.declared.lexer.lexeme.Lexeme.{Lexeme}
+use Rattle.item_tree.specs.declared.lexer.lexeme.LexemeKind.{LexemeKind}
+use Rattle.item_tree.specs.declared.lexer.lexeme.LexemeKind.TheVariants as kind
+use Rattle.item_tree.specs.declared.lexer.word.Word.{Word}
+use Rattle.item_tree.specs.declared.lexer.word.Word.TheVariants as word
 
 -- `_` names nothing, and neither do the words that begin paths
 abbrev pub names_nothing : Word → Bool

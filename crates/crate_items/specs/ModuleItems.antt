@@ -3,12 +3,12 @@ use Rattle.std.specs.Prelude.{◌≡◌, ◌<◌, ◌+◌, ◌++◌, ℕ, List, 
 use Rattle.std.specs.Global.{Vec}
 use Rattle.std.specs.Map.{lookup}
 use Rattle.crate_items.specs.FileItems.{AreByModule, IsInTextOrder, items_known, stands_in}
-use Rattle.crate_items.specs.declared.file_items.Homed.{Homed}
-use Rattle.crate_items.specs.declared.module_items.ItemHome.{ItemHome}
-use Rattle.crate_items.specs.declared.module_items.ModuleItem.{ModuleItem}
-use Rattle.crate_modules.specs.DeclaredModules.{Module}
-use Rattle.crate_modules.specs.Files.{id_of}
-use Rattle.crate_modules.specs.Sources.{Source, source_at}
+use Rattle.crate_items.specs.declared.items.file_items.Homed.{Homed}
+use Rattle.crate_items.specs.declared.items.module_items.ItemHome.{ItemHome}
+use Rattle.crate_items.specs.declared.items.module_items.ModuleItem.{ModuleItem}
+use Rattle.crate_items.specs.DeclaredModules.{Module}
+use Rattle.crate_items.specs.Files.{id_of}
+use Rattle.crate_items.specs.Sources.{Source, source_at}
 
 -- the items of a home: of those that the crate has of its file, in the order of the text, those that stand in it
 abbrev pub AreItemsOf : List (Option Source) → ItemHome → List Homed → Type 0

@@ -3,23 +3,23 @@ use Rattle.std.specs.Prelude.{◌==◌, ℕ, Bool, true, false, List, [], ◌∷
 use Rattle.std.specs.List.{find, list_any}
 use Rattle.crate_items.specs.ItemAttributes.{item_attributes}
 use Rattle.crate_items.specs.LexemeNames.{lexeme_name}
-use Rattle.crate_items.specs.declared.declared_item.DeclaredItem.{DeclaredItem}
-use Rattle.crate_items.specs.declared.procedural_macro.ProceduralMacro.{ProceduralMacro}
-use Rattle.crate_modules.specs.Files.{SourceFile, text_of}
-use Rattle.crate_modules.specs.ModuleVisibilities.{lexemes_known}
-use Rattle.crate_modules.specs.Modules.{Listing}
-use Rattle.crate_modules.specs.Sources.{source_at}
-use Rattle.dm_names.specs.Names.{Name}
-use Rattle.dm_ids.specs.declared.macros.ProcMacroKind.{ProcMacroKind}
-use Rattle.dm_ids.specs.declared.macros.ProcMacroKind.TheVariants as proc
+use Rattle.crate_items.specs.declared.items.declared_item.DeclaredItem.{DeclaredItem}
+use Rattle.crate_items.specs.declared.macros.procedural_macro.ProceduralMacro.{ProceduralMacro}
+use Rattle.crate_items.specs.Files.{SourceFile, text_of}
+use Rattle.crate_items.specs.ModuleVisibilities.{lexemes_known}
+use Rattle.crate_items.specs.Modules.{Listing}
+use Rattle.crate_items.specs.Sources.{source_at}
+use Rattle.dm_base.specs.Names.{Name}
+use Rattle.dm_base.specs.declared.macros.ProcMacroKind.{ProcMacroKind}
+use Rattle.dm_base.specs.declared.macros.ProcMacroKind.TheVariants as proc
 use Rattle.item_tree.specs.AttributeKinds.{lexemes_in}
-use Rattle.item_tree.specs.declared.attribute.AttributeKind.{AttributeKind}
-use Rattle.item_tree.specs.declared.attribute.AttributeKind.TheVariants as says
-use Rattle.item_tree.specs.declared.item_kind.ItemKind.{ItemKind}
-use Rattle.item_tree.specs.declared.item_kind.ItemKind.TheVariants as item
-use Rattle.item_tree.specs.declared.lexeme.Lexeme.{Lexeme}
-use Rattle.item_tree.specs.declared.lexeme.LexemeKind.{LexemeKind}
-use Rattle.item_tree.specs.declared.lexeme.LexemeKind.TheVariants.{Mark}
+use Rattle.item_tree.specs.declared.attributes.attribute.AttributeKind.{AttributeKind}
+use Rattle.item_tree.specs.declared.attributes.attribute.AttributeKind.TheVariants as says
+use Rattle.item_tree.specs.declared.items.item_kind.ItemKind.{ItemKind}
+use Rattle.item_tree.specs.declared.items.item_kind.ItemKind.TheVariants as item
+use Rattle.item_tree.specs.declared.lexer.lexeme.Lexeme.{Lexeme}
+use Rattle.item_tree.specs.declared.lexer.lexeme.LexemeKind.{LexemeKind}
+use Rattle.item_tree.specs.declared.lexer.lexeme.LexemeKind.TheVariants.{Mark}
 
 abbrev pub is_bang : AttributeKind → Bool
 is_bang says.ProcMacro = true

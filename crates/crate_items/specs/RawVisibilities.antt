@@ -2,22 +2,22 @@
 use Rattle.std.specs.Prelude.{◌&&◌, ℕ, List, [], Option, Some, None, length, nat_lt, slice_get, if◌then◌else◌}
 use Rattle.crate_items.specs.DeclaredItems.{written}
 use Rattle.crate_items.specs.UsePaths.{path_of}
-use Rattle.crate_modules.specs.Files.{SourceFile, text_of}
-use Rattle.crate_modules.specs.Modules.{Listing}
-use Rattle.crate_modules.specs.Sources.{Source, source_at}
+use Rattle.crate_items.specs.Files.{SourceFile, text_of}
+use Rattle.crate_items.specs.Modules.{Listing}
+use Rattle.crate_items.specs.Sources.{Source, source_at}
 use Rattle.dm_base.specs.Path.{Path}
 use Rattle.dm_base.specs.declared.mod_path.PathKind.TheVariants as path
 use Rattle.dm_base.specs.declared.visibility.RawVisibility.{RawVisibility}
 use Rattle.dm_base.specs.declared.visibility.RawVisibility.TheVariants as raw
 use Rattle.dm_base.specs.declared.visibility.VisibilityExplicitness.TheVariants.{Explicit, Implicit}
-use Rattle.dm_names.specs.declared.ids.FileId.{FileId}
+use Rattle.dm_base.specs.declared.ids.FileId.{FileId}
 use Rattle.item_tree.specs.AttributeKinds.{lexemes_in}
 use Rattle.item_tree.specs.Imports.{segments_from}
 use Rattle.item_tree.specs.declared.items.Item.{Item}
 use Rattle.item_tree.specs.declared.items.Range.{Range}
-use Rattle.item_tree.specs.declared.lexeme.Lexeme.{Lexeme}
-use Rattle.item_tree.specs.declared.visibility.RawVisibility.{RawVisibility as Written}
-use Rattle.item_tree.specs.declared.visibility.RawVisibility.TheVariants as written
+use Rattle.item_tree.specs.declared.lexer.lexeme.Lexeme.{Lexeme}
+use Rattle.item_tree.specs.declared.items.visibility.RawVisibility.{RawVisibility as Written}
+use Rattle.item_tree.specs.declared.items.visibility.RawVisibility.TheVariants as written
 
 -- the path of some lexemes, as that of a `use` is read; none where there are none
 abbrev pub path_in : List ℕ → List Lexeme → Range → Option Path

@@ -1,13 +1,13 @@
 -- The shapes of structs and variants, as def maps know them.
-use Rattle.crate_modules.specs.Sources.{Source}
-use Rattle.dm_ids.specs.declared.fields_shape.FieldsShape.{FieldsShape}
-use Rattle.dm_ids.specs.declared.fields_shape.FieldsShape.TheVariants as shape
+use Rattle.crate_items.specs.Sources.{Source}
+use Rattle.dm_base.specs.declared.fields_shape.FieldsShape.{FieldsShape}
+use Rattle.dm_base.specs.declared.fields_shape.FieldsShape.TheVariants as shape
 use Rattle.item_tree.specs.Fields.{item_fields}
-use Rattle.item_tree.specs.declared.item_kind.ItemKind.{ItemKind}
-use Rattle.item_tree.specs.declared.item_kind.ItemKind.TheVariants as item
+use Rattle.item_tree.specs.declared.items.item_kind.ItemKind.{ItemKind}
+use Rattle.item_tree.specs.declared.items.item_kind.ItemKind.TheVariants as item
 use Rattle.item_tree.specs.declared.items.Item.{Item}
-use Rattle.item_tree.specs.declared.members.FieldsShape.{FieldsShape as Read}
-use Rattle.item_tree.specs.declared.members.FieldsShape.TheVariants as read
+use Rattle.item_tree.specs.declared.items.members.FieldsShape.{FieldsShape as Read}
+use Rattle.item_tree.specs.declared.items.members.FieldsShape.TheVariants as read
 
 abbrev pub as_shape : Read → FieldsShape
 as_shape read.Record = shape.Record

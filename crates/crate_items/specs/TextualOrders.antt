@@ -2,14 +2,14 @@
 use Rattle.std.specs.Prelude.{◌==◌, ◌&&◌, ◌+◌, ◌++◌, ℕ, Bool, true, false, List, [], ◌∷◌, Option, Some, None, drop, take, if◌then◌else◌}
 use Rattle.std.specs.List.{find, flat_map, position}
 use Rattle.std.specs.Option.{option_map}
-use Rattle.crate_items.specs.declared.declared_item.DeclaredItem.{DeclaredItem}
-use Rattle.crate_items.specs.declared.textual_order.TextEvent.{TextEvent}
-use Rattle.crate_items.specs.declared.textual_order.TextEvent.TheVariants.{Begins, Ends, Item}
-use Rattle.crate_items.specs.declared.textual_order.TextualItem.{TextualItem}
-use Rattle.crate_modules.specs.DeclaredModules.{Module}
-use Rattle.crate_modules.specs.declared.declared_module.Declaration.{Declaration}
-use Rattle.item_tree.specs.declared.item_kind.ItemKind.{ItemKind}
-use Rattle.item_tree.specs.declared.item_kind.ItemKind.TheVariants as item
+use Rattle.crate_items.specs.declared.items.declared_item.DeclaredItem.{DeclaredItem}
+use Rattle.crate_items.specs.declared.macros.textual_order.TextEvent.{TextEvent}
+use Rattle.crate_items.specs.declared.macros.textual_order.TextEvent.TheVariants.{Begins, Ends, Item}
+use Rattle.crate_items.specs.declared.macros.textual_order.TextualItem.{TextualItem}
+use Rattle.crate_items.specs.DeclaredModules.{Module}
+use Rattle.crate_items.specs.declared.modules.declared_module.Declaration.{Declaration}
+use Rattle.item_tree.specs.declared.items.item_kind.ItemKind.{ItemKind}
+use Rattle.item_tree.specs.declared.items.item_kind.ItemKind.TheVariants as item
 
 -- textual scope knows modules and macros by `macro_rules!`
 abbrev pub is_textual : ItemKind → Bool

@@ -4,20 +4,20 @@ use Rattle.std.specs.List.{list_any}
 use Rattle.std.specs.Option.{option_map_or}
 use Rattle.crate_items.specs.ItemAttributes.{file_attributes, item_attributes}
 use Rattle.crate_items.specs.TextualOrders.{declaring, textual_from, textual_order}
-use Rattle.crate_items.specs.declared.declared_item.DeclaredItem.{DeclaredItem}
-use Rattle.crate_items.specs.declared.textual_order.TextEvent.{TextEvent}
-use Rattle.crate_items.specs.declared.textual_order.TextEvent.TheVariants.{Begins, Ends, Item}
-use Rattle.crate_items.specs.declared.textual_order.TextualItem.{TextualItem}
-use Rattle.crate_modules.specs.DeclaredModules.{Module}
-use Rattle.crate_modules.specs.Modules.{Listing}
-use Rattle.crate_modules.specs.Sources.{source_at}
-use Rattle.crate_modules.specs.declared.declared_module.Declaration.{Declaration}
-use Rattle.dm_names.specs.Names.{Name, same_name}
-use Rattle.dm_names.specs.declared.ids.FileId.{FileId}
-use Rattle.item_tree.specs.declared.attribute.AttributeKind.{AttributeKind}
-use Rattle.item_tree.specs.declared.attribute.AttributeKind.TheVariants as says
-use Rattle.item_tree.specs.declared.item_kind.ItemKind.{ItemKind}
-use Rattle.item_tree.specs.declared.item_kind.ItemKind.TheVariants as item
+use Rattle.crate_items.specs.declared.items.declared_item.DeclaredItem.{DeclaredItem}
+use Rattle.crate_items.specs.declared.macros.textual_order.TextEvent.{TextEvent}
+use Rattle.crate_items.specs.declared.macros.textual_order.TextEvent.TheVariants.{Begins, Ends, Item}
+use Rattle.crate_items.specs.declared.macros.textual_order.TextualItem.{TextualItem}
+use Rattle.crate_items.specs.DeclaredModules.{Module}
+use Rattle.crate_items.specs.Modules.{Listing}
+use Rattle.crate_items.specs.Sources.{source_at}
+use Rattle.crate_items.specs.declared.modules.declared_module.Declaration.{Declaration}
+use Rattle.dm_base.specs.Names.{Name, same_name}
+use Rattle.dm_base.specs.declared.ids.FileId.{FileId}
+use Rattle.item_tree.specs.declared.attributes.attribute.AttributeKind.{AttributeKind}
+use Rattle.item_tree.specs.declared.attributes.attribute.AttributeKind.TheVariants as says
+use Rattle.item_tree.specs.declared.items.item_kind.ItemKind.{ItemKind}
+use Rattle.item_tree.specs.declared.items.item_kind.ItemKind.TheVariants as item
 
 -- ---- Modules that leave their macros
 

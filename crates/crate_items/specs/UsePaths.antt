@@ -2,15 +2,15 @@
 use Rattle.std.specs.Prelude.{◌==◌, ◌+◌, ℕ, Bool, true, false, List, [], ◌∷◌, Option, Some, None, drop, length, nat_lt, if◌then◌else◌}
 use Rattle.std.specs.List.{flat_map, prefix_len}
 use Rattle.crate_items.specs.LexemeNames.{kind_at, listed, name_at}
-use Rattle.crate_items.specs.declared.use_paths.Start.{Start}
+use Rattle.crate_items.specs.declared.items.use_paths.Start.{Start}
 use Rattle.dm_base.specs.Path.{Path}
 use Rattle.dm_base.specs.declared.mod_path.PathKind.{PathKind}
 use Rattle.dm_base.specs.declared.mod_path.PathKind.TheVariants as path
-use Rattle.dm_names.specs.Names.{Name}
-use Rattle.item_tree.specs.declared.lexeme.Lexeme.{Lexeme}
-use Rattle.item_tree.specs.declared.lexeme.LexemeKind.{LexemeKind}
-use Rattle.item_tree.specs.declared.lexeme.LexemeKind.TheVariants.{Mark, Word}
-use Rattle.item_tree.specs.declared.word.Word.TheVariants as word
+use Rattle.dm_base.specs.Names.{Name}
+use Rattle.item_tree.specs.declared.lexer.lexeme.Lexeme.{Lexeme}
+use Rattle.item_tree.specs.declared.lexer.lexeme.LexemeKind.{LexemeKind}
+use Rattle.item_tree.specs.declared.lexer.lexeme.LexemeKind.TheVariants.{Mark, Word}
+use Rattle.item_tree.specs.declared.lexer.word.Word.TheVariants as word
 
 abbrev pub is_super : LexemeKind → Bool
 is_super (Word word.Super) = true

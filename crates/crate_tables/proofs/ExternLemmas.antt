@@ -3,13 +3,13 @@ use Rattle.std.proofs.Common.{◌∷◌, [], Bool, true, false, cond, List, Opti
 use Rattle.std.specs.List.{find}
 use Rattle.std.specs.Option.{option_map}
 use Rattle.std.specs.Prelude.{IfSome, IsTrue, map}
-use Rattle.crate_items.specs.declared.declared_item.LinkedCrate.{LinkedCrate}
-use Rattle.crate_items.specs.declared.declared_item.LinkedCrate.TheVariants.{Itself, Named}
-use Rattle.crate_modules.specs.declared.dependency.Dependency.{Dependency}
+use Rattle.crate_items.specs.declared.items.declared_item.LinkedCrate.{LinkedCrate}
+use Rattle.crate_items.specs.declared.items.declared_item.LinkedCrate.TheVariants.{Itself, Named}
+use Rattle.crate_items.specs.declared.files.dependency.Dependency.{Dependency}
 use Rattle.crate_tables.specs.ExternCrates.{held_root, linkable, linked_root, root_named, root_of_dep}
-use Rattle.dm_check.specs.declared.held.HeldId.TheVariants as held
-use Rattle.dm_names.specs.Names.{Name, same_name}
-use Rattle.dm_names.specs.declared.ids.Crate.{Crate}
+use Rattle.dm_maps.specs.declared.check.held.HeldId.TheVariants as held
+use Rattle.dm_base.specs.Names.{Name, same_name}
+use Rattle.dm_base.specs.declared.ids.Crate.{Crate}
 use Rattle.dm_maps.specs.Known.{knows, KnowsAll}
 use Rattle.dm_maps.specs.World.{World}
 

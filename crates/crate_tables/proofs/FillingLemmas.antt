@@ -2,20 +2,20 @@
 use Rattle.std.proofs.Common.{◌≡◌, ◌≤◌, ◌<◌, ◌++◌, ◌+◌, ◌∷◌, [], ℕ, zero, suc, List, arith, drop, get_or, length, subst, sym, refl}
 use Rattle.std.specs.Prelude.{All, None, Some, map, slice_get}
 use Rattle.std.proofs.lemmas.List.Elements.{All-get_or, All-head, All-push, All-tail, All-weaker}
-use Rattle.crate_modules.specs.CrateGraphs.{AreKnown, Data, Graph}
-use Rattle.crate_modules.specs.declared.dependency.Dependency.{Dependency}
+use Rattle.crate_items.specs.CrateGraphs.{AreKnown, Data, Graph}
+use Rattle.crate_items.specs.declared.files.dependency.Dependency.{Dependency}
 use Rattle.crate_tables.specs.CrateFillings.{AreCratesFrom, Crates, IsCrateIn, IsFaultIn, IsFaultOf, IsKnownTable, IsShortageOr, Reading, with_crate}
 use Rattle.crate_tables.specs.CrateRoots.{HasRoots, KnowsRoots, root_holds}
 use Rattle.crate_tables.specs.declared.fill_fault.FillFault.{FillFault}
 use Rattle.crate_tables.specs.declared.fill_fault.FillFault.TheVariants.{NoRootFile, TooManyModules, OutOfNumbers, OutOfMemory}
 use Rattle.crate_tables.specs.CrateTables.{IsLeafOf, IsNameOf, IsTableOf, Table}
 use Rattle.crate_tables.specs.ExternCrates.{Linked, held_root, linkable}
-use Rattle.dm_check.specs.Holding.{vis_holds}
-use Rattle.dm_check.specs.Pushes.{push_holds}
-use Rattle.dm_check.specs.declared.held.HeldId.TheVariants as held
-use Rattle.dm_names.specs.declared.ids.Crate.{Crate}
+use Rattle.dm_maps.specs.Holding.{vis_holds}
+use Rattle.dm_maps.specs.Pushes.{push_holds}
+use Rattle.dm_maps.specs.declared.check.held.HeldId.TheVariants as held
+use Rattle.dm_base.specs.declared.ids.Crate.{Crate}
 use Rattle.crate_tables.specs.Kept.{IsKept}
-use Rattle.crate_modules.specs.Modules.{Listing}
+use Rattle.crate_items.specs.Modules.{Listing}
 use Rattle.dm_maps.specs.Known.{KnowsAll}
 use Rattle.dm_maps.specs.World.{World}
 

@@ -1,18 +1,18 @@
 -- Builders that grow step by step, and ids of their modules.
 use Rattle.std.proofs.Common.{◌≡◌, ◌++◌, ◌∙◌, zero, suc, [], ◌∷◌, Option, Some, None, List, refl, subst, sym}
 use Rattle.std.specs.Prelude.{IfSome, IsTrue}
-use Rattle.dm_ids.specs.declared.ids.ModuleId.{ModuleId}
-use Rattle.dm_check.specs.declared.held.HeldId.TheVariants as held
+use Rattle.dm_base.specs.declared.ids.ModuleId.{ModuleId}
+use Rattle.dm_maps.specs.declared.check.held.HeldId.TheVariants as held
 use Rattle.dm_maps.specs.Added.{IsGrown}
 use Rattle.dm_maps.specs.Known.{knows}
 use Rattle.dm_maps.specs.World.{World}
 use Rattle.crate_tables.specs.Visibilities.{AreIdsOf, Ids}
-use Rattle.dm_check.specs.declared.held.HeldId.{HeldId}
+use Rattle.dm_maps.specs.declared.check.held.HeldId.{HeldId}
 use Rattle.dm_def_map.specs.Locals.{with_extern}
 use Rattle.dm_def_map.specs.Maps.{LocalMap}
-use Rattle.dm_names.specs.Names.{Name}
-use Rattle.dm_names.specs.declared.ids.Crate.{Crate}
-use Rattle.dm_ids.specs.declared.ids.ExternCrateId.{ExternCrateId}
+use Rattle.dm_base.specs.Names.{Name}
+use Rattle.dm_base.specs.declared.ids.Crate.{Crate}
+use Rattle.dm_base.specs.declared.ids.ExternCrateId.{ExternCrateId}
 use Rattle.dm_maps.specs.BuildMaps.{locals_with, with_extern_of}
 use Rattle.dm_def_map.specs.ItemTables.{ItemTables}
 use Rattle.dm_maps.proofs.SetLemmas.{set-tables}

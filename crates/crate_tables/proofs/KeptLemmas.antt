@@ -9,12 +9,12 @@ use Rattle.crate_tables.specs.TextualMacros.{AllStayShown, StaysKnown}
 use Rattle.crate_tables.specs.declared.scope_entry.ScopeEntry.{ScopeEntry}
 use Rattle.crate_tables.specs.declared.scope_entry.ScopeEntry.TheVariants as entry
 use Rattle.dm_base.specs.Tree.{same_module}
-use Rattle.dm_names.specs.Names.{Name}
-use Rattle.dm_ids.specs.declared.ids.ModuleId.{ModuleId}
-use Rattle.dm_ids.specs.declared.item_ids.MacroId.{MacroId}
+use Rattle.dm_base.specs.Names.{Name}
+use Rattle.dm_base.specs.declared.ids.ModuleId.{ModuleId}
+use Rattle.dm_base.specs.declared.item_ids.MacroId.{MacroId}
 use Rattle.dm_maps.specs.Added.{IsGrown, IsScoped}
 use Rattle.dm_maps.specs.World.{World, scope_of}
-use Rattle.dm_shadowing.specs.Flags.{Globs}
+use Rattle.dm_scope.specs.Flags.{Globs}
 use Rattle.dm_scope.specs.Scope.{Scope, no_scope}
 use Rattle.dm_scope.specs.Shows.{ScopePush, Shows}
 

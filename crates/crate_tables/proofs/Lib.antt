@@ -13,3 +13,5 @@ pub mod TextualLemmas
 pub mod KeptLemmas
 pub mod PlaceLemmas
 pub mod BlockLemmas
+pub mod ContainerLemmas
+pub mod FillLemmas

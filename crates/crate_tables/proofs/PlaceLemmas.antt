@@ -2,7 +2,7 @@
 use Rattle.crate_tables.specs.CrateTables.{IsTableOf, Table, with_def_at, with_use_at}
 use Rattle.crate_tables.specs.declared.item_place.DefPlace.{DefPlace}
 use Rattle.crate_tables.specs.declared.item_place.UsePlace.{UsePlace}
-use Rattle.dm_names.specs.declared.ids.Crate.{Crate}
+use Rattle.dm_base.specs.declared.ids.Crate.{Crate}
 use Rattle.dm_maps.specs.World.{World}
 
 pub table-use_at : (w : World) (k : Crate) (t : Table) (p : UsePlace) → IsTableOf w k t → IsTableOf w k (with_use_at t p)

@@ -3,15 +3,15 @@ use Rattle.std.proofs.Common.{◌≡◌, ◌∙◌, List, [], ◌∷◌, Option,
 use Rattle.std.specs.Option.{option_or}
 use Rattle.std.specs.Prelude.{IfErr, IsTrue, OnErr, OnOk, Result, Ok, Err, true}
 use Rattle.crate_tables.proofs.GrownLemmas.{grown-further, grown-same}
-use Rattle.dm_check.specs.declared.held.HeldId.TheVariants as held
+use Rattle.dm_maps.specs.declared.check.held.HeldId.TheVariants as held
 use Rattle.dm_def_map.specs.CrateData.{with_setting}
 use Rattle.dm_def_map.specs.MapChanges.{changed}
 use Rattle.dm_def_map.specs.declared.crate_data.crate_setting.CrateSetting.{CrateSetting}
 use Rattle.dm_def_map.specs.declared.map_change.MapChange.TheVariants.{Prelude}
-use Rattle.dm_names.specs.declared.ids.Crate.{Crate}
-use Rattle.dm_ids.specs.declared.ids.MapId.{MapId}
-use Rattle.dm_ids.specs.declared.ids.ModuleId.{ModuleId}
-use Rattle.dm_ids.specs.declared.ids.UseId.{UseId}
+use Rattle.dm_base.specs.declared.ids.Crate.{Crate}
+use Rattle.dm_base.specs.declared.ids.MapId.{MapId}
+use Rattle.dm_base.specs.declared.ids.ModuleId.{ModuleId}
+use Rattle.dm_base.specs.declared.ids.UseId.{UseId}
 use Rattle.dm_maps.proofs.SetLemmas.{set-data, set-maps}
 use Rattle.dm_maps.specs.Added.{IsGrown}
 use Rattle.dm_maps.specs.BuildCrateData.{data_of, settings_fault, with_crate_setting, with_crate_settings}

@@ -4,12 +4,12 @@ use Rattle.std.specs.Prelude.{IsTrue, nat_lt, slice_get}
 use Rattle.std.specs.Option.{option_map}
 use Rattle.std.proofs.lemmas.Bool.{ltb-false, ltb-true}
 use Rattle.crate_tables.specs.CrateRoots.{HasRoot, HasRoots, root_id}
-use Rattle.dm_check.specs.declared.held.HeldId.TheVariants as held
+use Rattle.dm_maps.specs.declared.check.held.HeldId.TheVariants as held
 use Rattle.dm_def_map.specs.Maps.{Map}
-use Rattle.dm_names.specs.declared.ids.Crate.{Crate}
-use Rattle.dm_ids.specs.declared.ids.ModuleId.{ModuleId}
-use Rattle.dm_names.specs.declared.edition.Edition.{Edition}
-use Rattle.dm_ids.specs.declared.source.EditionedFileId.{EditionedFileId}
+use Rattle.dm_base.specs.declared.ids.Crate.{Crate}
+use Rattle.dm_base.specs.declared.ids.ModuleId.{ModuleId}
+use Rattle.dm_base.specs.declared.edition.Edition.{Edition}
+use Rattle.dm_base.specs.declared.source.EditionedFileId.{EditionedFileId}
 use Rattle.dm_maps.specs.Added.{IsAddedCrate}
 use Rattle.dm_maps.specs.Build.{next_crate, next_module, with_crate}
 use Rattle.dm_maps.specs.Readings.{root_of}

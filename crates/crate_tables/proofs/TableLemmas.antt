@@ -7,14 +7,14 @@ use Rattle.crate_tables.specs.CrateTables.{IsLeafOf, IsNameOf, IsTableOf, Table,
 use Rattle.crate_tables.specs.declared.declared_name.DeclaredName.{DeclaredName}
 use Rattle.dm_base.specs.PerNs.{type_alone}
 use Rattle.dm_base.specs.declared.visibility.Visibility.{Visibility}
-use Rattle.dm_check.specs.Holding.{def_holds, res_holds, vis_holds}
-use Rattle.dm_check.specs.Pushes.{push_holds}
-use Rattle.dm_check.specs.declared.held.HeldId.TheVariants as held
-use Rattle.dm_names.specs.Names.{Name}
-use Rattle.dm_names.specs.declared.ids.Crate.{Crate}
-use Rattle.dm_ids.specs.declared.ids.ModuleId.{ModuleId}
-use Rattle.dm_ids.specs.declared.item_ids.ModuleDefId.{ModuleDefId}
-use Rattle.dm_ids.specs.declared.item_ids.ModuleDefId.TheVariants as def
+use Rattle.dm_maps.specs.Holding.{def_holds, res_holds, vis_holds}
+use Rattle.dm_maps.specs.Pushes.{push_holds}
+use Rattle.dm_maps.specs.declared.check.held.HeldId.TheVariants as held
+use Rattle.dm_base.specs.Names.{Name}
+use Rattle.dm_base.specs.declared.ids.Crate.{Crate}
+use Rattle.dm_base.specs.declared.ids.ModuleId.{ModuleId}
+use Rattle.dm_base.specs.declared.item_ids.ModuleDefId.{ModuleDefId}
+use Rattle.dm_base.specs.declared.item_ids.ModuleDefId.TheVariants as def
 use Rattle.dm_maps.specs.Added.{IsGrown}
 use Rattle.dm_maps.specs.Known.{knows, KnowsAll}
 use Rattle.dm_maps.specs.KnownLaws.{knows-append}

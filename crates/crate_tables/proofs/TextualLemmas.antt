@@ -3,11 +3,11 @@ use Rattle.std.proofs.Common.{◌∷◌, [], ◌++◌, List, None}
 use Rattle.std.proofs.lemmas.List.Elements.{All-weaker}
 use Rattle.crate_tables.specs.CrateTables.{IsLeafOf, IsNameOf, IsTableOf, Table}
 use Rattle.crate_tables.specs.TextualMacros.{StaysKnown}
-use Rattle.dm_check.specs.Holding.{vis_holds}
-use Rattle.dm_check.specs.Pushes.{push_holds}
-use Rattle.dm_check.specs.declared.held.HeldId.{HeldId}
-use Rattle.dm_check.specs.declared.held.HeldId.TheVariants as held
-use Rattle.dm_names.specs.declared.ids.Crate.{Crate}
+use Rattle.dm_maps.specs.Holding.{vis_holds}
+use Rattle.dm_maps.specs.Pushes.{push_holds}
+use Rattle.dm_maps.specs.declared.check.held.HeldId.{HeldId}
+use Rattle.dm_maps.specs.declared.check.held.HeldId.TheVariants as held
+use Rattle.dm_base.specs.declared.ids.Crate.{Crate}
 use Rattle.dm_maps.specs.Known.{KnowsAll}
 use Rattle.dm_maps.specs.World.{World}
 

@@ -1,10 +1,10 @@
 -- What the answer of adding a variant tells of its enum.
 use Rattle.std.proofs.Common.{◌≡◌, Bool, true, false, cond, not, Option, Some, None, ap, refl}
 use Rattle.std.specs.Prelude.{Ok, Err, IsTrue}
-use Rattle.dm_check.specs.declared.held.HeldId.TheVariants as held
-use Rattle.dm_names.specs.Names.{Name}
-use Rattle.dm_ids.specs.declared.ids.EnumId.{EnumId}
-use Rattle.dm_ids.specs.declared.item_ids.ItemKind.TheVariants as kinds
+use Rattle.dm_maps.specs.declared.check.held.HeldId.TheVariants as held
+use Rattle.dm_base.specs.Names.{Name}
+use Rattle.dm_base.specs.declared.ids.EnumId.{EnumId}
+use Rattle.dm_base.specs.declared.item_ids.ItemKind.TheVariants as kinds
 use Rattle.dm_maps.specs.Faults.{Answers, is_full}
 use Rattle.dm_maps.specs.ItemFaults.{has_variant, lacks_enum, variant_fault}
 use Rattle.dm_maps.specs.Known.{knows}

@@ -7,8 +7,8 @@ use Rattle.crate_tables.specs.declared.item_place.BlockKind.{BlockKind}
 use Rattle.crate_tables.specs.declared.item_place.BlockKind.TheVariants.{TraitImpl, InherentImpl, Extern}
 use Rattle.crate_tables.specs.declared.item_place.BlockPlace.{BlockPlace}
 use Rattle.crate_tables.specs.declared.scope_entry.ScopeEntry.TheVariants as entry
-use Rattle.dm_check.specs.declared.held.HeldId.TheVariants as held
-use Rattle.dm_ids.specs.declared.ids.ModuleId.{ModuleId}
+use Rattle.dm_maps.specs.declared.check.held.HeldId.TheVariants as held
+use Rattle.dm_base.specs.declared.ids.ModuleId.{ModuleId}
 use Rattle.dm_maps.specs.Known.{knows}
 use Rattle.dm_maps.specs.World.{World}
 

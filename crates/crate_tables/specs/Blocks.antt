@@ -1,17 +1,17 @@
 -- The `impl` and `extern` blocks of a crate, in its table.
 use Rattle.std.specs.Prelude.{ℕ, Bool, false, List, [], ◌∷◌, Option, None, Some, slice_get, if◌then◌else◌}
-use Rattle.crate_items.specs.declared.declared_item.DeclaredItem.{DeclaredItem}
-use Rattle.crate_modules.specs.Modules.{Listing}
-use Rattle.crate_modules.specs.Sources.{Source, source_at}
+use Rattle.crate_items.specs.declared.items.declared_item.DeclaredItem.{DeclaredItem}
+use Rattle.crate_items.specs.Modules.{Listing}
+use Rattle.crate_items.specs.Sources.{Source, source_at}
 use Rattle.crate_tables.specs.CrateTables.{Table, with_block_at}
 use Rattle.crate_tables.specs.Visibilities.{id_at}
 use Rattle.crate_tables.specs.declared.item_place.BlockKind.{BlockKind}
 use Rattle.crate_tables.specs.declared.item_place.BlockKind.TheVariants.{TraitImpl, InherentImpl, Extern}
 use Rattle.crate_tables.specs.declared.item_place.BlockPlace.{BlockPlace}
-use Rattle.dm_ids.specs.declared.ids.ModuleId.{ModuleId}
+use Rattle.dm_base.specs.declared.ids.ModuleId.{ModuleId}
 use Rattle.item_tree.specs.Implementations.{is_of_trait}
-use Rattle.item_tree.specs.declared.item_kind.ItemKind.{ItemKind}
-use Rattle.item_tree.specs.declared.item_kind.ItemKind.TheVariants as item
+use Rattle.item_tree.specs.declared.items.item_kind.ItemKind.{ItemKind}
+use Rattle.item_tree.specs.declared.items.item_kind.ItemKind.TheVariants as item
 use Rattle.item_tree.specs.declared.items.Item.{Item}
 
 -- whether an item of a file is the implementation of a trait

@@ -3,37 +3,37 @@ use Rattle.std.specs.Prelude.{ℕ, Bool, true, false, List, [], ◌∷◌, Optio
 use Rattle.crate_items.specs.DeclaredImports.{declared_imports}
 use Rattle.crate_items.specs.DeclaredItems.{written}
 use Rattle.crate_items.specs.DeclaredVariants.{declared_variants}
-use Rattle.crate_items.specs.declared.declared_import.DeclaredImport.{DeclaredImport}
-use Rattle.crate_items.specs.declared.declared_item.DeclaredItem.{DeclaredItem}
-use Rattle.crate_items.specs.declared.declared_variant.DeclaredVariant.{DeclaredVariant}
-use Rattle.crate_modules.specs.Modules.{Listing}
-use Rattle.crate_modules.specs.Sources.{Source, source_at}
+use Rattle.crate_items.specs.declared.items.declared_import.DeclaredImport.{DeclaredImport}
+use Rattle.crate_items.specs.declared.items.declared_item.DeclaredItem.{DeclaredItem}
+use Rattle.crate_items.specs.declared.items.declared_variant.DeclaredVariant.{DeclaredVariant}
+use Rattle.crate_items.specs.Modules.{Listing}
+use Rattle.crate_items.specs.Sources.{Source, source_at}
 use Rattle.crate_tables.specs.CrateMaps.{Filled}
 use Rattle.crate_tables.specs.CrateTables.{Table, def_at, use_at, with_def_at, with_leaves, with_named, with_use_at}
 use Rattle.crate_tables.specs.NewModules.{CrateView, is_macro_root}
 use Rattle.crate_tables.specs.Visibilities.{id_at, visibility_of}
 use Rattle.dm_base.specs.PerNs.{of_def}
 use Rattle.dm_base.specs.declared.visibility.Visibility.{Visibility}
-use Rattle.dm_ids.specs.Kinds.{has_constructor}
-use Rattle.dm_ids.specs.declared.fields_shape.FieldsShape.{FieldsShape}
-use Rattle.dm_ids.specs.declared.ids.EnumId.{EnumId}
-use Rattle.dm_ids.specs.declared.ids.ModuleId.{ModuleId}
-use Rattle.dm_ids.specs.declared.item_ids.AdtId.TheVariants as adt
-use Rattle.dm_ids.specs.declared.item_ids.ItemKind.{ItemKind as Kind}
-use Rattle.dm_ids.specs.declared.item_ids.ItemKind.TheVariants as kind
-use Rattle.dm_ids.specs.declared.item_ids.ModuleDefId.{ModuleDefId}
-use Rattle.dm_ids.specs.declared.item_ids.ModuleDefId.TheVariants as def
-use Rattle.dm_ids.specs.declared.item_ids.VariantId.TheVariants.{EnumVariantId}
+use Rattle.dm_base.specs.Kinds.{has_constructor}
+use Rattle.dm_base.specs.declared.fields_shape.FieldsShape.{FieldsShape}
+use Rattle.dm_base.specs.declared.ids.EnumId.{EnumId}
+use Rattle.dm_base.specs.declared.ids.ModuleId.{ModuleId}
+use Rattle.dm_base.specs.declared.item_ids.AdtId.TheVariants as adt
+use Rattle.dm_base.specs.declared.item_ids.ItemKind.{ItemKind as Kind}
+use Rattle.dm_base.specs.declared.item_ids.ItemKind.TheVariants as kind
+use Rattle.dm_base.specs.declared.item_ids.ModuleDefId.{ModuleDefId}
+use Rattle.dm_base.specs.declared.item_ids.ModuleDefId.TheVariants as def
+use Rattle.dm_base.specs.declared.item_ids.VariantId.TheVariants.{EnumVariantId}
 use Rattle.dm_maps.specs.Build.{item_def, with_item}
 use Rattle.dm_maps.specs.BuildItems.{next_use, next_variant, with_use, with_variant}
 use Rattle.dm_maps.specs.BuildTables.{with_fields}
 use Rattle.dm_maps.specs.ItemFaults.{has_variant}
 use Rattle.dm_maps.specs.World.{World}
-use Rattle.item_tree.specs.declared.item_kind.ItemKind.{ItemKind}
-use Rattle.item_tree.specs.declared.item_kind.ItemKind.TheVariants as item
+use Rattle.item_tree.specs.declared.items.item_kind.ItemKind.{ItemKind}
+use Rattle.item_tree.specs.declared.items.item_kind.ItemKind.TheVariants as item
 use Rattle.item_tree.specs.declared.items.Item.{Item}
-use Rattle.item_tree.specs.declared.visibility.RawVisibility.{RawVisibility}
-use Rattle.item_tree.specs.declared.visibility.RawVisibility.TheVariants as raw
+use Rattle.item_tree.specs.declared.items.visibility.RawVisibility.{RawVisibility}
+use Rattle.item_tree.specs.declared.items.visibility.RawVisibility.TheVariants as raw
 
 -- ---- What is written before an item
 

@@ -6,14 +6,14 @@ use Rattle.crate_items.specs.CrateAttributes.{crate_attributes}
 use Rattle.crate_items.specs.DeclaredItems.{declared_of}
 use Rattle.crate_items.specs.ModuleItems.{AreItemsFrom}
 use Rattle.crate_items.specs.TextualScopes.{textual_scopes}
-use Rattle.crate_items.specs.declared.crate_attributes.CrateAttribute.{CrateAttribute}
-use Rattle.crate_items.specs.declared.declared_item.DeclaredItem.{DeclaredItem}
-use Rattle.crate_items.specs.declared.module_items.ModuleItem.{ModuleItem}
-use Rattle.crate_modules.specs.CrateGraphs.{Data, Graph}
-use Rattle.crate_modules.specs.Files.{SourceFile}
-use Rattle.crate_modules.specs.Modules.{AreMore, Listing, declared_in, root_module}
-use Rattle.crate_modules.specs.Sources.{AreSourcesOf}
-use Rattle.crate_modules.specs.declared.dependency.Dependency.{Dependency}
+use Rattle.crate_items.specs.declared.items.crate_attributes.CrateAttribute.{CrateAttribute}
+use Rattle.crate_items.specs.declared.items.declared_item.DeclaredItem.{DeclaredItem}
+use Rattle.crate_items.specs.declared.items.module_items.ModuleItem.{ModuleItem}
+use Rattle.crate_items.specs.CrateGraphs.{Data, Graph}
+use Rattle.crate_items.specs.Files.{SourceFile}
+use Rattle.crate_items.specs.Modules.{AreMore, Listing, declared_in, root_module}
+use Rattle.crate_items.specs.Sources.{AreSourcesOf}
+use Rattle.crate_items.specs.declared.files.dependency.Dependency.{Dependency}
 use Rattle.crate_tables.specs.AllLists.{with_all_lists}
 use Rattle.crate_tables.specs.BlockLists.{with_all_blocks}
 use Rattle.crate_tables.specs.Blocks.{with_blocks}
@@ -32,9 +32,9 @@ use Rattle.crate_tables.specs.TextualMacros.{with_scopes}
 use Rattle.crate_tables.specs.declared.extern_crates.ExternCrateRow.{ExternCrateRow}
 use Rattle.crate_tables.specs.declared.fill_fault.FillFault.{FillFault}
 use Rattle.crate_tables.specs.declared.fill_fault.FillFault.TheVariants.{NoRootFile, TooManyModules, OutOfNumbers, OutOfMemory}
-use Rattle.dm_names.specs.declared.ids.Crate.{Crate}
-use Rattle.dm_ids.specs.declared.ids.ModuleId.{ModuleId}
-use Rattle.dm_ids.specs.declared.ids.UseId.{UseId}
+use Rattle.dm_base.specs.declared.ids.Crate.{Crate}
+use Rattle.dm_base.specs.declared.ids.ModuleId.{ModuleId}
+use Rattle.dm_base.specs.declared.ids.UseId.{UseId}
 use Rattle.dm_maps.specs.Build.{no_world}
 use Rattle.dm_maps.specs.World.{World}
 use Rattle.dm_maps.specs.declared.build_fault.BuildFault.{BuildFault}

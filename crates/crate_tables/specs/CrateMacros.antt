@@ -2,23 +2,23 @@
 use Rattle.std.specs.Prelude.{◌++◌, Bool, true, false, List, [], ◌∷◌, Option, None, Some, length, if◌then◌else◌}
 use Rattle.crate_items.specs.BuiltinMacros.{macro_expander}
 use Rattle.crate_items.specs.DeclaredMacros.{is_macro_exported}
-use Rattle.crate_items.specs.declared.declared_item.DeclaredItem.{DeclaredItem}
+use Rattle.crate_items.specs.declared.items.declared_item.DeclaredItem.{DeclaredItem}
 use Rattle.crate_tables.specs.CrateDefs.{visibility_in}
 use Rattle.crate_tables.specs.CrateRoots.{root_id}
 use Rattle.crate_tables.specs.CrateTables.{Table, def_at, with_def_at, with_named}
 use Rattle.crate_tables.specs.NewModules.{CrateView}
 use Rattle.crate_tables.specs.Visibilities.{id_at, public_in}
 use Rattle.dm_base.specs.PerNs.{macro_alone}
-use Rattle.dm_ids.specs.declared.ids.ModuleId.{ModuleId}
-use Rattle.dm_ids.specs.declared.item_ids.MacroId.{MacroId}
-use Rattle.dm_ids.specs.declared.item_ids.ModuleDefId.TheVariants as def
-use Rattle.dm_ids.specs.declared.macros.MacroExpander.{MacroExpander}
-use Rattle.dm_ids.specs.declared.macros.MacroLoc.{MacroLoc}
-use Rattle.dm_ids.specs.declared.macros.MacroLoc.TheVariants as loc
+use Rattle.dm_base.specs.declared.ids.ModuleId.{ModuleId}
+use Rattle.dm_base.specs.declared.item_ids.MacroId.{MacroId}
+use Rattle.dm_base.specs.declared.item_ids.ModuleDefId.TheVariants as def
+use Rattle.dm_base.specs.declared.macros.MacroExpander.{MacroExpander}
+use Rattle.dm_base.specs.declared.macros.MacroLoc.{MacroLoc}
+use Rattle.dm_base.specs.declared.macros.MacroLoc.TheVariants as loc
 use Rattle.dm_maps.specs.BuildItems.{macro_id, with_macro}
 use Rattle.dm_maps.specs.World.{World}
-use Rattle.item_tree.specs.declared.item_kind.ItemKind.{ItemKind}
-use Rattle.item_tree.specs.declared.item_kind.ItemKind.TheVariants as item
+use Rattle.item_tree.specs.declared.items.item_kind.ItemKind.{ItemKind}
+use Rattle.item_tree.specs.declared.items.item_kind.ItemKind.TheVariants as item
 
 -- a builder, what a crate has there so far, and for each item so far the macro that it is
 pub record WithMacros : Type 0 where

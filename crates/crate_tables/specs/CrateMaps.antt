@@ -1,15 +1,15 @@
 -- The modules of a crate in a builder.
 use Rattle.std.specs.Prelude.{Bool, true, false, List, [], ◌∷◌, Option, None, Some, drop, if◌then◌else◌}
-use Rattle.crate_modules.specs.DeclaredModules.{Module}
+use Rattle.crate_items.specs.DeclaredModules.{Module}
 use Rattle.crate_tables.specs.CrateTables.{Table, left_out, no_table, with_id}
 use Rattle.crate_tables.specs.NewModules.{CrateView, is_macro_root, new_module, origin_of}
 use Rattle.crate_tables.specs.Visibilities.{id_at, visibility_of}
 use Rattle.crate_tables.specs.declared.new_module.NewModule.{NewModule}
 use Rattle.dm_base.specs.declared.visibility.Visibility.{Visibility}
 use Rattle.dm_def_map.specs.declared.modules.module_origin.ModuleOrigin.{ModuleOrigin}
-use Rattle.dm_names.specs.Names.{Name}
-use Rattle.dm_ids.specs.declared.ids.ModuleId.{ModuleId}
-use Rattle.dm_names.specs.declared.edition.Edition.{Edition}
+use Rattle.dm_base.specs.Names.{Name}
+use Rattle.dm_base.specs.declared.ids.ModuleId.{ModuleId}
+use Rattle.dm_base.specs.declared.edition.Edition.{Edition}
 use Rattle.dm_maps.specs.Build.{next_module, with_module}
 use Rattle.dm_maps.specs.Faults.{has_child}
 use Rattle.dm_maps.specs.World.{World}

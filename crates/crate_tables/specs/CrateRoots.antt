@@ -2,16 +2,16 @@
 use Rattle.std.specs.Prelude.{◌≡◌, ◌<◌, ◌+◌, ◌&&◌, ◌||◌, ℕ, Bool, true, false, not, IsTrue, List, [], ◌∷◌, None, Some, codes, take, if◌then◌else◌}
 use Rattle.std.specs.List.{list_any}
 use Rattle.std.specs.Str.{bytes_eq}
-use Rattle.crate_items.specs.declared.crate_attributes.CrateAttribute.{CrateAttribute}
-use Rattle.crate_items.specs.declared.crate_attributes.CrateAttribute.TheVariants as sets
-use Rattle.crate_modules.specs.CrateGraphs.{Graph}
-use Rattle.crate_modules.specs.declared.dependency.Dependency.{Dependency}
-use Rattle.dm_check.specs.declared.held.HeldId.{HeldId}
-use Rattle.dm_check.specs.declared.held.HeldId.TheVariants as held
+use Rattle.crate_items.specs.declared.items.crate_attributes.CrateAttribute.{CrateAttribute}
+use Rattle.crate_items.specs.declared.items.crate_attributes.CrateAttribute.TheVariants as sets
+use Rattle.crate_items.specs.CrateGraphs.{Graph}
+use Rattle.crate_items.specs.declared.files.dependency.Dependency.{Dependency}
+use Rattle.dm_maps.specs.declared.check.held.HeldId.{HeldId}
+use Rattle.dm_maps.specs.declared.check.held.HeldId.TheVariants as held
 use Rattle.crate_tables.specs.NewModules.{in_edition}
-use Rattle.dm_names.specs.Names.{Name, same_name}
-use Rattle.dm_names.specs.declared.ids.Crate.{Crate}
-use Rattle.dm_ids.specs.declared.ids.ModuleId.{ModuleId}
+use Rattle.dm_base.specs.Names.{Name, same_name}
+use Rattle.dm_base.specs.declared.ids.Crate.{Crate}
+use Rattle.dm_base.specs.declared.ids.ModuleId.{ModuleId}
 use Rattle.dm_maps.specs.Build.{with_crate}
 use Rattle.dm_maps.specs.BuildMaps.{with_extern_of}
 use Rattle.dm_maps.specs.Known.{knows, KnowsAll}

@@ -23,3 +23,5 @@ pub mod ProceduralPairs
 pub mod ExternLists
 pub mod AllLists
 pub mod Kept
+pub mod Containers
+pub mod AssocItems

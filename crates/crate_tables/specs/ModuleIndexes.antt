@@ -2,8 +2,8 @@
 use Rattle.std.specs.Prelude.{◌≡◌, ◌==◌, ◌&&◌, ℕ, Bool, false, List, Option, None, Some}
 use Rattle.std.specs.List.{position_from}
 use Rattle.std.specs.Map.{lookup}
-use Rattle.crate_modules.specs.DeclaredModules.{Module}
-use Rattle.crate_modules.specs.declared.declared_module.Declaration.{Declaration}
+use Rattle.crate_items.specs.DeclaredModules.{Module}
+use Rattle.crate_items.specs.declared.modules.declared_module.Declaration.{Declaration}
 use Rattle.crate_tables.specs.declared.item_outline.ItemOutline.{ItemOutline}
 
 -- a module is declared by an item that stands in its parent

@@ -1,23 +1,23 @@
 -- Modules of a crate, as they are added to a builder.
 use Rattle.std.specs.Prelude.{◌==◌, ◌&&◌, ℕ, Bool, List, Option, None, Some, codes, nat_eq, option_map, slice_get}
 use Rattle.std.specs.List.{ends_with}
-use Rattle.crate_modules.specs.DeclaredModules.{Module}
-use Rattle.crate_modules.specs.Files.{SourceFile, path_of, text_of}
-use Rattle.crate_modules.specs.ModuleVisibilities.{visibility_in}
-use Rattle.crate_modules.specs.Modules.{Listing}
-use Rattle.crate_modules.specs.declared.declared_module.Declaration.{Declaration}
-use Rattle.crate_modules.specs.declared.module_visibility.DeclaredVisibility.{DeclaredVisibility}
+use Rattle.crate_items.specs.DeclaredModules.{Module}
+use Rattle.crate_items.specs.Files.{SourceFile, path_of, text_of}
+use Rattle.crate_items.specs.ModuleVisibilities.{visibility_in}
+use Rattle.crate_items.specs.Modules.{Listing}
+use Rattle.crate_items.specs.declared.modules.declared_module.Declaration.{Declaration}
+use Rattle.crate_items.specs.declared.modules.module_visibility.DeclaredVisibility.{DeclaredVisibility}
 use Rattle.crate_tables.specs.declared.new_module.NewModule.{NewModule}
 use Rattle.crate_tables.specs.declared.new_module.OwnFile.{OwnFile}
 use Rattle.dm_def_map.specs.declared.modules.module_origin.ModuleOrigin.{ModuleOrigin}
 use Rattle.dm_def_map.specs.declared.modules.module_origin.ModuleOrigin.TheVariants as origin
-use Rattle.dm_names.specs.declared.ids.Crate.{Crate}
-use Rattle.dm_names.specs.declared.ids.FileAstId.{FileAstId}
-use Rattle.dm_names.specs.declared.ids.FileId.{FileId}
-use Rattle.dm_names.specs.declared.edition.Edition.{Edition}
-use Rattle.dm_ids.specs.declared.source.EditionedFileId.{EditionedFileId}
-use Rattle.dm_ids.specs.declared.source.HirFileId.TheVariants as file
-use Rattle.dm_ids.specs.declared.source.TreeId.{TreeId}
+use Rattle.dm_base.specs.declared.ids.Crate.{Crate}
+use Rattle.dm_base.specs.declared.ids.FileAstId.{FileAstId}
+use Rattle.dm_base.specs.declared.ids.FileId.{FileId}
+use Rattle.dm_base.specs.declared.edition.Edition.{Edition}
+use Rattle.dm_base.specs.declared.source.EditionedFileId.{EditionedFileId}
+use Rattle.dm_base.specs.declared.source.HirFileId.TheVariants as file
+use Rattle.dm_base.specs.declared.source.TreeId.{TreeId}
 use Rattle.item_tree.specs.declared.cfg.CfgAtom.{CfgAtom}
 
 -- a crate: its number in the builder, its edition and options, whether it has procedural macros, its modules, and the

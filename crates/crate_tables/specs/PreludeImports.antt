@@ -3,27 +3,27 @@ use Rattle.std.specs.Prelude.{◌==◌, ◌&&◌, Bool, true, false, List, [], �
 use Rattle.std.specs.List.{find, list_any}
 use Rattle.std.specs.Option.{option_and_then, option_map}
 use Rattle.crate_items.specs.ItemAttributes.{kinds_from}
-use Rattle.crate_items.specs.declared.crate_attributes.CrateAttribute.{CrateAttribute}
-use Rattle.crate_modules.specs.Modules.{Listing}
-use Rattle.crate_modules.specs.PreludeModules.{module_behind}
-use Rattle.crate_modules.specs.Sources.{source_at}
-use Rattle.crate_modules.specs.declared.dependency.Dependency.{Dependency}
+use Rattle.crate_items.specs.declared.items.crate_attributes.CrateAttribute.{CrateAttribute}
+use Rattle.crate_items.specs.Modules.{Listing}
+use Rattle.crate_items.specs.PreludeModules.{module_behind}
+use Rattle.crate_items.specs.Sources.{source_at}
+use Rattle.crate_items.specs.declared.files.dependency.Dependency.{Dependency}
 use Rattle.crate_tables.specs.CrateTables.{Table}
 use Rattle.crate_tables.specs.StandardPreludes.{crate_named, id_in}
 use Rattle.crate_tables.specs.declared.item_place.UsePlace.{UsePlace}
 use Rattle.crate_tables.specs.declared.use_leaf.UseLeaf.{UseLeaf}
 use Rattle.dm_base.specs.declared.mod_path.PathKind.{PathKind}
 use Rattle.dm_base.specs.declared.mod_path.PathKind.TheVariants as path
-use Rattle.dm_names.specs.Names.{Name}
-use Rattle.dm_names.specs.declared.ids.Crate.{Crate}
-use Rattle.dm_ids.specs.declared.ids.ModuleId.{ModuleId}
-use Rattle.dm_ids.specs.declared.ids.UseId.{UseId}
-use Rattle.dm_names.specs.declared.edition.Edition.{Edition}
-use Rattle.dm_names.specs.declared.edition.Edition.TheVariants as edition
-use Rattle.item_tree.specs.declared.attribute.AttributeKind.{AttributeKind}
-use Rattle.item_tree.specs.declared.attribute.AttributeKind.TheVariants as says
-use Rattle.item_tree.specs.declared.imports.ImportKind.{ImportKind}
-use Rattle.item_tree.specs.declared.imports.ImportKind.TheVariants as imports
+use Rattle.dm_base.specs.Names.{Name}
+use Rattle.dm_base.specs.declared.ids.Crate.{Crate}
+use Rattle.dm_base.specs.declared.ids.ModuleId.{ModuleId}
+use Rattle.dm_base.specs.declared.ids.UseId.{UseId}
+use Rattle.dm_base.specs.declared.edition.Edition.{Edition}
+use Rattle.dm_base.specs.declared.edition.Edition.TheVariants as edition
+use Rattle.item_tree.specs.declared.attributes.attribute.AttributeKind.{AttributeKind}
+use Rattle.item_tree.specs.declared.attributes.attribute.AttributeKind.TheVariants as says
+use Rattle.item_tree.specs.declared.items.imports.ImportKind.{ImportKind}
+use Rattle.item_tree.specs.declared.items.imports.ImportKind.TheVariants as imports
 
 -- the modules of each crate, and what it has in a builder, by its number
 pub record Lists : Type 0 where

@@ -1,8 +1,8 @@
 -- The procedural macros of a crate in a builder.
 use Rattle.std.specs.Prelude.{List, [], ◌∷◌, Option, None, Some, if◌then◌else◌}
 use Rattle.crate_items.specs.ProceduralMacros.{procedural_macro}
-use Rattle.crate_items.specs.declared.declared_item.DeclaredItem.{DeclaredItem}
-use Rattle.crate_items.specs.declared.procedural_macro.ProceduralMacro.{ProceduralMacro}
+use Rattle.crate_items.specs.declared.items.declared_item.DeclaredItem.{DeclaredItem}
+use Rattle.crate_items.specs.declared.macros.procedural_macro.ProceduralMacro.{ProceduralMacro}
 use Rattle.crate_tables.specs.CrateMacros.{next_macro}
 use Rattle.crate_tables.specs.CrateMaps.{Filled}
 use Rattle.crate_tables.specs.CrateRoots.{root_id}
@@ -10,12 +10,12 @@ use Rattle.crate_tables.specs.CrateTables.{Table, def_at, with_def_at, with_name
 use Rattle.crate_tables.specs.NewModules.{CrateView, is_macro_root}
 use Rattle.dm_base.specs.PerNs.{macro_alone}
 use Rattle.dm_base.specs.declared.visibility.Visibility.TheVariants.{Public}
-use Rattle.dm_names.specs.Names.{Name}
-use Rattle.dm_names.specs.declared.ids.Crate.{Crate}
-use Rattle.dm_ids.specs.declared.item_ids.MacroId.{MacroId}
-use Rattle.dm_ids.specs.declared.item_ids.ModuleDefId.TheVariants as def
-use Rattle.dm_ids.specs.declared.macros.MacroLoc.{MacroLoc}
-use Rattle.dm_ids.specs.declared.macros.MacroLoc.TheVariants as loc
+use Rattle.dm_base.specs.Names.{Name}
+use Rattle.dm_base.specs.declared.ids.Crate.{Crate}
+use Rattle.dm_base.specs.declared.item_ids.MacroId.{MacroId}
+use Rattle.dm_base.specs.declared.item_ids.ModuleDefId.TheVariants as def
+use Rattle.dm_base.specs.declared.macros.MacroLoc.{MacroLoc}
+use Rattle.dm_base.specs.declared.macros.MacroLoc.TheVariants as loc
 use Rattle.dm_maps.specs.BuildItems.{with_macro}
 use Rattle.dm_maps.specs.World.{World}
 

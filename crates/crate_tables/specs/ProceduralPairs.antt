@@ -4,12 +4,12 @@ use Rattle.std.specs.List.{flat_map}
 use Rattle.crate_tables.specs.CrateTables.{Table}
 use Rattle.crate_tables.specs.DefIndexes.{def_at, key_of}
 use Rattle.crate_tables.specs.declared.item_place.DefPlace.{DefPlace}
-use Rattle.dm_names.specs.declared.ids.Crate.{Crate}
-use Rattle.dm_ids.specs.declared.ids.FunctionId.{FunctionId}
-use Rattle.dm_ids.specs.declared.item_ids.MacroId.{MacroId}
-use Rattle.dm_ids.specs.declared.item_ids.MacroId.TheVariants as macro
-use Rattle.dm_ids.specs.declared.item_ids.ModuleDefId.{ModuleDefId}
-use Rattle.dm_ids.specs.declared.item_ids.ModuleDefId.TheVariants as def
+use Rattle.dm_base.specs.declared.ids.Crate.{Crate}
+use Rattle.dm_base.specs.declared.ids.FunctionId.{FunctionId}
+use Rattle.dm_base.specs.declared.item_ids.MacroId.{MacroId}
+use Rattle.dm_base.specs.declared.item_ids.MacroId.TheVariants as macro
+use Rattle.dm_base.specs.declared.item_ids.ModuleDefId.{ModuleDefId}
+use Rattle.dm_base.specs.declared.item_ids.ModuleDefId.TheVariants as def
 use Rattle.dm_maps.specs.BuildCrateData.{with_crate_settings}
 use Rattle.dm_maps.specs.World.{World}
 use Rattle.dm_maps.specs.declared.crate_setting.CrateSetting.{CrateSetting}

@@ -2,16 +2,16 @@
 use Rattle.std.specs.Prelude.{List, [], ◌∷◌}
 use Rattle.crate_items.specs.DeclaredFields.{field_visibilities}
 use Rattle.crate_items.specs.RawVisibilities.{item_visibility}
-use Rattle.crate_items.specs.declared.declared_item.DeclaredItem.{DeclaredItem}
+use Rattle.crate_items.specs.declared.items.declared_item.DeclaredItem.{DeclaredItem}
 use Rattle.crate_tables.specs.CrateDefs.{with_items}
 use Rattle.crate_tables.specs.CrateMaps.{Filled}
 use Rattle.crate_tables.specs.NewModules.{CrateView}
 use Rattle.crate_tables.specs.declared.item_place.DefPlace.{DefPlace}
-use Rattle.dm_ids.specs.declared.item_ids.AdtId.TheVariants as adt
-use Rattle.dm_ids.specs.declared.item_ids.ModuleDefId.{ModuleDefId}
-use Rattle.dm_ids.specs.declared.item_ids.ModuleDefId.TheVariants as def
-use Rattle.dm_ids.specs.declared.item_ids.VariantId.{VariantId}
-use Rattle.dm_ids.specs.declared.item_ids.VariantId.TheVariants as variant
+use Rattle.dm_base.specs.declared.item_ids.AdtId.TheVariants as adt
+use Rattle.dm_base.specs.declared.item_ids.ModuleDefId.{ModuleDefId}
+use Rattle.dm_base.specs.declared.item_ids.ModuleDefId.TheVariants as def
+use Rattle.dm_base.specs.declared.item_ids.VariantId.{VariantId}
+use Rattle.dm_base.specs.declared.item_ids.VariantId.TheVariants as variant
 use Rattle.dm_maps.specs.BuildTables.{with_fields, with_trait_visibility}
 use Rattle.dm_maps.specs.World.{World}
 

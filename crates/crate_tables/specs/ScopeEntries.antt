@@ -2,7 +2,7 @@
 use Rattle.std.specs.Prelude.{◌++◌, [], ◌∷◌, Option, None, Some}
 use Rattle.crate_tables.specs.declared.scope_entry.ScopeEntry.{ScopeEntry}
 use Rattle.crate_tables.specs.declared.scope_entry.ScopeEntry.TheVariants as entry
-use Rattle.dm_ids.specs.declared.ids.ModuleId.{ModuleId}
+use Rattle.dm_base.specs.declared.ids.ModuleId.{ModuleId}
 use Rattle.dm_maps.specs.World.{World, scope_if_known, with_scope}
 use Rattle.dm_scope.specs.Scope.{Scope}
 

@@ -1,7 +1,7 @@
 -- What the lists of a scope have: the definitions of its module, and its constants without a name.
 use Rattle.std.specs.Prelude.{ℕ, Bool, true, false, List, [], ◌∷◌, Option, None, Some, is_some, if◌then◌else◌}
-use Rattle.crate_items.specs.declared.declared_item.DeclaredItem.{DeclaredItem}
-use Rattle.crate_modules.specs.DeclaredModules.{Module}
+use Rattle.crate_items.specs.declared.items.declared_item.DeclaredItem.{DeclaredItem}
+use Rattle.crate_items.specs.DeclaredModules.{Module}
 use Rattle.crate_tables.specs.CrateTables.{Table}
 use Rattle.crate_tables.specs.DefIndexes.{def_at, key_at}
 use Rattle.crate_tables.specs.ModuleIndexes.{declared_by}
@@ -9,12 +9,12 @@ use Rattle.crate_tables.specs.ScopeEntries.{with_entry}
 use Rattle.crate_tables.specs.Visibilities.{Ids, id_at}
 use Rattle.crate_tables.specs.declared.item_outline.ItemOutline.{ItemOutline}
 use Rattle.crate_tables.specs.declared.scope_entry.ScopeEntry.TheVariants as entry
-use Rattle.dm_ids.specs.declared.ids.ModuleId.{ModuleId}
-use Rattle.dm_ids.specs.declared.item_ids.ModuleDefId.{ModuleDefId}
-use Rattle.dm_ids.specs.declared.item_ids.ModuleDefId.TheVariants as def
+use Rattle.dm_base.specs.declared.ids.ModuleId.{ModuleId}
+use Rattle.dm_base.specs.declared.item_ids.ModuleDefId.{ModuleDefId}
+use Rattle.dm_base.specs.declared.item_ids.ModuleDefId.TheVariants as def
 use Rattle.dm_maps.specs.World.{World}
-use Rattle.item_tree.specs.declared.item_kind.ItemKind.{ItemKind}
-use Rattle.item_tree.specs.declared.item_kind.ItemKind.TheVariants as item
+use Rattle.item_tree.specs.declared.items.item_kind.ItemKind.{ItemKind}
+use Rattle.item_tree.specs.declared.items.item_kind.ItemKind.TheVariants as item
 
 -- ---- Lists
 

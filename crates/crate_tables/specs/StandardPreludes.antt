@@ -3,21 +3,21 @@ use Rattle.std.specs.Prelude.{◌&&◌, ℕ, Bool, List, Option, None, Some, cod
 use Rattle.std.specs.List.{find, list_any}
 use Rattle.std.specs.Option.{option_map}
 use Rattle.std.specs.Str.{bytes_eq}
-use Rattle.crate_items.specs.declared.crate_attributes.CrateAttribute.{CrateAttribute}
-use Rattle.crate_items.specs.declared.crate_attributes.CrateAttribute.TheVariants as sets
-use Rattle.crate_modules.specs.Modules.{Listing}
-use Rattle.crate_modules.specs.PreludeModules.{prelude_module}
-use Rattle.crate_modules.specs.declared.dependency.Dependency.{Dependency}
+use Rattle.crate_items.specs.declared.items.crate_attributes.CrateAttribute.{CrateAttribute}
+use Rattle.crate_items.specs.declared.items.crate_attributes.CrateAttribute.TheVariants as sets
+use Rattle.crate_items.specs.Modules.{Listing}
+use Rattle.crate_items.specs.PreludeModules.{prelude_module}
+use Rattle.crate_items.specs.declared.files.dependency.Dependency.{Dependency}
 use Rattle.crate_tables.specs.CrateRoots.{is_named, is_no_core}
 use Rattle.crate_tables.specs.CrateTables.{Table}
 use Rattle.crate_tables.specs.Visibilities.{id_at}
 use Rattle.dm_def_map.specs.declared.crate_data.crate_setting.CrateSetting.{CrateSetting}
 use Rattle.dm_def_map.specs.declared.crate_data.crate_setting.CrateSetting.TheVariants as setting
-use Rattle.dm_names.specs.declared.ids.Crate.{Crate}
-use Rattle.dm_ids.specs.declared.ids.MapId.{MapId}
-use Rattle.dm_ids.specs.declared.ids.ModuleId.{ModuleId}
-use Rattle.dm_ids.specs.declared.ids.UseId.{UseId}
-use Rattle.dm_names.specs.declared.edition.Edition.{Edition}
+use Rattle.dm_base.specs.declared.ids.Crate.{Crate}
+use Rattle.dm_base.specs.declared.ids.MapId.{MapId}
+use Rattle.dm_base.specs.declared.ids.ModuleId.{ModuleId}
+use Rattle.dm_base.specs.declared.ids.UseId.{UseId}
+use Rattle.dm_base.specs.declared.edition.Edition.{Edition}
 use Rattle.dm_maps.specs.BuildCrateData.{with_crate_settings}
 use Rattle.dm_maps.specs.BuildMaps.{with_prelude}
 use Rattle.dm_maps.specs.World.{World}

@@ -2,16 +2,16 @@
 use Rattle.std.specs.Prelude.{◌+◌, ℕ, IsTrue, List, [], ◌∷◌, Option, None, Some, slice_get}
 use Rattle.std.specs.Option.{option_map_or}
 use Rattle.crate_items.specs.TextualScopes.{Scopes, name_at}
-use Rattle.crate_items.specs.declared.declared_item.DeclaredItem.{DeclaredItem}
+use Rattle.crate_items.specs.declared.items.declared_item.DeclaredItem.{DeclaredItem}
 use Rattle.crate_tables.specs.Visibilities.{Ids, id_at}
-use Rattle.dm_check.specs.declared.held.HeldId.{HeldId}
-use Rattle.dm_names.specs.Names.{Name, same_name}
-use Rattle.dm_ids.specs.declared.ids.ModuleId.{ModuleId}
-use Rattle.dm_ids.specs.declared.item_ids.MacroId.{MacroId}
+use Rattle.dm_maps.specs.declared.check.held.HeldId.{HeldId}
+use Rattle.dm_base.specs.Names.{Name, same_name}
+use Rattle.dm_base.specs.declared.ids.ModuleId.{ModuleId}
+use Rattle.dm_base.specs.declared.item_ids.MacroId.{MacroId}
 use Rattle.dm_maps.specs.Known.{knows}
 use Rattle.dm_maps.specs.PushRes.{StaysShown}
 use Rattle.dm_maps.specs.World.{World, scope_if_known, with_scope}
-use Rattle.dm_shadowing.specs.Flags.{Globs}
+use Rattle.dm_scope.specs.Flags.{Globs}
 use Rattle.dm_scope.specs.Scope.{Scope}
 use Rattle.dm_scope.specs.TableLists.{add_to_list}
 

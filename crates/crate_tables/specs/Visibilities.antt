@@ -1,18 +1,18 @@
 -- Whom a module or an item of a crate is shown to, by the modules of a builder.
 use Rattle.std.specs.Prelude.{◌≡◌, ℕ, Bool, IsTrue, List, Option, None, Some, slice_get, unwrap_or, if◌then◌else◌}
-use Rattle.crate_modules.specs.declared.module_visibility.DeclaredVisibility.{DeclaredVisibility}
-use Rattle.crate_modules.specs.declared.module_visibility.DeclaredVisibility.TheVariants as shown
+use Rattle.crate_items.specs.declared.modules.module_visibility.DeclaredVisibility.{DeclaredVisibility}
+use Rattle.crate_items.specs.declared.modules.module_visibility.DeclaredVisibility.TheVariants as shown
 use Rattle.dm_base.specs.declared.visibility.Visibility.{Visibility}
 use Rattle.dm_base.specs.declared.visibility.Visibility.TheVariants.{Module, PubCrate, Public}
 use Rattle.dm_base.specs.declared.visibility.VisibilityExplicitness.{VisibilityExplicitness}
 use Rattle.dm_base.specs.declared.visibility.VisibilityExplicitness.TheVariants.{Explicit, Implicit}
-use Rattle.dm_check.specs.declared.held.HeldId.TheVariants as held
-use Rattle.dm_names.specs.declared.ids.Crate.{Crate}
-use Rattle.dm_ids.specs.declared.ids.ModuleId.{ModuleId}
+use Rattle.dm_maps.specs.declared.check.held.HeldId.TheVariants as held
+use Rattle.dm_base.specs.declared.ids.Crate.{Crate}
+use Rattle.dm_base.specs.declared.ids.ModuleId.{ModuleId}
 use Rattle.dm_maps.specs.Known.{knows}
 use Rattle.dm_maps.specs.World.{World}
-use Rattle.item_tree.specs.declared.visibility.RawVisibility.{RawVisibility}
-use Rattle.item_tree.specs.declared.visibility.RawVisibility.TheVariants as raw
+use Rattle.item_tree.specs.declared.items.visibility.RawVisibility.{RawVisibility}
+use Rattle.item_tree.specs.declared.items.visibility.RawVisibility.TheVariants as raw
 
 -- the ids of the modules of a crate's list, by their numbers there: none of a module that was left out
 abbrev pub Ids : Type 0

@@ -11,7 +11,7 @@ use crate::extern_lists::list_extern_crates;
 use crate::item_outline::ItemOutline;
 use crate::procedural_pairs::pair_procedural_macros;
 use crate::scope_lists::list_definitions;
-use crate_modules::declared_module::DeclaredModule;
+use crate_items::modules::declared_module::DeclaredModule;
 use dm_base::ids::Crate;
 use dm_maps::build_fault::BuildFault;
 use dm_maps::builder::WorldBuilder;

@@ -3,17 +3,17 @@ ghost use Rattle.std.specs.Prelude.{◌≡◌, ◌+◌, IfErr, IfOk, IsTrue, OnO
 ghost use Rattle.crate_tables.specs.BlockLists as spec;
 ghost use Rattle.crate_tables.specs.CrateMaps.{is_shortage};
 ghost use Rattle.crate_tables.specs.TextualMacros.{AllStayShown, StaysKnown};
-ghost use Rattle.dm_check.specs.declared.held.HeldId.TheVariants as held;
+ghost use Rattle.dm_maps.specs.declared.check.held.HeldId.TheVariants as held;
 ghost use Rattle.dm_maps.specs.Known.{knows};
 
 use crate::crate_table::CrateTable;
 use crate::item_place::{BlockKind, BlockPlace};
 use crate::scope_entry::{ScopeEntry, list_entry};
 use dm_base::ids::{ExternBlockId, ImplId};
-use dm_check::held::HeldId;
-use dm_check::known_ids::KnownIds;
 use dm_maps::build_fault::BuildFault;
 use dm_maps::builder::WorldBuilder;
+use dm_maps::check::held::HeldId;
+use dm_maps::check::known_ids::KnownIds;
 
 /// The number behind another. `OutOfNumbers` where there is none of 32 bits.
 pub fn behind(number: u32) -> Result<u32, BuildFault>

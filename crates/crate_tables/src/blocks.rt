@@ -1,19 +1,19 @@
 //! The `impl` and `extern` blocks of a crate, in its table.
 ghost use Rattle.std.specs.Prelude.{◌≡◌, IfOk, OnOk};
-ghost use Rattle.crate_modules.specs.Sources.{source_at};
+ghost use Rattle.crate_items.specs.Sources.{source_at};
 ghost use Rattle.crate_tables.specs.Blocks as spec;
 ghost use Rattle.crate_tables.specs.CrateTables.{IsTableOf};
-ghost use Rattle.dm_names.specs.declared.ids.Crate.{Crate};
+ghost use Rattle.dm_base.specs.declared.ids.Crate.{Crate};
 ghost use Rattle.dm_maps.specs.World.{World};
 
 use crate::crate_table::CrateTable;
 use crate::item_place::{BlockKind, BlockPlace};
 use crate::visibilities::id_at;
-use crate_items::declared_item::DeclaredItem;
-use crate_modules::modules::CrateModules;
-use crate_modules::source::Source;
-use item_tree::implementations::is_of_trait;
-use item_tree::item_kind::ItemKind;
+use crate_items::files::source::Source;
+use crate_items::items::declared_item::DeclaredItem;
+use crate_items::modules::CrateModules;
+use item_tree::items::implementations::is_of_trait;
+use item_tree::items::item_kind::ItemKind;
 use std::alloc::{AllocError, Global};
 
 /// Whether an item of a file is the implementation of a trait.

@@ -1,12 +1,12 @@
 //! The crates of a graph, added to a builder: each with its root alone, and their extern preludes.
 ghost use Rattle.std.specs.Prelude.{◌≡◌, ◌<◌, [], true, IfErr, IfOk, IsTrue, OnErr, OnOk, length, take};
 ghost use Rattle.std.specs.List.{list_any};
-ghost use Rattle.crate_modules.specs.declared.dependency.Dependency.{Dependency as Dep};
-ghost use Rattle.dm_check.specs.declared.held.HeldId.TheVariants as held;
+ghost use Rattle.crate_items.specs.declared.files.dependency.Dependency.{Dependency as Dep};
+ghost use Rattle.dm_maps.specs.declared.check.held.HeldId.TheVariants as held;
 ghost use Rattle.crate_tables.specs.CrateMaps.{is_shortage};
 ghost use Rattle.crate_tables.specs.CrateRoots as spec;
 ghost use Rattle.crate_tables.specs.NewModules.{in_edition};
-ghost use Rattle.dm_ids.specs.declared.ids.ModuleId.{ModuleId};
+ghost use Rattle.dm_base.specs.declared.ids.ModuleId.{ModuleId};
 ghost use Rattle.dm_maps.specs.Added.{IsAddedCrate, IsGrown};
 ghost use Rattle.dm_maps.specs.Build.{next_crate, no_world, with_crate};
 ghost use Rattle.dm_maps.specs.Known.{knows};
@@ -14,10 +14,10 @@ ghost use Rattle.dm_maps.specs.World.{scope_of};
 ghost use Rattle.dm_scope.specs.Scope.{no_scope};
 
 use crate::new_module::in_edition;
-use crate_items::crate_attributes::CrateAttribute;
-use crate_modules::crate_data::CrateData;
-use crate_modules::crate_graph::CrateGraph;
-use crate_modules::dependency::Dependency;
+use crate_items::files::crate_data::CrateData;
+use crate_items::files::crate_graph::CrateGraph;
+use crate_items::files::dependency::Dependency;
+use crate_items::items::crate_attributes::CrateAttribute;
 use dm_base::ids::{Crate, ModuleId};
 use dm_base::name::Name;
 use dm_maps::build_fault::BuildFault;

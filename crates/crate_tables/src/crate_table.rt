@@ -1,13 +1,13 @@
 //! What a crate has in a builder.
 ghost use Rattle.std.specs.Prelude.{◌≡◌, ◌++◌, ◌∷◌, [], OnOk, map};
-ghost use Rattle.dm_names.specs.declared.ids.Crate.{Crate};
+ghost use Rattle.dm_base.specs.declared.ids.Crate.{Crate};
 ghost use Rattle.dm_maps.specs.World.{World};
 ghost use Rattle.crate_tables.specs.CrateTables as spec;
 
 use crate::declared_name::DeclaredName;
 use crate::item_place::{BlockPlace, DefPlace, UsePlace};
 use crate::use_leaf::UseLeaf;
-use crate_items::declared_import::DeclaredImport;
+use crate_items::items::declared_import::DeclaredImport;
 use dm_base::ids::{ModuleId, UseId};
 use dm_base::item_ids::ModuleDefId;
 use dm_base::name::Name;

@@ -5,23 +5,23 @@ ghost use Rattle.crate_tables.specs.CrateTables.{IsNameOf};
 ghost use Rattle.crate_tables.specs.DeclaredWorlds as spec;
 ghost use Rattle.crate_tables.specs.declared.declared_world.NotDeclared.TheVariants.{OutOfMemory};
 ghost use Rattle.dm_base.specs.Tree.{same_module};
-ghost use Rattle.dm_check.specs.Holding.{import_holds};
-ghost use Rattle.dm_check.specs.declared.held.HeldId.{HeldId};
-ghost use Rattle.dm_ids.specs.declared.ids.ModuleId.{ModuleId};
+ghost use Rattle.dm_maps.specs.Holding.{import_holds};
+ghost use Rattle.dm_maps.specs.declared.check.held.HeldId.{HeldId};
+ghost use Rattle.dm_base.specs.declared.ids.ModuleId.{ModuleId};
 ghost use Rattle.dm_maps.specs.Known.{KnowsAll};
 ghost use Rattle.dm_maps.specs.PushRes.{StaysShown};
 ghost use Rattle.dm_maps.specs.World.{scope_of};
-ghost use Rattle.dm_shadowing.specs.Flags.{no_globs};
+ghost use Rattle.dm_scope.specs.Flags.{no_globs};
 ghost use Rattle.dm_scope.specs.Shows.{ScopePush, Shows};
 
 use crate::declared_name::DeclaredName;
 use dm_base::imports::ImportOrExternCrate;
 use dm_base::per_ns::PerNs;
 use dm_maps::builder::WorldBuilder;
+use dm_maps::check::check_tables::CheckTables;
 use dm_maps::fault::WorldFault;
 use dm_maps::world::World;
 use dm_scope::glob_imports::PerNsGlobImports;
-use dm_world::check::CheckTables;
 use std::alloc::{AllocError, Global};
 
 /// Why names were not declared.

@@ -4,8 +4,8 @@ ghost use Rattle.crate_items.specs.DeclaredItems.{linked_crate};
 ghost use Rattle.crate_tables.specs.CrateMaps.{is_shortage};
 ghost use Rattle.crate_tables.specs.CrateTables.{IsTableOf};
 ghost use Rattle.crate_tables.specs.ExternCrates as spec;
-ghost use Rattle.dm_check.specs.declared.held.HeldId.TheVariants as held;
-ghost use Rattle.dm_names.specs.declared.ids.Crate.{Crate};
+ghost use Rattle.dm_maps.specs.declared.check.held.HeldId.TheVariants as held;
+ghost use Rattle.dm_base.specs.declared.ids.Crate.{Crate};
 ghost use Rattle.dm_maps.specs.Added.{IsGrown};
 ghost use Rattle.dm_maps.specs.Known.{knows, KnowsAll};
 
@@ -15,8 +15,8 @@ use crate::crate_roots::root_id;
 use crate::crate_table::CrateTable;
 use crate::item_names::name_of;
 use crate::new_module::CrateView;
-use crate_items::declared_item::{DeclaredItem, LinkedCrate, linked_crate};
-use crate_modules::dependency::Dependency;
+use crate_items::files::dependency::Dependency;
+use crate_items::items::declared_item::{DeclaredItem, LinkedCrate, linked_crate};
 use dm_base::ids::{Crate, ExternCrateId, FileId, ModuleId};
 use dm_base::imports::ImportOrExternCrate;
 use dm_base::item_ids::ModuleDefId;
@@ -24,7 +24,7 @@ use dm_base::name::Name;
 use dm_base::per_ns::PerNs;
 use dm_maps::build_fault::BuildFault;
 use dm_maps::builder::WorldBuilder;
-use item_tree::item_kind::ItemKind;
+use item_tree::items::item_kind::ItemKind;
 use std::alloc::{AllocError, Global};
 
 /// An `extern crate` of a builder, and the root of the crate that it is of. There is none where no crate is known by the

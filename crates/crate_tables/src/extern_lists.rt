@@ -3,16 +3,16 @@ ghost use Rattle.std.specs.Prelude.{◌≡◌, true, IfErr, IfOk, IsTrue, OnOk, 
 ghost use Rattle.crate_tables.specs.CrateMaps.{is_shortage};
 ghost use Rattle.crate_tables.specs.ExternLists as spec;
 ghost use Rattle.crate_tables.specs.TextualMacros.{AllStayShown, StaysKnown};
-ghost use Rattle.dm_check.specs.declared.held.HeldId.TheVariants as held;
+ghost use Rattle.dm_maps.specs.declared.check.held.HeldId.TheVariants as held;
 ghost use Rattle.dm_maps.specs.Known.{knows};
 
 use crate::extern_crates::ExternCrateRow;
 use crate::scope_entry::{ScopeEntry, list_entry};
 use dm_base::ids::ExternCrateId;
-use dm_check::held::HeldId;
-use dm_check::known_ids::KnownIds;
 use dm_maps::build_fault::BuildFault;
 use dm_maps::builder::WorldBuilder;
+use dm_maps::check::held::HeldId;
+use dm_maps::check::known_ids::KnownIds;
 
 /// The extern crate of a number.
 fn numbered(number: usize) -> Result<ExternCrateId, BuildFault>

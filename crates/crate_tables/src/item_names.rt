@@ -1,7 +1,7 @@
 //! Names that items are bound under, to be declared.
 ghost use Rattle.std.specs.Prelude.{◌≡◌, IfOk};
 
-use crate_items::declared_item::DeclaredItem;
+use crate_items::items::declared_item::DeclaredItem;
 use dm_base::name::Name;
 use std::alloc::{AllocError, Global};
 

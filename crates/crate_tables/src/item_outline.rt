@@ -2,9 +2,9 @@
 ghost use Rattle.std.specs.Prelude.{◌≡◌, IfOk, map};
 ghost use Rattle.crate_tables.specs.ScopeLists as spec;
 
-use crate_items::declared_item::DeclaredItem;
+use crate_items::items::declared_item::DeclaredItem;
 use dm_base::ids::FileId;
-use item_tree::item_kind::ItemKind;
+use item_tree::items::item_kind::ItemKind;
 use std::alloc::{AllocError, Global};
 
 /// An item, as the lists of a scope need it.

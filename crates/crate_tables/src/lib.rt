@@ -1,9 +1,10 @@
-//! The tables of a world, filled from crates: their roots, modules and extern preludes.
+//! The tables of a world, filled from crates: their roots, modules and extern preludes, and associated items.
 #![tactic(auto)]
 
 mod all_items;
 mod all_lists;
 mod all_macros;
+pub mod assoc_items;
 pub mod block_lists;
 mod blocks;
 pub mod crate_defs;

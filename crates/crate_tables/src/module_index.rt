@@ -4,7 +4,7 @@ ghost use Rattle.crate_tables.specs.ModuleIndexes as spec;
 ghost use Rattle.crate_tables.specs.declared.item_outline.ItemOutline.{ItemOutline};
 
 use crate::item_outline::ItemOutline;
-use crate_modules::declared_module::DeclaredModule;
+use crate_items::modules::declared_module::DeclaredModule;
 use indexmap::IndexMap;
 use std::alloc::{AllocError, Global};
 use std::marker::Model;
@@ -19,7 +19,7 @@ pub(crate) struct ModuleIndex<'a> {
 
 impl<'a> Model for ModuleIndex<'a> {
     ghost use Rattle.std.specs.Prelude.{List};
-    ghost use Rattle.crate_modules.specs.DeclaredModules.{Module};
+    ghost use Rattle.crate_items.specs.DeclaredModules.{Module};
     ghost use Rattle.crate_tables.specs.ModuleIndexes.{AreNumbersOf};
 
     ghost Value = { List Module };

@@ -1,19 +1,19 @@
 //! Modules of a crate, as they are added to a builder.
 ghost use Rattle.std.specs.Prelude.{◌≡◌, IfOk, IsTrue, slice_get};
-ghost use Rattle.crate_modules.specs.Files as table;
+ghost use Rattle.crate_items.specs.Files as table;
 ghost use Rattle.crate_tables.specs.NewModules as spec;
 ghost use Rattle.dm_def_map.specs.Origins.{is_child};
 
-use crate_modules::declared_module::{Declaration, DeclaredModule};
-use crate_modules::file_table::FileTable;
-use crate_modules::module_visibility::DeclaredVisibility;
-use crate_modules::modules::CrateModules;
+use crate_items::files::file_table::FileTable;
+use crate_items::modules::CrateModules;
+use crate_items::modules::declared_module::{Declaration, DeclaredModule};
+use crate_items::modules::module_visibility::DeclaredVisibility;
 use dm_base::ids::{Crate, FileAstId, FileId};
 use dm_base::name::Name;
 use dm_base::source::{Edition, EditionedFileId, HirFileId, TreeId};
 use dm_maps::module_origin::ModuleOrigin;
 use item_tree::cfg::CfgOptions;
-use item_tree::visibility::RawVisibility;
+use item_tree::items::visibility::RawVisibility;
 use std::alloc::{AllocError, Global};
 use std::marker::Model;
 

@@ -3,7 +3,7 @@ ghost use Rattle.std.specs.Prelude.{◌≡◌, true, IfErr, IsTrue, OnErr, OnOk}
 ghost use Rattle.crate_tables.specs.CrateMaps.{is_shortage};
 ghost use Rattle.crate_tables.specs.ScopeEntries as spec;
 ghost use Rattle.crate_tables.specs.TextualMacros.{AllStayShown, StaysKnown};
-ghost use Rattle.dm_check.specs.declared.held.HeldId.TheVariants as held;
+ghost use Rattle.dm_maps.specs.declared.check.held.HeldId.TheVariants as held;
 ghost use Rattle.dm_maps.specs.Known.{knows};
 
 use dm_base::ids::{ConstId, ExternBlockId, ExternCrateId, ImplId, ModuleId};

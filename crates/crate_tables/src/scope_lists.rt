@@ -5,7 +5,7 @@ ghost use Rattle.crate_tables.specs.CrateTables.{IsTableOf};
 ghost use Rattle.crate_tables.specs.Visibilities.{id_at as home_of};
 ghost use Rattle.crate_tables.specs.ScopeLists as spec;
 ghost use Rattle.crate_tables.specs.TextualMacros.{AllStayShown, StaysKnown};
-ghost use Rattle.dm_check.specs.declared.held.HeldId.TheVariants as held;
+ghost use Rattle.dm_maps.specs.declared.check.held.HeldId.TheVariants as held;
 ghost use Rattle.dm_maps.specs.Known.{knows};
 
 use crate::crate_maps::parent_id;
@@ -15,12 +15,12 @@ use crate::item_outline::ItemOutline;
 use crate::module_index::ModuleIndex;
 use crate::scope_entry::{ScopeEntry, list_entry};
 use crate::visibilities::id_at;
-use crate_modules::declared_module::DeclaredModule;
+use crate_items::modules::declared_module::DeclaredModule;
 use dm_base::ids::{Crate, ModuleId};
 use dm_base::item_ids::ModuleDefId;
 use dm_maps::build_fault::BuildFault;
 use dm_maps::builder::WorldBuilder;
-use item_tree::item_kind::ItemKind;
+use item_tree::items::item_kind::ItemKind;
 use std::alloc::Global;
 
 /// Lists a definition in a module: by its name, or as a constant that has none.

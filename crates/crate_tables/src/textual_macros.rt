@@ -5,13 +5,13 @@ ghost use Rattle.crate_tables.specs.CrateMaps.{is_shortage};
 ghost use Rattle.crate_tables.specs.CrateTables.{IsTableOf};
 ghost use Rattle.crate_tables.specs.TextualMacros as spec;
 ghost use Rattle.crate_tables.specs.Visibilities.{id_at};
-ghost use Rattle.dm_check.specs.declared.held.HeldId.TheVariants as held;
+ghost use Rattle.dm_maps.specs.declared.check.held.HeldId.TheVariants as held;
 ghost use Rattle.dm_maps.specs.Known.{knows};
 
 use crate::crate_maps::parent_id;
 use crate::crate_table::CrateTable;
-use crate_items::declared_item::DeclaredItem;
-use crate_items::textual_scopes::TextualScope;
+use crate_items::items::declared_item::DeclaredItem;
+use crate_items::macros::textual_scopes::TextualScope;
 use dm_base::ids::{Crate, ModuleId};
 use dm_base::item_ids::MacroId;
 use dm_base::name::Name;

@@ -1,5 +1,5 @@
 //! Imports of the modules of a builder.
-use crate_items::declared_import::DeclaredImport;
+use crate_items::items::declared_import::DeclaredImport;
 use dm_base::ids::{ModuleId, UseId};
 use dm_base::visibility::Visibility;
 

@@ -1,17 +1,17 @@
 //! Whom a module or an item of a crate is shown to, by the modules of a builder.
 ghost use Rattle.std.specs.Prelude.{◌≡◌, IsTrue, unwrap_or};
-ghost use Rattle.dm_check.specs.Holding.{vis_holds};
-ghost use Rattle.dm_check.specs.declared.held.HeldId.TheVariants as held;
+ghost use Rattle.dm_maps.specs.Holding.{vis_holds};
+ghost use Rattle.dm_maps.specs.declared.check.held.HeldId.TheVariants as held;
 ghost use Rattle.dm_maps.specs.Known.{knows, KnowsAll};
 ghost use Rattle.crate_tables.specs.CrateTables.{IsTableOf};
 ghost use Rattle.crate_tables.specs.Visibilities as spec;
 
 use crate::crate_table::CrateTable;
-use crate_modules::module_visibility::DeclaredVisibility;
+use crate_items::modules::module_visibility::DeclaredVisibility;
 use dm_base::ids::{Crate, ModuleId};
 use dm_base::visibility::{Visibility, VisibilityExplicitness};
 use dm_maps::builder::WorldBuilder;
-use item_tree::visibility::RawVisibility;
+use item_tree::items::visibility::RawVisibility;
 
 /// The id of the module of a number in the list of a crate, unless it was left out.
 pub fn id_at(ids: &[Option<ModuleId>], number: usize) -> Option<ModuleId>

@@ -1,9 +1,9 @@
 //! The items of crates, and where those of a world are written.
-use crate_items::declared_item::{DeclaredItem, declared_items};
-use crate_items::module_items::module_items;
-use crate_modules::crate_graph::CrateGraph;
-use crate_modules::file_table::FileTable;
-use crate_modules::modules::CrateModules;
+use crate_items::files::crate_graph::CrateGraph;
+use crate_items::files::file_table::FileTable;
+use crate_items::items::declared_item::{DeclaredItem, declared_items};
+use crate_items::items::module_items::module_items;
+use crate_items::modules::CrateModules;
 use crate_tables::crate_table::CrateTable;
 use dm_base::ids::{Crate, FileId, UseId};
 use indexmap::IndexMap;

@@ -5,13 +5,13 @@ use crate::meanings::macro_meaning;
 use crate::notes::Cause;
 use crate::settled::Settled;
 use crate::shown::outwards;
-use crate_items::declared_item::DeclaredItem;
-use crate_items::macro_call::macro_call_path;
+use crate_items::items::declared_item::DeclaredItem;
+use crate_items::macros::macro_call::macro_call_path;
 use dm_base::ids::ModuleId;
 use dm_base::mod_path::{ModPath, PathKind};
 use dm_base::name::Name;
 use dm_maps::world::World;
-use item_tree::item_kind::ItemKind;
+use item_tree::items::item_kind::ItemKind;
 use std::alloc::{AllocError, Global};
 
 /// Where a macro call leads to.

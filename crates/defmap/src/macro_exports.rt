@@ -6,14 +6,14 @@ use crate::macro_calls::{item_of, path_of};
 use crate::macro_homes::MacroHome;
 use crate::places::source_of;
 use crate::settled::Settled;
-use crate_items::declared_item::DeclaredItem;
-use crate_modules::modules::CrateModules;
+use crate_items::items::declared_item::DeclaredItem;
+use crate_items::modules::CrateModules;
 use dm_base::ids::{Crate, ModuleId};
 use dm_maps::world::World;
 use indexmap::IndexSet;
-use item_tree::item_kind::ItemKind;
-use item_tree::lexeme::{Lexeme, LexemeKind};
-use item_tree::word::Word;
+use item_tree::items::item_kind::ItemKind;
+use item_tree::lexer::lexeme::{Lexeme, LexemeKind};
+use item_tree::lexer::word::Word;
 use std::alloc::{AllocError, Global};
 
 /// The macro that puts the items of a file in its place.

@@ -1,8 +1,8 @@
 //! The modules of the world in which macros are called among the items.
-use crate_items::declared_item::DeclaredItem;
+use crate_items::items::declared_item::DeclaredItem;
 use crate_tables::crate_table::CrateTable;
 use dm_base::ids::ModuleId;
-use item_tree::item_kind::ItemKind;
+use item_tree::items::item_kind::ItemKind;
 use std::alloc::{AllocError, Global};
 
 /// A module in which a macro is called, and where.

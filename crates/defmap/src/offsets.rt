@@ -1,9 +1,9 @@
 //! Where items and the leaves of their use trees begin.
-use crate_modules::source::Source;
+use crate_items::files::source::Source;
 use dm_base::ids::UseTreeIdx;
 use item_tree::ids::{item_range, use_tree_range};
 use item_tree::items::Range;
-use item_tree::use_tree::use_trees;
+use item_tree::items::use_tree::use_trees;
 use std::alloc::{AllocError, Global};
 
 /// Where an item begins.

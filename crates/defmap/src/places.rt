@@ -3,10 +3,10 @@ ghost use Rattle.std.specs.Prelude.{◌≡◌, length};
 
 use crate::offsets::{item_offset, leaf_offset};
 use crate::settled::Settled;
-use crate_modules::file_table::FileTable;
-use crate_modules::line_index::LineIndex;
-use crate_modules::modules::CrateModules;
-use crate_modules::source::Source;
+use crate_items::files::file_table::FileTable;
+use crate_items::files::line_index::LineIndex;
+use crate_items::files::source::Source;
+use crate_items::modules::CrateModules;
 use dm_base::ids::{ExternCrateId, FileId, UseId, UseTreeIdx};
 use dm_base::imports::ImportOrExternCrate;
 use dm_base::item_in_ns::ItemModules;

@@ -1,14 +1,14 @@
 //! The glob by which the crate that is asked about names its prelude (`#[prelude_import]`).
 use crate::item_places::ItemPlace;
 use crate::settled::Settled;
-use crate_items::declared_import::{DeclaredImport, declared_imports};
-use crate_items::declared_item::DeclaredItem;
-use crate_modules::file_table::FileTable;
-use crate_modules::modules::CrateModules;
+use crate_items::files::file_table::FileTable;
+use crate_items::items::declared_import::{DeclaredImport, declared_imports};
+use crate_items::items::declared_item::DeclaredItem;
+use crate_items::modules::CrateModules;
 use dm_base::ids::{Crate, ModuleId, UseId};
 use dm_maps::world::World;
 use dm_maps::world::maps_of::crate_def_map;
-use item_tree::imports::ImportKind;
+use item_tree::items::imports::ImportKind;
 use std::alloc::{AllocError, Global};
 
 /// A use that names a prelude: the module that it stands in, and its glob.

@@ -1,10 +1,10 @@
 //! The crates that are asked about, collected and settled.
 use crate::item_places::{ItemPlace, all_items, use_places};
 use crate::stats::Effort;
-use crate_items::declared_item::DeclaredItem;
-use crate_modules::crate_graph::CrateGraph;
-use crate_modules::file_table::FileTable;
-use crate_modules::modules::CrateModules;
+use crate_items::files::crate_graph::CrateGraph;
+use crate_items::files::file_table::FileTable;
+use crate_items::items::declared_item::DeclaredItem;
+use crate_items::modules::CrateModules;
 use crate_tables::crate_filling::Reading;
 use dm_base::ids::{Crate, UseId};
 use dm_collector::collect::{Collected, collect};

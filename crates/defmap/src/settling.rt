@@ -1,8 +1,8 @@
 //! From what was read to the settled world of the crates.
 use crate::settled::{NotSettled, Settled, world_of};
 use crate::stats::Effort;
-use crate_modules::crate_graph::CrateGraph;
-use crate_modules::file_table::FileTable;
+use crate_items::files::crate_graph::CrateGraph;
+use crate_items::files::file_table::FileTable;
 use crate_tables::crate_filling::Reading;
 use defmap_inputs::complaints::Complaints;
 use defmap_inputs::crates_read::CratesRead;

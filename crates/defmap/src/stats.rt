@@ -1,7 +1,7 @@
 //! How much was read and done, and how long it took.
 use crate::settled::Settled;
-use crate_modules::file_table::FileTable;
-use crate_modules::modules::CrateModules;
+use crate_items::files::file_table::FileTable;
+use crate_items::modules::CrateModules;
 use dm_base::ids::FileId;
 use std::alloc::AllocError;
 use std::fmt::Write;

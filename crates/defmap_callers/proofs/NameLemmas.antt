@@ -2,9 +2,9 @@
 use Rattle.std.proofs.Common.{◌≡◌, ◌∙◌, Bool, List, [], ◌∷◌, Option, None, Some, ap, refl, slice_get}
 use Rattle.std.specs.Borrow.{Bor}
 use Rattle.std.specs.List.{cons_option, filter_map}
-use Rattle.dm_names.specs.Names.{Name}
+use Rattle.dm_base.specs.Names.{Name}
 use Rattle.dm_base.specs.declared.visibility.Visibility.{Visibility}
-use Rattle.dm_bindings.specs.Lookups.{AsksName, AsksNames}
+use Rattle.dm_scope.specs.BindingLookups.{AsksName, AsksNames}
 
 -- the first answer that is there, where each answer is that of a test
 pub AsksNames-first : {F T : Type 0} (step : F → Bor Name → Visibility → Bool → Option T → F → Type 0) (xs : List (Name × Visibility × Bool)) (f : F) (r : Option T) (g : F) → AsksNames step xs f r g

@@ -2,7 +2,7 @@
 use Rattle.std.proofs.Common.{◌≡◌, ◌<◌, Bool, true, false, ◌&&◌, Option, Some, is_some, nat_lt, refl, sym, ap, ◌∙◌}
 use Rattle.std.proofs.lemmas.Bool.{and_parts, ltb-true, agree_below_at}
 use Rattle.std.specs.Option.{option_map_or}
-use Rattle.dm_ids.specs.declared.ids.ModuleId.{ModuleId}
+use Rattle.dm_base.specs.declared.ids.ModuleId.{ModuleId}
 use Rattle.dm_base.specs.Tree.{Tree, IsTree, IsKnown, same_crate, same_map, crate_of, containing, outside, in_block_map}
 use Rattle.dm_base.specs.IdLaws.{same_crate-true, same_map-true}
 use Rattle.defmap_callers.specs.SmallTree.{tree_by, small_places, small_blocks}

@@ -1,6 +1,6 @@
 -- Which names show an item to every crate.
 use Rattle.std.specs.Prelude.{Bool, Option, None, Some, if◌then◌else◌}
-use Rattle.dm_names.specs.Names.{Name}
+use Rattle.dm_base.specs.Names.{Name}
 use Rattle.dm_base.specs.Visibility.{is_public}
 use Rattle.dm_base.specs.declared.visibility.Visibility.{Visibility}
 

@@ -5,3 +5,4 @@ pub mod Building
 pub mod Waiting
 pub mod Finding
 pub mod Program
+pub mod Listing

@@ -1,10 +1,10 @@
 -- A mock world of scopes for tests: each use is in the module of its number.
 use Rattle.std.specs.Prelude.{List, Option, None, Some, codes}
-use Rattle.dm_names.specs.Names.{same_name}
-use Rattle.dm_ids.specs.Styles.{fn_like, derive}
-use Rattle.dm_ids.specs.declared.item_ids.MacroId.{MacroId}
-use Rattle.dm_ids.specs.declared.item_ids.MacroId.TheVariants.{Macro2Id, MacroRulesId, ProcMacroId}
-use Rattle.dm_ids.specs.declared.macros.MacroCallStyles.{MacroCallStyles}
+use Rattle.dm_base.specs.Names.{same_name}
+use Rattle.dm_base.specs.Styles.{fn_like, derive}
+use Rattle.dm_base.specs.declared.item_ids.MacroId.{MacroId}
+use Rattle.dm_base.specs.declared.item_ids.MacroId.TheVariants.{Macro2Id, MacroRulesId, ProcMacroId}
+use Rattle.dm_base.specs.declared.macros.MacroCallStyles.{MacroCallStyles}
 use Rattle.dm_scope.specs.Scope.{Scope}
 use Rattle.dm_scope.specs.Tables.{Tables}
 

@@ -1,24 +1,24 @@
 -- A crate with a struct in its root, and what its name means there.
 use Rattle.std.specs.Prelude.{◌≡◌, [], ◌∷◌, None, Some, codes, refl}
-use Rattle.dm_names.specs.Names.{Name}
-use Rattle.dm_ids.specs.declared.ids.ModuleId.{ModuleId}
-use Rattle.dm_ids.specs.declared.item_ids.AdtId.TheVariants as adt
-use Rattle.dm_ids.specs.declared.item_ids.ItemKind.TheVariants.{Struct}
-use Rattle.dm_ids.specs.declared.item_ids.ModuleDefId.{ModuleDefId}
-use Rattle.dm_ids.specs.declared.item_ids.ModuleDefId.TheVariants as def
-use Rattle.dm_names.specs.declared.edition.Edition.TheVariants.{Edition2021}
-use Rattle.dm_ids.specs.declared.source.EditionedFileId.{EditionedFileId}
+use Rattle.dm_base.specs.Names.{Name}
+use Rattle.dm_base.specs.declared.ids.ModuleId.{ModuleId}
+use Rattle.dm_base.specs.declared.item_ids.AdtId.TheVariants as adt
+use Rattle.dm_base.specs.declared.item_ids.ItemKind.TheVariants.{Struct}
+use Rattle.dm_base.specs.declared.item_ids.ModuleDefId.{ModuleDefId}
+use Rattle.dm_base.specs.declared.item_ids.ModuleDefId.TheVariants as def
+use Rattle.dm_base.specs.declared.edition.Edition.TheVariants.{Edition2021}
+use Rattle.dm_base.specs.declared.source.EditionedFileId.{EditionedFileId}
 use Rattle.dm_base.specs.PerNs.{definition, type_alone}
 use Rattle.dm_base.specs.declared.mod_path.PathKind.TheVariants.{Plain}
 use Rattle.dm_base.specs.declared.per_ns.PerNs.{PerNs}
 use Rattle.dm_base.specs.declared.visibility.Visibility.TheVariants.{Public}
 use Rattle.dm_def_map.specs.declared.modules.modes.BuiltinShadowMode.TheVariants.{Module}
-use Rattle.dm_shadowing.specs.Flags.{no_globs}
+use Rattle.dm_scope.specs.Flags.{no_globs}
 use Rattle.dm_maps.specs.Build.{no_world, with_crate, with_item}
 use Rattle.dm_maps.specs.PushRes.{with_push}
 use Rattle.dm_maps.specs.World.{World}
-use Rattle.dm_paths.specs.Paths.{answer, asked}
-use Rattle.dm_paths.specs.declared.result.ResolveMode.TheVariants.{Other}
+use Rattle.hir_def_map.specs.Paths.{answer, asked}
+use Rattle.hir_def_map.specs.declared.path_resolution.result.ResolveMode.TheVariants.{Other}
 
 abbrev pub root : ModuleId
 root = record { 0 = 0 }

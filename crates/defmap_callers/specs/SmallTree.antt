@@ -1,8 +1,8 @@
 -- A mock module tree in two tables, and a small instance of it.
 use Rattle.std.specs.Prelude.{ℕ, List, [], ◌∷◌, Some, None, nat_lt, length, slice_get}
 use Rattle.std.specs.Option.{option_map_or, option_and_then}
-use Rattle.dm_ids.specs.declared.ids.ModuleId.{ModuleId}
-use Rattle.dm_ids.specs.declared.ids.MapId.{MapId}
+use Rattle.dm_base.specs.declared.ids.ModuleId.{ModuleId}
+use Rattle.dm_base.specs.declared.ids.MapId.{MapId}
 use Rattle.dm_base.specs.Tree.{Tree}
 use Rattle.defmap_callers.specs.declared.tree.Place.{Place}
 

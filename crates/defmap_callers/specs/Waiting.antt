@@ -1,8 +1,8 @@
 -- An unresolved import, by its index.
 use Rattle.std.specs.Prelude.{ℕ, List, Option, slice_get}
 use Rattle.std.specs.Option.{option_map}
-use Rattle.dm_ids.specs.declared.imports.ImportId.{ImportId}
-use Rattle.dm_pending.specs.Rounds.{Pending}
+use Rattle.dm_base.specs.declared.imports.ImportId.{ImportId}
+use Rattle.dm_retry.specs.Rounds.{Pending}
 
 -- the import at an index
 abbrev pub import_at : List Pending → ℕ → Option ImportId

@@ -4,7 +4,7 @@ ghost use Rattle.std.specs.Option.{ForSome};
 ghost use Rattle.dm_base.specs.PerNs.{items_of, over, seen_by, type_alone};
 ghost use Rattle.dm_base.specs.Tree.{IsKnown, sees};
 ghost use Rattle.dm_base.specs.Visibility.{NamesKnown};
-ghost use Rattle.dm_ids.specs.declared.ids.ModuleId.{ModuleId};
+ghost use Rattle.dm_base.specs.declared.ids.ModuleId.{ModuleId};
 
 use crate::tree::SmallTree;
 use dm_base::ids::{MapId, ModuleId};

@@ -1,6 +1,6 @@
 //! Example callers, shown in docs/USING.md: modules that are built in a loop, and what they bind.
 ghost use Rattle.std.specs.Prelude.{◌≡◌, ◌++◌, ◌∷◌, [], All, IfOk, IsTrue, OnErr, OnOk, length};
-ghost use Rattle.dm_ids.specs.declared.ids.ModuleId.{ModuleId};
+ghost use Rattle.dm_base.specs.declared.ids.ModuleId.{ModuleId};
 ghost use Rattle.dm_scope.specs.Scope.{no_scope};
 ghost use Rattle.dm_scope.specs.Shows.{Shows};
 ghost use Rattle.dm_def_map.specs.Origins.{is_child};
@@ -13,13 +13,13 @@ use dm_base::item_ids::ModuleDefId;
 use dm_base::name::Name;
 use dm_base::source::{Edition, EditionedFileId};
 use dm_base::visibility::Visibility;
-use dm_check::fault::WorldFault;
 use dm_maps::build_fault::BuildFault;
 use dm_maps::builder::WorldBuilder;
+use dm_maps::check::check_tables::CheckTables;
+use dm_maps::check::fault::WorldFault;
 use dm_maps::module_origin::ModuleOrigin;
 use dm_maps::world::World;
 use dm_scope::glob_imports::PerNsGlobImports;
-use dm_world::check::CheckTables;
 use std::alloc::{AllocError, Global};
 
 /// The tables of one crate with a public module of each name below its root, and these modules: none of them binds

@@ -1,6 +1,6 @@
 //! Example callers, shown in docs/USING.md: a collector, which fills globs between rounds until nothing changes.
 ghost use Rattle.std.specs.Prelude.{◌≡◌, IfOk, IfSome};
-ghost use Rattle.dm_pending.specs.Rounds.{unresolved};
+ghost use Rattle.dm_retry.specs.Rounds.{unresolved};
 ghost use Rattle.dm_retry.specs.Settling.{IsFixedPoint};
 
 use crate::maps::Refused;

@@ -1,8 +1,8 @@
 //! Example callers, shown in docs/USING.md: what completion, import finding and bodies ask for, and dumps.
 ghost use Rattle.std.specs.Prelude.{◌≡◌, IfOk, IsTrue, None, Some, map, slice_get, string_bytes};
 ghost use Rattle.std.specs.List.{filter_map};
-ghost use Rattle.dm_check.specs.declared.held.HeldId.TheVariants as held;
-ghost use Rattle.dm_check.specs.Holding.{local_holds, path_holds};
+ghost use Rattle.dm_maps.specs.declared.check.held.HeldId.TheVariants as held;
+ghost use Rattle.dm_maps.specs.Holding.{local_holds, path_holds};
 ghost use Rattle.dm_maps.specs.Known.{knows, KnowsAll};
 ghost use Rattle.dm_maps.specs.MapDumps.{map_dump};
 ghost use Rattle.dm_maps.specs.World.{crate_map, scope_of};
@@ -10,8 +10,8 @@ ghost use Rattle.dm_def_map.specs.Maps.{Map};
 ghost use Rattle.dm_def_map.specs.declared.modules.modes.BuiltinShadowMode.TheVariants.{Module};
 ghost use Rattle.dm_scope.specs.Lookups.{names_for};
 ghost use Rattle.dm_scope.specs.Sorted.{AreEntries, deref_entry};
-ghost use Rattle.dm_paths.specs.Paths.{answer_alone, asked};
-ghost use Rattle.dm_paths.specs.declared.result.ResolveMode.TheVariants.{Other};
+ghost use Rattle.hir_def_map.specs.Paths.{answer_alone, asked};
+ghost use Rattle.hir_def_map.specs.declared.path_resolution.result.ResolveMode.TheVariants.{Other};
 ghost use Rattle.defmap_callers.specs.Finding.{public_name};
 
 use dm_base::ids::{Crate, ModuleId};

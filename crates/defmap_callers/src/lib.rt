@@ -6,6 +6,7 @@ pub mod base;
 pub mod building;
 pub mod collecting;
 pub mod finding;
+pub mod listing;
 pub mod maps;
 pub mod modules;
 pub mod paths;

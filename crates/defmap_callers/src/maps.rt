@@ -1,9 +1,9 @@
 //! Example callers, shown in docs/USING.md: builders, checked worlds, and their def maps.
 ghost use Rattle.std.specs.Prelude.{◌≡◌, ◌∷◌, [], false, None, Some, IfOk, IfSome, IsSome, IsTrue, OnErr, OnOk, length, nat_lt, slice_get};
 ghost use Rattle.std.specs.List.{filter_map};
-ghost use Rattle.dm_names.specs.Names.{find_name};
-ghost use Rattle.dm_ids.specs.declared.ids.ModuleId.{ModuleId};
-ghost use Rattle.dm_ids.specs.declared.imports.ImportOrExternCrate.TheVariants.{Glob};
+ghost use Rattle.dm_base.specs.Names.{find_name};
+ghost use Rattle.dm_base.specs.declared.ids.ModuleId.{ModuleId};
+ghost use Rattle.dm_base.specs.declared.imports.ImportOrExternCrate.TheVariants.{Glob};
 ghost use Rattle.dm_base.specs.PerNs.{type_alone};
 ghost use Rattle.dm_base.specs.Tree.{same_module};
 ghost use Rattle.dm_maps.specs.Build.{no_world, with_crate, with_rules};
@@ -28,6 +28,7 @@ use dm_base::symbol::Symbol;
 use dm_base::visibility::Visibility;
 use dm_maps::build_fault::BuildFault;
 use dm_maps::builder::WorldBuilder;
+use dm_maps::check::check_tables::CheckTables;
 use dm_maps::crate_setting::CrateSetting;
 use dm_maps::def_map::DefMap;
 use dm_maps::module_data::ModuleData;
@@ -35,7 +36,6 @@ use dm_maps::rules::Rules;
 use dm_maps::world::World;
 use dm_maps::world::maps_of::{AskWorld, block_def_map, crate_def_map};
 use dm_scope::glob_imports::PerNsGlobImports;
-use dm_world::check::CheckTables;
 use std::alloc::{AllocError, Global};
 
 /// The tables of one crate, empty but for its root.

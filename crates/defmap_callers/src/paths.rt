@@ -1,17 +1,17 @@
 //! Example callers, shown in docs/USING.md: path resolution.
 ghost use Rattle.std.specs.Prelude.{◌≡◌, false, IfOk, IsTrue, None, OnErr, Some, slice_get};
-ghost use Rattle.dm_ids.specs.declared.imports.ImportOrExternCrate.TheVariants.{Import};
-ghost use Rattle.dm_check.specs.declared.held.HeldId.TheVariants as held;
-ghost use Rattle.dm_check.specs.Holding.{local_holds, path_holds, res_holds};
-ghost use Rattle.dm_check.specs.Pushes.{push_holds};
+ghost use Rattle.dm_base.specs.declared.imports.ImportOrExternCrate.TheVariants.{Import};
+ghost use Rattle.dm_maps.specs.declared.check.held.HeldId.TheVariants as held;
+ghost use Rattle.dm_maps.specs.Holding.{local_holds, path_holds, res_holds};
+ghost use Rattle.dm_maps.specs.Pushes.{push_holds};
 ghost use Rattle.dm_maps.specs.Cut.{among};
 ghost use Rattle.dm_maps.specs.Known.{knows, KnowsAll};
 ghost use Rattle.dm_maps.specs.World.{crate_map, scope_of};
 ghost use Rattle.dm_def_map.specs.Maps.{LocalMap, Map};
 ghost use Rattle.dm_def_map.specs.declared.modules.modes.BuiltinShadowMode.TheVariants.{Module};
 ghost use Rattle.dm_scope.specs.Shows.{PushShows, push_of};
-ghost use Rattle.dm_paths.specs.Paths.{answer, asked};
-ghost use Rattle.dm_paths.specs.declared.result.ResolveMode.TheVariants.{Other};
+ghost use Rattle.hir_def_map.specs.Paths.{answer, asked};
+ghost use Rattle.hir_def_map.specs.declared.path_resolution.result.ResolveMode.TheVariants.{Other};
 
 use dm_base::ids::{Crate, ModuleId};
 use dm_base::imports::{ImportId, ImportOrExternCrate};

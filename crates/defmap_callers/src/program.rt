@@ -10,12 +10,12 @@ use dm_base::name::Name;
 use dm_base::per_ns::PerNs;
 use dm_base::source::{Edition, EditionedFileId};
 use dm_base::visibility::Visibility;
-use dm_check::fault::WorldFault;
 use dm_maps::build_fault::BuildFault;
 use dm_maps::builder::WorldBuilder;
+use dm_maps::check::check_tables::CheckTables;
+use dm_maps::check::fault::WorldFault;
 use dm_maps::world::World;
 use dm_scope::glob_imports::PerNsGlobImports;
-use dm_world::check::CheckTables;
 use std::alloc::{AllocError, Global};
 
 /// Why there is no answer.

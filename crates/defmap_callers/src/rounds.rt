@@ -2,9 +2,9 @@
 ghost use Rattle.std.specs.Prelude.{◌≡◌, ◌<◌, ℕ, None, IfOk, IfSome, OnErr, OnOk, length};
 ghost use Rattle.std.specs.Bool.{OnTrue};
 ghost use Rattle.std.specs.Option.{option_and_then};
-ghost use Rattle.dm_pending.specs.Known.{refusal};
+ghost use Rattle.dm_retry.specs.Known.{refusal};
 ghost use Rattle.dm_base.specs.PerNs.{type_alone};
-ghost use Rattle.dm_pending.specs.Rounds.{pushed_into, unresolved};
+ghost use Rattle.dm_retry.specs.Rounds.{pushed_into, unresolved};
 ghost use Rattle.dm_retry.specs.Retries.{NoneDue, RestsAt};
 ghost use Rattle.dm_retry.specs.Settling.{IsFixedPoint};
 ghost use Rattle.defmap_callers.specs.Waiting.{import_at};

@@ -1,12 +1,12 @@
 //! Example callers, shown in docs/USING.md: item scopes.
 ghost use Rattle.std.specs.Prelude.{◌≡◌, ◌↔◌, ◌<◌, ◌^◌, IsTrue, None, Some, List, length, option_map};
-ghost use Rattle.dm_ids.specs.declared.ids.ModuleId.{ModuleId};
+ghost use Rattle.dm_base.specs.declared.ids.ModuleId.{ModuleId};
 ghost use Rattle.dm_base.specs.PerNs.{type_alone};
 ghost use Rattle.dm_scope.specs.Chains.{EndsIn, leads, ends};
-ghost use Rattle.dm_shadowing.specs.Flags.{Globs};
+ghost use Rattle.dm_scope.specs.Flags.{Globs};
 ghost use Rattle.dm_scope.specs.Lookups.{def_and_vis};
 ghost use Rattle.dm_scope.specs.Push.{types_reading};
-ghost use Rattle.dm_bindings.specs.Pushes.{binding};
+ghost use Rattle.dm_scope.specs.Pushes.{binding};
 ghost use Rattle.dm_scope.specs.Shows.{PushShows, ScopePush, Shows, push_of, pushes_in};
 ghost use Rattle.dm_scope.specs.Tables.{all_records};
 

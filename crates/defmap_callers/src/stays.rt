@@ -1,13 +1,13 @@
 //! Example callers, shown in docs/USING.md: what stays where something is set, where a scope is written, and where a
 //! world is pushed into.
 ghost use Rattle.std.specs.Prelude.{◌≡◌, ◌↔◌, false, IfOk, IsTrue, None, OnErr, OnOk, Some, slice_get};
-ghost use Rattle.dm_ids.specs.declared.ids.ModuleId.{ModuleId};
+ghost use Rattle.dm_base.specs.declared.ids.ModuleId.{ModuleId};
 ghost use Rattle.dm_base.specs.PerNs.{type_alone};
 ghost use Rattle.dm_base.specs.Tree.{IsKnown, crate_of, same_module};
-ghost use Rattle.dm_check.specs.Holding.{path_holds};
-ghost use Rattle.dm_check.specs.TablesHold.{raw_holds};
-ghost use Rattle.dm_check.specs.declared.held.HeldId.TheVariants as held;
-ghost use Rattle.dm_check.specs.Pushes.{push_holds};
+ghost use Rattle.dm_maps.specs.Holding.{path_holds};
+ghost use Rattle.dm_maps.specs.TablesHold.{raw_holds};
+ghost use Rattle.dm_maps.specs.declared.check.held.HeldId.TheVariants as held;
+ghost use Rattle.dm_maps.specs.Pushes.{push_holds};
 ghost use Rattle.dm_maps.specs.BuildMaps.{with_prelude};
 ghost use Rattle.dm_maps.specs.Known.{knows, KnowsAll};
 ghost use Rattle.dm_maps.specs.Trees.{tree_of};
@@ -15,9 +15,9 @@ ghost use Rattle.dm_maps.specs.World.{crate_map, scope_of};
 ghost use Rattle.dm_def_map.specs.Maps.{LocalMap, Map};
 ghost use Rattle.dm_def_map.specs.declared.modules.modes.BuiltinShadowMode.TheVariants.{Module};
 ghost use Rattle.dm_scope.specs.Shows.{PushShows, push_of};
-ghost use Rattle.dm_paths.specs.Paths.{asked, prelude_answer};
+ghost use Rattle.hir_def_map.specs.Paths.{asked, prelude_answer};
 ghost use Rattle.hir_def_map.specs.RawVisibilities.{raw_visibility};
-ghost use Rattle.dm_paths.specs.declared.result.ResolveMode.TheVariants.{Other};
+ghost use Rattle.hir_def_map.specs.declared.path_resolution.result.ResolveMode.TheVariants.{Other};
 ghost use Rattle.defmap_callers.specs.Maps.{LiesIn};
 
 use crate::scopes;

@@ -1,7 +1,7 @@
 //! The words of the command line.
 use crate::failure::{Failure, Status};
 use clap::{Arg, ArgAction, ArgMatches, Command};
-use dm_ids::source::Edition;
+use dm_base::source::Edition;
 use std::alloc::{AllocError, Global};
 
 /// What is asked.

@@ -1,8 +1,8 @@
 //! The targets of Cargo's packages, and when a dependency counts for one.
 use crate::arguments::edition_of;
 use crate::cfg_file::options_of;
-use crate_modules::source::Source;
-use dm_ids::source::Edition;
+use crate_items::files::source::Source;
+use dm_base::source::Edition;
 use serde_json::Value;
 use std::alloc::{AllocError, Global};
 

@@ -1,5 +1,5 @@
 //! The options that crates are compiled with, as `rustc --print cfg` prints them.
-use dm_ids::symbol::Symbol;
+use dm_base::symbol::Symbol;
 use item_tree::cfg::CfgOptions;
 use std::alloc::{AllocError, Global};
 

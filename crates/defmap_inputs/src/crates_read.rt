@@ -5,8 +5,8 @@ use crate::failure::Failure;
 use crate::graph::ordered_graph;
 use crate::inputs::{Inputs, read_inputs};
 use crate::plan::CratePlan;
-use crate_modules::crate_graph::CrateGraph;
-use crate_modules::file_table::FileTable;
+use crate_items::files::crate_graph::CrateGraph;
+use crate_items::files::file_table::FileTable;
 use std::alloc::{AllocError, Global};
 use std::rt::Files;
 

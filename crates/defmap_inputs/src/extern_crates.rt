@@ -1,7 +1,7 @@
 //! The plans of the crates that the command line names.
 use crate::arguments::{Arguments, ExternWord};
 use crate::plan::CratePlan;
-use dm_ids::source::Edition;
+use dm_base::source::Edition;
 use std::alloc::{AllocError, Global};
 
 /// Lets a plan know the crates of the words before a place. They stand behind the crate that is asked about.

@@ -2,12 +2,12 @@
 use crate::cfg_file::options_of;
 use crate::complaints::Complaints;
 use crate::plan::CratePlan;
-use crate_modules::crate_data::CrateData;
-use crate_modules::crate_graph::CrateGraph;
-use crate_modules::crate_order::OrderFault;
-use crate_modules::dependency::Dependency;
-use dm_ids::ids::{Crate, FileId};
-use dm_ids::name::Name;
+use crate_items::files::crate_data::CrateData;
+use crate_items::files::crate_graph::CrateGraph;
+use crate_items::files::crate_order::OrderFault;
+use crate_items::files::dependency::Dependency;
+use dm_base::ids::{Crate, FileId};
+use dm_base::name::Name;
 use std::alloc::{AllocError, Global};
 use std::fmt::Write;
 

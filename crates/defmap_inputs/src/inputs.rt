@@ -9,7 +9,7 @@ use crate::metadata::planned_by;
 use crate::plan::CratePlan;
 use crate::reading::{FileText, input_text, needed_text, unread_line};
 use crate::sysroot::add_sysroot;
-use dm_ids::ids::FileId;
+use dm_base::ids::FileId;
 use std::alloc::{AllocError, Global};
 use std::rt::Files;
 

@@ -2,11 +2,11 @@
 use crate::complaints::Complaints;
 use crate::outlines::{Outline, outlines_of};
 use crate::reading::{FileText, file_text, unread_line};
-use crate_modules::file_table::{AddFileError, FileTable};
-use crate_modules::mod_resolution::{Candidate, ModDir};
-use crate_modules::source::Source;
-use dm_ids::ids::FileId;
-use dm_ids::source::Edition;
+use crate_items::files::file_table::{AddFileError, FileTable};
+use crate_items::files::source::Source;
+use crate_items::modules::mod_resolution::{Candidate, ModDir};
+use dm_base::ids::FileId;
+use dm_base::source::Edition;
 use indexmap::IndexSet;
 use item_tree::cfg::CfgOptions;
 use std::alloc::{AllocError, Global};

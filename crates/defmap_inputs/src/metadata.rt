@@ -7,7 +7,7 @@ use crate::cargo_target::{
 use crate::failure::{Failure, Status};
 use crate::plan::CratePlan;
 use crate::reading::needed_text;
-use dm_ids::source::Edition;
+use dm_base::source::Edition;
 use indexmap::IndexMap;
 use serde_json::Value;
 use std::alloc::{AllocError, Global};

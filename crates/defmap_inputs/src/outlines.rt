@@ -1,10 +1,10 @@
 //! The modules of a file whose items stand in files of their own.
-use crate_modules::mod_items::ModItem;
-use crate_modules::mod_resolution::{Candidate, ModDir};
-use crate_modules::source::Source;
-use dm_ids::name::Name;
+use crate_items::files::source::Source;
+use crate_items::modules::mod_items::ModItem;
+use crate_items::modules::mod_resolution::{Candidate, ModDir};
+use dm_base::name::Name;
 use indexmap::IndexMap;
-use item_tree::span::{name_text, string_text};
+use item_tree::lexer::span::{name_text, string_text};
 use std::alloc::{AllocError, Global};
 
 /// A module whose items stand in a file of its own, and where that is looked for.

@@ -1,5 +1,5 @@
 //! The crates that are to be collected, and what each depends on.
-use dm_ids::source::Edition;
+use dm_base::source::Edition;
 use std::alloc::{AllocError, Global};
 use std::fmt::Write;
 

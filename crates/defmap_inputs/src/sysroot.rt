@@ -2,7 +2,7 @@
 use crate::arguments::edition_of;
 use crate::plan::CratePlan;
 use crate::reading::{FileText, file_text};
-use dm_ids::source::Edition;
+use dm_base::source::Edition;
 use std::alloc::{AllocError, Global};
 use std::rt::Files;
 

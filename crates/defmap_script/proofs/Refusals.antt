@@ -2,15 +2,15 @@
 -- lines.
 use Rattle.std.proofs.Common.{rules, ◌≡◌, ℕ, List, Option, Result, Ok, Err, refl, sym, ap, subst, inl, inr}
 use Rattle.std.specs.Result.{IsErr, IsErrAnd}
-use Rattle.dm_names.specs.Names.{Name}
-use Rattle.dm_ids.specs.declared.imports.ImportOrExternCrate.{ImportOrExternCrate}
+use Rattle.dm_base.specs.Names.{Name}
+use Rattle.dm_base.specs.declared.imports.ImportOrExternCrate.{ImportOrExternCrate}
 use Rattle.dm_base.specs.declared.per_ns.PerNs.{PerNs}
-use Rattle.dm_check.specs.Pushes.{push_holds}
-use Rattle.dm_ids.specs.declared.ids.ModuleId.{ModuleId}
+use Rattle.dm_maps.specs.Pushes.{push_holds}
+use Rattle.dm_base.specs.declared.ids.ModuleId.{ModuleId}
 use Rattle.dm_maps.specs.Known.{KnowsAll}
 use Rattle.dm_maps.specs.World.{World}
 use Rattle.dm_def_map.specs.Maps.{Map, LocalMap}
-use Rattle.dm_shadowing.specs.Flags.{Globs}
+use Rattle.dm_scope.specs.Flags.{Globs}
 use Rattle.defmap_script.specs.declared.engine.Reply.{Reply}
 use Rattle.defmap_script.specs.declared.engine.Reply.TheVariants.{Nothing}
 use Rattle.defmap_script.specs.declared.engine.Stage.TheVariants.{Checked}

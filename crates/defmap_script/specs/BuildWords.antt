@@ -1,17 +1,17 @@
 -- Grammar of the words of the lines that build. A word of another form is parsed to none.
 use Rattle.std.specs.Prelude.{ℕ, ◌==◌, nat_lt, List, [], ◌∷◌, Option, Some, None, if◌then◌else◌, codes}
 use Rattle.std.specs.Option.{option_map, option_map_or, option_and_then, option_or}
-use Rattle.dm_names.specs.Names.{Name, same_name, find_name}
-use Rattle.dm_ids.specs.declared.fields_shape.FieldsShape.{FieldsShape}
-use Rattle.dm_ids.specs.declared.fields_shape.FieldsShape.TheVariants.{Record, Tuple, Unit}
-use Rattle.dm_ids.specs.declared.ids.ExternCrateId.{ExternCrateId}
-use Rattle.dm_ids.specs.declared.item_ids.MacroId.{MacroId}
-use Rattle.dm_ids.specs.declared.macros.MacroExpander.{MacroExpander}
-use Rattle.dm_ids.specs.declared.macros.MacroExpander.TheVariants.{Declarative, BuiltIn, BuiltInEager, BuiltInAttr, BuiltInDerive, UnimplementedBuiltIn}
-use Rattle.dm_ids.specs.declared.macros.MacroLoc.{MacroLoc}
-use Rattle.dm_ids.specs.declared.macros.MacroLoc.TheVariants as loc
-use Rattle.dm_ids.specs.declared.macros.ProcMacroKind.{ProcMacroKind}
-use Rattle.dm_ids.specs.declared.macros.ProcMacroKind.TheVariants as proc
+use Rattle.dm_base.specs.Names.{Name, same_name, find_name}
+use Rattle.dm_base.specs.declared.fields_shape.FieldsShape.{FieldsShape}
+use Rattle.dm_base.specs.declared.fields_shape.FieldsShape.TheVariants.{Record, Tuple, Unit}
+use Rattle.dm_base.specs.declared.ids.ExternCrateId.{ExternCrateId}
+use Rattle.dm_base.specs.declared.item_ids.MacroId.{MacroId}
+use Rattle.dm_base.specs.declared.macros.MacroExpander.{MacroExpander}
+use Rattle.dm_base.specs.declared.macros.MacroExpander.TheVariants.{Declarative, BuiltIn, BuiltInEager, BuiltInAttr, BuiltInDerive, UnimplementedBuiltIn}
+use Rattle.dm_base.specs.declared.macros.MacroLoc.{MacroLoc}
+use Rattle.dm_base.specs.declared.macros.MacroLoc.TheVariants as loc
+use Rattle.dm_base.specs.declared.macros.ProcMacroKind.{ProcMacroKind}
+use Rattle.dm_base.specs.declared.macros.ProcMacroKind.TheVariants as proc
 use Rattle.dm_maps.specs.declared.rules.Rules.{Rules}
 use Rattle.dm_maps.specs.declared.rules.Rules.TheVariants.{V1, V2}
 use Rattle.defmap_script.specs.declared.build_words.MapName.{MapName}

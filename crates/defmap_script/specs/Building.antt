@@ -1,20 +1,20 @@
 -- Semantics of the lines that add: the builder's tables after each.
 use Rattle.std.specs.Prelude.{◌≡◌, Option, Some, None, Result, Ok, Err, MatchResult, slice_get}
 use Rattle.std.specs.Option.{option_map_or}
-use Rattle.dm_names.specs.Names.{Name, same_name}
-use Rattle.dm_ids.specs.declared.ids.BlockId.{BlockId}
-use Rattle.dm_names.specs.declared.ids.Crate.{Crate}
-use Rattle.dm_names.specs.declared.ids.FileAstId.{FileAstId}
-use Rattle.dm_names.specs.declared.ids.FileId.{FileId}
-use Rattle.dm_ids.specs.declared.ids.MapId.{MapId}
-use Rattle.dm_ids.specs.declared.ids.ModuleId.{ModuleId}
-use Rattle.dm_ids.specs.declared.item_ids.MacroId.{MacroId}
-use Rattle.dm_ids.specs.declared.source.AstId.{AstId}
-use Rattle.dm_names.specs.declared.edition.Edition.{Edition}
-use Rattle.dm_names.specs.declared.edition.Edition.TheVariants as edition
-use Rattle.dm_ids.specs.declared.source.EditionedFileId.{EditionedFileId}
-use Rattle.dm_ids.specs.declared.source.HirFileId.{HirFileId}
-use Rattle.dm_ids.specs.declared.source.HirFileId.TheVariants as tree_file
+use Rattle.dm_base.specs.Names.{Name, same_name}
+use Rattle.dm_base.specs.declared.ids.BlockId.{BlockId}
+use Rattle.dm_base.specs.declared.ids.Crate.{Crate}
+use Rattle.dm_base.specs.declared.ids.FileAstId.{FileAstId}
+use Rattle.dm_base.specs.declared.ids.FileId.{FileId}
+use Rattle.dm_base.specs.declared.ids.MapId.{MapId}
+use Rattle.dm_base.specs.declared.ids.ModuleId.{ModuleId}
+use Rattle.dm_base.specs.declared.item_ids.MacroId.{MacroId}
+use Rattle.dm_base.specs.declared.source.AstId.{AstId}
+use Rattle.dm_base.specs.declared.edition.Edition.{Edition}
+use Rattle.dm_base.specs.declared.edition.Edition.TheVariants as edition
+use Rattle.dm_base.specs.declared.source.EditionedFileId.{EditionedFileId}
+use Rattle.dm_base.specs.declared.source.HirFileId.{HirFileId}
+use Rattle.dm_base.specs.declared.source.HirFileId.TheVariants as tree_file
 use Rattle.dm_scope.specs.Scope.{Scope}
 use Rattle.dm_scope.specs.TableLists.{add_to_list}
 use Rattle.dm_maps.specs.declared.build_fault.BuildFault.{BuildFault}

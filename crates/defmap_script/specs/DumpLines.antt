@@ -1,7 +1,7 @@
 -- Grammar of the lines that ask for dumps: the words after the first of each.
 use Rattle.std.specs.Prelude.{List, [], ◌∷◌, Option, None}
 use Rattle.std.specs.Option.{option_map}
-use Rattle.dm_names.specs.Names.{Name}
+use Rattle.dm_base.specs.Names.{Name}
 use Rattle.defmap_script.specs.declared.dump_lines.Dumping.{Dumping}
 use Rattle.defmap_script.specs.declared.dump_lines.Dumping.TheVariants.{Scope, Map}
 use Rattle.defmap_script.specs.BuildWords.{map_name}

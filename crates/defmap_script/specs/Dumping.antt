@@ -1,7 +1,7 @@
 -- Answers of the lines that ask for dumps.
 use Rattle.std.specs.Prelude.{◌≡◌, if◌then◌else◌, Option, Result, Ok, Err, MatchResult, slice_get}
 use Rattle.std.specs.Option.{option_map_or}
-use Rattle.dm_check.specs.declared.held.HeldId.TheVariants as held
+use Rattle.dm_maps.specs.declared.check.held.HeldId.TheVariants as held
 use Rattle.dm_def_map.specs.Maps.{Map}
 use Rattle.dm_maps.specs.Known.{knows}
 use Rattle.dm_maps.specs.MapDumps.{scope_text, map_dump}

@@ -1,24 +1,24 @@
 -- Semantics of the script language: the state of a run, and what a line does to it.
 use Rattle.std.specs.Prelude.{◌≡◌, ◌⊎◌, ℕ, List, [], ◌++◌, true, false, IsTrue, IsSome, Option, Some, None, Result, Ok, Err, MatchResult, MatchOption, slice_get, codes}
 use Rattle.std.specs.Borrow.{Bor}
-use Rattle.dm_names.specs.Names.{Name}
-use Rattle.dm_ids.specs.declared.ids.ModuleId.{ModuleId}
-use Rattle.dm_ids.specs.declared.imports.ImportOrExternCrate.{ImportOrExternCrate}
+use Rattle.dm_base.specs.Names.{Name}
+use Rattle.dm_base.specs.declared.ids.ModuleId.{ModuleId}
+use Rattle.dm_base.specs.declared.imports.ImportOrExternCrate.{ImportOrExternCrate}
 use Rattle.dm_base.specs.declared.per_ns.PerNs.{PerNs}
-use Rattle.dm_shadowing.specs.Flags.{Globs, no_globs}
+use Rattle.dm_scope.specs.Flags.{Globs, no_globs}
 use Rattle.dm_scope.specs.Push.{scope_after, globs_after, push_answer}
 use Rattle.dm_scope.specs.Scope.{Scope}
-use Rattle.dm_check.specs.declared.fault.WorldFault.{WorldFault}
-use Rattle.dm_check.specs.declared.held.HeldId.TheVariants as held
+use Rattle.dm_maps.specs.declared.check.fault.WorldFault.{WorldFault}
+use Rattle.dm_maps.specs.declared.check.held.HeldId.TheVariants as held
 use Rattle.dm_maps.specs.Build.{no_world}
 use Rattle.dm_maps.specs.First.{holders, IsChecked, IsFirstFault}
 use Rattle.dm_maps.specs.Known.{knows, KnowsAll}
-use Rattle.dm_check.specs.Holding.{local_holds, path_holds}
+use Rattle.dm_maps.specs.Holding.{local_holds, path_holds}
 use Rattle.dm_def_map.specs.Maps.{Map, LocalMap, module_at}
-use Rattle.dm_check.specs.Pushes.{push_holds}
+use Rattle.dm_maps.specs.Pushes.{push_holds}
 use Rattle.dm_maps.specs.PushRes.{with_push}
 use Rattle.dm_maps.specs.World.{World, map_of, numbered_map, scope_if_known, scope_of, with_scope}
-use Rattle.dm_paths.specs.Paths.{asked, answer, answer_alone}
+use Rattle.hir_def_map.specs.Paths.{asked, answer, answer_alone}
 use Rattle.defmap_script.specs.declared.engine.Reply.{Reply}
 use Rattle.defmap_script.specs.declared.engine.Reply.TheVariants.{Nothing, Pushed, Answered, Ended, Sees, Compared, Dumped}
 use Rattle.defmap_script.specs.declared.engine.Stage.{Stage}

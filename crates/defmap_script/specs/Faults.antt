@@ -1,14 +1,14 @@
 -- Errors of a line, and the words in which they are printed.
 use Rattle.std.specs.Prelude.{◌≡◌, ◌⊎◌, ℕ, List, ◌++◌, Option, Some, None, Result, Ok, Err, codes}
 use Rattle.std.specs.Fmt.{decimal}
-use Rattle.dm_ids.specs.declared.ids.BlockId.{BlockId}
+use Rattle.dm_base.specs.declared.ids.BlockId.{BlockId}
 use Rattle.dm_maps.specs.declared.build_fault.BuildFault.{BuildFault}
 use Rattle.dm_maps.specs.declared.build_fault.BuildFault.TheVariants as build
-use Rattle.dm_check.specs.declared.fault.Holder.{Holder}
-use Rattle.dm_check.specs.declared.fault.Holder.TheVariants as holder
-use Rattle.dm_check.specs.declared.fault.WorldFault.{WorldFault}
-use Rattle.dm_check.specs.declared.fault.WorldFaultKind.{WorldFaultKind}
-use Rattle.dm_check.specs.declared.fault.WorldFaultKind.TheVariants as kind
+use Rattle.dm_maps.specs.declared.check.fault.Holder.{Holder}
+use Rattle.dm_maps.specs.declared.check.fault.Holder.TheVariants as holder
+use Rattle.dm_maps.specs.declared.check.fault.WorldFault.{WorldFault}
+use Rattle.dm_maps.specs.declared.check.fault.WorldFaultKind.{WorldFaultKind}
+use Rattle.dm_maps.specs.declared.check.fault.WorldFaultKind.TheVariants as kind
 use Rattle.defmap_script.specs.declared.fault.Fault.{Fault}
 use Rattle.defmap_script.specs.declared.fault.Fault.TheVariants.{BadLine, NeedsWorld, NeedsBuilder, Unknown, Build, World, OutOfMemory}
 

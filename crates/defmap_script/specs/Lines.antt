@@ -3,20 +3,20 @@ use Rattle.std.specs.Prelude.{ℕ, ◌==◌, not, List, [], ◌∷◌, Option, S
 use Rattle.std.specs.List.{slice_split, starts_with}
 use Rattle.std.specs.Str.{is_utf8}
 use Rattle.std.specs.Option.{option_map, option_map_or, option_and_then}
-use Rattle.dm_names.specs.Names.{Name, find_name}
+use Rattle.dm_base.specs.Names.{Name, find_name}
 use Rattle.dm_base.specs.Path.{Path}
-use Rattle.dm_ids.specs.declared.ids.ModuleId.{ModuleId}
-use Rattle.dm_ids.specs.declared.item_ids.MacroId.{MacroId}
-use Rattle.dm_ids.specs.declared.item_ids.ModuleDefId.{ModuleDefId}
-use Rattle.dm_ids.specs.declared.imports.ImportId.{ImportId}
-use Rattle.dm_ids.specs.declared.imports.ImportOrExternCrate.{ImportOrExternCrate}
-use Rattle.dm_ids.specs.declared.imports.ImportOrGlob.{ImportOrGlob}
+use Rattle.dm_base.specs.declared.ids.ModuleId.{ModuleId}
+use Rattle.dm_base.specs.declared.item_ids.MacroId.{MacroId}
+use Rattle.dm_base.specs.declared.item_ids.ModuleDefId.{ModuleDefId}
+use Rattle.dm_base.specs.declared.imports.ImportId.{ImportId}
+use Rattle.dm_base.specs.declared.imports.ImportOrExternCrate.{ImportOrExternCrate}
+use Rattle.dm_base.specs.declared.imports.ImportOrGlob.{ImportOrGlob}
 use Rattle.dm_base.specs.declared.per_ns.Item.{Item}
 use Rattle.dm_base.specs.declared.mod_path.PathKind.{PathKind}
 use Rattle.dm_base.specs.declared.per_ns.PerNs.{PerNs}
 use Rattle.dm_def_map.specs.declared.modules.modes.BuiltinShadowMode.{BuiltinShadowMode}
 use Rattle.dm_def_map.specs.declared.modules.modes.MacroSubNs.{MacroSubNs}
-use Rattle.dm_paths.specs.declared.result.ResolveMode.{ResolveMode}
+use Rattle.hir_def_map.specs.declared.path_resolution.result.ResolveMode.{ResolveMode}
 use Rattle.defmap_script.specs.declared.dump_lines.Dumping.{Dumping}
 use Rattle.defmap_script.specs.declared.lines.BadLine.{BadLine}
 use Rattle.defmap_script.specs.declared.lines.Command.{Command}

@@ -4,26 +4,26 @@ use Rattle.std.specs.Char.{is_ascii_digit}
 use Rattle.std.specs.List.{list_all}
 use Rattle.std.specs.Option.{option_map, option_and_then, option_or}
 use Rattle.std.specs.Str.Parse.{digits_value}
-use Rattle.dm_names.specs.Names.{Name, same_name, find_name}
-use Rattle.dm_ids.specs.Builtins.{builtin_words}
-use Rattle.dm_ids.specs.Imports.{narrowed}
-use Rattle.dm_ids.specs.declared.ids.UseId.{UseId}
-use Rattle.dm_names.specs.declared.ids.UseTreeIdx.{UseTreeIdx}
-use Rattle.dm_ids.specs.declared.item_ids.AdtId.TheVariants as adt
-use Rattle.dm_ids.specs.declared.item_ids.ItemKind.{ItemKind}
-use Rattle.dm_ids.specs.declared.item_ids.ItemKind.TheVariants as item
-use Rattle.dm_ids.specs.declared.item_ids.MacroId.{MacroId}
-use Rattle.dm_ids.specs.declared.item_ids.MacroId.TheVariants as «macro»
-use Rattle.dm_ids.specs.declared.item_ids.ModuleDefId.{ModuleDefId}
-use Rattle.dm_ids.specs.declared.item_ids.ModuleDefId.TheVariants as def
-use Rattle.dm_ids.specs.declared.imports.ImportOrExternCrate.{ImportOrExternCrate}
-use Rattle.dm_ids.specs.declared.imports.ImportOrExternCrate.TheVariants as import
-use Rattle.dm_ids.specs.declared.imports.ImportOrGlob.{ImportOrGlob}
+use Rattle.dm_base.specs.Names.{Name, same_name, find_name}
+use Rattle.dm_base.specs.Builtins.{builtin_words}
+use Rattle.dm_base.specs.Imports.{narrowed}
+use Rattle.dm_base.specs.declared.ids.UseId.{UseId}
+use Rattle.dm_base.specs.declared.ids.UseTreeIdx.{UseTreeIdx}
+use Rattle.dm_base.specs.declared.item_ids.AdtId.TheVariants as adt
+use Rattle.dm_base.specs.declared.item_ids.ItemKind.{ItemKind}
+use Rattle.dm_base.specs.declared.item_ids.ItemKind.TheVariants as item
+use Rattle.dm_base.specs.declared.item_ids.MacroId.{MacroId}
+use Rattle.dm_base.specs.declared.item_ids.MacroId.TheVariants as «macro»
+use Rattle.dm_base.specs.declared.item_ids.ModuleDefId.{ModuleDefId}
+use Rattle.dm_base.specs.declared.item_ids.ModuleDefId.TheVariants as def
+use Rattle.dm_base.specs.declared.imports.ImportOrExternCrate.{ImportOrExternCrate}
+use Rattle.dm_base.specs.declared.imports.ImportOrExternCrate.TheVariants as import
+use Rattle.dm_base.specs.declared.imports.ImportOrGlob.{ImportOrGlob}
 use Rattle.dm_base.specs.declared.mod_path.PathKind.{PathKind}
 use Rattle.dm_base.specs.declared.mod_path.PathKind.TheVariants as path
 use Rattle.dm_base.specs.declared.per_ns.Item.{Item}
-use Rattle.dm_names.specs.declared.edition.Edition.{Edition}
-use Rattle.dm_names.specs.declared.edition.Edition.TheVariants as edition
+use Rattle.dm_base.specs.declared.edition.Edition.{Edition}
+use Rattle.dm_base.specs.declared.edition.Edition.TheVariants as edition
 use Rattle.dm_base.specs.declared.visibility.Visibility.{Visibility}
 use Rattle.dm_base.specs.declared.visibility.Visibility.TheVariants as seen
 use Rattle.dm_base.specs.declared.visibility.VisibilityExplicitness.{VisibilityExplicitness}
@@ -32,8 +32,8 @@ use Rattle.dm_def_map.specs.declared.modules.modes.BuiltinShadowMode.{BuiltinSha
 use Rattle.dm_def_map.specs.declared.modules.modes.BuiltinShadowMode.TheVariants as shadow
 use Rattle.dm_def_map.specs.declared.modules.modes.MacroSubNs.{MacroSubNs}
 use Rattle.dm_def_map.specs.declared.modules.modes.MacroSubNs.TheVariants as expected
-use Rattle.dm_paths.specs.declared.result.ResolveMode.{ResolveMode}
-use Rattle.dm_paths.specs.declared.result.ResolveMode.TheVariants as mode
+use Rattle.hir_def_map.specs.declared.path_resolution.result.ResolveMode.{ResolveMode}
+use Rattle.hir_def_map.specs.declared.path_resolution.result.ResolveMode.TheVariants as mode
 
 -- decimal digits, one at least, of a value below 2^32; zeros may lead
 abbrev pub number : Name → Option ℕ

@@ -1,7 +1,7 @@
 //! Parses the words of the lines that build.
 ghost use Rattle.std.specs.Prelude.{◌≡◌};
 ghost use Rattle.std.specs.Option.{option_map};
-ghost use Rattle.dm_names.specs.Names.{find_name};
+ghost use Rattle.dm_base.specs.Names.{find_name};
 ghost use Rattle.defmap_script.specs.Words.{by_form};
 ghost use Rattle.defmap_script.specs.BuildWords.{behind, expander, expander_forms, extern_crate, macro_id, macro_loc, map_name, proc_kinds, shapes, versions};
 

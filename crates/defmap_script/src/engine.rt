@@ -1,7 +1,7 @@
 //! The interpreter: the state of a run, and what a command does to it.
 ghost use Rattle.std.specs.Prelude.{◌≡◌, Some, IfOk, IfSome};
 ghost use Rattle.std.specs.String.{string_bytes};
-ghost use Rattle.dm_paths.specs.Paths as paths;
+ghost use Rattle.hir_def_map.specs.Paths as paths;
 ghost use Rattle.hir_def_map.specs.Questions as questions;
 ghost use Rattle.defmap_script.specs.Engine.{fresh, Answers, Finds, PushesInto, PushesWithin, reply_text, Steps};
 ghost use Rattle.defmap_script.specs.Lines.{asked, asking, Checks, Reopens, words_left};
@@ -20,13 +20,13 @@ use dm_base::name::Name;
 use dm_base::per_ns::PerNs;
 use dm_base::visibility::Visibility;
 use dm_maps::builder::WorldBuilder;
+use dm_maps::check::check_tables::CheckTables;
 use dm_maps::def_map::DefMap;
 use dm_maps::local_def_map::LocalDefMap;
 use dm_maps::world::World;
+use dm_maps::world::knows_paths::KnowsPaths;
 use dm_maps::world::maps_of::local_def_map;
 use dm_scope::glob_imports::PerNsGlobImports;
-use dm_world::check::CheckTables;
-use dm_world::knows::KnowsPaths;
 use hir_def_map::path_resolution::ResolvePath;
 use hir_def_map::result::ResolvePathResult;
 use std::alloc::{AllocError, Global};

@@ -1,8 +1,8 @@
 //! Parses one word of a script; none where it has another form.
 ghost use Rattle.std.specs.Prelude.{◌≡◌, ◌==◌, drop, slice_index};
 ghost use Rattle.std.specs.Option.{option_map};
-ghost use Rattle.dm_ids.specs.Builtins.{builtin_words};
-ghost use Rattle.dm_names.specs.Names.{find_name};
+ghost use Rattle.dm_base.specs.Builtins.{builtin_words};
+ghost use Rattle.dm_base.specs.Names.{find_name};
 ghost use Rattle.defmap_script.specs.Words.{number, at_colon, at_slash, definition, editions, expectations, explicitness_words, import_word, item_kinds, macros_word, modes, path_kind, shadow_modes, types_word, use_leaf, value_import, values_word, visibility};
 
 use dm_base::builtin_type::{BuiltinFloat, BuiltinInt, BuiltinType, BuiltinUint};

@@ -3,8 +3,8 @@ use Rattle.std.proofs.Common.{◌≡◌, ◌≤◌, ◌<◌, ℕ, zero, suc, Boo
 use Rattle.std.proofs.lemmas.Bool.{and_parts, and_from, or_right, ne_eqb}
 use Rattle.std.specs.Option.{option_map_or, option_and_then, ForSome}
 use Rattle.std.proofs.lemmas.Option.{same_Some}
-use Rattle.dm_ids.specs.declared.ids.ModuleId.{ModuleId}
-use Rattle.dm_ids.specs.declared.ids.MapId.{MapId}
+use Rattle.dm_base.specs.declared.ids.ModuleId.{ModuleId}
+use Rattle.dm_base.specs.declared.ids.MapId.{MapId}
 use Rattle.dm_base.specs.declared.visibility.VisibilityExplicitness.{VisibilityExplicitness}
 use Rattle.dm_base.specs.declared.visibility.Visibility.TheVariants.{Module}
 use Rattle.dm_base.specs.Tree.{Tree, IsTree, IsKnown, same_module, same_crate, same_map, crate_of, containing, outside, chain, is_among, is_ancestor, outward_within, outward, lies_in, is_lifted, lift_to, lift, sees}

@@ -1,13 +1,13 @@
 -- The tests of ids hold of the same id, and of it alone.
 use Rattle.std.proofs.Common.{◌≡◌, true, Option, None, Some, refl, sym, ap, true≢false, eq-eqb}
 use Rattle.std.proofs.lemmas.Bool.{and_parts, and_from}
-use Rattle.dm_ids.specs.declared.ids.ModuleId.{ModuleId}
-use Rattle.dm_ids.specs.declared.ids.BlockId.{BlockId}
-use Rattle.dm_names.specs.declared.ids.Crate.{Crate}
-use Rattle.dm_ids.specs.declared.ids.MapId.{MapId}
-use Rattle.dm_ids.specs.contracts.value_eq.BlockIdValueEq.TheImpl.Laws as block_value
-use Rattle.dm_ids.specs.contracts.value_eq.CrateValueEq.TheImpl.Laws as crate_value
-use Rattle.dm_ids.specs.contracts.value_eq.ModuleIdValueEq.TheImpl.Laws as module_value
+use Rattle.dm_base.specs.declared.ids.ModuleId.{ModuleId}
+use Rattle.dm_base.specs.declared.ids.BlockId.{BlockId}
+use Rattle.dm_base.specs.declared.ids.Crate.{Crate}
+use Rattle.dm_base.specs.declared.ids.MapId.{MapId}
+use Rattle.dm_base.specs.contracts.value_eq.BlockIdValueEq.TheImpl.Laws as block_value
+use Rattle.dm_base.specs.contracts.value_eq.CrateValueEq.TheImpl.Laws as crate_value
+use Rattle.dm_base.specs.contracts.value_eq.ModuleIdValueEq.TheImpl.Laws as module_value
 use Rattle.dm_base.specs.Tree.{same_module, same_crate, same_block, same_map}
 
 pub same_module-true : (a b : ModuleId) → same_module a b ≡ true → a ≡ b

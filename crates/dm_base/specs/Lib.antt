@@ -1,3 +1,10 @@
+pub mod Names
+pub mod NameHashers
+pub mod Imports
+pub mod Builtins
+pub mod Kinds
+pub mod Styles
+pub mod Files
 pub mod Path
 pub mod Tree
 pub mod Visibility

@@ -3,23 +3,23 @@ use Rattle.std.specs.Prelude.{◌≡◌, ◌&&◌, Bool, true, Option, Some, Non
 use Rattle.std.specs.Option.{option_eq}
 use Rattle.std.proofs.Common.{ap}
 use Rattle.std.proofs.lemmas.Bool.{and_parts}
-use Rattle.dm_ids.specs.declared.imports.ImportOrExternCrate.{ImportOrExternCrate}
-use Rattle.dm_ids.specs.declared.imports.ImportOrGlob.{ImportOrGlob}
-use Rattle.dm_ids.specs.declared.item_ids.MacroId.{MacroId}
-use Rattle.dm_ids.specs.declared.item_ids.ModuleDefId.{ModuleDefId}
+use Rattle.dm_base.specs.declared.imports.ImportOrExternCrate.{ImportOrExternCrate}
+use Rattle.dm_base.specs.declared.imports.ImportOrGlob.{ImportOrGlob}
+use Rattle.dm_base.specs.declared.item_ids.MacroId.{MacroId}
+use Rattle.dm_base.specs.declared.item_ids.ModuleDefId.{ModuleDefId}
 use Rattle.dm_base.specs.declared.per_ns.Item.{Item}
 use Rattle.dm_base.specs.declared.per_ns.PerNs.{PerNs}
-use Rattle.dm_ids.specs.declared.source.AstId.{AstId}
+use Rattle.dm_base.specs.declared.source.AstId.{AstId}
 use Rattle.dm_base.specs.declared.visibility.Visibility.{Visibility}
-use Rattle.dm_ids.specs.contracts.imports.ImportOrExternCratePartialEq.TheImpl as import_eq
-use Rattle.dm_ids.specs.contracts.imports.ImportOrGlobPartialEq.TheImpl as value_import_eq
-use Rattle.dm_ids.specs.contracts.item_ids.MacroIdPartialEq.TheImpl as macro_eq
-use Rattle.dm_ids.specs.contracts.item_ids.ModuleDefIdPartialEq.TheImpl as def_eq
-use Rattle.dm_ids.specs.contracts.source.AstIdPartialEq.TheImpl as ast_eq
-use Rattle.dm_ids.specs.contracts.value_eq.ImportOrExternCrateValueEq.TheImpl.Laws as import_value
-use Rattle.dm_ids.specs.contracts.value_eq.ImportOrGlobValueEq.TheImpl.Laws as value_import_value
-use Rattle.dm_ids.specs.contracts.value_eq.MacroIdValueEq.TheImpl.Laws as macro_value
-use Rattle.dm_ids.specs.contracts.value_eq.ModuleDefIdValueEq.TheImpl.Laws as def_value
+use Rattle.dm_base.specs.contracts.imports.ImportOrExternCratePartialEq.TheImpl as import_eq
+use Rattle.dm_base.specs.contracts.imports.ImportOrGlobPartialEq.TheImpl as value_import_eq
+use Rattle.dm_base.specs.contracts.item_ids.MacroIdPartialEq.TheImpl as macro_eq
+use Rattle.dm_base.specs.contracts.item_ids.ModuleDefIdPartialEq.TheImpl as def_eq
+use Rattle.dm_base.specs.contracts.source.AstIdPartialEq.TheImpl as ast_eq
+use Rattle.dm_base.specs.contracts.value_eq.ImportOrExternCrateValueEq.TheImpl.Laws as import_value
+use Rattle.dm_base.specs.contracts.value_eq.ImportOrGlobValueEq.TheImpl.Laws as value_import_value
+use Rattle.dm_base.specs.contracts.value_eq.MacroIdValueEq.TheImpl.Laws as macro_value
+use Rattle.dm_base.specs.contracts.value_eq.ModuleDefIdValueEq.TheImpl.Laws as def_value
 use Rattle.dm_base.specs.contracts.value_eq.VisibilityValueEq.TheImpl.Laws as visibility_value
 use Rattle.dm_base.specs.contracts.visibility.VisibilityPartialEq.TheImpl as visibility_eq
 use Rattle.dm_base.specs.contracts.per_ns.PerNsPartialEq.TheImpl as per_ns_eq

@@ -4,9 +4,9 @@
 -- Block 0 has the modules 5 (its root) and 6 in 5, block 1 has 8 alone. Crate 1 has its root, module 4.
 use Rattle.std.specs.Prelude.{◌≡◌, ℕ, Bool, true, false, Option, Some, None, List, [], ◌∷◌, nat_lt, slice_get, refl}
 use Rattle.std.specs.Option.{option_and_then, option_map_or}
-use Rattle.dm_ids.specs.declared.ids.ModuleId.{ModuleId}
-use Rattle.dm_names.specs.declared.ids.Crate.{Crate}
-use Rattle.dm_ids.specs.declared.ids.MapId.{MapId}
+use Rattle.dm_base.specs.declared.ids.ModuleId.{ModuleId}
+use Rattle.dm_base.specs.declared.ids.Crate.{Crate}
+use Rattle.dm_base.specs.declared.ids.MapId.{MapId}
 use Rattle.dm_base.specs.declared.visibility.VisibilityExplicitness.TheVariants.{Explicit, Implicit}
 use Rattle.dm_base.specs.declared.visibility.Visibility.{Visibility}
 use Rattle.dm_base.specs.declared.visibility.Visibility.TheVariants.{Module, PubCrate, Public}

@@ -1,10 +1,10 @@
 //! `Definition`: the definitions of one namespace, for code that is generic over namespaces.
 ghost use Rattle.std.specs.Prelude.{◌≡◌};
-ghost use Rattle.dm_ids.specs.declared.item_ids.ModuleDefId.{ModuleDefId};
+ghost use Rattle.dm_base.specs.declared.item_ids.ModuleDefId.{ModuleDefId};
 ghost use Rattle.dm_base.specs.Definitions.{widened_macro, widened_macro_injective};
 
-use dm_ids::item_ids::{MacroId, ModuleDefId};
-use dm_ids::value_eq::ValueEq;
+use crate::item_ids::{MacroId, ModuleDefId};
+use crate::value_eq::ValueEq;
 
 /// The definitions that a namespace can hold.
 pub trait Definition: Copy + ValueEq {

@@ -1,11 +1,11 @@
 //! `ImportSource`: the imports of one namespace, for code that is generic over namespaces.
 ghost use Rattle.std.specs.Prelude.{◌≡◌, Option, Bool, Some, true, refl};
 ghost use Rattle.std.proofs.Common.{rules};
-ghost use Rattle.dm_ids.specs.declared.imports.ImportOrExternCrate.{ImportOrExternCrate};
-ghost use Rattle.dm_ids.specs.Imports.{narrowed, widened, is_glob, is_glob_or_import, narrow_widen, widen_narrow, globs_narrow, globs_stay};
+ghost use Rattle.dm_base.specs.declared.imports.ImportOrExternCrate.{ImportOrExternCrate};
+ghost use Rattle.dm_base.specs.Imports.{narrowed, widened, is_glob, is_glob_or_import, narrow_widen, widen_narrow, globs_narrow, globs_stay};
 
-use dm_ids::imports::{ImportOrExternCrate, ImportOrGlob};
-use dm_ids::value_eq::ValueEq;
+use crate::imports::{ImportOrExternCrate, ImportOrGlob};
+use crate::value_eq::ValueEq;
 use std::hash::Hash;
 
 /// The imports that can bring a name into a namespace.

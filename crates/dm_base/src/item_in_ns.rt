@@ -2,8 +2,8 @@
 ghost use Rattle.std.specs.Prelude.{◌≡◌};
 ghost use Rattle.dm_base.specs.ItemHomes.{Homes, def_module, item_module, item_krate, module_def};
 
-use dm_ids::ids::{Crate, EnumId, EnumVariantId, ModuleId};
-use dm_ids::item_ids::{AdtId, MacroId, ModuleDefId};
+use crate::ids::{Crate, EnumId, EnumVariantId, ModuleId};
+use crate::item_ids::{AdtId, MacroId, ModuleDefId};
 
 /// A definition, as a type, a value or a macro.
 #[derive(Clone, Copy, PartialEq, Eq, Hash, Debug)]

@@ -3,9 +3,9 @@ ghost use Rattle.std.specs.Prelude.{length};
 ghost use Rattle.std.specs.Iterator.{at_most};
 ghost use Rattle.std.specs.Map.Iter.{TakesFirst};
 
+use crate::imports::ImportOrExternCrate;
 use crate::item_in_ns::ItemInNs;
 use crate::per_ns::PerNs;
-use dm_ids::imports::ImportOrExternCrate;
 use std::marker::Model;
 
 /// The items that a name means, types before values before macros, each with the import that brought it.

@@ -3,8 +3,8 @@ ghost use Rattle.std.specs.Prelude.{◌≡◌};
 ghost use Rattle.std.specs.Cmp.{partial_equiv_from_equiv};
 ghost use Rattle.dm_base.specs.Path.{same_path, same_path_equivalence};
 
-use dm_ids::ids::Crate;
-use dm_ids::name::Name;
+use crate::ids::Crate;
+use crate::name::Name;
 use std::marker::Model;
 
 /// Where a path begins.

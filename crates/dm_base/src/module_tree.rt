@@ -1,10 +1,10 @@
 //! `ModuleTree`: the tree of modules, as a trait of whatever stores it.
 ghost use Rattle.std.specs.Prelude.{◌≡◌, ◌↔◌, ◌<◌, ◌-◌, IsTrue, Bool, true, false, is_some, slice_get};
 ghost use Rattle.std.specs.Option.{option_map_or, ForSome, ForNone};
-ghost use Rattle.dm_ids.specs.declared.ids.ModuleId.{ModuleId};
+ghost use Rattle.dm_base.specs.declared.ids.ModuleId.{ModuleId};
 ghost use Rattle.dm_base.specs.Tree.{Tree, IsKnown, IsTree, crate_of, block_of, containing, outside, chain, is_among, in_block_map, is_block_root, outside_root, home, homeward, outer, begun_by};
 
-use dm_ids::ids::{BlockId, Crate, ModuleId};
+use crate::ids::{BlockId, Crate, ModuleId};
 
 /// A tree of modules: each has a def map and a containing module of smaller number, or none.
 ///

@@ -3,11 +3,11 @@ ghost use Rattle.std.specs.Prelude.{◌≡◌, ⊤, [], ◌∷◌, codes, true, 
 ghost use Rattle.std.specs.Map.Iter.{ShowsInOrder};
 ghost use Rattle.dm_base.specs.PerNs.{nothing, over, Listed, items_of, is_reresolved, type_alone, value_alone, macro_alone, type_and_value, of_def, is_empty, is_full, definition, seen_as, availability, AsksItem, AsksInOrder, MayAskItem, MayAskInOrder};
 
+use crate::imports::{ImportId, ImportOrExternCrate, ImportOrGlob};
+use crate::item_ids::{AdtId, MacroId, ModuleDefId};
 use crate::items::IterItems;
 use crate::visibility::Visibility;
 use bitflags::{Flag, Flags};
-use dm_ids::imports::{ImportId, ImportOrExternCrate, ImportOrGlob};
-use dm_ids::item_ids::{AdtId, MacroId, ModuleDefId};
 
 /// The namespaces. A name means at most one item in each.
 #[derive(Clone, Copy, PartialEq, Eq, Hash, Debug)]

@@ -5,9 +5,9 @@ ghost use Rattle.dm_base.specs.declared.visibility.VisibilityExplicitness.TheVar
 ghost use Rattle.dm_base.specs.Tree.{Tree, IsKnown, IsTree, lies_in, is_ancestor, is_lifted, lift_to, sees};
 ghost use Rattle.dm_base.specs.Visibility.{NamesKnown, is_public, either_explicit, both_lie_in, IsMost, IsLeast, AreMostAndLeast, IsNoneWhereApart};
 
+use crate::ids::{Crate, MapId, ModuleId};
 use crate::mod_path::ModPath;
 use crate::module_tree::ModuleTree;
-use dm_ids::ids::{Crate, MapId, ModuleId};
 
 /// Whether a visibility is explicit (written), or implicit (it follows from where the item stands).
 #[derive(Clone, Copy, PartialEq, Eq, Hash, Debug)]

@@ -2,8 +2,8 @@
 use Rattle.std.proofs.Common.{◌≡◌, Err, List, Ok, Result, inl, inr, subst, sym}
 use Rattle.std.specs.Prelude.{IfErr}
 use Rattle.std.specs.Result.{IsErrAnd}
-use Rattle.assoc_items.specs.AssocItems.{Filled}
-use Rattle.crate_modules.specs.CrateGraphs.{Graph}
+use Rattle.crate_tables.specs.AssocItems.{Filled}
+use Rattle.crate_items.specs.CrateGraphs.{Graph}
 use Rattle.crate_tables.specs.CrateFillings.{Crates, Reading}
 use Rattle.dm_collector.specs.CollectFaults.{AreWhole, IsFault, IsNotBegun, IsNotSettled, imports_of}
 use Rattle.dm_collector.specs.Collecting.{IsBegun, Kept, names_of}
@@ -11,7 +11,7 @@ use Rattle.dm_collector.specs.MacroUses.{Uses}
 use Rattle.dm_collector.specs.declared.collect_fault.CollectFault.{CollectFault}
 use Rattle.dm_collector.specs.declared.collect_fault.CollectFault.TheVariants as faults
 use Rattle.dm_collector.specs.declared.sources.GlobImport.{GlobImport}
-use Rattle.dm_pending.specs.Rounds.{State}
+use Rattle.dm_retry.specs.Rounds.{State}
 
 -- what a `?` passes on
 pub passed : {A : Type 0} (r : Result A CollectFault) (f : CollectFault) (P : CollectFault → Type 0) → IsErrAnd r (λ e. e ≡ f) → P f → IfErr r P

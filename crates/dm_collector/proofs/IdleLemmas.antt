@@ -4,10 +4,10 @@ use Rattle.std.proofs.lemmas.Bool.{cases_lt, false≢true, not-false}
 use Rattle.std.proofs.lemmas.Option.{slice_get_past}
 use Rattle.std.specs.List.{All}
 use Rattle.std.specs.Option.{IfSome, option_map_or}
-use Rattle.dm_names.specs.Names.{Name}
+use Rattle.dm_base.specs.Names.{Name}
 use Rattle.dm_base.specs.PerNs.{is_empty, keep}
 use Rattle.dm_base.specs.declared.per_ns.Namespace.TheVariants.{Types, Values, Macros}
-use Rattle.dm_pending.specs.Rounds.{State}
+use Rattle.dm_retry.specs.Rounds.{State}
 use Rattle.dm_collector.specs.Globs.{IsFilled, IsFilledBySource, missing, resolved}
 use Rattle.dm_collector.specs.Steps.{Bind, SeesNothing, writes}
 use Rattle.dm_collector.specs.UnnamedTraits.{HasBrought, HasBroughtBySource, is_missing_trait, missing_trait, unnamed_in}

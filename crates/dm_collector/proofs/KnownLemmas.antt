@@ -1,22 +1,22 @@
 -- What a glob shows is the world's: what is kept of known items, and a variant.
 use Rattle.std.proofs.Common.{◌≡◌, Bool, true, false, List, [], ◌∷◌, ◌++◌, Option, None, Some, cond, is_none, subst}
 use Rattle.std.specs.Option.{option_map_or}
-use Rattle.dm_ids.specs.declared.ids.EnumVariantId.{EnumVariantId}
-use Rattle.dm_ids.specs.declared.ids.ModuleId.{ModuleId}
-use Rattle.dm_ids.specs.declared.ids.TraitId.{TraitId}
-use Rattle.dm_ids.specs.declared.imports.ImportId.{ImportId}
-use Rattle.dm_ids.specs.declared.imports.ImportOrExternCrate.{ImportOrExternCrate}
-use Rattle.dm_ids.specs.declared.imports.ImportOrGlob.{ImportOrGlob}
-use Rattle.dm_ids.specs.declared.item_ids.MacroId.{MacroId}
-use Rattle.dm_ids.specs.declared.item_ids.ModuleDefId.{ModuleDefId}
+use Rattle.dm_base.specs.declared.ids.EnumVariantId.{EnumVariantId}
+use Rattle.dm_base.specs.declared.ids.ModuleId.{ModuleId}
+use Rattle.dm_base.specs.declared.ids.TraitId.{TraitId}
+use Rattle.dm_base.specs.declared.imports.ImportId.{ImportId}
+use Rattle.dm_base.specs.declared.imports.ImportOrExternCrate.{ImportOrExternCrate}
+use Rattle.dm_base.specs.declared.imports.ImportOrGlob.{ImportOrGlob}
+use Rattle.dm_base.specs.declared.item_ids.MacroId.{MacroId}
+use Rattle.dm_base.specs.declared.item_ids.ModuleDefId.{ModuleDefId}
 use Rattle.dm_base.specs.declared.per_ns.Item.{Item}
 use Rattle.dm_base.specs.PerNs.{keep, seen_by}
 use Rattle.dm_base.specs.declared.per_ns.PerNs.{PerNs}
 use Rattle.dm_base.specs.declared.visibility.Visibility.{Visibility}
 use Rattle.std.specs.Prelude.{IsTrue}
-use Rattle.dm_check.specs.Holding.{def_holds, import_holds, macro_holds, res_holds, type_holds, value_holds, value_import_holds, vis_holds}
-use Rattle.dm_check.specs.declared.held.HeldId.{HeldId}
-use Rattle.dm_check.specs.declared.held.HeldId.TheVariants as held
+use Rattle.dm_maps.specs.Holding.{def_holds, import_holds, macro_holds, res_holds, type_holds, value_holds, value_import_holds, vis_holds}
+use Rattle.dm_maps.specs.declared.check.held.HeldId.{HeldId}
+use Rattle.dm_maps.specs.declared.check.held.HeldId.TheVariants as held
 use Rattle.dm_maps.specs.Known.{knows, KnowsAll}
 use Rattle.dm_maps.specs.GoesOn.{trait_import_holds}
 use Rattle.dm_maps.specs.KnownLaws.{knows-append, knows-left, knows-middle, knows-right, macros-known, types-known, values-known}

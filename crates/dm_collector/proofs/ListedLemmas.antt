@@ -2,7 +2,7 @@
 use Rattle.std.proofs.Common.{[], ◌∷◌, List, inl, refl}
 use Rattle.dm_collector.specs.UnresolvedNames.{IsListedSome}
 use Rattle.dm_collector.specs.declared.unresolved_names.UnresolvedName.{UnresolvedName}
-use Rattle.dm_pending.specs.Rounds.{State}
+use Rattle.dm_retry.specs.Rounds.{State}
 
 pub none-listed : (s : State) (ns : List UnresolvedName) → IsListedSome s ns s
 none-listed s [] = refl

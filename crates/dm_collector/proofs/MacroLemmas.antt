@@ -6,15 +6,15 @@ use Rattle.std.specs.List.{All, Contains}
 use Rattle.std.specs.Option.{IfSome, option_map_or, option_or}
 use Rattle.dm_base.specs.declared.per_ns.Item.{Item}
 use Rattle.dm_base.specs.declared.per_ns.PerNs.{PerNs}
-use Rattle.dm_check.specs.Holding.{def_holds, macro_holds, res_holds}
-use Rattle.dm_names.specs.Names.{Name}
-use Rattle.dm_ids.specs.declared.imports.ImportOrExternCrate.{ImportOrExternCrate}
-use Rattle.dm_ids.specs.declared.item_ids.MacroId.{MacroId}
-use Rattle.dm_ids.specs.declared.item_ids.ModuleDefId.TheVariants as def
+use Rattle.dm_maps.specs.Holding.{def_holds, macro_holds, res_holds}
+use Rattle.dm_base.specs.Names.{Name}
+use Rattle.dm_base.specs.declared.imports.ImportOrExternCrate.{ImportOrExternCrate}
+use Rattle.dm_base.specs.declared.item_ids.MacroId.{MacroId}
+use Rattle.dm_base.specs.declared.item_ids.ModuleDefId.TheVariants as def
 use Rattle.dm_maps.specs.Known.{KnowsAll}
 use Rattle.dm_maps.specs.KnownLaws.{macros-known}
 use Rattle.dm_maps.specs.World.{World}
-use Rattle.dm_pending.specs.Rounds.{State}
+use Rattle.dm_retry.specs.Rounds.{State}
 use Rattle.dm_collector.specs.MacroPreludes.{HasMacros, is_public, missing_macro, public_in}
 use Rattle.dm_collector.specs.MacroUses.{Uses}
 use Rattle.dm_collector.specs.Steps.{Use, writes}

@@ -3,7 +3,7 @@ use Rattle.std.proofs.Common.{◌≡◌, ◌<◌, ℕ, Bor, List, [], ◌∷◌,
 use Rattle.std.proofs.lemmas.List.Elements.{All-cons, All-get_or, All-nil, All-weaker, Contains-append_right}
 use Rattle.std.specs.List.{All, AllByRecursion, Contains}
 use Rattle.std.specs.Option.{IfSome}
-use Rattle.dm_pending.specs.Rounds.{State}
+use Rattle.dm_retry.specs.Rounds.{State}
 use Rattle.dm_collector.specs.GlobOrders.{behind}
 use Rattle.dm_collector.specs.Globs.{HasUnknown}
 use Rattle.dm_collector.specs.MacroUses.{Uses}

@@ -2,7 +2,7 @@
 use Rattle.std.proofs.Common.{◌≡◌, ◌∙◌, ◌++◌, ◌+◌, ◌≤◌, inl, inr, ℕ, zero, suc, arith, Err, Ok, Result, Bool, true, false, List, [], ◌∷◌, ap, cond, refl, sym, subst}
 use Rattle.std.specs.List.{AllByRecursion}
 use Rattle.std.specs.Result.{IfErr, IsErrAnd}
-use Rattle.dm_pending.specs.Rounds.{State, rounds}
+use Rattle.dm_retry.specs.Rounds.{State, rounds}
 use Rattle.dm_retry.specs.Retries.{Retries}
 use Rattle.dm_retry.specs.Settling.{AllBring, IsResolved, IsStopped}
 use Rattle.dm_collector.specs.MacroUses.{Uses}

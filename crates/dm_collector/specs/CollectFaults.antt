@@ -1,8 +1,8 @@
 -- Why the crates of a graph are not collected.
 use Rattle.std.specs.Prelude.{◌≡◌, ◌⊎◌, List, [], Some}
 use Rattle.std.specs.List.{flat_map}
-use Rattle.assoc_items.specs.AssocItems.{AreAllAdded, Filled as WithItems}
-use Rattle.crate_modules.specs.CrateGraphs.{Graph, IsCircle, numbers, rows}
+use Rattle.crate_tables.specs.AssocItems.{AreAllAdded, Filled as WithItems}
+use Rattle.crate_items.specs.CrateGraphs.{Graph, IsCircle, numbers, rows}
 use Rattle.crate_tables.specs.CrateFillings.{AreFilled, Crates, IsFaultIn, Reading}
 use Rattle.crate_tables.specs.CrateTables.{Table}
 use Rattle.crate_tables.specs.DeclaredWorlds.{with_all_declared}
@@ -18,10 +18,10 @@ use Rattle.dm_collector.specs.declared.collect_fault.CollectFault.TheVariants as
 use Rattle.dm_collector.specs.declared.sources.GlobImport.{GlobImport}
 use Rattle.dm_maps.specs.First.{IsFirstFault, holders}
 use Rattle.dm_maps.specs.World.{World}
-use Rattle.dm_pending.specs.Known.{fault_of}
-use Rattle.dm_pending.specs.Rounds.{Pending, State}
-use Rattle.dm_pending.specs.declared.retry_fault.RetryFault.{RetryFault}
-use Rattle.dm_shadowing.specs.Flags.{no_globs}
+use Rattle.dm_retry.specs.Known.{fault_of}
+use Rattle.dm_retry.specs.Rounds.{Pending, State}
+use Rattle.dm_retry.specs.declared.retry_fault.RetryFault.{RetryFault}
+use Rattle.dm_scope.specs.Flags.{no_globs}
 
 -- the crates of a graph, filled with what it declares, and their world with the associated items
 pub record AreWhole (r : Reading) (g : Graph) (c : Crates) (w : WithItems) : Type 0 where

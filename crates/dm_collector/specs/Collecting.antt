@@ -1,10 +1,10 @@
 -- What collecting a graph of crates gives.
 use Rattle.std.specs.Prelude.{◌≡◌, ℕ, List, [], map, true}
 use Rattle.std.specs.List.{flat_map}
-use Rattle.assoc_items.specs.AssocItems.{AreAllAdded, Filled as WithItems}
-use Rattle.assoc_items.specs.declared.items.AssocPlace.{AssocPlace}
-use Rattle.crate_modules.specs.CrateGraphs.{Graph}
-use Rattle.crate_modules.specs.Modules.{Listing}
+use Rattle.crate_tables.specs.AssocItems.{AreAllAdded, Filled as WithItems}
+use Rattle.crate_tables.specs.declared.assoc_items.items.AssocPlace.{AssocPlace}
+use Rattle.crate_items.specs.CrateGraphs.{Graph}
+use Rattle.crate_items.specs.Modules.{Listing}
 use Rattle.crate_tables.specs.CrateFillings.{AreFilled, Crates, Reading}
 use Rattle.crate_tables.specs.CrateTables.{Table, emptied}
 use Rattle.crate_tables.specs.DeclaredWorlds.{AreShown, WithGlobs, with_all_declared}
@@ -15,8 +15,8 @@ use Rattle.dm_collector.specs.MacroUses.{Uses, macro_uses}
 use Rattle.dm_collector.specs.PreludeGlobs.{unless_named}
 use Rattle.dm_collector.specs.Steps.{IsReached}
 use Rattle.dm_collector.specs.declared.sources.GlobImport.{GlobImport}
-use Rattle.dm_pending.specs.Rounds.{State, marked}
-use Rattle.dm_shadowing.specs.Flags.{no_globs}
+use Rattle.dm_retry.specs.Rounds.{State, marked}
+use Rattle.dm_scope.specs.Flags.{no_globs}
 
 -- What stays known of crates: the list of each one's modules; its table, from which names and imports were taken; the
 -- extern crates of all; and where each associated item is written.

@@ -1,16 +1,16 @@
 -- Examples: what globs bind beside what is bound, and whom they let see it.
 use Rattle.std.specs.Prelude.{◌≡◌, None, Some, [], refl}
-use Rattle.dm_names.specs.declared.ids.Crate.{Crate}
-use Rattle.dm_ids.specs.declared.ids.ModuleId.{ModuleId}
-use Rattle.dm_ids.specs.declared.imports.GlobId.{GlobId}
-use Rattle.dm_ids.specs.declared.imports.ImportId.{ImportId}
-use Rattle.dm_ids.specs.declared.imports.ImportOrExternCrate.TheVariants as wide
-use Rattle.dm_ids.specs.Imports.{is_glob}
+use Rattle.dm_base.specs.declared.ids.Crate.{Crate}
+use Rattle.dm_base.specs.declared.ids.ModuleId.{ModuleId}
+use Rattle.dm_base.specs.declared.imports.GlobId.{GlobId}
+use Rattle.dm_base.specs.declared.imports.ImportId.{ImportId}
+use Rattle.dm_base.specs.declared.imports.ImportOrExternCrate.TheVariants as wide
+use Rattle.dm_base.specs.Imports.{is_glob}
 use Rattle.dm_base.specs.declared.per_ns.PerNs.{PerNs}
 use Rattle.dm_base.specs.declared.visibility.Visibility.TheVariants.{PubCrate, Public}
 use Rattle.dm_base.specs.Sameness.{same_def}
 use Rattle.dm_base.specs.Tree.{Tree}
-use Rattle.dm_pending.specs.Rounds.{State}
+use Rattle.dm_retry.specs.Rounds.{State}
 use Rattle.hir_def_map.specs.Written.{a_struct, an_item}
 use Rattle.dm_collector.specs.Globs.{vacant}
 use Rattle.dm_collector.specs.Steps.{made, writes_of}

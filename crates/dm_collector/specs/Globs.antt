@@ -1,19 +1,19 @@
 -- Globs: what one brings into its module, and when it brings nothing more.
 use Rattle.std.specs.Prelude.{◌≡◌, true, List, [], ◌∷◌, ◌++◌, IfSome, Option, Some, None, Contains, is_none, map, if◌then◌else◌}
 use Rattle.std.specs.Option.{option_and_then, option_map, option_map_or}
-use Rattle.dm_names.specs.Names.{Name, find_name}
-use Rattle.dm_ids.specs.declared.ids.EnumVariantId.{EnumVariantId}
-use Rattle.dm_ids.specs.declared.ids.ModuleId.{ModuleId}
-use Rattle.dm_ids.specs.declared.item_ids.AdtId.TheVariants as adt
-use Rattle.dm_ids.specs.declared.item_ids.ModuleDefId.{ModuleDefId}
-use Rattle.dm_ids.specs.declared.item_ids.ModuleDefId.TheVariants as def
+use Rattle.dm_base.specs.Names.{Name, find_name}
+use Rattle.dm_base.specs.declared.ids.EnumVariantId.{EnumVariantId}
+use Rattle.dm_base.specs.declared.ids.ModuleId.{ModuleId}
+use Rattle.dm_base.specs.declared.item_ids.AdtId.TheVariants as adt
+use Rattle.dm_base.specs.declared.item_ids.ModuleDefId.{ModuleDefId}
+use Rattle.dm_base.specs.declared.item_ids.ModuleDefId.TheVariants as def
 use Rattle.dm_base.specs.declared.per_ns.PerNs.{PerNs}
 use Rattle.dm_base.specs.declared.visibility.Visibility.{Visibility}
 use Rattle.dm_base.specs.PerNs.{is_empty, nothing, seen_by}
 use Rattle.dm_base.specs.Tree.{sees}
-use Rattle.dm_check.specs.Holding.{path_holds, vis_holds}
-use Rattle.dm_check.specs.declared.held.HeldId.{HeldId}
-use Rattle.dm_check.specs.declared.held.HeldId.TheVariants as held
+use Rattle.dm_maps.specs.Holding.{path_holds, vis_holds}
+use Rattle.dm_maps.specs.declared.check.held.HeldId.{HeldId}
+use Rattle.dm_maps.specs.declared.check.held.HeldId.TheVariants as held
 use Rattle.dm_maps.specs.GoesOn.{variants_if_known}
 use Rattle.dm_maps.specs.Known.{KnowsAll}
 use Rattle.dm_maps.specs.Readings.{variants_of}
@@ -21,9 +21,9 @@ use Rattle.dm_maps.specs.Trees.{tree_of}
 use Rattle.dm_maps.specs.World.{World, scope_of}
 use Rattle.dm_scope.specs.Scope.{bound_in}
 use Rattle.dm_scope.specs.Sorted.{names_of}
-use Rattle.dm_pending.specs.Kinds.{re_exported}
-use Rattle.dm_pending.specs.Rounds.{path_meaning}
-use Rattle.dm_paths.specs.declared.result.ResolvePathResult.{ResolvePathResult}
+use Rattle.dm_retry.specs.Kinds.{re_exported}
+use Rattle.dm_retry.specs.Rounds.{path_meaning}
+use Rattle.hir_def_map.specs.declared.path_resolution.result.ResolvePathResult.{ResolvePathResult}
 use Rattle.dm_collector.specs.declared.globs.Glob.{Glob}
 use Rattle.dm_collector.specs.declared.sources.GlobImport.{GlobImport}
 use Rattle.dm_collector.specs.declared.sources.GlobSource.{GlobSource}

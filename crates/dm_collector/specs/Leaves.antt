@@ -2,12 +2,12 @@
 use Rattle.std.specs.Prelude.{Bool, true, false, List, [], ◌∷◌, Option, None, Some, codes, if◌then◌else◌}
 use Rattle.crate_tables.specs.declared.use_leaf.UseLeaf.{UseLeaf}
 use Rattle.dm_collector.specs.declared.sources.GlobImport.{GlobImport}
-use Rattle.dm_names.specs.Names.{Name}
-use Rattle.dm_pending.specs.Rounds.{Pending}
-use Rattle.dm_pending.specs.declared.import_kind.ImportKind.{ImportKind as Retried}
-use Rattle.dm_pending.specs.declared.import_kind.ImportKind.TheVariants as retried
-use Rattle.item_tree.specs.declared.imports.ImportKind.{ImportKind}
-use Rattle.item_tree.specs.declared.imports.ImportKind.TheVariants as imports
+use Rattle.dm_base.specs.Names.{Name}
+use Rattle.dm_retry.specs.Rounds.{Pending}
+use Rattle.dm_retry.specs.declared.import_kind.ImportKind.{ImportKind as Retried}
+use Rattle.dm_retry.specs.declared.import_kind.ImportKind.TheVariants as retried
+use Rattle.item_tree.specs.declared.items.imports.ImportKind.{ImportKind}
+use Rattle.item_tree.specs.declared.items.imports.ImportKind.TheVariants as imports
 
 -- `as _` binds no name; any other import narrows what it brings to whom that is shown
 abbrev pub retried_kind : Bool → ImportKind → Retried

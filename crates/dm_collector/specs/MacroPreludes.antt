@@ -11,11 +11,11 @@ use Rattle.dm_collector.specs.Globs.{source_names}
 use Rattle.dm_collector.specs.MacroUses.{Uses}
 use Rattle.dm_collector.specs.declared.macro_uses.MacroSource.{MacroSource}
 use Rattle.dm_collector.specs.declared.sources.GlobSource.TheVariants as source
-use Rattle.dm_names.specs.Names.{Name, find_name}
-use Rattle.dm_ids.specs.contracts.ids.ExternCrateIdPartialEq.TheImpl as extern_eq
-use Rattle.dm_ids.specs.declared.ids.ExternCrateId.{ExternCrateId}
-use Rattle.dm_ids.specs.declared.imports.ImportOrExternCrate.{ImportOrExternCrate}
-use Rattle.dm_ids.specs.declared.item_ids.MacroId.{MacroId}
+use Rattle.dm_base.specs.Names.{Name, find_name}
+use Rattle.dm_base.specs.contracts.ids.ExternCrateIdPartialEq.TheImpl as extern_eq
+use Rattle.dm_base.specs.declared.ids.ExternCrateId.{ExternCrateId}
+use Rattle.dm_base.specs.declared.imports.ImportOrExternCrate.{ImportOrExternCrate}
+use Rattle.dm_base.specs.declared.item_ids.MacroId.{MacroId}
 use Rattle.dm_maps.specs.BuildMaps.{lacks_map}
 use Rattle.dm_maps.specs.Cut.{among}
 use Rattle.dm_maps.specs.Readings.{macro_uses_of}

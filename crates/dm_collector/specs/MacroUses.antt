@@ -2,20 +2,20 @@
 use Rattle.std.specs.Prelude.{◌+◌, ◌++◌, ◌==◌, ℕ, List, [], ◌∷◌, Option, Some, None, nat_lt, slice_get, if◌then◌else◌}
 use Rattle.crate_items.specs.DeclaredMacros.{Used, used}
 use Rattle.crate_items.specs.ItemAttributes.{kinds_from}
-use Rattle.crate_modules.specs.CrateGraphs.{Data, Graph}
-use Rattle.crate_modules.specs.Files.{SourceFile, text_of}
-use Rattle.crate_modules.specs.ModuleVisibilities.{lexemes_known}
-use Rattle.crate_modules.specs.Modules.{Listing}
-use Rattle.crate_modules.specs.Sources.{source_at}
+use Rattle.crate_items.specs.CrateGraphs.{Data, Graph}
+use Rattle.crate_items.specs.Files.{SourceFile, text_of}
+use Rattle.crate_items.specs.ModuleVisibilities.{lexemes_known}
+use Rattle.crate_items.specs.Modules.{Listing}
+use Rattle.crate_items.specs.Sources.{source_at}
 use Rattle.crate_tables.specs.CrateFillings.{attributes_of}
 use Rattle.crate_tables.specs.CrateRoots.{root_id}
 use Rattle.crate_tables.specs.StandardPreludes.{library}
 use Rattle.crate_tables.specs.declared.extern_crates.ExternCrateRow.{ExternCrateRow}
 use Rattle.dm_collector.specs.declared.macro_uses.MacroSource.{MacroSource}
-use Rattle.dm_names.specs.declared.ids.Crate.{Crate}
-use Rattle.dm_ids.specs.declared.ids.ExternCrateId.{ExternCrateId}
-use Rattle.dm_names.specs.declared.ids.FileId.{FileId}
-use Rattle.dm_ids.specs.declared.ids.ModuleId.{ModuleId}
+use Rattle.dm_base.specs.declared.ids.Crate.{Crate}
+use Rattle.dm_base.specs.declared.ids.ExternCrateId.{ExternCrateId}
+use Rattle.dm_base.specs.declared.ids.FileId.{FileId}
+use Rattle.dm_base.specs.declared.ids.ModuleId.{ModuleId}
 
 -- a crate, and the roots that it has macros from, in order: of two that bring one name the later counts
 pub record Uses : Type 0 where

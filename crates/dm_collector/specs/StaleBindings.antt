@@ -10,9 +10,9 @@ use Rattle.dm_collector.specs.Globs.{resolved, shown, source_names}
 use Rattle.dm_collector.specs.declared.globs.Glob.{Glob}
 use Rattle.dm_collector.specs.declared.sources.GlobImport.{GlobImport}
 use Rattle.dm_collector.specs.declared.stale.StaleBinding.{StaleBinding}
-use Rattle.dm_names.specs.Names.{Name}
-use Rattle.dm_ids.specs.declared.imports.ImportOrExternCrate.TheVariants as wide
-use Rattle.dm_ids.specs.declared.imports.ImportOrGlob.TheVariants as value
+use Rattle.dm_base.specs.Names.{Name}
+use Rattle.dm_base.specs.declared.imports.ImportOrExternCrate.TheVariants as wide
+use Rattle.dm_base.specs.declared.imports.ImportOrGlob.TheVariants as value
 use Rattle.dm_maps.specs.World.{World, scope_of}
 use Rattle.dm_scope.specs.Scope.{bound_in}
 

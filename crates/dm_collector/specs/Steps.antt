@@ -2,9 +2,9 @@
 use Rattle.std.specs.Prelude.{◌≡◌, ◌⊎◌, ◌+◌, ◌≤◌, ℕ, Bool, false, not, is_some, IfSome, List, [], ◌∷◌, Option, Some, None, Contains, if◌then◌else◌}
 use Rattle.std.specs.List.{AllByRecursion}
 use Rattle.std.specs.Option.{option_map_or}
-use Rattle.dm_names.specs.Names.{Name}
-use Rattle.dm_ids.specs.declared.imports.ImportOrExternCrate.TheVariants as wide
-use Rattle.dm_ids.specs.declared.ids.ModuleId.{ModuleId}
+use Rattle.dm_base.specs.Names.{Name}
+use Rattle.dm_base.specs.declared.imports.ImportOrExternCrate.TheVariants as wide
+use Rattle.dm_base.specs.declared.ids.ModuleId.{ModuleId}
 use Rattle.dm_base.specs.PerNs.{is_empty}
 use Rattle.dm_base.specs.declared.per_ns.Namespace.{Namespace}
 use Rattle.dm_base.specs.declared.per_ns.Namespace.TheVariants.{Types, Values, Macros}
@@ -13,7 +13,7 @@ use Rattle.crate_tables.specs.StandardPreludes.{own_map}
 use Rattle.dm_maps.specs.BuildMaps.{with_macro_use}
 use Rattle.dm_maps.specs.GoesOn.{with_macro_seen, with_type_seen, with_unnamed_trait, with_value_seen}
 use Rattle.dm_maps.specs.World.{World}
-use Rattle.dm_pending.specs.Rounds.{State, changed_beside, changed_under, pushed_into, round, round_answer}
+use Rattle.dm_retry.specs.Rounds.{State, changed_beside, changed_under, pushed_into, round, round_answer}
 use Rattle.dm_retry.specs.Retries.{Stops}
 use Rattle.dm_collector.specs.Globs.{missing, resolved}
 use Rattle.dm_collector.specs.MacroPreludes.{missing_macro}

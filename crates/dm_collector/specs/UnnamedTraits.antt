@@ -1,9 +1,9 @@
 -- Traits without a name (`use path::Trait as _`), as globs bring them.
 use Rattle.std.specs.Prelude.{◌≡◌, ◌&&◌, ℕ, Bool, IfSome, List, [], Option, None, slice_get}
 use Rattle.std.specs.List.{list_all}
-use Rattle.dm_ids.specs.declared.ids.ModuleId.{ModuleId}
-use Rattle.dm_ids.specs.declared.ids.TraitId.{TraitId}
-use Rattle.dm_ids.specs.declared.imports.ImportId.{ImportId}
+use Rattle.dm_base.specs.declared.ids.ModuleId.{ModuleId}
+use Rattle.dm_base.specs.declared.ids.TraitId.{TraitId}
+use Rattle.dm_base.specs.declared.imports.ImportId.{ImportId}
 use Rattle.dm_base.specs.declared.visibility.Visibility.{Visibility}
 use Rattle.dm_base.specs.PerNs.{keep}
 use Rattle.dm_base.specs.Tree.{sees}
@@ -11,7 +11,7 @@ use Rattle.dm_maps.specs.GoesOn.{trait_import_holds}
 use Rattle.dm_maps.specs.Known.{knows}
 use Rattle.dm_maps.specs.Trees.{tree_of}
 use Rattle.dm_maps.specs.World.{World, scope_of}
-use Rattle.dm_pending.specs.Unnamed.{is_new_trait}
+use Rattle.dm_retry.specs.Unnamed.{is_new_trait}
 use Rattle.dm_collector.specs.Globs.{resolved}
 use Rattle.dm_collector.specs.declared.globs.Glob.{Glob}
 use Rattle.dm_collector.specs.declared.sources.GlobImport.{GlobImport}

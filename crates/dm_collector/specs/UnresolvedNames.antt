@@ -2,10 +2,10 @@
 use Rattle.std.specs.Prelude.{◌≡◌, ◌⊎◌, ℕ, Bool, true, false, List, [], ◌∷◌, Option, Some, None, slice_get}
 use Rattle.std.specs.List.{flat_map}
 use Rattle.dm_base.specs.PerNs.{nothing}
-use Rattle.dm_check.specs.declared.held.HeldId.TheVariants as held
+use Rattle.dm_maps.specs.declared.check.held.HeldId.TheVariants as held
 use Rattle.dm_maps.specs.Known.{knows}
-use Rattle.dm_pending.specs.Kinds.{is_unnamed}
-use Rattle.dm_pending.specs.Rounds.{Pending, State, pushed_into, unresolved}
+use Rattle.dm_retry.specs.Kinds.{is_unnamed}
+use Rattle.dm_retry.specs.Rounds.{Pending, State, pushed_into, unresolved}
 use Rattle.dm_collector.specs.declared.unresolved_names.UnresolvedName.{UnresolvedName}
 
 -- an import as `_` has no name

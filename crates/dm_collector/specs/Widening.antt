@@ -1,9 +1,9 @@
 -- Globs that show one definition to more: when the visibility of a binding grows.
 use Rattle.std.specs.Prelude.{◌≡◌, ◌&&◌, Bool, not, IfSome, Option, Some, None, Contains, is_none, if◌then◌else◌}
 use Rattle.std.specs.Option.{option_eq}
-use Rattle.dm_names.specs.Names.{Name}
-use Rattle.dm_ids.specs.Imports.{is_glob, is_glob_or_import}
-use Rattle.dm_ids.specs.declared.ids.ModuleId.{ModuleId}
+use Rattle.dm_base.specs.Names.{Name}
+use Rattle.dm_base.specs.Imports.{is_glob, is_glob_or_import}
+use Rattle.dm_base.specs.declared.ids.ModuleId.{ModuleId}
 use Rattle.dm_base.specs.declared.per_ns.Item.{Item}
 use Rattle.dm_base.specs.declared.per_ns.Namespace.{Namespace}
 use Rattle.dm_base.specs.declared.per_ns.Namespace.TheVariants.{Types, Values, Macros}
@@ -14,7 +14,7 @@ use Rattle.dm_base.specs.Tree.{Tree}
 use Rattle.dm_base.specs.Visibility.{max_of}
 use Rattle.dm_maps.specs.Trees.{tree_of}
 use Rattle.dm_maps.specs.World.{World, scope_of}
-use Rattle.dm_shadowing.specs.Shadowing.{is_glob_by}
+use Rattle.dm_scope.specs.Shadowing.{is_glob_by}
 use Rattle.dm_scope.specs.Scope.{bound_in}
 use Rattle.dm_collector.specs.Globs.{resolved, shown, source_names}
 use Rattle.dm_collector.specs.declared.globs.Glob.{Glob}

@@ -1,7 +1,7 @@
 //! Why crates are not collected.
 ghost use Rattle.std.specs.Prelude.{◌≡◌, List};
-ghost use Rattle.crate_modules.specs.CrateGraphs.{Graph, rows};
-ghost use Rattle.crate_modules.specs.OrderFaults as orders;
+ghost use Rattle.crate_items.specs.CrateGraphs.{Graph, rows};
+ghost use Rattle.crate_items.specs.OrderFaults as orders;
 ghost use Rattle.crate_tables.specs.CrateFillings.{IsFaultIn, IsShortageOr, Reading};
 ghost use Rattle.crate_tables.specs.DeclaredWorlds.{IsRefusal};
 ghost use Rattle.crate_tables.specs.declared.declared_name.DeclaredName.{DeclaredName};
@@ -12,11 +12,11 @@ ghost use Rattle.dm_collector.specs.Steps.{IsLeftBy};
 ghost use Rattle.dm_collector.specs.declared.glob_fault.GlobFault.TheVariants as globs;
 ghost use Rattle.dm_collector.specs.declared.sources.GlobImport.{GlobImport};
 ghost use Rattle.dm_maps.specs.World.{World};
-ghost use Rattle.dm_pending.specs.Rounds.{Pending, State};
+ghost use Rattle.dm_retry.specs.Rounds.{Pending, State};
 ghost use Rattle.dm_collector.specs.declared.collect_fault.CollectFault.TheVariants as faults;
 
 use crate::glob_fault::GlobFault;
-use crate_modules::crate_order::OrderFault;
+use crate_items::files::crate_order::OrderFault;
 use crate_tables::declared_world::NotDeclared;
 use crate_tables::fill_fault::FillFault;
 use dm_base::ids::Crate;

@@ -1,17 +1,17 @@
 //! Globs: what one brings into its module.
 ghost use Rattle.std.specs.Prelude.{◌≡◌, [], false, All, IfOk, IsTrue};
 ghost use Rattle.std.specs.Option.{ForSome, option_map_or};
-ghost use Rattle.dm_names.specs.Names.{find_name};
+ghost use Rattle.dm_base.specs.Names.{find_name};
 ghost use Rattle.dm_base.specs.PerNs.{is_empty, keep, nothing, seen_by};
 ghost use Rattle.dm_base.specs.Tree.{IsKnown, sees};
 ghost use Rattle.dm_base.specs.Visibility.{NamesKnown};
 ghost use Rattle.dm_scope.specs.Scope.{bound_in};
-ghost use Rattle.dm_check.specs.declared.held.HeldId.TheVariants as held;
+ghost use Rattle.dm_maps.specs.declared.check.held.HeldId.TheVariants as held;
 ghost use Rattle.dm_maps.specs.Known.{knows, KnowsAll};
 ghost use Rattle.dm_maps.specs.Readings.{variants_of};
 ghost use Rattle.dm_maps.specs.Trees.{tree_of};
 ghost use Rattle.dm_maps.specs.World.{scope_of};
-ghost use Rattle.dm_check.specs.Holding.{res_holds, vis_holds};
+ghost use Rattle.dm_maps.specs.Holding.{res_holds, vis_holds};
 ghost use Rattle.dm_collector.specs.Globs.{if_vacant, IsFilled, missing, shown, vacant, variant_items};
 
 use crate::sources::{GlobSource, add_unless, source_names};

@@ -4,13 +4,13 @@ ghost use Rattle.std.specs.List.{flat_map};
 ghost use Rattle.dm_collector.specs.Leaves as spec;
 
 use crate::sources::GlobImport;
-use crate_items::declared_import::DeclaredImport;
+use crate_items::items::declared_import::DeclaredImport;
 use crate_tables::use_leaf::UseLeaf;
 use dm_base::imports::{GlobId, ImportId};
 use dm_base::name::Name;
 use dm_retry::import_kind::ImportKind;
 use dm_retry::pending::Pending;
-use item_tree::imports;
+use item_tree::items::imports;
 use std::alloc::{AllocError, Global};
 
 /// Imports that are resolved in rounds, and globs.

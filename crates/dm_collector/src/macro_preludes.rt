@@ -2,8 +2,8 @@
 ghost use Rattle.std.specs.Prelude.{◌≡◌, ◌||◌, [], false, All, Contains, IfOk, IfSome, None, OnOk, is_none};
 ghost use Rattle.std.specs.Option.{option_copied};
 ghost use Rattle.crate_tables.specs.StandardPreludes.{own_map as map_of};
-ghost use Rattle.dm_check.specs.Holding.{def_holds};
-ghost use Rattle.dm_ids.specs.declared.item_ids.ModuleDefId.TheVariants as def;
+ghost use Rattle.dm_maps.specs.Holding.{def_holds};
+ghost use Rattle.dm_base.specs.declared.item_ids.ModuleDefId.TheVariants as def;
 ghost use Rattle.dm_maps.specs.BuildMaps.{lacks_map};
 ghost use Rattle.dm_maps.specs.Cut.{among};
 ghost use Rattle.dm_maps.specs.Known.{KnowsAll};
@@ -14,7 +14,7 @@ ghost use Rattle.dm_collector.specs.MacroPreludes as spec;
 
 use crate::macro_uses::{MacroSource, MacroUses};
 use crate::sources::{GlobSource, add_unless, source_names};
-use crate_items::declared_macro::MacroUse;
+use crate_items::macros::declared_macro::MacroUse;
 use dm_base::ids::{Crate, ExternCrateId, MapId, ModuleId};
 use dm_base::item_ids::MacroId;
 use dm_base::name::Name;

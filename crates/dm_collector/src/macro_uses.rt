@@ -2,19 +2,19 @@
 ghost use Rattle.std.specs.Prelude.{◌≡◌, ◌++◌, ◌∷◌, [], IfOk, OnOk, slice_get};
 ghost use Rattle.dm_collector.specs.MacroUses as spec;
 
-use crate_items::crate_attributes::crate_attributes;
-use crate_items::declared_item::DeclaredItem;
-use crate_items::declared_macro::{MacroUse, macro_use};
-use crate_modules::crate_data::CrateData;
-use crate_modules::crate_graph::CrateGraph;
-use crate_modules::file_table::FileTable;
-use crate_modules::modules::CrateModules;
+use crate_items::files::crate_data::CrateData;
+use crate_items::files::crate_graph::CrateGraph;
+use crate_items::files::file_table::FileTable;
+use crate_items::items::crate_attributes::crate_attributes;
+use crate_items::items::declared_item::DeclaredItem;
+use crate_items::macros::declared_macro::{MacroUse, macro_use};
+use crate_items::modules::CrateModules;
 use crate_tables::crate_roots::root_id;
 use crate_tables::extern_crates::ExternCrateRow;
 use crate_tables::standard_prelude::library;
 use dm_base::fields_shape::FieldsShape;
 use dm_base::ids::{Crate, ExternCrateId, FileId, ModuleId};
-use item_tree::item_kind::ItemKind;
+use item_tree::items::item_kind::ItemKind;
 use std::alloc::{AllocError, Global};
 use std::marker::Model;
 

@@ -1,9 +1,9 @@
 //! The sources of globs: what their paths mean.
 ghost use Rattle.std.specs.Prelude.{◌≡◌, ◌↔◌, ◌++◌, ◌∷◌, [], true, if◌then◌else◌, Contains, IfErr, IfOk, IfSome, IsTrue, OnOk, map};
-ghost use Rattle.dm_check.specs.declared.held.HeldId.TheVariants as held;
-ghost use Rattle.dm_check.specs.Holding.{path_holds, vis_holds};
+ghost use Rattle.dm_maps.specs.declared.check.held.HeldId.TheVariants as held;
+ghost use Rattle.dm_maps.specs.Holding.{path_holds, vis_holds};
 ghost use Rattle.dm_maps.specs.Known.{knows, KnowsAll};
-ghost use Rattle.dm_names.specs.Names.{Name};
+ghost use Rattle.dm_base.specs.Names.{Name};
 ghost use Rattle.std.specs.Option.{option_map_or};
 ghost use Rattle.dm_maps.specs.GoesOn.{variants_if_known};
 ghost use Rattle.dm_maps.specs.World.{scope_of};
@@ -21,10 +21,10 @@ use dm_base::name::Name;
 use dm_base::per_ns::PerNs;
 use dm_base::visibility::Visibility;
 use dm_maps::world::World;
+use dm_maps::world::knows_paths::KnowsPaths;
 use dm_maps::world::variants::Variants;
 use dm_retry::meaning::path_meaning;
 use dm_scope::scope_tables::ScopeTables;
-use dm_world::knows::KnowsPaths;
 use hir_def_map::result::ResolvePathResult;
 use std::alloc::{AllocError, Global};
 

@@ -1,8 +1,8 @@
 //! Bindings of globs that are stale: their sources mean another definition by now.
 ghost use Rattle.std.specs.Prelude.{◌≡◌, ◌++◌, IfErr, IfOk, IsTrue, List, OnOk};
 ghost use Rattle.std.specs.List.{flat_map};
-ghost use Rattle.dm_check.specs.Holding.{vis_holds};
-ghost use Rattle.dm_check.specs.declared.held.HeldId.TheVariants as held;
+ghost use Rattle.dm_maps.specs.Holding.{vis_holds};
+ghost use Rattle.dm_maps.specs.declared.check.held.HeldId.TheVariants as held;
 ghost use Rattle.dm_maps.specs.Known.{knows, KnowsAll};
 ghost use Rattle.dm_scope.specs.Sorted.{seen};
 ghost use Rattle.dm_collector.specs.Globs.{glob_holds, HasUnknown, resolved};

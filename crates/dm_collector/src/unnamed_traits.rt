@@ -1,7 +1,7 @@
 //! Traits without a name (`use path::Trait as _`): which of its source's a glob has yet to bring.
 ghost use Rattle.std.specs.Prelude.{◌≡◌, true, IfSome, IsTrue, length, slice_get};
-ghost use Rattle.dm_check.specs.declared.held.HeldId.TheVariants as held;
-ghost use Rattle.dm_check.specs.Holding.{vis_holds};
+ghost use Rattle.dm_maps.specs.declared.check.held.HeldId.TheVariants as held;
+ghost use Rattle.dm_maps.specs.Holding.{vis_holds};
 ghost use Rattle.dm_maps.specs.GoesOn.{trait_import_holds};
 ghost use Rattle.dm_maps.specs.Known.{knows, KnowsAll};
 ghost use Rattle.dm_maps.specs.World.{scope_of};

@@ -1,9 +1,9 @@
 //! The names of imports that lead nowhere, listed in their modules.
 ghost use Rattle.std.specs.Prelude.{◌≡◌, ◌++◌, IfOk, None, OnErr, OnOk, slice_get};
-ghost use Rattle.dm_check.specs.declared.held.HeldId.TheVariants as held;
+ghost use Rattle.dm_maps.specs.declared.check.held.HeldId.TheVariants as held;
 ghost use Rattle.dm_collector.specs.UnresolvedNames as spec;
 ghost use Rattle.dm_maps.specs.Known.{knows};
-ghost use Rattle.dm_pending.specs.Kinds.{is_unnamed};
+ghost use Rattle.dm_retry.specs.Kinds.{is_unnamed};
 
 use dm_base::ids::ModuleId;
 use dm_base::name::Name;

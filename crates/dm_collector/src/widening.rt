@@ -3,12 +3,12 @@ ghost use Rattle.std.specs.Prelude.{◌≡◌, [], false, true, All, IfOk, IfSom
 ghost use Rattle.std.specs.Option.{ForSome};
 ghost use Rattle.dm_base.specs.Tree.{IsKnown};
 ghost use Rattle.dm_base.specs.Visibility.{NamesKnown};
-ghost use Rattle.dm_check.specs.declared.held.HeldId.TheVariants as held;
-ghost use Rattle.dm_check.specs.Holding.{res_holds, vis_holds};
+ghost use Rattle.dm_maps.specs.declared.check.held.HeldId.TheVariants as held;
+ghost use Rattle.dm_maps.specs.Holding.{res_holds, vis_holds};
 ghost use Rattle.dm_maps.specs.Known.{knows, KnowsAll};
 ghost use Rattle.dm_maps.specs.Trees.{tree_of};
 ghost use Rattle.dm_maps.specs.World.{scope_of};
-ghost use Rattle.dm_shadowing.specs.Shadowing.{is_glob_by};
+ghost use Rattle.dm_scope.specs.Shadowing.{is_glob_by};
 ghost use Rattle.dm_scope.specs.Scope.{bound_in};
 ghost use Rattle.dm_collector.specs.Widening.{is_nothing_wider, is_wider, IsWide, nothing_wider, wider, wider_item, wider_of};
 

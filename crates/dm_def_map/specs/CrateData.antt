@@ -5,9 +5,9 @@ use Rattle.std.specs.Map.{lookup}
 use Rattle.std.specs.Option.{option_map_or}
 use Rattle.indexmap.specs.IndexMap.{insert_entry}
 use Rattle.indexmap.specs.IndexSet.{insert_key}
-use Rattle.dm_ids.specs.declared.ids.FunctionId.{FunctionId}
-use Rattle.dm_ids.specs.declared.ids.ProcMacroId.{ProcMacroId}
-use Rattle.dm_names.specs.Names.{same_name}
+use Rattle.dm_base.specs.declared.ids.FunctionId.{FunctionId}
+use Rattle.dm_base.specs.declared.ids.ProcMacroId.{ProcMacroId}
+use Rattle.dm_base.specs.Names.{same_name}
 use Rattle.dm_def_map.specs.declared.crate_data.crate_setting.CrateSetting.{CrateSetting}
 use Rattle.dm_def_map.specs.declared.crate_data.crate_setting.CrateSetting.TheVariants.{NoStd, NoCore, CoherenceIsCore, RecursionLimit, Tool, Feature, ProcMacro}
 

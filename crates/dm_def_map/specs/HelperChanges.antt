@@ -3,7 +3,7 @@ use Rattle.std.specs.Prelude.{ℕ, List, [], ◌∷◌, ◌++◌, map, slice_get
 use Rattle.std.specs.Option.{option_map_or}
 use Rattle.std.specs.Map.{lookup}
 use Rattle.indexmap.specs.IndexMap.{insert_entry, set_value_at}
-use Rattle.dm_ids.specs.declared.source.AstId.{AstId}
+use Rattle.dm_base.specs.declared.source.AstId.{AstId}
 use Rattle.dm_base.specs.Sameness.{same_ast}
 use Rattle.dm_def_map.specs.Helpers.{Helper, Helpers}
 

@@ -1,12 +1,12 @@
 -- Tables of items, outside all def maps: visibilities of fields and traits, containers of associated items, raw names.
 use Rattle.std.specs.Prelude.{List, []}
 use Rattle.indexmap.specs.IndexSet.{insert_key}
-use Rattle.dm_ids.specs.declared.ids.TraitId.{TraitId}
-use Rattle.dm_ids.specs.declared.item_ids.VariantId.{VariantId}
-use Rattle.dm_ids.specs.declared.item_ids.AssocItemId.{AssocItemId}
-use Rattle.dm_ids.specs.declared.item_ids.ItemContainerId.{ItemContainerId}
+use Rattle.dm_base.specs.declared.ids.TraitId.{TraitId}
+use Rattle.dm_base.specs.declared.item_ids.VariantId.{VariantId}
+use Rattle.dm_base.specs.declared.item_ids.AssocItemId.{AssocItemId}
+use Rattle.dm_base.specs.declared.item_ids.ItemContainerId.{ItemContainerId}
 use Rattle.dm_base.specs.declared.visibility.RawVisibility.{RawVisibility}
-use Rattle.dm_names.specs.Names.{Name, same_name}
+use Rattle.dm_base.specs.Names.{Name, same_name}
 
 pub record ItemTables : Type 0 where
   -- the visibilities of the fields of a variant, a struct or a union, in order

@@ -1,7 +1,7 @@
 -- Changes of a def map, outside its modules.
 use Rattle.std.specs.Prelude.{[], ◌∷◌, ◌++◌, Bool, true, false}
 use Rattle.indexmap.specs.IndexMap.{insert_entry}
-use Rattle.dm_names.specs.Names.{same_name}
+use Rattle.dm_base.specs.Names.{same_name}
 use Rattle.dm_base.specs.Sameness.{same_ast}
 use Rattle.dm_def_map.specs.declared.map_change.MapChange.{MapChange}
 use Rattle.dm_def_map.specs.declared.map_change.MapChange.TheVariants.{Prelude, MacroUse, MacroDef, Helper, Diagnostic}

@@ -1,9 +1,9 @@
 -- Module origins: a crate root, a file, an inline module, or a block expression.
 use Rattle.std.specs.Prelude.{Bool, true, false, Option, Some, None}
-use Rattle.dm_ids.specs.declared.source.AstId.{AstId}
-use Rattle.dm_ids.specs.declared.source.EditionedFileId.{EditionedFileId}
-use Rattle.dm_ids.specs.declared.source.HirFileId.{HirFileId}
-use Rattle.dm_ids.specs.declared.source.HirFileId.TheVariants as file
+use Rattle.dm_base.specs.declared.source.AstId.{AstId}
+use Rattle.dm_base.specs.declared.source.EditionedFileId.{EditionedFileId}
+use Rattle.dm_base.specs.declared.source.HirFileId.{HirFileId}
+use Rattle.dm_base.specs.declared.source.HirFileId.TheVariants as file
 use Rattle.dm_def_map.specs.declared.modules.module_origin.ModuleOrigin.{ModuleOrigin}
 use Rattle.dm_def_map.specs.declared.modules.module_origin.ModuleOrigin.TheVariants.{CrateRoot, File, Inline, BlockExpr}
 

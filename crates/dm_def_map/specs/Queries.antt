@@ -3,10 +3,10 @@ use Rattle.std.specs.Prelude.{Bool, false, nat_eq, List, Option, Some, None, ifâ
 use Rattle.std.specs.Borrow.{Bor}
 use Rattle.std.specs.List.{filter_map}
 use Rattle.std.specs.Option.{option_map_or, option_and_then, option_or}
-use Rattle.dm_names.specs.declared.ids.FileId.{FileId}
-use Rattle.dm_ids.specs.declared.ids.MacroCallId.{MacroCallId}
-use Rattle.dm_ids.specs.declared.ids.ModuleId.{ModuleId}
-use Rattle.dm_ids.specs.Files.{macro_file}
+use Rattle.dm_base.specs.declared.ids.FileId.{FileId}
+use Rattle.dm_base.specs.declared.ids.MacroCallId.{MacroCallId}
+use Rattle.dm_base.specs.declared.ids.ModuleId.{ModuleId}
+use Rattle.dm_base.specs.Files.{macro_file}
 use Rattle.dm_def_map.specs.declared.modules.module_origin.ModuleOrigin.{ModuleOrigin}
 use Rattle.dm_def_map.specs.declared.modules.module_origin.ModuleOrigin.TheVariants.{CrateRoot, File, Inline, BlockExpr}
 use Rattle.dm_def_map.specs.Maps.{Map, Module, Modules, module_at}

@@ -3,9 +3,9 @@ use Rattle.std.specs.Prelude.{◌≡◌, true}
 use Rattle.std.proofs.Common.{rules}
 use Rattle.std.specs.Cmp.{booleans_Decides}
 use Rattle.std.proofs.lemmas.Bool.{and_parts}
-use Rattle.dm_ids.specs.contracts.value_eq.EditionedFileIdValueEq.TheImpl.Laws as file_value
-use Rattle.dm_ids.specs.contracts.value_eq.FileAstIdValueEq.TheImpl.Laws as ast_value
-use Rattle.dm_ids.specs.contracts.value_eq.TreeIdValueEq.TheImpl.Laws as tree_value
+use Rattle.dm_base.specs.contracts.value_eq.EditionedFileIdValueEq.TheImpl.Laws as file_value
+use Rattle.dm_base.specs.contracts.value_eq.FileAstIdValueEq.TheImpl.Laws as ast_value
+use Rattle.dm_base.specs.contracts.value_eq.TreeIdValueEq.TheImpl.Laws as tree_value
 use Rattle.dm_def_map.specs.contracts.modules.module_origin.ModuleOriginPartialEq.TheImpl as origin_eq
 use Rattle.dm_def_map.specs.declared.modules.module_origin.ModuleOrigin.{ModuleOrigin}
 use Rattle.dm_def_map.specs.declared.modules.module_origin.ModuleOrigin.TheVariants.{File}

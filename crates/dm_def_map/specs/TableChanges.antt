@@ -1,10 +1,10 @@
 -- What the setters of item tables do: the entry of a key that is there keeps its place and is replaced.
 use Rattle.std.specs.Prelude.{List}
 use Rattle.indexmap.specs.IndexMap.{insert_entry}
-use Rattle.dm_ids.specs.declared.ids.TraitId.{TraitId}
-use Rattle.dm_ids.specs.declared.item_ids.AssocItemId.{AssocItemId}
-use Rattle.dm_ids.specs.declared.item_ids.ItemContainerId.{ItemContainerId}
-use Rattle.dm_ids.specs.declared.item_ids.VariantId.{VariantId}
+use Rattle.dm_base.specs.declared.ids.TraitId.{TraitId}
+use Rattle.dm_base.specs.declared.item_ids.AssocItemId.{AssocItemId}
+use Rattle.dm_base.specs.declared.item_ids.ItemContainerId.{ItemContainerId}
+use Rattle.dm_base.specs.declared.item_ids.VariantId.{VariantId}
 use Rattle.dm_base.specs.declared.visibility.RawVisibility.{RawVisibility}
 use Rattle.dm_def_map.specs.ItemTables.{ItemTables}
 use Rattle.dm_def_map.specs.Keys.{same_variant, same_assoc, same_trait}

@@ -3,10 +3,10 @@ use Rattle.std.specs.Prelude.{◌≡◌, nat_eq, Bool, ℕ, List, [], ◌∷◌,
 use Rattle.std.specs.Option.{option_map_or}
 use Rattle.std.specs.Map.{lookup}
 use Rattle.indexmap.specs.IndexMap.{insert_entry, set_value_at}
-use Rattle.dm_ids.specs.declared.ids.EnumId.{EnumId}
-use Rattle.dm_ids.specs.declared.ids.EnumVariantId.{EnumVariantId}
-use Rattle.dm_ids.specs.declared.fields_shape.FieldsShape.{FieldsShape}
-use Rattle.dm_names.specs.Names.{Name, find_name}
+use Rattle.dm_base.specs.declared.ids.EnumId.{EnumId}
+use Rattle.dm_base.specs.declared.ids.EnumVariantId.{EnumVariantId}
+use Rattle.dm_base.specs.declared.fields_shape.FieldsShape.{FieldsShape}
+use Rattle.dm_base.specs.Names.{Name, find_name}
 
 abbrev pub same_enum : EnumId → EnumId → Bool
 same_enum a b = nat_eq a.0 b.0

@@ -2,7 +2,7 @@
 ghost use Rattle.std.specs.Prelude.{◌≡◌, ◌↔◌, IsTrue, IsSome};
 ghost use Rattle.std.specs.Option.{option_copied};
 ghost use Rattle.std.specs.Map.{lookup};
-ghost use Rattle.dm_names.specs.Names.{find_name};
+ghost use Rattle.dm_base.specs.Names.{find_name};
 ghost use Rattle.dm_base.specs.Sameness.{same_ast};
 ghost use Rattle.dm_def_map.specs.Maps.{module_at};
 

@@ -1,7 +1,7 @@
 //! Tables of items, outside all def maps: visibilities of fields and traits, containers of associated items, raw names.
 ghost use Rattle.std.specs.Prelude.{◌≡◌, [], OnOk, OnErr};
 ghost use Rattle.std.specs.List.{list_any};
-ghost use Rattle.dm_names.specs.Names.{same_name};
+ghost use Rattle.dm_base.specs.Names.{same_name};
 ghost use Rattle.dm_def_map.specs.ItemTables.{no_tables, with_raw_name};
 ghost use Rattle.dm_def_map.specs.TableChanges.{with_field_list, with_assoc, with_trait};
 

@@ -1,7 +1,7 @@
 //! Queries of a def map about its modules. None of these calls allocates.
 ghost use Rattle.std.specs.Prelude.{◌≡◌, IsSome, Some};
 ghost use Rattle.std.specs.Map.Iter.{ShowsInOrder};
-ghost use Rattle.dm_ids.specs.declared.ids.ModuleId.{ModuleId};
+ghost use Rattle.dm_base.specs.declared.ids.ModuleId.{ModuleId};
 ghost use Rattle.dm_def_map.specs.Maps.{module_at};
 ghost use Rattle.dm_def_map.specs.Queries.{containing_in, fills, is_inline_in, modules_with};
 

@@ -1,7 +1,7 @@
 //! Look-ups by `&str` in tables whose keys are names.
 ghost use Rattle.std.specs.Prelude.{◌≡◌, is_some};
 ghost use Rattle.std.specs.List.{list_any};
-ghost use Rattle.dm_names.specs.Names.{find_name, same_name};
+ghost use Rattle.dm_base.specs.Names.{find_name, same_name};
 
 use dm_base::name::Name;
 use indexmap::map::Slice;

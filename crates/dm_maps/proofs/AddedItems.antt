@@ -2,12 +2,12 @@
 use Rattle.std.proofs.Common.{◌≡◌, ◌∙◌, ℕ, true, false, [], ◌∷◌, length, slice_get, refl, sym, ap, subst, arith, IsTrue}
 use Rattle.std.specs.Option.{option_map_or}
 use Rattle.dm_maps.proofs.Ids.{EnumId, EnumVariantId, FieldsShape, ItemKind, MacroId, MacroLoc, ModuleDefId, ModuleId, Name, UseId}
-use Rattle.dm_ids.specs.declared.item_ids.ItemKind.TheVariants as item
-use Rattle.dm_ids.specs.declared.macros.MacroLoc.TheVariants as loc
-use Rattle.dm_check.specs.declared.held.HeldId.{HeldId}
-use Rattle.dm_check.specs.declared.held.HeldId.TheVariants as held
-use Rattle.dm_check.specs.Holding.{def_holds}
-use Rattle.dm_check.specs.Kinds.{same_kind, is_of_kind}
+use Rattle.dm_base.specs.declared.item_ids.ItemKind.TheVariants as item
+use Rattle.dm_base.specs.declared.macros.MacroLoc.TheVariants as loc
+use Rattle.dm_maps.specs.declared.check.held.HeldId.{HeldId}
+use Rattle.dm_maps.specs.declared.check.held.HeldId.TheVariants as held
+use Rattle.dm_maps.specs.Holding.{def_holds}
+use Rattle.dm_maps.specs.Kinds.{same_kind, is_of_kind}
 use Rattle.dm_maps.specs.Added.{AreAdded}
 use Rattle.dm_maps.specs.Build.{item_def, with_item}
 use Rattle.dm_maps.specs.BuildItems.{macro_id, next_use, next_variant, with_macro, with_use, with_variant}

@@ -9,10 +9,10 @@ use Rattle.dm_maps.proofs.Ids.{ImportOrExternCrate, ModuleId, Name, Place, find_
 use Rattle.dm_base.specs.declared.per_ns.Item.{Item}
 use Rattle.dm_base.specs.declared.per_ns.PerNs.{PerNs}
 use Rattle.dm_base.specs.declared.visibility.Visibility.TheVariants.{Public}
-use Rattle.dm_shadowing.specs.Shadowing as shadowing
-use Rattle.dm_bindings.specs.Bindings as b
-use Rattle.dm_bindings.specs.Bindings.{Bound}
-use Rattle.dm_shadowing.specs.Flags.{Flags, Globs, has_flag}
+use Rattle.dm_scope.specs.Shadowing as shadowing
+use Rattle.dm_scope.specs.Bindings as b
+use Rattle.dm_scope.specs.Bindings.{Bound}
+use Rattle.dm_scope.specs.Flags.{Flags, Globs, has_flag}
 use Rattle.dm_scope.specs.Push.{types_reading, values_reading, macros_reading, scope_after}
 use Rattle.dm_scope.specs.Scope.{Scope, no_scope}
 use Rattle.dm_def_map.specs.Maps.{Map, Module, Modules, fresh_module, nth_module, put_scope, map_with_scope}

@@ -2,11 +2,11 @@
 use Rattle.std.proofs.Common.{◌≡◌, Some, slice_get, IsTrue, length}
 use Rattle.std.proofs.lemmas.Bool.{lt-ltb}
 use Rattle.std.proofs.lemmas.Option.{slice_get_within}
-use Rattle.dm_ids.specs.declared.fields_shape.FieldsShape.{FieldsShape}
-use Rattle.dm_ids.specs.declared.ids.EnumId.{EnumId}
-use Rattle.dm_ids.specs.declared.ids.EnumVariantId.{EnumVariantId}
-use Rattle.dm_names.specs.Names.{Name}
-use Rattle.dm_check.specs.declared.held.HeldId.TheVariants as held
+use Rattle.dm_base.specs.declared.fields_shape.FieldsShape.{FieldsShape}
+use Rattle.dm_base.specs.declared.ids.EnumId.{EnumId}
+use Rattle.dm_base.specs.declared.ids.EnumVariantId.{EnumVariantId}
+use Rattle.dm_base.specs.Names.{Name}
+use Rattle.dm_maps.specs.declared.check.held.HeldId.TheVariants as held
 use Rattle.dm_maps.specs.GoesOn.{AreKnown, AreVariantsOf}
 use Rattle.dm_maps.specs.Known.{knows}
 use Rattle.dm_maps.specs.Lists.{AreListed, IsListed}

@@ -4,10 +4,10 @@ use Rattle.std.specs.List.{AllByRecursion}
 use Rattle.std.specs.Option.{option_map}
 use Rattle.std.proofs.Math.Seq.{drop-cons}
 use Rattle.std.proofs.lemmas.List.Elements.{All-contains, All-from_recursion}
-use Rattle.dm_check.specs.declared.fault.WorldFault.{WorldFault}
-use Rattle.dm_check.specs.declared.held.HeldFault.{HeldFault}
-use Rattle.dm_check.specs.declared.held.HeldId.{HeldId}
-use Rattle.dm_check.specs.Held.{IsLeast, IsLeastFault}
+use Rattle.dm_maps.specs.declared.check.fault.WorldFault.{WorldFault}
+use Rattle.dm_maps.specs.declared.check.held.HeldFault.{HeldFault}
+use Rattle.dm_maps.specs.declared.check.held.HeldId.{HeldId}
+use Rattle.dm_maps.specs.Held.{IsLeast, IsLeastFault}
 use Rattle.dm_maps.specs.World.{World}
 use Rattle.dm_maps.specs.Known.{knows, KnowsAll}
 use Rattle.dm_maps.specs.First.{Held, fault_of, IsAnswer, IsFirstFault}

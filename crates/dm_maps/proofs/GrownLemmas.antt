@@ -9,9 +9,9 @@ use Rattle.dm_maps.proofs.Ids.{EnumId, ItemKind, MacroLoc, MapId, ModuleId, Name
 use Rattle.dm_base.specs.Tree.{same_module}
 use Rattle.dm_scope.specs.Scope.{Scope, no_scope}
 use Rattle.dm_scope.specs.Shows.{Shows}
-use Rattle.dm_check.specs.declared.held.HeldId.{HeldId}
-use Rattle.dm_check.specs.declared.held.HeldId.TheVariants as held
-use Rattle.dm_check.specs.Kinds.{same_kind, is_of_kind, macro_number}
+use Rattle.dm_maps.specs.declared.check.held.HeldId.{HeldId}
+use Rattle.dm_maps.specs.declared.check.held.HeldId.TheVariants as held
+use Rattle.dm_maps.specs.Kinds.{same_kind, is_of_kind, macro_number}
 use Rattle.dm_def_map.specs.Maps.{Map, Module, Modules, nth_module, put_child, with_child, with_new_child, map_with_child}
 use Rattle.dm_maps.specs.Added.{IsGrown, IsAddedModule}
 use Rattle.dm_maps.specs.Build.{next_module}

@@ -6,9 +6,9 @@ use Rattle.std.proofs.lemmas.List.{map_push, length-map}
 use Rattle.std.proofs.lemmas.Option.{slice_get-map}
 use Rattle.dm_maps.proofs.Ids.{BlockId, Crate, MapId, ModuleId, Place}
 use Rattle.dm_base.specs.Tree.{IsTree, IsKnown, containing, chain, is_among}
-use Rattle.dm_ladders.specs.Ancestry.{moves}
-use Rattle.dm_ladders.specs.Ladders.{tree_above}
-use Rattle.dm_ladders.proofs.ChainLemmas.{chains-agree, moves-agree, among-known}
+use Rattle.dm_maps.specs.Ancestry.{moves}
+use Rattle.dm_maps.specs.JumpPointers.{tree_above}
+use Rattle.dm_maps.proofs.ChainLemmas.{chains-agree, moves-agree, among-known}
 use Rattle.dm_def_map.specs.CrateData.{CrateData}
 use Rattle.dm_def_map.specs.Maps.{Map}
 use Rattle.dm_maps.specs.BuildCrateData.{sharing}

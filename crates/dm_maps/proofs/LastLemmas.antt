@@ -1,6 +1,6 @@
 -- The last of a list, by its place.
 use Rattle.std.proofs.Common.{◌≡◌, ◌-◌, suc, List, [], ◌∷◌, length, slice_get, refl, ap, ◌∙◌, arith}
-use Rattle.dm_bindings.specs.Pushes.{last_of}
+use Rattle.dm_scope.specs.Pushes.{last_of}
 
 pub last_of-place : {A : Type 0} (xs : List A) → slice_get xs (length xs - 1) ≡ last_of xs
 last_of-place [] = refl

@@ -3,7 +3,7 @@ use Rattle.std.proofs.Common.{◌≡◌, ◌∙◌, Bool, true, false, IsSome, a
 use Rattle.dm_maps.proofs.Ids.{ModuleId}
 use Rattle.dm_base.specs.IdLaws.{same_module-true}
 use Rattle.dm_base.specs.Tree.{same_module}
-use Rattle.dm_shadowing.specs.Flags.{Globs}
+use Rattle.dm_scope.specs.Flags.{Globs}
 use Rattle.dm_scope.specs.PushLaw.{PushLaw, have_one_import, is_named, itself, would_write}
 use Rattle.dm_scope.specs.Scope.{Scope}
 use Rattle.dm_scope.specs.Shows.{ScopePush}

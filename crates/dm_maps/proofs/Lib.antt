@@ -1,3 +1,12 @@
+pub mod ChainLemmas
+pub mod RowLemmas
+pub mod TableLemmas
+pub mod MoveLemmas
+pub mod FillLemmas
+pub mod Sets
+pub mod HeldRecords
+pub mod Order
+pub mod Least
 pub mod Ids
 pub mod EntryLemmas
 pub mod EntryChanges

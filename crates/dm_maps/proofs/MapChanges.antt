@@ -3,22 +3,22 @@ use Rattle.std.proofs.Common.{◌≡◌, ◌∙◌, ◌^◌, ◌-◌, ◌+◌, m
 use Rattle.std.specs.List.{AllByRecursion, flat_map}
 use Rattle.std.specs.Option.{option_and_then, option_map_or}
 use Rattle.indexmap.specs.IndexMap.{insert_entry}
-use Rattle.dm_ids.specs.declared.ids.ExternCrateId.{ExternCrateId}
-use Rattle.dm_ids.specs.declared.ids.MapId.{MapId}
-use Rattle.dm_ids.specs.declared.item_ids.MacroId.{MacroId}
-use Rattle.dm_names.specs.Names.{Name, same_name}
+use Rattle.dm_base.specs.declared.ids.ExternCrateId.{ExternCrateId}
+use Rattle.dm_base.specs.declared.ids.MapId.{MapId}
+use Rattle.dm_base.specs.declared.item_ids.MacroId.{MacroId}
+use Rattle.dm_base.specs.Names.{Name, same_name}
 use Rattle.dm_base.specs.declared.per_ns.Namespace.{Namespace}
 use Rattle.dm_base.specs.declared.per_ns.Namespace.TheVariants.{Types, Values, Macros}
 use Rattle.dm_scope.specs.declared.diagnostics.DefDiagnostic.{DefDiagnostic}
 use Rattle.dm_scope.specs.Tables.{record_count}
 use Rattle.dm_scope.specs.Records.{records_in}
 use Rattle.dm_scope.specs.Scope.{Scope, no_scope}
-use Rattle.dm_check.specs.declared.fault.Holder.TheVariants as holder
-use Rattle.dm_check.specs.declared.held.HeldId.{HeldId}
-use Rattle.dm_check.specs.declared.held.HeldId.TheVariants as held
-use Rattle.dm_check.specs.Holding.{local_holds}
-use Rattle.dm_check.specs.Holds.{prelude_holds, macro_uses_hold}
-use Rattle.dm_check.specs.TablesHold.{data_holds, diagnostic_holds, diagnostics_hold, helpers_hold, macro_defs_hold}
+use Rattle.dm_maps.specs.declared.check.fault.Holder.TheVariants as holder
+use Rattle.dm_maps.specs.declared.check.held.HeldId.{HeldId}
+use Rattle.dm_maps.specs.declared.check.held.HeldId.TheVariants as held
+use Rattle.dm_maps.specs.Holding.{local_holds}
+use Rattle.dm_maps.specs.ScopeHolds.{prelude_holds, macro_uses_hold}
+use Rattle.dm_maps.specs.TablesHold.{data_holds, diagnostic_holds, diagnostics_hold, helpers_hold, macro_defs_hold}
 use Rattle.dm_def_map.specs.CrateData.{CrateData}
 use Rattle.dm_def_map.specs.declared.map_change.MapChange.TheVariants.{MacroUse, Diagnostic}
 use Rattle.dm_def_map.specs.MapChanges.{changed}

@@ -7,7 +7,7 @@ use Rattle.std.proofs.lemmas.Option.{slice_get-map, slice_get_within}
 use Rattle.dm_maps.proofs.Ids.{BlockId, ModuleId, Name, Place, same_name}
 use Rattle.dm_base.specs.IdLaws.{same_module-true}
 use Rattle.dm_base.specs.Tree.{containing, same_module}
-use Rattle.dm_check.specs.declared.held.HeldId.TheVariants as held
+use Rattle.dm_maps.specs.declared.check.held.HeldId.TheVariants as held
 use Rattle.dm_def_map.specs.Maps.{Map, Module, module_at}
 use Rattle.dm_def_map.specs.Queries.{containing_in}
 use Rattle.dm_maps.specs.Family.{IsParent, AreParents, common, HaveFamilies, IsFamily}

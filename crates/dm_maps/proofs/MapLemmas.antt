@@ -6,7 +6,7 @@ use Rattle.std.proofs.lemmas.Option.{slice_get-map}
 use Rattle.std.proofs.lemmas.List.{length-map}
 use Rattle.std.proofs.lemmas.Bool.{lt-ltb, ltb-true}
 use Rattle.dm_maps.proofs.Ids.{BlockId, Crate, MapId, ModuleId, Place}
-use Rattle.dm_check.specs.declared.held.HeldId.TheVariants as held
+use Rattle.dm_maps.specs.declared.check.held.HeldId.TheVariants as held
 use Rattle.dm_maps.specs.Known.{knows}
 use Rattle.dm_def_map.specs.Maps.{Map, Modules, module_at}
 use Rattle.dm_maps.specs.World.{World, numbered_map, crate_map, map_of}

@@ -4,21 +4,21 @@ use Rattle.std.specs.List.{AllByRecursion, flat_map}
 use Rattle.std.specs.Option.{option_map_or, option_and_then}
 use Rattle.indexmap.specs.IndexMap.{insert_entry}
 use Rattle.dm_maps.proofs.Ids.{ImportOrDef, ImportOrExternCrate, ImportOrGlob, ModuleId, Name, find_name, same_name}
-use Rattle.dm_ids.specs.declared.imports.ImportOrExternCrate.TheVariants as wide
-use Rattle.dm_ids.specs.declared.imports.ImportOrGlob.TheVariants as narrow
+use Rattle.dm_base.specs.declared.imports.ImportOrExternCrate.TheVariants as wide
+use Rattle.dm_base.specs.declared.imports.ImportOrGlob.TheVariants as narrow
 use Rattle.dm_base.specs.declared.per_ns.Item.{Item}
 use Rattle.dm_base.specs.declared.per_ns.PerNs.{PerNs}
-use Rattle.dm_ids.specs.Imports.{narrowed, target_of, widened}
-use Rattle.dm_shadowing.specs.Shadowing.{Reading, import_of, writes}
-use Rattle.dm_bindings.specs.Bindings.{Bound, recorded_from, recorded, with_record, stored, bound, bound_after}
-use Rattle.dm_shadowing.specs.Flags.{Flags, Globs, has_flag}
+use Rattle.dm_base.specs.Imports.{narrowed, target_of, widened}
+use Rattle.dm_scope.specs.Shadowing.{Reading, import_of, writes}
+use Rattle.dm_scope.specs.Bindings.{Bound, recorded_from, recorded, with_record, stored, bound, bound_after}
+use Rattle.dm_scope.specs.Flags.{Flags, Globs, has_flag}
 use Rattle.dm_scope.specs.Push.{types_reading, values_reading, macros_reading, scope_after}
 use Rattle.dm_scope.specs.Scope.{Scope}
-use Rattle.dm_check.specs.declared.held.HeldId.{HeldId}
-use Rattle.dm_check.specs.declared.held.HeldId.TheVariants as held
-use Rattle.dm_check.specs.Pushes.{push_holds}
-use Rattle.dm_check.specs.Holds.{step_holds, record_holds, value_record_holds, records_hold, scope_holds, bindings_hold, types_hold, values_hold, macros_hold, legacies_hold, lists_hold}
-use Rattle.dm_check.specs.Holding.{def_holds, vis_holds, import_holds, value_import_holds, type_holds, value_holds, macro_holds, res_holds}
+use Rattle.dm_maps.specs.declared.check.held.HeldId.{HeldId}
+use Rattle.dm_maps.specs.declared.check.held.HeldId.TheVariants as held
+use Rattle.dm_maps.specs.Pushes.{push_holds}
+use Rattle.dm_maps.specs.ScopeHolds.{step_holds, record_holds, value_record_holds, records_hold, scope_holds, bindings_hold, types_hold, values_hold, macros_hold, legacies_hold, lists_hold}
+use Rattle.dm_maps.specs.Holding.{def_holds, vis_holds, import_holds, value_import_holds, type_holds, value_holds, macro_holds, res_holds}
 use Rattle.dm_maps.proofs.AllLemmas.{all-left, all-right, all-append}
 
 module _ (P : HeldId → Type 0) where

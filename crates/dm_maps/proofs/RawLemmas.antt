@@ -3,8 +3,8 @@ use Rattle.std.proofs.Common.{◌≡◌, List, ◌++◌, Some, IsTrue}
 use Rattle.std.specs.List.{AllByRecursion, flat_map}
 use Rattle.dm_maps.proofs.Ids.{AssocItemId, ItemContainerId, TraitId, VariantId}
 use Rattle.dm_base.specs.declared.visibility.RawVisibility.{RawVisibility}
-use Rattle.dm_check.specs.declared.held.HeldId.{HeldId}
-use Rattle.dm_check.specs.TablesHold.{raw_holds, container_holds, field_list_holds, assoc_holds, trait_holds}
+use Rattle.dm_maps.specs.declared.check.held.HeldId.{HeldId}
+use Rattle.dm_maps.specs.TablesHold.{raw_holds, container_holds, field_list_holds, assoc_holds, trait_holds}
 use Rattle.dm_maps.specs.World.{World}
 use Rattle.dm_maps.specs.Known.{knows, KnowsAll}
 use Rattle.dm_maps.specs.First.{IsChecked}

@@ -7,15 +7,15 @@ use Rattle.std.proofs.lemmas.List.{length-map}
 use Rattle.std.proofs.lemmas.List.Folds.{flat_map-map}
 use Rattle.indexmap.specs.IndexMap.{insert_entry}
 use Rattle.dm_maps.proofs.Ids.{ImportOrDef, ImportOrExternCrate, ImportOrGlob, ModuleId, Name, Place, find_name}
-use Rattle.dm_ids.specs.Imports.{widened}
+use Rattle.dm_base.specs.Imports.{widened}
 use Rattle.dm_base.specs.Tree.{same_module}
 use Rattle.dm_base.specs.declared.per_ns.Item.{Item}
 use Rattle.dm_base.specs.declared.per_ns.Namespace.{Namespace}
 use Rattle.dm_base.specs.declared.per_ns.Namespace.TheVariants.{Types, Values, Macros}
 use Rattle.dm_base.specs.declared.per_ns.PerNs.{PerNs}
-use Rattle.dm_shadowing.specs.Shadowing.{Reading, import_of, writes}
-use Rattle.dm_bindings.specs.Bindings.{Bound, bound, bound_after, recorded, with_record}
-use Rattle.dm_shadowing.specs.Flags.{Flags, Globs, has_flag}
+use Rattle.dm_scope.specs.Shadowing.{Reading, import_of, writes}
+use Rattle.dm_scope.specs.Bindings.{Bound, bound, bound_after, recorded, with_record}
+use Rattle.dm_scope.specs.Flags.{Flags, Globs, has_flag}
 use Rattle.dm_scope.specs.Push.{scope_after, types_reading, values_reading, macros_reading}
 use Rattle.dm_scope.specs.Tables.{record_count, all_records}
 use Rattle.dm_scope.specs.Records.{records_in}

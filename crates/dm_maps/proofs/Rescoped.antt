@@ -1,6 +1,6 @@
 -- What holds of a checked world where the scope of a module becomes another that fits.
 use Rattle.std.proofs.Common.{◌≡◌, subst, sym}
-use Rattle.dm_ids.specs.declared.ids.ModuleId.{ModuleId}
+use Rattle.dm_base.specs.declared.ids.ModuleId.{ModuleId}
 use Rattle.dm_scope.specs.Scope.{Scope}
 use Rattle.dm_maps.specs.declared.world.record_counts.RecordCounts.{RecordCounts}
 use Rattle.dm_maps.specs.Added.{IsScoped}

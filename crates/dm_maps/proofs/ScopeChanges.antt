@@ -6,30 +6,30 @@ use Rattle.std.specs.List.{AllByRecursion, flat_map, cons_option}
 use Rattle.std.specs.Option.{option_map, option_map_or}
 use Rattle.std.proofs.lemmas.Bool.{cond-false, or_parts}
 use Rattle.std.proofs.lemmas.Slice.Eq.{bytes_eq-Decides}
-use Rattle.dm_ids.specs.declared.ids.ModuleId.{ModuleId}
-use Rattle.dm_ids.specs.declared.ids.TraitId.{TraitId}
-use Rattle.dm_ids.specs.declared.imports.ImportId.{ImportId}
-use Rattle.dm_ids.specs.declared.imports.ImportOrExternCrate.{ImportOrExternCrate}
-use Rattle.dm_ids.specs.declared.imports.ImportOrGlob.{ImportOrGlob}
-use Rattle.dm_ids.specs.declared.item_ids.MacroId.{MacroId}
-use Rattle.dm_ids.specs.declared.item_ids.ModuleDefId.{ModuleDefId}
-use Rattle.dm_names.specs.Names.{Name, same_name, find_name}
+use Rattle.dm_base.specs.declared.ids.ModuleId.{ModuleId}
+use Rattle.dm_base.specs.declared.ids.TraitId.{TraitId}
+use Rattle.dm_base.specs.declared.imports.ImportId.{ImportId}
+use Rattle.dm_base.specs.declared.imports.ImportOrExternCrate.{ImportOrExternCrate}
+use Rattle.dm_base.specs.declared.imports.ImportOrGlob.{ImportOrGlob}
+use Rattle.dm_base.specs.declared.item_ids.MacroId.{MacroId}
+use Rattle.dm_base.specs.declared.item_ids.ModuleDefId.{ModuleDefId}
+use Rattle.dm_base.specs.Names.{Name, same_name, find_name}
 use Rattle.dm_base.specs.IdLaws.{same_module-true}
 use Rattle.dm_base.specs.Tree.{same_module}
 use Rattle.dm_base.specs.declared.per_ns.Item.{Item}
 use Rattle.dm_base.specs.declared.per_ns.Namespace.{Namespace}
 use Rattle.dm_base.specs.declared.per_ns.Namespace.TheVariants.{Types, Values, Macros}
 use Rattle.dm_base.specs.declared.visibility.Visibility.{Visibility}
-use Rattle.dm_bindings.specs.Changes.{change_item, with_vis}
+use Rattle.dm_scope.specs.Changes.{change_item, with_vis}
 use Rattle.dm_scope.specs.Tables.{record_count, all_records}
 use Rattle.dm_scope.specs.Records.{records_in}
-use Rattle.dm_shadowing.specs.Flags.{Globs}
+use Rattle.dm_scope.specs.Flags.{Globs}
 use Rattle.dm_scope.specs.Scope.{Scope, no_scope}
 use Rattle.dm_scope.specs.Shows.{ScopePush, Shows}
-use Rattle.dm_check.specs.declared.held.HeldId.{HeldId}
-use Rattle.dm_check.specs.declared.held.HeldId.TheVariants as held
-use Rattle.dm_check.specs.Holding.{def_holds, vis_holds, import_holds, value_import_holds, type_holds, value_holds, macro_holds}
-use Rattle.dm_check.specs.Holds.{scope_holds, bindings_hold, records_hold, legacies_hold, lists_hold, types_hold, values_hold, macros_hold, unnamed_trait_holds, unnamed_const_holds}
+use Rattle.dm_maps.specs.declared.check.held.HeldId.{HeldId}
+use Rattle.dm_maps.specs.declared.check.held.HeldId.TheVariants as held
+use Rattle.dm_maps.specs.Holding.{def_holds, vis_holds, import_holds, value_import_holds, type_holds, value_holds, macro_holds}
+use Rattle.dm_maps.specs.ScopeHolds.{scope_holds, bindings_hold, records_hold, legacies_hold, lists_hold, types_hold, values_hold, macros_hold, unnamed_trait_holds, unnamed_const_holds}
 use Rattle.dm_maps.specs.declared.world.record_counts.RecordCounts.{RecordCounts}
 use Rattle.dm_maps.specs.Built.{IsBuilt}
 use Rattle.dm_maps.specs.Cut.{among, kept, cut_scope}

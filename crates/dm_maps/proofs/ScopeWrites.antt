@@ -7,14 +7,14 @@ use Rattle.indexmap.specs.IndexMap.{set_value_at}
 use Rattle.dm_maps.proofs.Ids.{ModuleId, Place}
 use Rattle.dm_base.specs.Tree.{same_module}
 use Rattle.dm_scope.specs.Scope.{Scope, no_scope}
-use Rattle.dm_check.specs.declared.held.HeldId.{HeldId}
-use Rattle.dm_check.specs.declared.held.HeldId.TheVariants as held
+use Rattle.dm_maps.specs.declared.check.held.HeldId.{HeldId}
+use Rattle.dm_maps.specs.declared.check.held.HeldId.TheVariants as held
 use Rattle.dm_def_map.specs.Maps.{Map, Module, Modules, nth_module, put_scope, with_scope_at, map_with_scope}
 use Rattle.dm_maps.specs.Maps.{Maps, map_at, put_map, maps_with_scope}
 use Rattle.dm_maps.specs.World.{World, maps_of, with_maps, place_of, placed_module, module_of, scope_of, scope_if_known, numbered_map, with_scope_in, with_scope}
 use Rattle.dm_maps.specs.Known.{knows, KnowsAll}
-use Rattle.dm_check.specs.Holding.{vis_holds}
-use Rattle.dm_check.specs.Holds.{scope_holds}
+use Rattle.dm_maps.specs.Holding.{vis_holds}
+use Rattle.dm_maps.specs.ScopeHolds.{scope_holds}
 use Rattle.dm_maps.specs.Holds.{module_holds}
 use Rattle.dm_maps.specs.First.{Held, each_from, crate_holder, block_holder, module_holder, IsChecked}
 use Rattle.dm_maps.specs.Built.{IsBuilt}

@@ -6,17 +6,17 @@ use Rattle.std.proofs.lemmas.Option.{slice_get-map, slice_get_within}
 use Rattle.std.proofs.lemmas.Bool.{lt-ltb, eqb-true}
 use Rattle.std.proofs.lemmas.List.{length-map}
 use Rattle.dm_maps.proofs.Ids.{BlockId, ExternCrateId, MacroId, MapId, ModuleId, Name, Place, UseId, find_name, same_name}
-use Rattle.dm_bindings.specs.Pushes.{last_of}
+use Rattle.dm_scope.specs.Pushes.{last_of}
 use Rattle.dm_scope.specs.Scope.{Scope, no_scope, bound_in, legacy_in}
-use Rattle.dm_check.specs.declared.held.HeldId.{HeldId}
-use Rattle.dm_check.specs.declared.held.HeldId.TheVariants as held
+use Rattle.dm_maps.specs.declared.check.held.HeldId.{HeldId}
+use Rattle.dm_maps.specs.declared.check.held.HeldId.TheVariants as held
 use Rattle.dm_def_map.specs.Maps.{Map, Module, Modules, LocalMap, module_at, nth_module}
 use Rattle.dm_maps.specs.World.{World, scope_of, placed_module, numbered_map, map_of}
 use Rattle.dm_maps.specs.Known.{knows, KnowsAll}
-use Rattle.dm_check.specs.Holding.{res_holds, local_holds, type_holds, value_holds, macro_holds, vis_holds}
+use Rattle.dm_maps.specs.Holding.{res_holds, local_holds, type_holds, value_holds, macro_holds, vis_holds}
 use Rattle.dm_maps.specs.Holds.{map_holds, preludes_hold, module_holds}
-use Rattle.dm_check.specs.Holds.{scope_holds, prelude_holds, macro_uses_hold, types_hold, values_hold, macros_hold, legacies_hold, bindings_hold, records_hold, lists_hold}
-use Rattle.dm_check.specs.TablesHold.{macro_defs_hold, helpers_hold, diagnostics_hold, data_holds, tables_hold}
+use Rattle.dm_maps.specs.ScopeHolds.{scope_holds, prelude_holds, macro_uses_hold, types_hold, values_hold, macros_hold, legacies_hold, bindings_hold, records_hold, lists_hold}
+use Rattle.dm_maps.specs.TablesHold.{macro_defs_hold, helpers_hold, diagnostics_hold, data_holds, tables_hold}
 use Rattle.dm_maps.specs.First.{Held, each_from, crate_holder, block_holder, module_holder, tables_holder, local_at, IsChecked}
 use Rattle.dm_maps.specs.Readings.{macro_uses_of, prelude_of}
 use Rattle.dm_maps.specs.Built.{IsBuilt}

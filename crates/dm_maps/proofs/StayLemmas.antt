@@ -3,12 +3,12 @@ use Rattle.std.proofs.Common.{◌≡◌, [], true, not, nat_eq, Option, None, So
 use Rattle.std.specs.Option.{option_map, option_map_or}
 use Rattle.std.proofs.lemmas.List.{length-map}
 use Rattle.dm_maps.proofs.Ids.{ImportOrExternCrate, ModuleId, Name, Place}
-use Rattle.dm_ids.specs.declared.ids.MapId.{MapId}
+use Rattle.dm_base.specs.declared.ids.MapId.{MapId}
 use Rattle.dm_base.specs.declared.per_ns.PerNs.{PerNs}
-use Rattle.dm_shadowing.specs.Flags.{Globs}
+use Rattle.dm_scope.specs.Flags.{Globs}
 use Rattle.dm_scope.specs.Push.{scope_after}
 use Rattle.dm_scope.specs.Scope.{Scope}
-use Rattle.dm_check.specs.declared.held.HeldId.{HeldId}
+use Rattle.dm_maps.specs.declared.check.held.HeldId.{HeldId}
 use Rattle.dm_def_map.specs.Maps.{Map}
 use Rattle.dm_maps.specs.PushRes.{with_push}
 use Rattle.dm_maps.specs.Cut.{cut, cut_map}

@@ -4,8 +4,8 @@ use Rattle.dm_maps.proofs.Ids.{EnumId, Name, find_name}
 use Rattle.dm_maps.specs.declared.build_fault.BuildFault.TheVariants.{NoSuchEnum, TakenVariant, OutOfNumbers}
 use Rattle.dm_maps.specs.Faults.{is_full}
 use Rattle.dm_maps.specs.ItemFaults.{variant_fault, lacks_enum, has_variant}
-use Rattle.dm_ids.specs.declared.item_ids.ItemKind.TheVariants as item
-use Rattle.dm_check.specs.declared.held.HeldId.TheVariants as held
+use Rattle.dm_base.specs.declared.item_ids.ItemKind.TheVariants as item
+use Rattle.dm_maps.specs.declared.check.held.HeldId.TheVariants as held
 use Rattle.dm_maps.specs.Known.{knows}
 use Rattle.dm_maps.specs.Lists.{IsEnum}
 use Rattle.dm_maps.specs.World.{World}

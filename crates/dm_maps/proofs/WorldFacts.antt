@@ -4,7 +4,7 @@ use Rattle.std.proofs.lemmas.Bool.{ltb-true}
 use Rattle.std.specs.Option.{option_map, option_map_or, option_and_then}
 use Rattle.std.proofs.lemmas.List.{length-map}
 use Rattle.dm_maps.proofs.Ids.{Crate, MapId, ModuleId, Place}
-use Rattle.dm_check.specs.declared.held.HeldId.TheVariants as held
+use Rattle.dm_maps.specs.declared.check.held.HeldId.TheVariants as held
 use Rattle.dm_maps.specs.Known.{knows}
 use Rattle.dm_def_map.specs.Maps.{Map, Module, Modules, nth_module}
 use Rattle.dm_maps.specs.World.{World, placed_module, scope_if_known, numbered_map}

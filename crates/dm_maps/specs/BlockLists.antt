@@ -1,8 +1,8 @@
 -- The blocks of each crate, as a builder lists them.
 use Rattle.std.specs.Prelude.{◌≡◌, ℕ, List, [], Some, length, map, slice_get, slice_set}
 use Rattle.std.specs.Option.{option_map_or}
-use Rattle.dm_ids.specs.declared.ids.BlockId.{BlockId}
-use Rattle.dm_names.specs.declared.ids.Crate.{Crate}
+use Rattle.dm_base.specs.declared.ids.BlockId.{BlockId}
+use Rattle.dm_base.specs.declared.ids.Crate.{Crate}
 use Rattle.dm_def_map.specs.Maps.{Map}
 
 -- a list with f of its entry of number k, where there is one

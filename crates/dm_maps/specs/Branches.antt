@@ -1,7 +1,7 @@
 -- What is left of a tree while it is written.
 use Rattle.std.specs.Prelude.{List, [], ◌∷◌, ◌++◌, All, IsSome, codes, string_bytes}
 use Rattle.std.specs.Option.{option_map_or}
-use Rattle.dm_names.specs.Names.{Name, find_name}
+use Rattle.dm_base.specs.Names.{Name, find_name}
 use Rattle.dm_scope.specs.Dumps.{Text}
 use Rattle.dm_def_map.specs.Maps.{Map, Module, module_at}
 use Rattle.dm_maps.specs.MapDumps.{path_and, of_children, tree}

@@ -1,19 +1,19 @@
 -- What builder calls change.
 use Rattle.std.specs.Prelude.{ℕ, [], ◌∷◌, ◌++◌, Some, None, length}
 use Rattle.std.specs.Option.{option_map_or}
-use Rattle.dm_ids.specs.declared.ids.ModuleId.{ModuleId}
-use Rattle.dm_names.specs.declared.ids.Crate.{Crate}
-use Rattle.dm_ids.specs.declared.ids.MapId.{MapId}
-use Rattle.dm_names.specs.declared.edition.Edition.{Edition}
-use Rattle.dm_ids.specs.declared.source.EditionedFileId.{EditionedFileId}
+use Rattle.dm_base.specs.declared.ids.ModuleId.{ModuleId}
+use Rattle.dm_base.specs.declared.ids.Crate.{Crate}
+use Rattle.dm_base.specs.declared.ids.MapId.{MapId}
+use Rattle.dm_base.specs.declared.edition.Edition.{Edition}
+use Rattle.dm_base.specs.declared.source.EditionedFileId.{EditionedFileId}
 use Rattle.dm_base.specs.declared.visibility.Visibility.{Visibility}
 use Rattle.dm_base.specs.declared.visibility.Visibility.TheVariants.{Public}
-use Rattle.dm_ids.specs.declared.item_ids.ItemKind.{ItemKind}
-use Rattle.dm_ids.specs.declared.item_ids.ItemKind.TheVariants as item
-use Rattle.dm_ids.specs.declared.item_ids.ModuleDefId.{ModuleDefId}
-use Rattle.dm_ids.specs.declared.item_ids.ModuleDefId.TheVariants as def
-use Rattle.dm_ids.specs.declared.item_ids.AdtId.TheVariants as adt
-use Rattle.dm_names.specs.Names.{Name}
+use Rattle.dm_base.specs.declared.item_ids.ItemKind.{ItemKind}
+use Rattle.dm_base.specs.declared.item_ids.ItemKind.TheVariants as item
+use Rattle.dm_base.specs.declared.item_ids.ModuleDefId.{ModuleDefId}
+use Rattle.dm_base.specs.declared.item_ids.ModuleDefId.TheVariants as def
+use Rattle.dm_base.specs.declared.item_ids.AdtId.TheVariants as adt
+use Rattle.dm_base.specs.Names.{Name}
 use Rattle.dm_maps.specs.declared.place.Place.{Place}
 use Rattle.dm_maps.specs.declared.rules.Rules.{Rules}
 use Rattle.dm_maps.specs.declared.rules.Rules.TheVariants.{V1}

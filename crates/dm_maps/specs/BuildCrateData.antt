@@ -2,7 +2,7 @@
 use Rattle.std.specs.Prelude.{◌≡◌, nat_eq, List, [], ◌∷◌, Option, None, map, if◌then◌else◌}
 use Rattle.std.specs.List.{fold}
 use Rattle.std.specs.Option.{option_map_or, option_or}
-use Rattle.dm_names.specs.declared.ids.Crate.{Crate}
+use Rattle.dm_base.specs.declared.ids.Crate.{Crate}
 use Rattle.dm_def_map.specs.CrateData.{CrateData, fresh_data, with_setting}
 use Rattle.dm_def_map.specs.declared.crate_data.crate_setting.CrateSetting.{CrateSetting}
 use Rattle.dm_def_map.specs.Maps.{Map}

@@ -1,15 +1,15 @@
 -- What uses, macros and variants change, that are added to a builder.
 use Rattle.std.specs.Prelude.{ℕ, [], ◌∷◌, ◌++◌, length}
-use Rattle.dm_ids.specs.declared.ids.ModuleId.{ModuleId}
-use Rattle.dm_ids.specs.declared.ids.UseId.{UseId}
-use Rattle.dm_ids.specs.declared.ids.EnumId.{EnumId}
-use Rattle.dm_ids.specs.declared.ids.EnumVariantId.{EnumVariantId}
-use Rattle.dm_ids.specs.declared.item_ids.MacroId.{MacroId}
-use Rattle.dm_ids.specs.declared.item_ids.MacroId.TheVariants.{Macro2Id, MacroRulesId, ProcMacroId}
-use Rattle.dm_ids.specs.declared.fields_shape.FieldsShape.{FieldsShape}
-use Rattle.dm_ids.specs.declared.macros.MacroLoc.{MacroLoc}
-use Rattle.dm_ids.specs.declared.macros.MacroLoc.TheVariants as loc
-use Rattle.dm_names.specs.Names.{Name}
+use Rattle.dm_base.specs.declared.ids.ModuleId.{ModuleId}
+use Rattle.dm_base.specs.declared.ids.UseId.{UseId}
+use Rattle.dm_base.specs.declared.ids.EnumId.{EnumId}
+use Rattle.dm_base.specs.declared.ids.EnumVariantId.{EnumVariantId}
+use Rattle.dm_base.specs.declared.item_ids.MacroId.{MacroId}
+use Rattle.dm_base.specs.declared.item_ids.MacroId.TheVariants.{Macro2Id, MacroRulesId, ProcMacroId}
+use Rattle.dm_base.specs.declared.fields_shape.FieldsShape.{FieldsShape}
+use Rattle.dm_base.specs.declared.macros.MacroLoc.{MacroLoc}
+use Rattle.dm_base.specs.declared.macros.MacroLoc.TheVariants as loc
+use Rattle.dm_base.specs.Names.{Name}
 use Rattle.dm_def_map.specs.Variants.{enums_with_variant}
 use Rattle.dm_maps.specs.World.{World}
 

@@ -1,17 +1,17 @@
 -- Setters for the def maps of a builder, and for its extern preludes. What each makes of its map: `changed`.
 use Rattle.std.specs.Prelude.{◌≡◌, ℕ, Bool, not, true, nat_eq, List, Option, Some, None, Result, Err, IsOk, slice_get, slice_set}
 use Rattle.std.specs.Option.{option_map_or}
-use Rattle.dm_names.specs.declared.ids.Crate.{Crate}
-use Rattle.dm_ids.specs.declared.ids.ExternCrateId.{ExternCrateId}
-use Rattle.dm_ids.specs.declared.ids.MapId.{MapId}
-use Rattle.dm_ids.specs.declared.ids.ModuleId.{ModuleId}
-use Rattle.dm_ids.specs.declared.ids.UseId.{UseId}
-use Rattle.dm_ids.specs.declared.item_ids.MacroId.{MacroId}
-use Rattle.dm_ids.specs.declared.source.AstId.{AstId}
-use Rattle.dm_names.specs.Names.{Name}
+use Rattle.dm_base.specs.declared.ids.Crate.{Crate}
+use Rattle.dm_base.specs.declared.ids.ExternCrateId.{ExternCrateId}
+use Rattle.dm_base.specs.declared.ids.MapId.{MapId}
+use Rattle.dm_base.specs.declared.ids.ModuleId.{ModuleId}
+use Rattle.dm_base.specs.declared.ids.UseId.{UseId}
+use Rattle.dm_base.specs.declared.item_ids.MacroId.{MacroId}
+use Rattle.dm_base.specs.declared.source.AstId.{AstId}
+use Rattle.dm_base.specs.Names.{Name}
 use Rattle.dm_scope.specs.declared.diagnostics.DefDiagnostic.{DefDiagnostic}
 use Rattle.dm_maps.specs.declared.build_fault.BuildFault.{BuildFault}
-use Rattle.dm_check.specs.declared.held.HeldId.TheVariants as held
+use Rattle.dm_maps.specs.declared.check.held.HeldId.TheVariants as held
 use Rattle.dm_def_map.specs.Maps.{Map, LocalMap}
 use Rattle.dm_maps.specs.Maps.{maps_with}
 use Rattle.dm_maps.specs.World.{World, numbered_map, maps_of, with_maps}

@@ -1,11 +1,11 @@
 -- Setters for the tables that belong to no map and no module.
 use Rattle.std.specs.Prelude.{List}
-use Rattle.dm_ids.specs.declared.ids.TraitId.{TraitId}
-use Rattle.dm_ids.specs.declared.item_ids.AssocItemId.{AssocItemId}
-use Rattle.dm_ids.specs.declared.item_ids.ItemContainerId.{ItemContainerId}
-use Rattle.dm_ids.specs.declared.item_ids.VariantId.{VariantId}
+use Rattle.dm_base.specs.declared.ids.TraitId.{TraitId}
+use Rattle.dm_base.specs.declared.item_ids.AssocItemId.{AssocItemId}
+use Rattle.dm_base.specs.declared.item_ids.ItemContainerId.{ItemContainerId}
+use Rattle.dm_base.specs.declared.item_ids.VariantId.{VariantId}
 use Rattle.dm_base.specs.declared.visibility.RawVisibility.{RawVisibility}
-use Rattle.dm_names.specs.Names.{Name}
+use Rattle.dm_base.specs.Names.{Name}
 use Rattle.dm_def_map.specs.ItemTables.{with_raw_name}
 use Rattle.dm_def_map.specs.TableChanges.{with_field_list, with_assoc, with_trait}
 use Rattle.dm_maps.specs.World.{World}

@@ -14,22 +14,22 @@ use Rattle.std.proofs.lemmas.Map.Made.{lookup-map_values}
 use Rattle.std.proofs.lemmas.Bool.{cond-true, cond-false}
 use Rattle.std.proofs.lemmas.Slice.Eq.{bytes_eq-Decides}
 use Rattle.indexmap.specs.IndexMap.{insert_entry}
-use Rattle.dm_ids.specs.contracts.value_eq.EnumIdValueEq.TheImpl.Laws as enum_value
-use Rattle.dm_ids.specs.declared.ids.BlockId.{BlockId}
-use Rattle.dm_ids.specs.declared.ids.EnumId.{EnumId}
-use Rattle.dm_ids.specs.declared.ids.MapId.{MapId}
-use Rattle.dm_ids.specs.declared.ids.ModuleId.{ModuleId}
-use Rattle.dm_ids.specs.declared.ids.UseId.{UseId}
-use Rattle.dm_ids.specs.declared.item_ids.MacroId.{MacroId}
-use Rattle.dm_ids.specs.declared.macros.MacroCallStyles.{MacroCallStyles}
-use Rattle.dm_ids.specs.declared.macros.MacroLoc.{MacroLoc}
-use Rattle.dm_names.specs.Names.{Name, same_name, find_name}
-use Rattle.dm_ids.specs.Builtins.{builtin_words}
-use Rattle.dm_bindings.specs.Pushes.{last_of}
+use Rattle.dm_base.specs.contracts.value_eq.EnumIdValueEq.TheImpl.Laws as enum_value
+use Rattle.dm_base.specs.declared.ids.BlockId.{BlockId}
+use Rattle.dm_base.specs.declared.ids.EnumId.{EnumId}
+use Rattle.dm_base.specs.declared.ids.MapId.{MapId}
+use Rattle.dm_base.specs.declared.ids.ModuleId.{ModuleId}
+use Rattle.dm_base.specs.declared.ids.UseId.{UseId}
+use Rattle.dm_base.specs.declared.item_ids.MacroId.{MacroId}
+use Rattle.dm_base.specs.declared.macros.MacroCallStyles.{MacroCallStyles}
+use Rattle.dm_base.specs.declared.macros.MacroLoc.{MacroLoc}
+use Rattle.dm_base.specs.Names.{Name, same_name, find_name}
+use Rattle.dm_base.specs.Builtins.{builtin_words}
+use Rattle.dm_scope.specs.Pushes.{last_of}
 use Rattle.dm_scope.specs.Scope.{Scope, no_scope, bound_in, legacy_in}
 use Rattle.dm_scope.specs.Tables.{no_style}
 use Rattle.dm_def_map.specs.Variants.{Variants, Enums, same_enum, variants_in}
-use Rattle.dm_check.specs.Kinds.{macro_number}
+use Rattle.dm_maps.specs.Kinds.{macro_number}
 use Rattle.dm_def_map.specs.Maps.{Map, Module, Modules, LocalMap, nth_module}
 use Rattle.dm_maps.specs.declared.place.Place.{Place}
 use Rattle.dm_maps.specs.Readings.{setting_of, read, is_edition_2015, styles_by, styles_of, variants_of, macro_uses_of}

@@ -1,8 +1,8 @@
 -- Invariants of the family of a crate's maps: its own and those of its blocks.
 use Rattle.std.specs.Prelude.{◌≡◌, List, None, Some, map, slice_get}
 use Rattle.std.specs.List.{AllByRecursion}
-use Rattle.dm_ids.specs.declared.ids.ModuleId.{ModuleId}
-use Rattle.dm_names.specs.declared.edition.Edition.{Edition}
+use Rattle.dm_base.specs.declared.ids.ModuleId.{ModuleId}
+use Rattle.dm_base.specs.declared.edition.Edition.{Edition}
 use Rattle.dm_def_map.specs.CrateData.{CrateData}
 use Rattle.dm_def_map.specs.Maps.{Map, Module}
 use Rattle.dm_maps.specs.declared.place.Place.{Place}

@@ -1,8 +1,8 @@
 -- The errors of builder calls.
 use Rattle.std.specs.Prelude.{◌≡◌, Bool, false, not, nat_lt, List, [], ◌∷◌, Option, Some, None, Result, Err, length, if◌then◌else◌, is_some, IfErr}
 use Rattle.std.specs.Option.{option_map_or}
-use Rattle.dm_ids.specs.declared.ids.ModuleId.{ModuleId}
-use Rattle.dm_names.specs.Names.{Name, find_name}
+use Rattle.dm_base.specs.declared.ids.ModuleId.{ModuleId}
+use Rattle.dm_base.specs.Names.{Name, find_name}
 use Rattle.dm_maps.specs.declared.build_fault.BuildFault.{BuildFault}
 use Rattle.dm_maps.specs.declared.build_fault.BuildFault.TheVariants.{NoSuchCrate, NoSuchModule, NoSuchEnum, TakenChild, TakenVariant, OutOfNumbers, OutOfMemory}
 use Rattle.dm_maps.specs.World.{World, module_of}

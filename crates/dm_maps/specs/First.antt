@@ -2,19 +2,19 @@
 use Rattle.std.specs.Prelude.{◌≡◌, ℕ, ◌+◌, ◌++◌, Option, Some, List, [], ◌∷◌, MatchOption, slice_get, take, map}
 use Rattle.std.specs.List.{AllByRecursion}
 use Rattle.std.specs.Option.{option_map_or}
-use Rattle.dm_check.specs.declared.fault.Holder.{Holder}
-use Rattle.dm_check.specs.declared.fault.Holder.TheVariants as holder
-use Rattle.dm_check.specs.declared.fault.WorldFault.{WorldFault}
-use Rattle.dm_check.specs.declared.held.HeldId.{HeldId}
-use Rattle.dm_check.specs.declared.held.HeldFault.{HeldFault}
+use Rattle.dm_maps.specs.declared.check.fault.Holder.{Holder}
+use Rattle.dm_maps.specs.declared.check.fault.Holder.TheVariants as holder
+use Rattle.dm_maps.specs.declared.check.fault.WorldFault.{WorldFault}
+use Rattle.dm_maps.specs.declared.check.held.HeldId.{HeldId}
+use Rattle.dm_maps.specs.declared.check.held.HeldFault.{HeldFault}
 use Rattle.dm_maps.specs.declared.place.Place.{Place}
 use Rattle.dm_def_map.specs.Maps.{Map, LocalMap}
 use Rattle.dm_maps.specs.World.{World, placed_module}
 use Rattle.dm_maps.specs.Known.{knows, KnowsAll}
-use Rattle.dm_check.specs.Holding.{local_holds}
+use Rattle.dm_maps.specs.Holding.{local_holds}
 use Rattle.dm_maps.specs.Holds.{map_holds, module_holds}
-use Rattle.dm_check.specs.TablesHold.{data_holds, tables_hold}
-use Rattle.dm_check.specs.Held.{IsLeast}
+use Rattle.dm_maps.specs.TablesHold.{data_holds, tables_hold}
+use Rattle.dm_maps.specs.Held.{IsLeast}
 
 -- a holder with the ids that it holds
 abbrev pub Held : Type 0

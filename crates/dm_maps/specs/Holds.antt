@@ -1,10 +1,10 @@
 -- Which ids maps and modules hold.
 use Rattle.std.specs.Prelude.{List, [], ◌++◌}
 use Rattle.std.specs.Option.{option_map_or}
-use Rattle.dm_check.specs.declared.held.HeldId.{HeldId}
-use Rattle.dm_check.specs.Holding.{vis_holds}
-use Rattle.dm_check.specs.Holds.{prelude_holds, macro_uses_hold, scope_holds}
-use Rattle.dm_check.specs.TablesHold.{macro_defs_hold, helpers_hold, diagnostics_hold}
+use Rattle.dm_maps.specs.declared.check.held.HeldId.{HeldId}
+use Rattle.dm_maps.specs.Holding.{vis_holds}
+use Rattle.dm_maps.specs.ScopeHolds.{prelude_holds, macro_uses_hold, scope_holds}
+use Rattle.dm_maps.specs.TablesHold.{macro_defs_hold, helpers_hold, diagnostics_hold}
 use Rattle.dm_def_map.specs.Maps.{Map, Module}
 
 -- a map holds its prelude's ids and the macros that `#[macro_use]` brings

@@ -1,7 +1,7 @@
 -- Indexes of a builder: what it keeps beside its tables for fast look-ups.
 use Rattle.std.specs.Prelude.{List, Option, length}
-use Rattle.dm_ids.specs.declared.ids.BlockId.{BlockId}
-use Rattle.dm_ids.specs.declared.ids.ModuleId.{ModuleId}
+use Rattle.dm_base.specs.declared.ids.BlockId.{BlockId}
+use Rattle.dm_base.specs.declared.ids.ModuleId.{ModuleId}
 use Rattle.dm_def_map.specs.Maps.{Map}
 use Rattle.dm_maps.specs.BlockLists.{AreGathered, crates_of}
 use Rattle.dm_maps.specs.Ladders.{AreLaddered}

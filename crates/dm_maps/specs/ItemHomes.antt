@@ -1,15 +1,15 @@
 -- Where a world's items were declared.
 use Rattle.std.specs.Prelude.{ℕ, Option, Some, None, slice_get, if◌then◌else◌}
 use Rattle.std.specs.Option.{option_map, option_and_then}
-use Rattle.dm_ids.specs.declared.ids.ModuleId.{ModuleId}
-use Rattle.dm_ids.specs.declared.item_ids.AdtId.TheVariants as adt
-use Rattle.dm_ids.specs.declared.item_ids.ItemKind.{ItemKind}
-use Rattle.dm_ids.specs.declared.item_ids.ItemKind.TheVariants as item
-use Rattle.dm_ids.specs.declared.item_ids.MacroId.{MacroId}
-use Rattle.dm_ids.specs.declared.item_ids.ModuleDefId.{ModuleDefId}
-use Rattle.dm_ids.specs.declared.item_ids.ModuleDefId.TheVariants as def
+use Rattle.dm_base.specs.declared.ids.ModuleId.{ModuleId}
+use Rattle.dm_base.specs.declared.item_ids.AdtId.TheVariants as adt
+use Rattle.dm_base.specs.declared.item_ids.ItemKind.{ItemKind}
+use Rattle.dm_base.specs.declared.item_ids.ItemKind.TheVariants as item
+use Rattle.dm_base.specs.declared.item_ids.MacroId.{MacroId}
+use Rattle.dm_base.specs.declared.item_ids.ModuleDefId.{ModuleDefId}
+use Rattle.dm_base.specs.declared.item_ids.ModuleDefId.TheVariants as def
 use Rattle.dm_base.specs.ItemHomes.{Homes}
-use Rattle.dm_check.specs.Kinds.{same_kind, macro_number, is_of_kind}
+use Rattle.dm_maps.specs.Kinds.{same_kind, macro_number, is_of_kind}
 use Rattle.dm_maps.specs.World.{World, place_of}
 
 -- the module of the item of that number, if the item is of that kind

@@ -2,10 +2,10 @@
 use Rattle.std.specs.Prelude.{nat_lt, Bool, false, IsTrue, List, length, slice_get}
 use Rattle.std.specs.Option.{option_map_or}
 use Rattle.std.specs.List.{AllByRecursion}
-use Rattle.dm_check.specs.declared.held.HeldId.{HeldId}
-use Rattle.dm_check.specs.declared.held.HeldId.TheVariants as held
+use Rattle.dm_maps.specs.declared.check.held.HeldId.{HeldId}
+use Rattle.dm_maps.specs.declared.check.held.HeldId.TheVariants as held
 use Rattle.dm_maps.specs.World.{World}
-use Rattle.dm_check.specs.Kinds.{same_kind, macro_number, is_of_kind}
+use Rattle.dm_maps.specs.Kinds.{same_kind, macro_number, is_of_kind}
 
 -- whether an id is the world's, and what stands under it is of its kind
 abbrev pub knows : World → HeldId → Bool

@@ -1,7 +1,7 @@
 -- The module around each module of a world, as the table of ladders (jump pointers) has it.
 use Rattle.std.specs.Prelude.{◌≡◌, List, Option, map}
 use Rattle.std.specs.Option.{option_or}
-use Rattle.dm_ids.specs.declared.ids.ModuleId.{ModuleId}
+use Rattle.dm_base.specs.declared.ids.ModuleId.{ModuleId}
 use Rattle.dm_def_map.specs.Maps.{Map}
 use Rattle.dm_maps.specs.Trees.{container_in, containers_of}
 use Rattle.dm_maps.specs.declared.place.Place.{Place}

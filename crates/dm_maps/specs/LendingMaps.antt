@@ -1,7 +1,7 @@
 -- The maps of a world lend one of them, and the scope of a module in it.
 use Rattle.std.specs.Prelude.{ℕ, Option}
 use Rattle.std.specs.Borrow.{LendsIf, MutBor, Fml}
-use Rattle.dm_ids.specs.declared.ids.MapId.{MapId}
+use Rattle.dm_base.specs.declared.ids.MapId.{MapId}
 use Rattle.dm_scope.specs.Scope.{Scope}
 use Rattle.dm_scope.specs.contracts.item_scope.ItemScope.{the_row as scope_row}
 use Rattle.dm_def_map.specs.Maps.{Map}

@@ -1,7 +1,7 @@
 -- A builder lends the scope of a module.
 use Rattle.std.specs.Prelude.{Option}
 use Rattle.std.specs.Borrow.{LendsIf, MutBor, Fml}
-use Rattle.dm_ids.specs.declared.ids.ModuleId.{ModuleId}
+use Rattle.dm_base.specs.declared.ids.ModuleId.{ModuleId}
 use Rattle.dm_scope.specs.Scope.{Scope}
 use Rattle.dm_scope.specs.contracts.item_scope.ItemScope.{the_row as scope_row}
 use Rattle.dm_maps.specs.World.{World, with_scope}

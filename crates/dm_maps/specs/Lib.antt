@@ -1,3 +1,12 @@
+pub mod Ancestry
+pub mod AncestryRows
+pub mod JumpPointers
+pub mod Kinds
+pub mod Holding
+pub mod TablesHold
+pub mod ScopeHolds
+pub mod Pushes
+pub mod Held
 pub mod World
 pub mod Tables
 pub mod PushRes

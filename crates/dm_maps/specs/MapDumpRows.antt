@@ -1,18 +1,18 @@
 -- Examples of dumps of def maps: equations that compute.
 use Rattle.std.specs.Prelude.{◌≡◌, ℕ, Some, None, codes, refl, slice_get}
 use Rattle.std.specs.Option.{option_map}
-use Rattle.dm_ids.specs.declared.ids.ModuleId.{ModuleId}
-use Rattle.dm_ids.specs.declared.item_ids.AdtId.TheVariants as adt
-use Rattle.dm_ids.specs.declared.item_ids.ModuleDefId.{ModuleDefId}
-use Rattle.dm_ids.specs.declared.item_ids.ModuleDefId.TheVariants as def
-use Rattle.dm_names.specs.declared.edition.Edition.TheVariants.{Edition2021}
-use Rattle.dm_ids.specs.declared.source.EditionedFileId.{EditionedFileId}
-use Rattle.dm_ids.specs.declared.source.HirFileId.TheVariants.{File}
+use Rattle.dm_base.specs.declared.ids.ModuleId.{ModuleId}
+use Rattle.dm_base.specs.declared.item_ids.AdtId.TheVariants as adt
+use Rattle.dm_base.specs.declared.item_ids.ModuleDefId.{ModuleDefId}
+use Rattle.dm_base.specs.declared.item_ids.ModuleDefId.TheVariants as def
+use Rattle.dm_base.specs.declared.edition.Edition.TheVariants.{Edition2021}
+use Rattle.dm_base.specs.declared.source.EditionedFileId.{EditionedFileId}
+use Rattle.dm_base.specs.declared.source.HirFileId.TheVariants.{File}
 use Rattle.dm_base.specs.declared.visibility.Visibility.{Visibility}
 use Rattle.dm_base.specs.declared.visibility.Visibility.TheVariants.{Module, Public}
 use Rattle.dm_base.specs.declared.visibility.VisibilityExplicitness.TheVariants.{Implicit}
-use Rattle.dm_names.specs.Names.{Name}
-use Rattle.dm_shadowing.specs.Flags.{no_globs}
+use Rattle.dm_base.specs.Names.{Name}
+use Rattle.dm_scope.specs.Flags.{no_globs}
 use Rattle.dm_def_map.specs.declared.modules.module_origin.ModuleOrigin.TheVariants.{Inline}
 use Rattle.dm_maps.specs.PushRes.{with_push}
 use Rattle.dm_maps.specs.Build.{no_world, with_crate, with_module}

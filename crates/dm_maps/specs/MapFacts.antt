@@ -1,11 +1,11 @@
 -- Invariants of each map of a world, and of the modules that it lists.
 use Rattle.std.specs.Prelude.{◌≡◌, ◌↔◌, ◌<◌, ℕ, All, IsSome, IsTrue, None, Some, slice_get}
 use Rattle.std.specs.Option.{ForSome, option_and_then, option_map}
-use Rattle.dm_ids.specs.declared.ids.BlockId.{BlockId}
-use Rattle.dm_ids.specs.declared.ids.ModuleId.{ModuleId}
-use Rattle.dm_names.specs.Names.{Name, find_name}
+use Rattle.dm_base.specs.declared.ids.BlockId.{BlockId}
+use Rattle.dm_base.specs.declared.ids.ModuleId.{ModuleId}
+use Rattle.dm_base.specs.Names.{Name, find_name}
 use Rattle.dm_base.specs.Tree.{containing}
-use Rattle.dm_check.specs.declared.held.HeldId.TheVariants as held
+use Rattle.dm_maps.specs.declared.check.held.HeldId.TheVariants as held
 use Rattle.dm_def_map.specs.Maps.{Map, Module, Modules, module_at}
 use Rattle.dm_def_map.specs.Queries.{containing_in}
 use Rattle.dm_maps.specs.Family.{common}

@@ -1,9 +1,9 @@
 -- The maps of a world, those of crates and those of blocks.
 use Rattle.std.specs.Prelude.{◌≡◌, ℕ, List, [], ◌∷◌, ◌++◌, Option, Some, None, IfSome, slice_get, slice_set}
 use Rattle.std.specs.Option.{option_map_or, option_and_then}
-use Rattle.dm_ids.specs.declared.ids.MapId.{MapId}
-use Rattle.dm_ids.specs.declared.ids.ModuleId.{ModuleId}
-use Rattle.dm_names.specs.Names.{Name}
+use Rattle.dm_base.specs.declared.ids.MapId.{MapId}
+use Rattle.dm_base.specs.declared.ids.ModuleId.{ModuleId}
+use Rattle.dm_base.specs.Names.{Name}
 use Rattle.dm_scope.specs.Scope.{Scope}
 use Rattle.dm_def_map.specs.Maps.{Map, Module, module_at, nth_module, nth_scope, map_with_child, map_with_scope}
 

@@ -3,7 +3,7 @@ use Rattle.std.proofs.Common.{◌≡◌, ◌∙◌, ℕ, zero, suc, List, [], �
 use Rattle.std.specs.Borrow.{Bor}
 use Rattle.std.specs.List.{filter_map, cons_option}
 use Rattle.std.specs.Option.{option_map_or}
-use Rattle.dm_ids.specs.declared.ids.ModuleId.{ModuleId}
+use Rattle.dm_base.specs.declared.ids.ModuleId.{ModuleId}
 use Rattle.dm_def_map.specs.Maps.{Map}
 use Rattle.dm_maps.specs.Outwards.{next_outwards, outwards_within, maps_outwards, AsksMaps, IsHandedOut, MayAskMap, MayAskMaps, MayAskNext}
 use Rattle.dm_maps.specs.World.{World}

@@ -1,10 +1,10 @@
 -- What a push into a world changes.
 use Rattle.std.specs.Prelude.{List, Option}
-use Rattle.dm_ids.specs.declared.ids.ModuleId.{ModuleId}
-use Rattle.dm_ids.specs.declared.imports.ImportOrExternCrate.{ImportOrExternCrate}
+use Rattle.dm_base.specs.declared.ids.ModuleId.{ModuleId}
+use Rattle.dm_base.specs.declared.imports.ImportOrExternCrate.{ImportOrExternCrate}
 use Rattle.dm_base.specs.declared.per_ns.PerNs.{PerNs}
-use Rattle.dm_names.specs.Names.{Name}
-use Rattle.dm_shadowing.specs.Flags.{Globs}
+use Rattle.dm_base.specs.Names.{Name}
+use Rattle.dm_scope.specs.Flags.{Globs}
 use Rattle.dm_scope.specs.Push.{scope_after}
 use Rattle.dm_scope.specs.Shows.{ScopePush, Shows}
 use Rattle.dm_maps.specs.World.{World, scope_of, with_scope}

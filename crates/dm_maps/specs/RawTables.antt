@@ -1,10 +1,10 @@
 -- `RawVisibility` in a world's tables: visibilities as they are written. What was not set is not there.
 use Rattle.std.specs.Prelude.{List, Option}
 use Rattle.std.specs.Map.{lookup}
-use Rattle.dm_ids.specs.declared.ids.TraitId.{TraitId}
-use Rattle.dm_ids.specs.declared.item_ids.AssocItemId.{AssocItemId}
-use Rattle.dm_ids.specs.declared.item_ids.ItemContainerId.{ItemContainerId}
-use Rattle.dm_ids.specs.declared.item_ids.VariantId.{VariantId}
+use Rattle.dm_base.specs.declared.ids.TraitId.{TraitId}
+use Rattle.dm_base.specs.declared.item_ids.AssocItemId.{AssocItemId}
+use Rattle.dm_base.specs.declared.item_ids.ItemContainerId.{ItemContainerId}
+use Rattle.dm_base.specs.declared.item_ids.VariantId.{VariantId}
 use Rattle.dm_base.specs.declared.visibility.RawVisibility.{RawVisibility}
 use Rattle.dm_def_map.specs.Keys.{same_variant, same_assoc, same_trait}
 use Rattle.dm_maps.specs.World.{World}

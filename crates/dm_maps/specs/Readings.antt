@@ -2,27 +2,27 @@
 use Rattle.std.specs.Prelude.{Bool, true, false, List, [], Option, slice_get}
 use Rattle.std.specs.Option.{option_map, option_map_or, option_and_then}
 use Rattle.std.specs.Map.{lookup}
-use Rattle.dm_ids.specs.declared.ids.ModuleId.{ModuleId}
-use Rattle.dm_ids.specs.declared.ids.BlockId.{BlockId}
-use Rattle.dm_names.specs.declared.ids.Crate.{Crate}
-use Rattle.dm_ids.specs.declared.ids.EnumId.{EnumId}
-use Rattle.dm_ids.specs.declared.ids.EnumVariantId.{EnumVariantId}
-use Rattle.dm_ids.specs.declared.ids.ExternCrateId.{ExternCrateId}
-use Rattle.dm_ids.specs.declared.ids.MapId.{MapId}
-use Rattle.dm_ids.specs.declared.item_ids.MacroId.{MacroId}
-use Rattle.dm_ids.specs.declared.item_ids.MacroId.TheVariants.{Macro2Id, MacroRulesId, ProcMacroId}
-use Rattle.dm_ids.specs.declared.fields_shape.FieldsShape.{FieldsShape}
-use Rattle.dm_ids.specs.declared.macros.MacroLoc.{MacroLoc}
-use Rattle.dm_ids.specs.declared.macros.MacroLoc.TheVariants as loc
-use Rattle.dm_ids.specs.declared.macros.MacroCallStyles.{MacroCallStyles}
-use Rattle.dm_ids.specs.declared.builtin_type.BuiltinType.{BuiltinType}
+use Rattle.dm_base.specs.declared.ids.ModuleId.{ModuleId}
+use Rattle.dm_base.specs.declared.ids.BlockId.{BlockId}
+use Rattle.dm_base.specs.declared.ids.Crate.{Crate}
+use Rattle.dm_base.specs.declared.ids.EnumId.{EnumId}
+use Rattle.dm_base.specs.declared.ids.EnumVariantId.{EnumVariantId}
+use Rattle.dm_base.specs.declared.ids.ExternCrateId.{ExternCrateId}
+use Rattle.dm_base.specs.declared.ids.MapId.{MapId}
+use Rattle.dm_base.specs.declared.item_ids.MacroId.{MacroId}
+use Rattle.dm_base.specs.declared.item_ids.MacroId.TheVariants.{Macro2Id, MacroRulesId, ProcMacroId}
+use Rattle.dm_base.specs.declared.fields_shape.FieldsShape.{FieldsShape}
+use Rattle.dm_base.specs.declared.macros.MacroLoc.{MacroLoc}
+use Rattle.dm_base.specs.declared.macros.MacroLoc.TheVariants as loc
+use Rattle.dm_base.specs.declared.macros.MacroCallStyles.{MacroCallStyles}
+use Rattle.dm_base.specs.declared.builtin_type.BuiltinType.{BuiltinType}
 use Rattle.dm_base.specs.declared.per_ns.PerNs.{PerNs}
-use Rattle.dm_names.specs.declared.edition.Edition.{Edition}
-use Rattle.dm_names.specs.declared.edition.Edition.TheVariants.{Edition2015, Edition2018, Edition2021, Edition2024}
-use Rattle.dm_names.specs.Names.{Name, find_name}
+use Rattle.dm_base.specs.declared.edition.Edition.{Edition}
+use Rattle.dm_base.specs.declared.edition.Edition.TheVariants.{Edition2015, Edition2018, Edition2021, Edition2024}
+use Rattle.dm_base.specs.Names.{Name, find_name}
 use Rattle.dm_base.specs.Tree.{Tree}
-use Rattle.dm_ids.specs.Builtins.{builtin_words}
-use Rattle.dm_ids.specs.Styles as kinds
+use Rattle.dm_base.specs.Builtins.{builtin_words}
+use Rattle.dm_base.specs.Styles as kinds
 use Rattle.dm_scope.specs.Scope.{bound_in, legacy_in}
 use Rattle.dm_scope.specs.Tables.{no_style}
 use Rattle.dm_def_map.specs.Maps.{LocalMap}
@@ -30,7 +30,7 @@ use Rattle.dm_def_map.specs.Variants.{same_enum}
 use Rattle.dm_maps.specs.declared.rules.Rules.{Rules}
 use Rattle.dm_maps.specs.World.{World, crate_map, numbered_map, scope_of}
 use Rattle.dm_maps.specs.Trees.{tree_of}
-use Rattle.dm_check.specs.Kinds.{macro_number}
+use Rattle.dm_maps.specs.Kinds.{macro_number}
 
 -- The name-independent part of a world, as far as path resolution reads it: the module tree, and the tables by id.
 pub record Setting : Type 0 where

@@ -2,7 +2,7 @@
 use Rattle.std.specs.Prelude.{Some, map, slice_get}
 use Rattle.std.specs.List.{list_any}
 use Rattle.std.specs.Option.{option_map_or}
-use Rattle.dm_names.specs.Names.{same_name}
+use Rattle.dm_base.specs.Names.{same_name}
 use Rattle.dm_scope.specs.Scope.{Scope, no_scope}
 use Rattle.dm_scope.specs.Tables.{Tables}
 use Rattle.dm_maps.specs.declared.place.Place.{Place}

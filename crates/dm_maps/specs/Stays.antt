@@ -1,8 +1,8 @@
 -- What a push leaves of a world: which ids are known, and the name-independent part.
 use Rattle.std.specs.Prelude.{◌≡◌, List, length}
 use Rattle.std.specs.Option.{option_map}
-use Rattle.dm_ids.specs.declared.ids.MapId.{MapId}
-use Rattle.dm_check.specs.declared.held.HeldId.{HeldId}
+use Rattle.dm_base.specs.declared.ids.MapId.{MapId}
+use Rattle.dm_maps.specs.declared.check.held.HeldId.{HeldId}
 use Rattle.dm_maps.specs.BuildMaps.{lacks_map}
 use Rattle.dm_maps.specs.Known.{knows, KnowsAll}
 use Rattle.dm_maps.specs.Readings.{setting_of}

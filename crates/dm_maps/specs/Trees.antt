@@ -1,9 +1,9 @@
 -- The tree of a world's modules, and the invariants of every world.
 use Rattle.std.specs.Prelude.{◌≡◌, ◌<◌, ◌≤◌, ℕ, List, Option, Some, None, length, map, slice_get, nat_lt}
 use Rattle.std.specs.Option.{option_map_or, option_and_then}
-use Rattle.dm_ids.specs.declared.ids.ModuleId.{ModuleId}
-use Rattle.dm_ids.specs.declared.ids.BlockId.{BlockId}
-use Rattle.dm_ids.specs.declared.ids.MapId.{MapId}
+use Rattle.dm_base.specs.declared.ids.ModuleId.{ModuleId}
+use Rattle.dm_base.specs.declared.ids.BlockId.{BlockId}
+use Rattle.dm_base.specs.declared.ids.MapId.{MapId}
 use Rattle.dm_base.specs.Tree.{Tree, IsTree}
 use Rattle.dm_maps.specs.declared.place.Place.{Place}
 use Rattle.dm_def_map.specs.Maps.{Map}

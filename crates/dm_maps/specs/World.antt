@@ -1,15 +1,15 @@
 -- Worlds, as contracts see them.
 use Rattle.std.specs.Prelude.{List, Option, Some, None, slice_get}
 use Rattle.std.specs.Option.{option_map, option_map_or, option_and_then}
-use Rattle.dm_ids.specs.declared.ids.ModuleId.{ModuleId}
-use Rattle.dm_names.specs.declared.ids.Crate.{Crate}
-use Rattle.dm_ids.specs.declared.ids.EnumId.{EnumId}
-use Rattle.dm_ids.specs.declared.ids.EnumVariantId.{EnumVariantId}
-use Rattle.dm_ids.specs.declared.ids.MapId.{MapId}
-use Rattle.dm_ids.specs.declared.item_ids.ItemKind.{ItemKind}
-use Rattle.dm_ids.specs.declared.fields_shape.FieldsShape.{FieldsShape}
-use Rattle.dm_ids.specs.declared.macros.MacroLoc.{MacroLoc}
-use Rattle.dm_names.specs.Names.{Name}
+use Rattle.dm_base.specs.declared.ids.ModuleId.{ModuleId}
+use Rattle.dm_base.specs.declared.ids.Crate.{Crate}
+use Rattle.dm_base.specs.declared.ids.EnumId.{EnumId}
+use Rattle.dm_base.specs.declared.ids.EnumVariantId.{EnumVariantId}
+use Rattle.dm_base.specs.declared.ids.MapId.{MapId}
+use Rattle.dm_base.specs.declared.item_ids.ItemKind.{ItemKind}
+use Rattle.dm_base.specs.declared.fields_shape.FieldsShape.{FieldsShape}
+use Rattle.dm_base.specs.declared.macros.MacroLoc.{MacroLoc}
+use Rattle.dm_base.specs.Names.{Name}
 use Rattle.dm_scope.specs.Scope.{Scope, no_scope}
 use Rattle.dm_maps.specs.declared.place.Place.{Place}
 use Rattle.dm_maps.specs.declared.rules.Rules.{Rules}

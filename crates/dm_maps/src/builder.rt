@@ -20,6 +20,7 @@ mod spare_room;
 mod tables;
 
 use crate::builder::block_list::BlockList;
+use crate::ladders::Ladders;
 use crate::maps::Maps;
 use crate::place::Place;
 use crate::rules::Rules;
@@ -29,7 +30,6 @@ use dm_base::macros::MacroLoc;
 use dm_def_map::item_tables::ItemTables;
 use dm_def_map::item_tables::variants::EnumVariants;
 use dm_def_map::modules::local_def_map::LocalDefMap;
-use dm_ladders::ladders::Ladders;
 use indexmap::IndexMap;
 use std::alloc::Global;
 use std::marker::Model;

@@ -2,9 +2,21 @@
 ghost use Rattle.std.specs.Prelude.{◌≡◌};
 ghost use Rattle.dm_maps.specs.First.{IsChecked};
 
+mod builder_ids;
+pub mod check_tables;
+pub mod fault;
 mod first_fault;
-mod known_ids;
+pub mod held;
+pub mod kinds;
+pub mod known_ids;
+pub mod note_diagnostics;
 pub(crate) mod note_maps;
+pub mod note_preludes;
+pub mod note_pushes;
+mod note_records;
+pub mod note_scopes;
+pub mod note_tables;
+pub mod notes;
 
 use crate::builder::WorldBuilder;
 use crate::world::World;

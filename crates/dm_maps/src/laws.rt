@@ -1,8 +1,8 @@
 //! Lemmas on dumps and on builder calls, for proofs of the crates above. They are functions that do nothing: a function
 //! whose proof needs one calls it.
 ghost use Rattle.std.specs.Prelude.{◌≡◌, List};
-ghost use Rattle.dm_names.specs.declared.ids.Crate.{Crate};
-ghost use Rattle.dm_ids.specs.declared.ids.MapId.{MapId};
+ghost use Rattle.dm_base.specs.declared.ids.Crate.{Crate};
+ghost use Rattle.dm_base.specs.declared.ids.MapId.{MapId};
 ghost use Rattle.dm_scope.specs.Dumps.{IsDump};
 ghost use Rattle.dm_scope.specs.Scope.{Scope};
 ghost use Rattle.dm_scope.specs.Tables.{Tables};

@@ -3,14 +3,15 @@
 
 pub mod build_fault;
 pub mod builder;
-mod check;
+pub mod check;
+pub mod ladders;
 pub mod laws;
 mod maps;
 pub mod place;
 pub mod rules;
 pub mod world;
 
-pub use dm_check::fault;
+pub use check::fault;
 pub use dm_def_map::crate_data::{crate_setting, unstable_features};
 pub use dm_def_map::def_map;
 pub use dm_def_map::item_tables::derive_helpers;

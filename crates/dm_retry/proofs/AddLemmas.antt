@@ -1,11 +1,11 @@
 -- One import more: those of before stay as they were, and the last is new.
 use Rattle.std.proofs.Common.{◌≡◌, ◌∙◌, ◌⊎◌, inl, inr, ℕ, zero, suc, Bool, true, false, cond, List, [], ◌∷◌, ◌++◌, None, Some, ap, refl, subst, sym, length, slice_get, true≢false}
 use Rattle.dm_maps.specs.Known.{KnowsAll}
-use Rattle.dm_pending.specs.Known.{add_fault, is_known, is_listed, parts, same_leaf}
-use Rattle.dm_pending.specs.Rounds.{Pending, State, added, would_write, marked}
-use Rattle.dm_pending.specs.Settled.{IsSettled}
-use Rattle.dm_pending.specs.declared.add_fault.AddFault.TheVariants as adding
-use Rattle.dm_pending.proofs.StartLemmas.{any-at, import-refl, knows-from}
+use Rattle.dm_retry.specs.Known.{add_fault, is_known, is_listed, parts, same_leaf}
+use Rattle.dm_retry.specs.Rounds.{Pending, State, added, would_write, marked}
+use Rattle.dm_retry.specs.Settled.{IsSettled}
+use Rattle.dm_retry.specs.declared.add_fault.AddFault.TheVariants as adding
+use Rattle.dm_retry.proofs.StartLemmas.{any-at, import-refl, knows-from}
 
 -- an element of a list with one more
 one-of : {A : Type 0} (xs : List A) (x y : A) (i : ℕ) → slice_get (xs ++ x ∷ []) i ≡ Some y → (slice_get xs i ≡ Some y) ⊎ ((i ≡ length xs) × (x ≡ y))

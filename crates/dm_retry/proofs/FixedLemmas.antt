@@ -4,7 +4,7 @@ use Rattle.std.specs.Option.{option_map_or}
 use Rattle.std.specs.declared.alloc.AllocError.{AllocError}
 use Rattle.std.proofs.lemmas.Bool.{cases_lt, or_parts}
 use Rattle.std.proofs.lemmas.Option.{slice_get_past}
-use Rattle.dm_pending.specs.Rounds.{Pending, State, after, any_would_write, would_write, is_due, marked, marked_after, round, round_answer, tried}
+use Rattle.dm_retry.specs.Rounds.{Pending, State, after, any_would_write, would_write, is_due, marked, marked_after, round, round_answer, tried}
 use Rattle.dm_retry.specs.Retries.{RestsAt}
 use Rattle.dm_retry.specs.Settling.{IsFixedPoint}
 use Rattle.dm_retry.proofs.RoundLemmas.{length-tries}

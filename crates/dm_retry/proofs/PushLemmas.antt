@@ -2,23 +2,23 @@
 use Rattle.std.proofs.Common.{◌≡◌, ◌∙◌, ℕ, zero, suc, Bool, true, false, cond, List, [], ◌∷◌, Option, None, Some, ap, refl, subst, sym, slice_get, map}
 use Rattle.std.specs.List.{list_any}
 use Rattle.std.proofs.lemmas.Bool.{or_parts}
-use Rattle.dm_names.specs.Names.{Name}
-use Rattle.dm_ids.specs.contracts.value_eq.ImportIdValueEq.TheImpl.Laws as import_value
-use Rattle.dm_ids.specs.declared.ids.ModuleId.{ModuleId}
-use Rattle.dm_ids.specs.declared.imports.ImportId.{ImportId}
-use Rattle.dm_ids.specs.declared.imports.ImportOrExternCrate.{ImportOrExternCrate}
-use Rattle.dm_ids.specs.declared.imports.ImportOrExternCrate.TheVariants as wide
+use Rattle.dm_base.specs.Names.{Name}
+use Rattle.dm_base.specs.contracts.value_eq.ImportIdValueEq.TheImpl.Laws as import_value
+use Rattle.dm_base.specs.declared.ids.ModuleId.{ModuleId}
+use Rattle.dm_base.specs.declared.imports.ImportId.{ImportId}
+use Rattle.dm_base.specs.declared.imports.ImportOrExternCrate.{ImportOrExternCrate}
+use Rattle.dm_base.specs.declared.imports.ImportOrExternCrate.TheVariants as wide
 use Rattle.dm_base.specs.declared.per_ns.PerNs.{PerNs}
-use Rattle.dm_shadowing.specs.Shadowing.{is_same}
-use Rattle.dm_shadowing.specs.Flags.{Globs}
+use Rattle.dm_scope.specs.Shadowing.{is_same}
+use Rattle.dm_scope.specs.Flags.{Globs}
 use Rattle.dm_scope.specs.Push.{push_answer, types_reading}
 use Rattle.dm_maps.specs.Known.{KnowsAll}
 use Rattle.dm_maps.specs.World.{World, scope_of}
-use Rattle.dm_pending.specs.Known.{comes_by, parts, same_leaf}
-use Rattle.dm_pending.specs.Rounds.{Pending, State, awoken, by_import}
-use Rattle.dm_pending.specs.Settled.{IsSettled}
-use Rattle.dm_pending.proofs.AwakeLemmas.{woken}
-use Rattle.dm_pending.proofs.TryLemmas.{IsPushed, others-rest}
+use Rattle.dm_retry.specs.Known.{comes_by, parts, same_leaf}
+use Rattle.dm_retry.specs.Rounds.{Pending, State, awoken, by_import}
+use Rattle.dm_retry.specs.Settled.{IsSettled}
+use Rattle.dm_retry.proofs.AwakeLemmas.{woken}
+use Rattle.dm_retry.proofs.TryLemmas.{IsPushed, others-rest}
 
 -- imports that differ one way differ the other way
 turned : (i j : ImportId) → same_leaf i j ≡ false → same_leaf j i ≡ false

@@ -3,8 +3,8 @@ use Rattle.std.proofs.Common.{◌≡◌, ◌∙◌, ◌⊎◌, inl, inr, ◌+◌
 use Rattle.std.proofs.lemmas.Bool.Decides.{leb_tells}
 use Rattle.std.proofs.lemmas.List.{length-map, length-set}
 use Rattle.std.specs.Option.{option_map_or}
-use Rattle.dm_waiters.specs.Bits.{IsFirst}
-use Rattle.dm_pending.specs.Rounds.{Pending, State, after, any_would_write, awoken, would_write, would_write_at, due_turns, is_due, marked, marked_after, marked_at, name_at, tried, try_at}
+use Rattle.dm_retry.specs.Bits.{IsFirst}
+use Rattle.dm_retry.specs.Rounds.{Pending, State, after, any_would_write, awoken, would_write, would_write_at, due_turns, is_due, marked, marked_after, marked_at, name_at, tried, try_at}
 use Rattle.dm_retry.specs.Retries.{RestsAt}
 
 pub length-marked : (ps : List Pending) (i : ℕ) (d : Bool) → length (marked_at ps i d) ≡ length ps

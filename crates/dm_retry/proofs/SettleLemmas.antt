@@ -3,16 +3,16 @@ use Rattle.std.proofs.Common.{◌≡◌, ◌∙◌, ◌⊎◌, inl, inr, ℕ, Bo
 use Rattle.std.specs.Option.{option_map, option_map_or}
 use Rattle.std.proofs.lemmas.Bool.{false≢true, true≢false, or_parts}
 use Rattle.std.proofs.lemmas.Option.{slice_get-map}
-use Rattle.dm_ids.specs.contracts.value_eq.ImportIdValueEq.TheImpl.Laws as import_value
-use Rattle.dm_shadowing.specs.Flags.{Globs}
+use Rattle.dm_base.specs.contracts.value_eq.ImportIdValueEq.TheImpl.Laws as import_value
+use Rattle.dm_scope.specs.Flags.{Globs}
 use Rattle.dm_maps.specs.Cut.{among}
 use Rattle.dm_maps.specs.Known.{KnowsAll}
 use Rattle.dm_maps.specs.World.{World}
-use Rattle.dm_pending.specs.Known.{parts, same_leaf}
-use Rattle.dm_pending.specs.Rounds.{Pending, State, awoken, would_write, is_due, marked, marked_after, marked_at, name_at, refused_at, tried, try_at}
-use Rattle.dm_pending.specs.Settled.{IsSettled}
-use Rattle.dm_pending.proofs.TryLemmas.{would_write-marked, idle-table, idle-world}
-use Rattle.dm_pending.proofs.WorldLemmas.{set-own}
+use Rattle.dm_retry.specs.Known.{parts, same_leaf}
+use Rattle.dm_retry.specs.Rounds.{Pending, State, awoken, would_write, is_due, marked, marked_after, marked_at, name_at, refused_at, tried, try_at}
+use Rattle.dm_retry.specs.Settled.{IsSettled}
+use Rattle.dm_retry.proofs.TryLemmas.{would_write-marked, idle-table, idle-world}
+use Rattle.dm_retry.proofs.WorldLemmas.{set-own}
 use Rattle.dm_retry.specs.Retries.{RestsAt}
 use Rattle.dm_retry.proofs.ListLemmas.{get-put}
 

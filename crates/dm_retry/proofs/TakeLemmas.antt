@@ -3,9 +3,9 @@ use Rattle.std.proofs.Common.{◌≡◌, ◌∙◌, ◌<◌, ◌≤◌, ◌⊎�
 use Rattle.std.proofs.lemmas.List.{get_or-set_same}
 use Rattle.std.proofs.lemmas.Option.{slice_get_cases}
 use Rattle.std.specs.Option.{option_map_or}
-use Rattle.dm_shadowing.specs.Flags.{Globs}
+use Rattle.dm_scope.specs.Flags.{Globs}
 use Rattle.dm_maps.specs.World.{World}
-use Rattle.dm_pending.specs.Rounds.{Pending, awoken, would_write, to_push, globs_with, marked, marked_after, marked_at, name_at, world_after}
+use Rattle.dm_retry.specs.Rounds.{Pending, awoken, would_write, to_push, globs_with, marked, marked_after, marked_at, name_at, world_after}
 use Rattle.dm_retry.proofs.ListLemmas.{get-put_here, put-put}
 
 -- q, at place i of the worklist qs once the import there is taken, is p, which was there in ps

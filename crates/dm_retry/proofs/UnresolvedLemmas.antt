@@ -4,7 +4,7 @@ use Rattle.std.proofs.Math.Bool.{beq}
 use Rattle.std.specs.Option.{option_eq, option_map}
 use Rattle.std.proofs.lemmas.Option.{slice_get_cases}
 use Rattle.dm_maps.specs.World.{World}
-use Rattle.dm_pending.specs.Rounds.{Pending, State, finds_nothing, unresolved_from}
+use Rattle.dm_retry.specs.Rounds.{Pending, State, finds_nothing, unresolved_from}
 
 abbrev one-more : Bool → ℕ → List ℕ
 one-more b i = cond b (i ∷ []) []

@@ -1,7 +1,7 @@
 -- Rounds of import resolution, as contracts see them: the state, how many tries the last round began, and at which
 -- import an allocation failure stops a round.
 use Rattle.std.specs.Prelude.{◌≡◌, ◌<◌, ℕ, suc, true, false, length}
-use Rattle.dm_pending.specs.Rounds.{State, after, would_write_at, due_turns, is_due, refused_at, rounds, try_at}
+use Rattle.dm_retry.specs.Rounds.{State, after, would_write_at, due_turns, is_due, refused_at, rounds, try_at}
 
 -- the state, and how many tries the last round began
 pub record Retries : Type 0 where

@@ -1,6 +1,6 @@
 -- Rounds that are made until a fixed point, a given number of them at most.
 use Rattle.std.specs.Prelude.{◌≡◌, ◌<◌, ℕ, suc, Bool, true, false}
-use Rattle.dm_pending.specs.Rounds.{State, round_answer, rounds}
+use Rattle.dm_retry.specs.Rounds.{State, round_answer, rounds}
 use Rattle.dm_retry.specs.Retries.{NoneDue, RestsAt, Retries, StopsAtDue}
 
 -- The world is a fixed point of its imports: none is due, and a try of any would bind nothing, and change nothing.

@@ -1,28 +1,28 @@
 //! A world, a glob table and its unresolved imports.
 ghost use Rattle.std.specs.Prelude.{◌≡◌, ◌<◌, ℕ, None, Some, false, true, if◌then◌else◌, IfErr, IfOk, IfSome, OnErr, OnOk, length, map, option_copied, slice_get};
 ghost use Rattle.std.specs.Option.{option_map};
-ghost use Rattle.dm_pending.specs.Rounds.{added, awoken, would_write_at, finds_nothing, is_due, marked, name_at, pushed_into, refused_at, try_at, unresolved};
-ghost use Rattle.dm_pending.specs.Known.{add_fault, comes_by, fault_of, is_listed, unadded};
+ghost use Rattle.dm_retry.specs.Rounds.{added, awoken, would_write_at, finds_nothing, is_due, marked, name_at, pushed_into, refused_at, try_at, unresolved};
+ghost use Rattle.dm_retry.specs.Known.{add_fault, comes_by, fault_of, is_listed, unadded};
 ghost use Rattle.dm_retry.specs.Retries.{RestsAt};
-ghost use Rattle.dm_check.specs.Pushes.{push_holds};
+ghost use Rattle.dm_maps.specs.Pushes.{push_holds};
 ghost use Rattle.dm_maps.specs.Known.{KnowsAll};
 ghost use Rattle.dm_maps.specs.World.{scope_of};
 ghost use Rattle.dm_scope.specs.Push.{push_answer};
-ghost use Rattle.dm_waiters.specs.Bits.{IsFirst};
+ghost use Rattle.dm_retry.specs.Bits.{IsFirst};
 
 mod changes;
 
+use crate::add_fault::AddFault;
+use crate::attempt::{attempt, to_push};
+use crate::pending::Pending;
+use crate::pendings::Pendings;
+use crate::worklist::unresolved::Unresolved;
 use dm_base::ids::ModuleId;
 use dm_base::imports::{ImportId, ImportOrExternCrate};
 use dm_base::name::Name;
 use dm_base::per_ns::PerNs;
 use dm_maps::world::World;
-use dm_pending::add_fault::AddFault;
-use dm_pending::attempt::{attempt, to_push};
-use dm_pending::pending::Pending;
-use dm_pending::pendings::Pendings;
 use dm_scope::glob_imports::PerNsGlobImports;
-use dm_waiters::unresolved::Unresolved;
 use hir_def_map::laws::answers_alike;
 use std::alloc::{AllocError, Global};
 use std::marker::Model;
@@ -36,8 +36,8 @@ pub(crate) struct Imports {
 }
 
 impl Model for Imports {
-    ghost use Rattle.dm_pending.specs.Rounds.{State};
-    ghost use Rattle.dm_pending.specs.Settled.{IsSettled};
+    ghost use Rattle.dm_retry.specs.Rounds.{State};
+    ghost use Rattle.dm_retry.specs.Settled.{IsSettled};
 
     ghost Value = { State };
 

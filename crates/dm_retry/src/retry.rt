@@ -1,28 +1,28 @@
 //! The unresolved imports of a world, resolved round by round until a fixed point.
 ghost use Rattle.std.specs.Prelude.{◌≡◌, false, IfErr, IfOk, None, OnErr, OnOk, Some, length, map, slice_get, true};
 ghost use Rattle.std.specs.Option.{option_map};
-ghost use Rattle.dm_check.specs.Pushes.{push_holds};
+ghost use Rattle.dm_maps.specs.Pushes.{push_holds};
 ghost use Rattle.dm_maps.specs.Known.{KnowsAll};
 ghost use Rattle.dm_maps.specs.World.{scope_of};
 ghost use Rattle.dm_scope.specs.Push.{push_answer};
-ghost use Rattle.dm_pending.specs.Known.{add_fault, comes_by, fault_of, refusal, unadded};
-ghost use Rattle.dm_pending.specs.Rounds.{added, due_turns, marked, pushed_into, round, round_answer};
+ghost use Rattle.dm_retry.specs.Known.{add_fault, comes_by, fault_of, refusal, unadded};
+ghost use Rattle.dm_retry.specs.Rounds.{added, due_turns, marked, pushed_into, round, round_answer};
 ghost use Rattle.dm_retry.specs.Retries.{NoneDue, RestsAt, StopsAt, StopsAtDue};
 ghost use Rattle.dm_retry.specs.Settling.{IsFixedPoint};
 
 mod changes;
 
+use crate::add_fault::AddFault;
+use crate::doubles::find_fault;
 use crate::imports::Imports;
+use crate::pending::{Pending, first_double, first_unknown};
+use crate::retry_fault::RetryFault;
 use crate::rounds::{try_all, try_due};
 use dm_base::ids::ModuleId;
 use dm_base::imports::ImportOrExternCrate;
 use dm_base::name::Name;
 use dm_base::per_ns::PerNs;
 use dm_maps::world::World;
-use dm_pending::add_fault::AddFault;
-use dm_pending::doubles::find_fault;
-use dm_pending::pending::{Pending, first_double, first_unknown};
-use dm_pending::retry_fault::RetryFault;
 use dm_scope::glob_imports::PerNsGlobImports;
 use std::alloc::AllocError;
 use std::marker::Model;

@@ -1,6 +1,6 @@
 //! Rounds of either kind, one after another.
 ghost use Rattle.std.specs.Prelude.{◌≡◌, OnErr, OnOk, length};
-ghost use Rattle.dm_pending.specs.Rounds.{round, rounds};
+ghost use Rattle.dm_retry.specs.Rounds.{round, rounds};
 ghost use Rattle.dm_retry.specs.Retries.{Stops, StopsIn};
 
 use crate::retry::Retry;

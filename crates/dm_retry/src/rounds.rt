@@ -1,6 +1,6 @@
 //! One round over the unresolved imports, of all or of the due (dirty) ones alone.
 ghost use Rattle.std.specs.Prelude.{◌≡◌, false, IfOk, OnErr, OnOk, length};
-ghost use Rattle.dm_pending.specs.Rounds.{due_turns, round, round_answer};
+ghost use Rattle.dm_retry.specs.Rounds.{due_turns, round, round_answer};
 ghost use Rattle.dm_retry.specs.Retries.{NoneDue, StopsAt, StopsAtDue};
 
 use crate::imports::Imports;

@@ -1,13 +1,13 @@
 //! Rounds until a fixed point, and what is still unresolved.
 ghost use Rattle.std.specs.Prelude.{◌≡◌, true, IfOk, OnErr, length, option_copied, slice_get};
 ghost use Rattle.std.specs.Option.{option_map};
-ghost use Rattle.dm_pending.specs.Known.{is_listed};
-ghost use Rattle.dm_pending.specs.Rounds.{finds_nothing, unresolved};
+ghost use Rattle.dm_retry.specs.Known.{is_listed};
+ghost use Rattle.dm_retry.specs.Rounds.{finds_nothing, unresolved};
 ghost use Rattle.dm_retry.specs.Settling.{IsFixedPoint, IsResolved, IsStopped};
 
+use crate::pending::Pending;
 use crate::retry::Retry;
 use dm_base::imports::ImportId;
-use dm_pending::pending::Pending;
 use std::alloc::AllocError;
 
 impl Retry {

@@ -2,7 +2,7 @@
 use Rattle.std.proofs.Common.{◌≡◌, ◌∙◌, ◌++◌, List, [], ◌∷◌, map, refl, ap}
 use Rattle.std.specs.List.{filter_map, flat_map}
 use Rattle.smallvec.specs.SmallVec.{SmallVec}
-use Rattle.dm_ids.specs.declared.source.AstId.{AstId}
+use Rattle.dm_base.specs.declared.source.AstId.{AstId}
 use Rattle.dm_scope.specs.Derives.{derive_of, derives_of}
 use Rattle.dm_scope.specs.MacroCalls.{call_in, calls_in, attribute_calls, item_calls}
 use Rattle.dm_scope.specs.declared.derives.DeriveMacroInvocation.{DeriveMacroInvocation}

@@ -7,25 +7,25 @@ use Rattle.std.proofs.lemmas.Slice.Eq.{bytes_eq-Decides}
 use Rattle.std.proofs.lemmas.List.Elements.{filter_map-append}
 use Rattle.std.proofs.lemmas.List.Folds.{list_any-append}
 use Rattle.indexmap.specs.IndexSet.{insert_key}
-use Rattle.dm_names.specs.Names.{Name, same_name}
+use Rattle.dm_base.specs.Names.{Name, same_name}
 use Rattle.dm_base.specs.Tree.{same_module}
-use Rattle.dm_ids.specs.declared.ids.ModuleId.{ModuleId}
+use Rattle.dm_base.specs.declared.ids.ModuleId.{ModuleId}
 use Rattle.dm_base.specs.declared.per_ns.Item.{Item}
 use Rattle.dm_base.specs.declared.per_ns.PerNs.{PerNs}
-use Rattle.dm_ids.specs.declared.imports.ImportOrExternCrate.{ImportOrExternCrate}
-use Rattle.dm_shadowing.specs.Shadowing.{Reading, import_of}
-use Rattle.dm_bindings.specs.Bindings.{Bound, is_effective_at, bound_after, flags_after}
-use Rattle.dm_shadowing.specs.Flags.{Flags, Globs, has_flag, no_flags, no_globs}
+use Rattle.dm_base.specs.declared.imports.ImportOrExternCrate.{ImportOrExternCrate}
+use Rattle.dm_scope.specs.Shadowing.{Reading, import_of}
+use Rattle.dm_scope.specs.Bindings.{Bound, is_effective_at, bound_after, flags_after}
+use Rattle.dm_scope.specs.Flags.{Flags, Globs, has_flag, no_flags, no_globs}
 use Rattle.dm_base.specs.PerNs.{is_empty}
 use Rattle.dm_scope.specs.Push.{types_reading, values_reading, macros_reading, unresolved_after, scope_after, globs_after, push_answer}
-use Rattle.dm_bindings.specs.Pushes.{Push, is_effective, ShowsIn}
+use Rattle.dm_scope.specs.Pushes.{Push, is_effective, ShowsIn}
 use Rattle.dm_scope.specs.Scope.{Scope, no_scope}
 use Rattle.dm_scope.specs.Shows.{ScopePush, push_in, pushes_in, is_effective_in, has_empty_push, is_answered, Shows}
-use Rattle.dm_bindings.proofs.ClosedLemmas.{ShowsIn-after, is_effective-after}
-use Rattle.dm_shadowing.specs.FlagLaws.{has_flag-elsewhere}
-use Rattle.dm_bindings.proofs.PushLemmas.{IsReading}
+use Rattle.dm_scope.proofs.BindingPushLemmas.{ShowsIn-after, is_effective-after}
+use Rattle.dm_scope.specs.FlagLaws.{has_flag-elsewhere}
+use Rattle.dm_scope.proofs.PushLemmas.{IsReading}
 use Rattle.dm_scope.proofs.ReadingLemmas.{types_lawful, values_lawful, macros_lawful}
-use Rattle.dm_bindings.proofs.ShowLemmas.{ShowsIn-none}
+use Rattle.dm_scope.proofs.ShowLemmas.{ShowsIn-none}
 
 module _ {D I : Type 0} (r : Reading D I) (law : IsReading r) (s : Bound D I) (f : Flags) (m : ModuleId) where
   module _ (of : PerNs → Option (Item D I)) (ps : List ScopePush) (shows : ShowsIn r s (has_flag f m) (pushes_in r of ps)) (p : ScopePush) where

@@ -6,10 +6,10 @@ use Rattle.std.specs.Option.{option_map}
 use Rattle.std.specs.Map.{lookup, set_value}
 use Rattle.either.specs.declared.Either.{Either}
 use Rattle.smallvec.specs.SmallVec.{SmallVec}
-use Rattle.dm_ids.specs.declared.ids.AttrId.{AttrId}
-use Rattle.dm_ids.specs.declared.ids.MacroCallId.{MacroCallId}
-use Rattle.dm_ids.specs.declared.ids.BuiltinDeriveImplId.{BuiltinDeriveImplId}
-use Rattle.dm_ids.specs.declared.source.AstId.{AstId}
+use Rattle.dm_base.specs.declared.ids.AttrId.{AttrId}
+use Rattle.dm_base.specs.declared.ids.MacroCallId.{MacroCallId}
+use Rattle.dm_base.specs.declared.ids.BuiltinDeriveImplId.{BuiltinDeriveImplId}
+use Rattle.dm_base.specs.declared.source.AstId.{AstId}
 use Rattle.dm_scope.specs.Derives.{derive_of, derives_of, has_id, find_derive, with_slot, fill_first, fill_slot}
 use Rattle.dm_base.specs.Sameness.{same_ast}
 use Rattle.dm_scope.specs.declared.derives.DeriveMacroInvocation.{DeriveMacroInvocation}

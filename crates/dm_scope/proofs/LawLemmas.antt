@@ -4,16 +4,16 @@ use Rattle.std.specs.List.{list_any}
 use Rattle.std.proofs.lemmas.Bool.{or_parts, or_from}
 use Rattle.std.specs.Cmp.Lexicographic.{nat_list_eq_equiv}
 use Rattle.indexmap.specs.IndexSet.{insert_key}
-use Rattle.dm_names.specs.Names.{Name, same_name}
-use Rattle.dm_ids.specs.declared.ids.ModuleId.{ModuleId}
-use Rattle.dm_ids.specs.declared.imports.ImportOrExternCrate.{ImportOrExternCrate}
-use Rattle.dm_ids.specs.declared.imports.ImportOrExternCrate.TheVariants as wide
+use Rattle.dm_base.specs.Names.{Name, same_name}
+use Rattle.dm_base.specs.declared.ids.ModuleId.{ModuleId}
+use Rattle.dm_base.specs.declared.imports.ImportOrExternCrate.{ImportOrExternCrate}
+use Rattle.dm_base.specs.declared.imports.ImportOrExternCrate.TheVariants as wide
 use Rattle.dm_base.specs.PerNs.{is_empty}
 use Rattle.dm_base.specs.Tree.{same_module}
 use Rattle.dm_base.specs.declared.per_ns.PerNs.{PerNs}
-use Rattle.dm_shadowing.specs.Shadowing.{import_of, is_glob, is_same}
-use Rattle.dm_bindings.specs.Bindings.{is_effective_at}
-use Rattle.dm_shadowing.specs.Flags.{Globs}
+use Rattle.dm_scope.specs.Shadowing.{import_of, is_glob, is_same}
+use Rattle.dm_scope.specs.Bindings.{is_effective_at}
+use Rattle.dm_scope.specs.Flags.{Globs}
 use Rattle.dm_scope.specs.Push.{types_reading, values_reading, macros_reading, unresolved_after, is_new_unresolved, scope_after, globs_after}
 use Rattle.dm_scope.specs.PushLaw.{PushLaw, have_one_import, is_named, itself, would_write}
 use Rattle.dm_scope.specs.Scope.{Scope}

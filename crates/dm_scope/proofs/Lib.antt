@@ -1,3 +1,11 @@
+pub mod AskLemmas
+pub mod BindingLemmas
+pub mod BindingChanges
+pub mod BindingPushLemmas
+pub mod EntryLemmas
+pub mod NameLemmas
+pub mod PushLemmas
+pub mod ShowLemmas
 pub mod DeriveLemmas
 pub mod DumpLemmas
 pub mod CallLemmas
@@ -10,3 +18,5 @@ pub mod RecordLemmas
 pub mod RestLemmas
 pub mod SortLemmas
 pub mod TableListLemmas
+pub mod ChainLemmas
+pub mod ChainTables

@@ -1,13 +1,13 @@
 -- Records of values, as those of any import.
 use Rattle.std.proofs.Common.{◌≡◌, List, [], ◌∷◌, map, Some, refl, ap, ◌∙◌, cond}
 use Rattle.std.specs.Map.{lookup}
-use Rattle.dm_ids.specs.Imports.{widened}
+use Rattle.dm_base.specs.Imports.{widened}
 use Rattle.dm_base.specs.Sameness.{same_import, same_value_import}
-use Rattle.dm_ids.specs.declared.imports.ImportId.{ImportId}
-use Rattle.dm_ids.specs.declared.imports.ImportOrDef.{ImportOrDef}
-use Rattle.dm_ids.specs.declared.imports.ImportOrExternCrate.TheVariants as wide
-use Rattle.dm_ids.specs.declared.imports.ImportOrGlob.{ImportOrGlob}
-use Rattle.dm_ids.specs.declared.imports.ImportOrGlob.TheVariants as narrow
+use Rattle.dm_base.specs.declared.imports.ImportId.{ImportId}
+use Rattle.dm_base.specs.declared.imports.ImportOrDef.{ImportOrDef}
+use Rattle.dm_base.specs.declared.imports.ImportOrExternCrate.TheVariants as wide
+use Rattle.dm_base.specs.declared.imports.ImportOrGlob.{ImportOrGlob}
+use Rattle.dm_base.specs.declared.imports.ImportOrGlob.TheVariants as narrow
 
 -- an import of values is looked up as it is seen among all imports
 same_widened : (i : ImportId) (x : ImportOrGlob) → same_value_import (narrow.Import i) x ≡ same_import (wide.Import i) (widened x)

@@ -4,17 +4,17 @@ use Rattle.std.proofs.Common.{◌≡◌, ◌∙◌, Bool, true, false, cond, not
 use Rattle.std.proofs.lemmas.Bool.{cond-false, and_right}
 use Rattle.std.proofs.lemmas.Slice.Eq.{bytes_eq-Decides}
 use Rattle.std.specs.Cmp.Lexicographic.{nat_list_eq_equiv}
-use Rattle.dm_ids.specs.declared.ids.ModuleId.{ModuleId}
-use Rattle.dm_names.specs.Names.{Name, same_name, find_name}
-use Rattle.dm_ids.specs.declared.imports.ImportOrExternCrate.{ImportOrExternCrate}
+use Rattle.dm_base.specs.declared.ids.ModuleId.{ModuleId}
+use Rattle.dm_base.specs.Names.{Name, same_name, find_name}
+use Rattle.dm_base.specs.declared.imports.ImportOrExternCrate.{ImportOrExternCrate}
 use Rattle.dm_base.specs.Tree.{same_module}
 use Rattle.dm_base.specs.declared.per_ns.Item.{Item}
-use Rattle.dm_shadowing.specs.Shadowing.{Reading, import_of, is_glob, is_same, writes, flagged}
-use Rattle.dm_bindings.specs.Bindings.{Bound, stored, bound, is_effective_at, bound_after, flags_after}
-use Rattle.dm_shadowing.specs.Flags.{Flags, has_flag}
-use Rattle.dm_shadowing.specs.FlagLaws.{has_flag-with, has_flag-after, has_flag-elsewhere}
-use Rattle.dm_bindings.proofs.PushLemmas.{IsReading, is_same-turned}
-use Rattle.dm_bindings.proofs.ShowLemmas.{lookup-insert_entry}
+use Rattle.dm_scope.specs.Shadowing.{Reading, import_of, is_glob, is_same, writes, flagged}
+use Rattle.dm_scope.specs.Bindings.{Bound, stored, bound, is_effective_at, bound_after, flags_after}
+use Rattle.dm_scope.specs.Flags.{Flags, has_flag}
+use Rattle.dm_scope.specs.FlagLaws.{has_flag-with, has_flag-after, has_flag-elsewhere}
+use Rattle.dm_scope.proofs.PushLemmas.{IsReading, is_same-turned}
+use Rattle.dm_scope.proofs.ShowLemmas.{lookup-insert_entry}
 
 module _ {D I : Type 0} (r : Reading D I) where
   -- a push that writes nothing leaves the bindings and the flags

@@ -13,7 +13,7 @@ use Rattle.std.proofs.lemmas.Iterator.{YieldsList}
 use Rattle.std.proofs.lemmas.Map.Views.{Contains-from_any}
 use Rattle.std.proofs.lemmas.Slice.Eq.{bytes_eq-Decides}
 use Rattle.itertools.proofs.AdaptorLemmas.{items_from_whole_run}
-use Rattle.dm_names.specs.Names.{Name}
+use Rattle.dm_base.specs.Names.{Name}
 use Rattle.dm_base.specs.declared.per_ns.PerNs.{PerNs}
 use Rattle.dm_scope.specs.OrderLaws.{in_either, in_front, in_back}
 use Rattle.dm_scope.specs.Scope.{Scope, bound_in}

@@ -1,7 +1,7 @@
 -- All macro calls of a scope.
 use Rattle.std.specs.Prelude.{◌++◌, List, map}
 use Rattle.std.specs.List.{flat_map}
-use Rattle.dm_ids.specs.declared.ids.MacroCallId.{MacroCallId}
+use Rattle.dm_base.specs.declared.ids.MacroCallId.{MacroCallId}
 use Rattle.dm_scope.specs.MacroCalls.{calls_in}
 use Rattle.dm_scope.specs.Scope.{Scope}
 

@@ -1,12 +1,12 @@
 -- Examples of import chains over the records of three modules: equations that compute.
 use Rattle.std.specs.Prelude.{◌≡◌, ℕ, false, [], ◌∷◌, None, Some, refl, slice_get}
-use Rattle.dm_ids.specs.declared.imports.ImportId.{ImportId}
-use Rattle.dm_ids.specs.declared.imports.ImportOrDef.TheVariants as target
-use Rattle.dm_ids.specs.declared.imports.ImportOrExternCrate.TheVariants as wide
-use Rattle.dm_ids.specs.declared.imports.ImportOrGlob.TheVariants as narrow
-use Rattle.dm_ids.specs.declared.item_ids.AdtId.TheVariants as adt
-use Rattle.dm_ids.specs.declared.item_ids.ModuleDefId.{ModuleDefId}
-use Rattle.dm_ids.specs.declared.item_ids.ModuleDefId.TheVariants as def
+use Rattle.dm_base.specs.declared.imports.ImportId.{ImportId}
+use Rattle.dm_base.specs.declared.imports.ImportOrDef.TheVariants as target
+use Rattle.dm_base.specs.declared.imports.ImportOrExternCrate.TheVariants as wide
+use Rattle.dm_base.specs.declared.imports.ImportOrGlob.TheVariants as narrow
+use Rattle.dm_base.specs.declared.item_ids.AdtId.TheVariants as adt
+use Rattle.dm_base.specs.declared.item_ids.ModuleDefId.{ModuleDefId}
+use Rattle.dm_base.specs.declared.item_ids.ModuleDefId.TheVariants as def
 use Rattle.dm_base.specs.declared.per_ns.Namespace.TheVariants.{Types, Values, Macros}
 use Rattle.dm_scope.specs.Chains.{leads, ends, EndsIn}
 use Rattle.dm_scope.specs.Scope.{Scope, no_scope}

@@ -3,11 +3,11 @@ use Rattle.std.specs.Prelude.{◌≡◌, ◌<◌, ◌^◌, ⊤, length, List, []
 use Rattle.std.specs.Map.{lookup}
 use Rattle.std.specs.Option.{option_map, option_and_then}
 use Rattle.dm_base.specs.Sameness.{same_import}
-use Rattle.dm_ids.specs.declared.imports.ImportId.{ImportId}
-use Rattle.dm_ids.specs.declared.imports.ImportOrDef.{ImportOrDef}
-use Rattle.dm_ids.specs.declared.imports.ImportOrDef.TheVariants.{Import, Def}
-use Rattle.dm_ids.specs.declared.imports.ImportOrExternCrate.TheVariants as wide
-use Rattle.dm_ids.specs.declared.item_ids.ModuleDefId.{ModuleDefId}
+use Rattle.dm_base.specs.declared.imports.ImportId.{ImportId}
+use Rattle.dm_base.specs.declared.imports.ImportOrDef.{ImportOrDef}
+use Rattle.dm_base.specs.declared.imports.ImportOrDef.TheVariants.{Import, Def}
+use Rattle.dm_base.specs.declared.imports.ImportOrExternCrate.TheVariants as wide
+use Rattle.dm_base.specs.declared.item_ids.ModuleDefId.{ModuleDefId}
 use Rattle.dm_base.specs.declared.per_ns.Item.{Item}
 use Rattle.dm_base.specs.declared.per_ns.Namespace.{Namespace}
 use Rattle.dm_base.specs.declared.visibility.Visibility.TheVariants.{Public}

@@ -3,10 +3,10 @@ use Rattle.std.specs.Prelude.{ℕ, Bool, List, [], ◌∷◌, Option, None, Some
 use Rattle.std.specs.Option.{option_and_then}
 use Rattle.std.specs.Borrow.{Bor}
 use Rattle.std.specs.Map.{lookup}
-use Rattle.dm_ids.specs.declared.ids.AttrId.{AttrId}
-use Rattle.dm_ids.specs.declared.ids.MacroCallId.{MacroCallId}
-use Rattle.dm_ids.specs.declared.ids.BuiltinDeriveImplId.{BuiltinDeriveImplId}
-use Rattle.dm_ids.specs.declared.source.AstId.{AstId}
+use Rattle.dm_base.specs.declared.ids.AttrId.{AttrId}
+use Rattle.dm_base.specs.declared.ids.MacroCallId.{MacroCallId}
+use Rattle.dm_base.specs.declared.ids.BuiltinDeriveImplId.{BuiltinDeriveImplId}
+use Rattle.dm_base.specs.declared.source.AstId.{AstId}
 use Rattle.either.specs.declared.Either.{Either}
 use Rattle.smallvec.specs.SmallVec.{SmallVec}
 use Rattle.dm_base.specs.Sameness.{same_ast}

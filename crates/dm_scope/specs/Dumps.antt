@@ -2,18 +2,18 @@
 use Rattle.std.specs.Prelude.{◌≡◌, ◌++◌, ◌||◌, ℕ, List, [], map, Option, None, Some, Result, String, OnOk, string_bytes, unwrap_or, if◌then◌else◌, codes}
 use Rattle.std.specs.List.{flat_map}
 use Rattle.std.specs.Option.{option_map}
-use Rattle.dm_ids.specs.declared.ids.TraitId.{TraitId}
-use Rattle.dm_ids.specs.Imports.{widened}
-use Rattle.dm_names.specs.Names.{Name, find_name}
+use Rattle.dm_base.specs.declared.ids.TraitId.{TraitId}
+use Rattle.dm_base.specs.Imports.{widened}
+use Rattle.dm_base.specs.Names.{Name, find_name}
 use Rattle.dm_base.specs.PerNs.{is_empty}
-use Rattle.dm_ids.specs.Styles.{has_styles, fn_like, attr, derive}
-use Rattle.dm_ids.specs.declared.imports.ImportId.{ImportId}
-use Rattle.dm_ids.specs.declared.imports.ImportOrExternCrate.{ImportOrExternCrate}
-use Rattle.dm_ids.specs.declared.imports.ImportOrExternCrate.TheVariants.{Import, Glob, ExternCrate}
-use Rattle.dm_ids.specs.declared.imports.ImportOrGlob.{ImportOrGlob}
-use Rattle.dm_ids.specs.declared.item_ids.MacroId.{MacroId}
-use Rattle.dm_ids.specs.declared.item_ids.ModuleDefId.{ModuleDefId}
-use Rattle.dm_ids.specs.declared.macros.MacroCallStyles.{MacroCallStyles}
+use Rattle.dm_base.specs.Styles.{has_styles, fn_like, attr, derive}
+use Rattle.dm_base.specs.declared.imports.ImportId.{ImportId}
+use Rattle.dm_base.specs.declared.imports.ImportOrExternCrate.{ImportOrExternCrate}
+use Rattle.dm_base.specs.declared.imports.ImportOrExternCrate.TheVariants.{Import, Glob, ExternCrate}
+use Rattle.dm_base.specs.declared.imports.ImportOrGlob.{ImportOrGlob}
+use Rattle.dm_base.specs.declared.item_ids.MacroId.{MacroId}
+use Rattle.dm_base.specs.declared.item_ids.ModuleDefId.{ModuleDefId}
+use Rattle.dm_base.specs.declared.macros.MacroCallStyles.{MacroCallStyles}
 use Rattle.dm_base.specs.declared.per_ns.Item.{Item}
 use Rattle.dm_base.specs.declared.per_ns.PerNs.{PerNs}
 use Rattle.dm_base.specs.declared.visibility.Visibility.{Visibility}

@@ -1,7 +1,7 @@
 -- The result and the effect of a push into a scope. Where an allocation fails, nothing changes.
 use Rattle.std.specs.Prelude.{◌≡◌, Bool, Result, IfOk, OnOk, OnErr}
-use Rattle.dm_ids.specs.declared.ids.ModuleId.{ModuleId}
-use Rattle.dm_shadowing.specs.Flags.{Globs}
+use Rattle.dm_base.specs.declared.ids.ModuleId.{ModuleId}
+use Rattle.dm_scope.specs.Flags.{Globs}
 use Rattle.dm_scope.specs.Push.{globs_after, push_answer, scope_after}
 use Rattle.dm_scope.specs.Scope.{Scope}
 use Rattle.dm_scope.specs.Shows.{ScopePush}

@@ -1,3 +1,16 @@
+pub mod FlagLaws
+pub mod Flags
+pub mod Outcomes
+pub mod Shadowing
+pub mod Bindings
+pub mod Changes
+pub mod Entries
+pub mod BindingGives
+pub mod BindingIterators
+pub mod LazyMaps
+pub mod BindingLookups
+pub mod PushSteps
+pub mod Pushes
 pub mod AllCalls
 pub mod ChainRows
 pub mod Chains
@@ -20,3 +33,4 @@ pub mod Shows
 pub mod Sorted
 pub mod TableLists
 pub mod Tables
+pub mod ChainSteps

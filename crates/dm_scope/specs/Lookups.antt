@@ -1,14 +1,14 @@
 -- Reverse look-up in a scope: the names of a definition.
 use Rattle.std.specs.Prelude.{◌∷◌, [], Bool, List, Option, Some, None, if◌then◌else◌, nat_eq}
-use Rattle.dm_ids.specs.declared.ids.TraitId.{TraitId}
-use Rattle.dm_ids.specs.declared.imports.ImportId.{ImportId}
+use Rattle.dm_base.specs.declared.ids.TraitId.{TraitId}
+use Rattle.dm_base.specs.declared.imports.ImportId.{ImportId}
 use Rattle.dm_base.specs.declared.item_in_ns.ItemInNs.{ItemInNs}
 use Rattle.dm_base.specs.declared.item_in_ns.ItemInNs.TheVariants.{Types, Values, Macros}
 use Rattle.dm_base.specs.declared.per_ns.Item.{Item}
 use Rattle.dm_base.specs.declared.visibility.Visibility.{Visibility}
-use Rattle.dm_names.specs.Names.{Name}
+use Rattle.dm_base.specs.Names.{Name}
 use Rattle.dm_base.specs.Sameness.{same_def, same_macro}
-use Rattle.dm_bindings.specs.Lookups.{names_in}
+use Rattle.dm_scope.specs.BindingLookups.{names_in}
 use Rattle.dm_scope.specs.Scope.{Scope}
 
 abbrev pub def_and_vis : {D I : Type 0} → Item D I → D × Visibility

@@ -3,7 +3,7 @@ use Rattle.std.specs.Prelude.{◌≡◌, List, [], ◌∷◌, ◌++◌, Option, 
 use Rattle.std.specs.List.{filter_map, flat_map}
 use Rattle.either.specs.declared.Either.TheVariants.{Left, Right}
 use Rattle.smallvec.specs.SmallVec.{SmallVec}
-use Rattle.dm_ids.specs.declared.ids.MacroCallId.{MacroCallId}
+use Rattle.dm_base.specs.declared.ids.MacroCallId.{MacroCallId}
 use Rattle.dm_scope.specs.Derives.{Derive, Slot}
 use Rattle.dm_scope.specs.declared.derives.DeriveMacroInvocation.{DeriveMacroInvocation}
 

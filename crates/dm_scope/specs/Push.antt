@@ -2,19 +2,19 @@
 use Rattle.std.specs.Prelude.{◌&&◌, ◌||◌, Bool, not, List, Option, Some, if◌then◌else◌}
 use Rattle.std.specs.List.{list_any}
 use Rattle.indexmap.specs.IndexSet.{insert_key}
-use Rattle.dm_names.specs.Names.{Name, same_name}
+use Rattle.dm_base.specs.Names.{Name, same_name}
 use Rattle.dm_base.specs.PerNs.{is_empty}
-use Rattle.dm_ids.specs.Imports.{is_glob, is_glob_or_import, narrowed, widened}
+use Rattle.dm_base.specs.Imports.{is_glob, is_glob_or_import, narrowed, widened}
 use Rattle.dm_base.specs.Definitions.{widened_macro}
-use Rattle.dm_ids.specs.declared.ids.ModuleId.{ModuleId}
+use Rattle.dm_base.specs.declared.ids.ModuleId.{ModuleId}
 use Rattle.dm_base.specs.declared.per_ns.PerNs.{PerNs}
-use Rattle.dm_ids.specs.declared.imports.ImportOrExternCrate.{ImportOrExternCrate}
-use Rattle.dm_ids.specs.declared.imports.ImportOrGlob.{ImportOrGlob}
-use Rattle.dm_ids.specs.declared.item_ids.ModuleDefId.{ModuleDefId}
-use Rattle.dm_ids.specs.declared.item_ids.MacroId.{MacroId}
-use Rattle.dm_shadowing.specs.Shadowing.{Reading, reading}
-use Rattle.dm_bindings.specs.Bindings.{is_effective_at, bound_after, flags_after}
-use Rattle.dm_shadowing.specs.Flags.{Globs}
+use Rattle.dm_base.specs.declared.imports.ImportOrExternCrate.{ImportOrExternCrate}
+use Rattle.dm_base.specs.declared.imports.ImportOrGlob.{ImportOrGlob}
+use Rattle.dm_base.specs.declared.item_ids.ModuleDefId.{ModuleDefId}
+use Rattle.dm_base.specs.declared.item_ids.MacroId.{MacroId}
+use Rattle.dm_scope.specs.Shadowing.{Reading, reading}
+use Rattle.dm_scope.specs.Bindings.{is_effective_at, bound_after, flags_after}
+use Rattle.dm_scope.specs.Flags.{Globs}
 use Rattle.dm_base.specs.Sameness.{same_import, same_value_import, same_def, same_macro}
 use Rattle.dm_scope.specs.Scope.{Scope}
 

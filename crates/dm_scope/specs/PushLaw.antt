@@ -1,11 +1,11 @@
 -- What one push leaves of the others, as a worklist of imports needs it.
 use Rattle.std.specs.Prelude.{◌≡◌, Bool, true, false, not, Option, None, Some}
-use Rattle.dm_ids.specs.Imports.{is_glob}
-use Rattle.dm_ids.specs.declared.ids.ModuleId.{ModuleId}
-use Rattle.dm_ids.specs.declared.imports.ImportOrExternCrate.{ImportOrExternCrate}
+use Rattle.dm_base.specs.Imports.{is_glob}
+use Rattle.dm_base.specs.declared.ids.ModuleId.{ModuleId}
+use Rattle.dm_base.specs.declared.imports.ImportOrExternCrate.{ImportOrExternCrate}
 use Rattle.dm_base.specs.Tree.{same_module}
-use Rattle.dm_shadowing.specs.Shadowing.{is_same}
-use Rattle.dm_shadowing.specs.Flags.{Globs}
+use Rattle.dm_scope.specs.Shadowing.{is_same}
+use Rattle.dm_scope.specs.Flags.{Globs}
 use Rattle.dm_scope.specs.Push.{types_reading, push_answer}
 use Rattle.dm_scope.specs.Scope.{Scope}
 use Rattle.dm_scope.specs.Shows.{ScopePush}

@@ -1,19 +1,19 @@
 -- The tables of a scope that are empty in most modules.
 use Rattle.std.specs.Prelude.{Bool, List, [], Option, Some, None}
-use Rattle.dm_ids.specs.declared.ids.ImplId.{ImplId}
-use Rattle.dm_ids.specs.declared.ids.BuiltinDeriveImplId.{BuiltinDeriveImplId}
-use Rattle.dm_ids.specs.declared.ids.ExternBlockId.{ExternBlockId}
-use Rattle.dm_ids.specs.declared.ids.ExternCrateId.{ExternCrateId}
-use Rattle.dm_ids.specs.declared.ids.ConstId.{ConstId}
-use Rattle.dm_names.specs.declared.ids.Crate.{Crate}
-use Rattle.dm_ids.specs.declared.ids.TraitId.{TraitId}
-use Rattle.dm_ids.specs.declared.ids.MacroCallId.{MacroCallId}
-use Rattle.dm_ids.specs.declared.source.AstId.{AstId}
-use Rattle.dm_ids.specs.declared.imports.ImportId.{ImportId}
-use Rattle.dm_ids.specs.declared.item_ids.MacroId.{MacroId}
+use Rattle.dm_base.specs.declared.ids.ImplId.{ImplId}
+use Rattle.dm_base.specs.declared.ids.BuiltinDeriveImplId.{BuiltinDeriveImplId}
+use Rattle.dm_base.specs.declared.ids.ExternBlockId.{ExternBlockId}
+use Rattle.dm_base.specs.declared.ids.ExternCrateId.{ExternCrateId}
+use Rattle.dm_base.specs.declared.ids.ConstId.{ConstId}
+use Rattle.dm_base.specs.declared.ids.Crate.{Crate}
+use Rattle.dm_base.specs.declared.ids.TraitId.{TraitId}
+use Rattle.dm_base.specs.declared.ids.MacroCallId.{MacroCallId}
+use Rattle.dm_base.specs.declared.source.AstId.{AstId}
+use Rattle.dm_base.specs.declared.imports.ImportId.{ImportId}
+use Rattle.dm_base.specs.declared.item_ids.MacroId.{MacroId}
 use Rattle.dm_base.specs.declared.visibility.Visibility.{Visibility}
 use Rattle.dm_base.specs.declared.visibility.Visibility.TheVariants.{PubCrate}
-use Rattle.dm_names.specs.Names.{Name}
+use Rattle.dm_base.specs.Names.{Name}
 use Rattle.dm_scope.specs.declared.rare.RareTables.{RareTables}
 use Rattle.dm_scope.specs.Derives.{Derive, derives_of}
 use Rattle.dm_scope.specs.TableLists.{lists_of}

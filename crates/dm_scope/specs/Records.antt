@@ -1,10 +1,10 @@
 -- Import records of a scope: what each import that brought a binding resolved to.
 use Rattle.std.specs.Prelude.{List, map}
-use Rattle.dm_ids.specs.declared.imports.ImportOrDef.{ImportOrDef}
-use Rattle.dm_ids.specs.declared.imports.ImportOrExternCrate.{ImportOrExternCrate}
+use Rattle.dm_base.specs.declared.imports.ImportOrDef.{ImportOrDef}
+use Rattle.dm_base.specs.declared.imports.ImportOrExternCrate.{ImportOrExternCrate}
 use Rattle.dm_base.specs.declared.per_ns.Namespace.{Namespace}
 use Rattle.dm_base.specs.declared.per_ns.Namespace.TheVariants.{Types, Values, Macros}
-use Rattle.dm_ids.specs.Imports.{widened}
+use Rattle.dm_base.specs.Imports.{widened}
 use Rattle.dm_scope.specs.Scope.{Scope}
 
 -- the records of a namespace, an import of values seen as any import

@@ -5,14 +5,14 @@ use Rattle.std.specs.String.{string_eq}
 use Rattle.std.proofs.Common.{rules, ap, sym, ◌∙◌, Global, String}
 use Rattle.std.proofs.lemmas.Bool.{and_from, and_parts}
 use Rattle.dm_base.specs.contracts.value_eq.ModPathValueEq.TheImpl.Laws as path_value
-use Rattle.dm_ids.specs.declared.ids.ModuleId.{ModuleId}
-use Rattle.dm_ids.specs.contracts.ids.ModuleIdPartialEq.TheImpl as module_eq
-use Rattle.dm_ids.specs.declared.source.AstId.{AstId}
-use Rattle.dm_ids.specs.contracts.source.AstIdPartialEq.TheImpl as ast_eq
-use Rattle.dm_ids.specs.contracts.value_eq.AstIdValueEq.TheImpl.Laws as ast_value
-use Rattle.dm_ids.specs.contracts.value_eq.ExpandErrorKindValueEq.TheImpl.Laws as error_value
-use Rattle.dm_ids.specs.contracts.value_eq.MacroCallKindValueEq.TheImpl.Laws as call_value
-use Rattle.dm_ids.specs.contracts.value_eq.ModuleIdValueEq.TheImpl.Laws as module_value
+use Rattle.dm_base.specs.declared.ids.ModuleId.{ModuleId}
+use Rattle.dm_base.specs.contracts.ids.ModuleIdPartialEq.TheImpl as module_eq
+use Rattle.dm_base.specs.declared.source.AstId.{AstId}
+use Rattle.dm_base.specs.contracts.source.AstIdPartialEq.TheImpl as ast_eq
+use Rattle.dm_base.specs.contracts.value_eq.AstIdValueEq.TheImpl.Laws as ast_value
+use Rattle.dm_base.specs.contracts.value_eq.ExpandErrorKindValueEq.TheImpl.Laws as error_value
+use Rattle.dm_base.specs.contracts.value_eq.MacroCallKindValueEq.TheImpl.Laws as call_value
+use Rattle.dm_base.specs.contracts.value_eq.ModuleIdValueEq.TheImpl.Laws as module_value
 use Rattle.dm_scope.specs.declared.diagnostics.DefDiagnostic.{DefDiagnostic}
 use Rattle.dm_scope.specs.declared.diagnostics.DefDiagnosticKind.{DefDiagnosticKind}
 use Rattle.dm_scope.specs.declared.diagnostics.DefDiagnosticKind.TheVariants as kind

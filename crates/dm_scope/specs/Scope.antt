@@ -1,23 +1,23 @@
 -- `ItemScope`, as contracts see it.
 use Rattle.std.specs.Prelude.{Bool, List, [], Option, Some, None}
-use Rattle.dm_ids.specs.declared.ids.ImplId.{ImplId}
-use Rattle.dm_ids.specs.declared.ids.BuiltinDeriveImplId.{BuiltinDeriveImplId}
-use Rattle.dm_ids.specs.declared.ids.ExternBlockId.{ExternBlockId}
-use Rattle.dm_ids.specs.declared.ids.ExternCrateId.{ExternCrateId}
-use Rattle.dm_ids.specs.declared.ids.ConstId.{ConstId}
-use Rattle.dm_ids.specs.declared.ids.TraitId.{TraitId}
-use Rattle.dm_ids.specs.declared.ids.MacroCallId.{MacroCallId}
-use Rattle.dm_ids.specs.declared.source.AstId.{AstId}
-use Rattle.dm_ids.specs.declared.imports.ImportId.{ImportId}
-use Rattle.dm_ids.specs.declared.imports.ImportOrExternCrate.{ImportOrExternCrate}
-use Rattle.dm_ids.specs.declared.imports.ImportOrGlob.{ImportOrGlob}
-use Rattle.dm_ids.specs.declared.item_ids.ModuleDefId.{ModuleDefId}
-use Rattle.dm_ids.specs.declared.item_ids.MacroId.{MacroId}
+use Rattle.dm_base.specs.declared.ids.ImplId.{ImplId}
+use Rattle.dm_base.specs.declared.ids.BuiltinDeriveImplId.{BuiltinDeriveImplId}
+use Rattle.dm_base.specs.declared.ids.ExternBlockId.{ExternBlockId}
+use Rattle.dm_base.specs.declared.ids.ExternCrateId.{ExternCrateId}
+use Rattle.dm_base.specs.declared.ids.ConstId.{ConstId}
+use Rattle.dm_base.specs.declared.ids.TraitId.{TraitId}
+use Rattle.dm_base.specs.declared.ids.MacroCallId.{MacroCallId}
+use Rattle.dm_base.specs.declared.source.AstId.{AstId}
+use Rattle.dm_base.specs.declared.imports.ImportId.{ImportId}
+use Rattle.dm_base.specs.declared.imports.ImportOrExternCrate.{ImportOrExternCrate}
+use Rattle.dm_base.specs.declared.imports.ImportOrGlob.{ImportOrGlob}
+use Rattle.dm_base.specs.declared.item_ids.ModuleDefId.{ModuleDefId}
+use Rattle.dm_base.specs.declared.item_ids.MacroId.{MacroId}
 use Rattle.dm_base.specs.declared.per_ns.PerNs.{PerNs}
 use Rattle.dm_base.specs.declared.visibility.Visibility.{Visibility}
-use Rattle.dm_names.specs.Names.{Name, find_name}
-use Rattle.dm_bindings.specs.Bindings.{Bound}
-use Rattle.dm_bindings.specs.Pushes.{last_of}
+use Rattle.dm_base.specs.Names.{Name, find_name}
+use Rattle.dm_scope.specs.Bindings.{Bound}
+use Rattle.dm_scope.specs.Pushes.{last_of}
 use Rattle.dm_scope.specs.Derives.{Derive}
 
 -- A scope: what it binds in each namespace, the names that no import could resolve, its legacy macros (those in textual

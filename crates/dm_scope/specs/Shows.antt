@@ -2,17 +2,17 @@
 use Rattle.std.specs.Prelude.{◌≡◌, ◌&&◌, ◌||◌, Bool, false, not, List, [], ◌∷◌, ◌++◌, Option, Result, OnOk, OnErr, IfOk}
 use Rattle.std.specs.Option.{option_map, option_map_or}
 use Rattle.std.specs.List.{list_any, filter_map}
-use Rattle.dm_names.specs.Names.{Name, same_name}
-use Rattle.dm_ids.specs.declared.ids.ModuleId.{ModuleId}
+use Rattle.dm_base.specs.Names.{Name, same_name}
+use Rattle.dm_base.specs.declared.ids.ModuleId.{ModuleId}
 use Rattle.dm_base.specs.Tree.{same_module}
 use Rattle.dm_base.specs.declared.per_ns.Item.{Item}
 use Rattle.dm_base.specs.declared.per_ns.PerNs.{PerNs}
-use Rattle.dm_ids.specs.declared.imports.ImportOrExternCrate.{ImportOrExternCrate}
-use Rattle.dm_shadowing.specs.Shadowing.{Reading, import_of}
-use Rattle.dm_shadowing.specs.Flags.{Globs, has_flag}
+use Rattle.dm_base.specs.declared.imports.ImportOrExternCrate.{ImportOrExternCrate}
+use Rattle.dm_scope.specs.Shadowing.{Reading, import_of}
+use Rattle.dm_scope.specs.Flags.{Globs, has_flag}
 use Rattle.dm_scope.specs.Push.{types_reading, values_reading, macros_reading}
 use Rattle.dm_base.specs.PerNs.{is_empty}
-use Rattle.dm_bindings.specs.Pushes.{IsByName, Push, is_effective, ShowsIn}
+use Rattle.dm_scope.specs.Pushes.{IsByName, Push, is_effective, ShowsIn}
 use Rattle.dm_scope.specs.Scope.{Scope}
 
 -- one push of a scope: the name, what it resolved to, and the import by which it came

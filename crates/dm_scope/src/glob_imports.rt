@@ -1,13 +1,13 @@
 //! `PerNsGlobImports`: which names a glob import bound in each namespace, so that explicit names can shadow them.
 ghost use Rattle.std.specs.Prelude.{◌≡◌, []};
-ghost use Rattle.dm_ids.specs.declared.ids.ModuleId.{ModuleId};
-ghost use Rattle.dm_shadowing.specs.Flags.{has_flag, no_globs};
+ghost use Rattle.dm_base.specs.declared.ids.ModuleId.{ModuleId};
+ghost use Rattle.dm_scope.specs.Flags.{has_flag, no_globs};
 ghost use Rattle.dm_scope.specs.Scope.{no_scope};
 ghost use Rattle.dm_scope.specs.Shows.{Shows};
 
+pub use crate::bindings::glob_flags::GlobFlags;
 use dm_base::ids::ModuleId;
 use dm_base::name::Name;
-pub use dm_shadowing::glob_flags::GlobFlags;
 use std::alloc::Global;
 use std::marker::Model;
 
@@ -30,7 +30,7 @@ impl Drop for PerNsGlobImports {
 }
 
 impl Model for PerNsGlobImports {
-    ghost use Rattle.dm_shadowing.specs.Flags.{Globs};
+    ghost use Rattle.dm_scope.specs.Flags.{Globs};
 
     ghost Value = { Globs };
 

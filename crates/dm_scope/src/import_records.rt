@@ -1,12 +1,12 @@
 //! Import records of a scope: what each import that brought a binding resolved to.
 ghost use Rattle.std.specs.Prelude.{◌≡◌, length};
 ghost use Rattle.std.specs.Iterator.{at_most};
-ghost use Rattle.dm_ids.specs.declared.imports.ImportOrDef.{ImportOrDef};
-ghost use Rattle.dm_ids.specs.declared.imports.ImportOrExternCrate.{ImportOrExternCrate};
+ghost use Rattle.dm_base.specs.declared.imports.ImportOrDef.{ImportOrDef};
+ghost use Rattle.dm_base.specs.declared.imports.ImportOrExternCrate.{ImportOrExternCrate};
 ghost use Rattle.std.specs.Map.Iter.{TakesFirst, ShowsInOrder};
 
+use crate::bindings::records::Records;
 use dm_base::imports::{ImportOrDef, ImportOrExternCrate, ImportOrGlob};
-use dm_bindings::records::Records;
 use std::marker::Model;
 
 /// The records of a namespace, whose imports are of two types.
@@ -24,8 +24,8 @@ pub struct ImportRecords<'a> {
 
 impl<'a> Model for ImportRecords<'a> {
     ghost use Rattle.std.specs.Prelude.{List};
-    ghost use Rattle.dm_ids.specs.declared.imports.ImportOrDef.{ImportOrDef};
-    ghost use Rattle.dm_ids.specs.declared.imports.ImportOrExternCrate.{ImportOrExternCrate};
+    ghost use Rattle.dm_base.specs.declared.imports.ImportOrDef.{ImportOrDef};
+    ghost use Rattle.dm_base.specs.declared.imports.ImportOrExternCrate.{ImportOrExternCrate};
     ghost use Rattle.dm_scope.specs.declared.import_records.OfNamespace.TheVariants.{Wide, Values};
 
     ghost Value = { List (ImportOrExternCrate × ImportOrDef) };

@@ -1,7 +1,7 @@
 //! `ItemScope`, the scope of a module: what its names are bound to, its legacy macros, and the lists of its items.
 ghost use Rattle.std.specs.Prelude.{◌≡◌, []};
-ghost use Rattle.dm_ids.specs.declared.ids.ModuleId.{ModuleId};
-ghost use Rattle.dm_shadowing.specs.Flags.{no_globs};
+ghost use Rattle.dm_base.specs.declared.ids.ModuleId.{ModuleId};
+ghost use Rattle.dm_scope.specs.Flags.{no_globs};
 ghost use Rattle.dm_scope.specs.Scope.{no_scope, bound_in};
 ghost use Rattle.dm_scope.specs.Shows.{Shows};
 
@@ -14,6 +14,7 @@ mod mutators;
 mod push;
 mod sorted;
 
+use crate::bindings::Bindings;
 use crate::glob_imports::PerNsGlobImports;
 use crate::rare::Rare;
 use dm_base::ids::ModuleId;
@@ -21,7 +22,6 @@ use dm_base::imports::{ImportOrExternCrate, ImportOrGlob};
 use dm_base::item_ids::{MacroId, ModuleDefId};
 use dm_base::name::Name;
 use dm_base::per_ns::PerNs;
-use dm_bindings::bindings::Bindings;
 use std::alloc::Global;
 use std::marker::Model;
 

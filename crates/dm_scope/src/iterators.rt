@@ -4,9 +4,9 @@ ghost use Rattle.std.specs.Iterator.{at_most, UpTo};
 ghost use Rattle.std.specs.Iterator.SizeHint.{IsWithinCount};
 ghost use Rattle.std.specs.List.{filter_map};
 ghost use Rattle.std.specs.Map.Iter.{TakesFirst, ShowsInOrder, deref_pair};
-ghost use Rattle.dm_ids.specs.declared.ids.TraitId.{TraitId};
-ghost use Rattle.dm_ids.specs.declared.ids.MacroCallId.{MacroCallId};
-ghost use Rattle.dm_ids.specs.declared.source.AstId.{AstId};
+ghost use Rattle.dm_base.specs.declared.ids.TraitId.{TraitId};
+ghost use Rattle.dm_base.specs.declared.ids.MacroCallId.{MacroCallId};
+ghost use Rattle.dm_base.specs.declared.source.AstId.{AstId};
 ghost use Rattle.dm_scope.specs.Derives.{derives_of, deref_derives};
 ghost use Rattle.dm_scope.specs.Iterators.{trait_of, deref_legacy};
 ghost use Rattle.dm_scope.specs.TableLists.{lists_of};
@@ -94,7 +94,7 @@ pub struct Traits<'a> {
 impl<'a> Model for Traits<'a> {
     ghost use Rattle.std.specs.Prelude.{List, ◌++◌, map};
     ghost use Rattle.std.specs.Slice.Iter.{iter_rest};
-    ghost use Rattle.dm_ids.specs.declared.ids.TraitId.{TraitId};
+    ghost use Rattle.dm_base.specs.declared.ids.TraitId.{TraitId};
 
     ghost Value = { List TraitId };
 
@@ -140,8 +140,8 @@ pub struct LegacyMacros<'a> {
 
 impl<'a> Model for LegacyMacros<'a> {
     ghost use Rattle.std.specs.Prelude.{List};
-    ghost use Rattle.dm_ids.specs.declared.item_ids.MacroId.{MacroId};
-    ghost use Rattle.dm_names.specs.Names.{Name};
+    ghost use Rattle.dm_base.specs.declared.item_ids.MacroId.{MacroId};
+    ghost use Rattle.dm_base.specs.Names.{Name};
     ghost use Rattle.dm_scope.specs.TableLists.{lists_of};
 
     ghost Value = { List (Name × List MacroId) };
@@ -179,8 +179,8 @@ pub struct MacroInvocations<'a> {
 
 impl<'a> Model for MacroInvocations<'a> {
     ghost use Rattle.std.specs.Prelude.{List};
-    ghost use Rattle.dm_ids.specs.declared.ids.MacroCallId.{MacroCallId};
-    ghost use Rattle.dm_ids.specs.declared.source.AstId.{AstId};
+    ghost use Rattle.dm_base.specs.declared.ids.MacroCallId.{MacroCallId};
+    ghost use Rattle.dm_base.specs.declared.source.AstId.{AstId};
 
     ghost Value = { List (AstId × MacroCallId) };
 
@@ -217,8 +217,8 @@ pub struct AttrMacroInvocations<'a> {
 
 impl<'a> Model for AttrMacroInvocations<'a> {
     ghost use Rattle.std.specs.Prelude.{List};
-    ghost use Rattle.dm_ids.specs.declared.ids.MacroCallId.{MacroCallId};
-    ghost use Rattle.dm_ids.specs.declared.source.AstId.{AstId};
+    ghost use Rattle.dm_base.specs.declared.ids.MacroCallId.{MacroCallId};
+    ghost use Rattle.dm_base.specs.declared.source.AstId.{AstId};
 
     ghost Value = { List (AstId × MacroCallId) };
 
@@ -255,7 +255,7 @@ pub struct DeriveMacroInvocations<'a> {
 
 impl<'a> Model for DeriveMacroInvocations<'a> {
     ghost use Rattle.std.specs.Prelude.{List};
-    ghost use Rattle.dm_ids.specs.declared.source.AstId.{AstId};
+    ghost use Rattle.dm_base.specs.declared.source.AstId.{AstId};
     ghost use Rattle.dm_scope.specs.Derives.{Derive, derives_of};
 
     ghost Value = { List (AstId × List Derive) };

@@ -1,9 +1,12 @@
-//! `ItemScope`: what a module binds under each name, and how pushes (`push_res_with_import`) fill it.
+//! `ItemScope`: what a module binds under each name, how pushes (`push_res_with_import`) fill it, and the chains of
+//! imports (`fully_resolve_import`).
 #![tactic(auto)]
 
+pub mod bindings;
 pub mod derives;
 pub mod diagnostics;
 pub mod glob_imports;
+pub mod import_chains;
 pub mod import_records;
 pub mod item_scope;
 pub mod iterators;
@@ -14,6 +17,3 @@ mod picks;
 mod rare;
 pub mod scope_tables;
 mod table_lists;
-
-pub use dm_bindings::{bindings, lazy_map};
-pub use dm_shadowing::reads;

@@ -5,7 +5,7 @@ ghost use Rattle.std.specs.List.{filter_map};
 ghost use Rattle.std.specs.Map.Iter.{TakesFirst, ShowsInOrder};
 ghost use Rattle.std.specs.Option.{MatchOption};
 ghost use Rattle.std.specs.Slice.Iter.{iter_rest};
-ghost use Rattle.dm_ids.specs.declared.ids.MacroCallId.{MacroCallId};
+ghost use Rattle.dm_base.specs.declared.ids.MacroCallId.{MacroCallId};
 ghost use Rattle.dm_scope.specs.MacroCalls.{Takes, attribute_calls, item_calls};
 
 use crate::derives::DeriveMacroInvocation;
@@ -30,7 +30,7 @@ struct AttributeCalls<'a> {
 impl<'a> Model for AttributeCalls<'a> {
     ghost use Rattle.std.specs.Prelude.{List, ◌++◌};
     ghost use Rattle.std.specs.Slice.Iter.{iter_rest};
-    ghost use Rattle.dm_ids.specs.declared.ids.MacroCallId.{MacroCallId};
+    ghost use Rattle.dm_base.specs.declared.ids.MacroCallId.{MacroCallId};
     ghost use Rattle.dm_scope.specs.MacroCalls.{Takes, attribute_calls};
 
     ghost Value = { List MacroCallId };
@@ -92,7 +92,7 @@ struct DeriveCalls<'a> {
 impl<'a> Model for DeriveCalls<'a> {
     ghost use Rattle.std.specs.Prelude.{List, ◌++◌};
     ghost use Rattle.std.specs.Slice.Iter.{iter_rest};
-    ghost use Rattle.dm_ids.specs.declared.ids.MacroCallId.{MacroCallId};
+    ghost use Rattle.dm_base.specs.declared.ids.MacroCallId.{MacroCallId};
     ghost use Rattle.dm_scope.specs.MacroCalls.{Takes, item_calls};
 
     ghost Value = { List MacroCallId };
@@ -154,7 +154,7 @@ pub struct AllMacroCalls<'a> {
 impl<'a> Model for AllMacroCalls<'a> {
     ghost use Rattle.std.specs.Prelude.{List, ◌++◌};
     ghost use Rattle.std.specs.Slice.Iter.{iter_rest};
-    ghost use Rattle.dm_ids.specs.declared.ids.MacroCallId.{MacroCallId};
+    ghost use Rattle.dm_base.specs.declared.ids.MacroCallId.{MacroCallId};
 
     ghost Value = { List MacroCallId };
 

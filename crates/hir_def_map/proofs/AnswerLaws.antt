@@ -3,34 +3,34 @@
 use Rattle.std.proofs.Common.{◌≡◌, ◌≤◌, ◌<◌, ◌+◌, ℕ, suc, max, Bool, true, false, List, [], ◌∷◌, length, map, slice_get, cond, Option, Some, None, refl, sym, subst, arith}
 use Rattle.std.specs.Option.{ForSome, option_map_or}
 use Rattle.std.proofs.lemmas.List.{length-map}
-use Rattle.dm_ids.specs.declared.ids.EnumVariantId.{EnumVariantId}
-use Rattle.dm_names.specs.declared.ids.Crate.{Crate}
-use Rattle.dm_ids.specs.declared.ids.ModuleId.{ModuleId}
-use Rattle.dm_ids.specs.declared.fields_shape.FieldsShape.{FieldsShape}
-use Rattle.dm_ids.specs.declared.imports.ImportOrExternCrate.{ImportOrExternCrate}
-use Rattle.dm_ids.specs.declared.item_ids.ModuleDefId.{ModuleDefId}
-use Rattle.dm_ids.specs.declared.item_ids.ModuleDefId.TheVariants as def
-use Rattle.dm_ids.specs.declared.item_ids.AdtId.TheVariants as adt
+use Rattle.dm_base.specs.declared.ids.EnumVariantId.{EnumVariantId}
+use Rattle.dm_base.specs.declared.ids.Crate.{Crate}
+use Rattle.dm_base.specs.declared.ids.ModuleId.{ModuleId}
+use Rattle.dm_base.specs.declared.fields_shape.FieldsShape.{FieldsShape}
+use Rattle.dm_base.specs.declared.imports.ImportOrExternCrate.{ImportOrExternCrate}
+use Rattle.dm_base.specs.declared.item_ids.ModuleDefId.{ModuleDefId}
+use Rattle.dm_base.specs.declared.item_ids.ModuleDefId.TheVariants as def
+use Rattle.dm_base.specs.declared.item_ids.AdtId.TheVariants as adt
 use Rattle.dm_base.specs.declared.per_ns.Item.{Item}
 use Rattle.dm_base.specs.declared.per_ns.PerNs.{PerNs}
 use Rattle.dm_base.specs.declared.mod_path.PathKind.{PathKind}
 use Rattle.dm_base.specs.declared.mod_path.PathKind.TheVariants as kind
 use Rattle.dm_base.specs.PerNs.{overlay}
-use Rattle.dm_names.specs.Names.{Name}
+use Rattle.dm_base.specs.Names.{Name}
 use Rattle.dm_base.specs.Overlays.{greatest}
 use Rattle.dm_base.specs.Tree.{Tree, home, outer, crate_of, in_block_map, same_map}
 use Rattle.dm_def_map.specs.Maps.{LocalMap}
 use Rattle.dm_maps.specs.Readings.{Setting, Reading, setting_of, read}
 use Rattle.dm_maps.specs.World.{World}
-use Rattle.dm_paths.specs.declared.question.Ask.{Ask}
-use Rattle.dm_paths.specs.declared.result.ReachedFixedPoint.{ReachedFixedPoint}
-use Rattle.dm_paths.specs.declared.result.ReachedFixedPoint.TheVariants.{Yes, No}
-use Rattle.dm_paths.specs.declared.result.ResolvePathResult.{ResolvePathResult}
-use Rattle.dm_paths.specs.Answers.{nothing_no, nothing_yes, reached, stopped, variant_answer, yes_in_block, either_yes, over_answer, merged}
+use Rattle.hir_def_map.specs.declared.path_resolution.question.Ask.{Ask}
+use Rattle.hir_def_map.specs.declared.path_resolution.result.ReachedFixedPoint.{ReachedFixedPoint}
+use Rattle.hir_def_map.specs.declared.path_resolution.result.ReachedFixedPoint.TheVariants.{Yes, No}
+use Rattle.hir_def_map.specs.declared.path_resolution.result.ResolvePathResult.{ResolvePathResult}
+use Rattle.hir_def_map.specs.Answers.{nothing_no, nothing_yes, reached, stopped, variant_answer, yes_in_block, either_yes, over_answer, merged}
 use Rattle.hir_def_map.specs.Laws.{IsAnswer}
-use Rattle.dm_paths.specs.declared.place.Place.{Place}
-use Rattle.dm_paths.specs.declared.place.Place.TheVariants.{In, Preludes}
-use Rattle.dm_paths.specs.Paths.{is_empty, at_variant, stop, enter, root_item, from_root, from_super, by_first_segment, missed, by_2015_rule, layers, seen_from, single}
+use Rattle.hir_def_map.specs.declared.path_resolution.place.Place.{Place}
+use Rattle.hir_def_map.specs.declared.path_resolution.place.Place.TheVariants.{In, Preludes}
+use Rattle.hir_def_map.specs.Paths.{is_empty, at_variant, stop, enter, root_item, from_root, from_super, by_first_segment, missed, by_2015_rule, layers, seen_from, single}
 use Rattle.hir_def_map.specs.Walk.{Stand, starting, crossed, through, walk}
 use Rattle.hir_def_map.proofs.WalkLemmas.{walk-stop}
 use Rattle.hir_def_map.proofs.StopLemmas.{enter-stop}

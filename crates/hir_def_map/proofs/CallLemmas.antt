@@ -1,18 +1,18 @@
 -- What the path calls promise follows from what they answer.
 use Rattle.std.proofs.Common.{◌≡◌, ◌∙◌, List, length, subst, sym}
-use Rattle.dm_names.specs.Names.{Name}
-use Rattle.dm_ids.specs.declared.ids.MapId.{MapId}
-use Rattle.dm_check.specs.Holding.{res_holds}
+use Rattle.dm_base.specs.Names.{Name}
+use Rattle.dm_base.specs.declared.ids.MapId.{MapId}
+use Rattle.dm_maps.specs.Holding.{res_holds}
 use Rattle.dm_def_map.specs.Maps.{LocalMap}
 use Rattle.dm_maps.specs.Cut.{cut, cut_local}
 use Rattle.dm_maps.specs.Known.{KnowsAll}
 use Rattle.dm_maps.specs.Readings.{setting_of}
 use Rattle.dm_maps.specs.World.{World}
 use Rattle.hir_def_map.specs.Laws.{IsAnswer, Meaning, Resolves}
-use Rattle.dm_paths.specs.Paths.{answer, answer_alone, prelude_answer, places}
-use Rattle.dm_paths.specs.declared.place.Place.TheVariants.{In, Preludes}
-use Rattle.dm_paths.specs.declared.question.Ask.{Ask}
-use Rattle.dm_paths.specs.declared.result.ResolvePathResult.{ResolvePathResult}
+use Rattle.hir_def_map.specs.Paths.{answer, answer_alone, prelude_answer, places}
+use Rattle.hir_def_map.specs.declared.path_resolution.place.Place.TheVariants.{In, Preludes}
+use Rattle.hir_def_map.specs.declared.path_resolution.question.Ask.{Ask}
+use Rattle.hir_def_map.specs.declared.path_resolution.result.ResolvePathResult.{ResolvePathResult}
 use Rattle.hir_def_map.proofs.AnswerLaws.{merged-names, single-names}
 use Rattle.hir_def_map.proofs.CutLemmas.{answer-cut, alone-cut, preludes-cut}
 

@@ -4,16 +4,16 @@ use Rattle.std.specs.List.{All, Contains}
 use Rattle.std.proofs.lemmas.List.Elements.{All-contains_itself, All-head, All-tail}
 use Rattle.std.proofs.lemmas.Map.Views.{list_any-from_Contains}
 use Rattle.std.proofs.lemmas.Cmp.{nat_list_eq_equiv}
-use Rattle.dm_ids.specs.declared.ids.MapId.{MapId}
-use Rattle.dm_names.specs.Names.{Name}
+use Rattle.dm_base.specs.declared.ids.MapId.{MapId}
+use Rattle.dm_base.specs.Names.{Name}
 use Rattle.dm_def_map.specs.Maps.{LocalMap}
 use Rattle.dm_maps.specs.Cut.{cut, cut_local}
 use Rattle.dm_maps.specs.CutLaws.{setting-cut, read-cut}
 use Rattle.dm_maps.specs.Readings.{read}
 use Rattle.dm_maps.specs.World.{World}
-use Rattle.dm_paths.specs.declared.place.Place.TheVariants.{In, Preludes}
-use Rattle.dm_paths.specs.declared.question.Ask.{Ask}
-use Rattle.dm_paths.specs.Paths.{answer, answer_of, answer_alone, prelude_answer, single}
+use Rattle.hir_def_map.specs.declared.path_resolution.place.Place.TheVariants.{In, Preludes}
+use Rattle.hir_def_map.specs.declared.path_resolution.question.Ask.{Ask}
+use Rattle.hir_def_map.specs.Paths.{answer, answer_of, answer_alone, prelude_answer, single}
 
 reads-cut : (w : World) (L : LocalMap) (N S : List Name) → All (Contains N) S → map (read (cut w N) (cut_local L N)) S ≡ map (read w L) S
 reads-cut w L N [] h = refl

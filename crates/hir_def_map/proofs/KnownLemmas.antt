@@ -1,9 +1,9 @@
 -- The ids in parts of known items are known to the world.
 use Rattle.std.proofs.Common.{◌≡◌, Bool, true, false, [], Some, None, ap}
-use Rattle.dm_ids.specs.declared.imports.ImportOrExternCrate.{ImportOrExternCrate}
-use Rattle.dm_ids.specs.declared.ids.ModuleId.{ModuleId}
-use Rattle.dm_ids.specs.declared.item_ids.ModuleDefId.{ModuleDefId}
-use Rattle.dm_ids.specs.declared.item_ids.ModuleDefId.TheVariants as def
+use Rattle.dm_base.specs.declared.imports.ImportOrExternCrate.{ImportOrExternCrate}
+use Rattle.dm_base.specs.declared.ids.ModuleId.{ModuleId}
+use Rattle.dm_base.specs.declared.item_ids.ModuleDefId.{ModuleDefId}
+use Rattle.dm_base.specs.declared.item_ids.ModuleDefId.TheVariants as def
 use Rattle.dm_base.specs.declared.per_ns.Item.{Item}
 use Rattle.dm_base.specs.declared.per_ns.PerNs.{PerNs}
 use Rattle.dm_base.specs.declared.visibility.Visibility.TheVariants.{Public}
@@ -11,12 +11,12 @@ use Rattle.dm_base.specs.PerNs.{type_alone}
 use Rattle.dm_base.specs.Tree.{IsKnown}
 use Rattle.dm_maps.specs.Known.{KnowsAll}
 use Rattle.dm_maps.specs.KnownLaws.{knows-append, types-known, type_module-known}
-use Rattle.dm_check.specs.Holding.{res_holds}
+use Rattle.dm_maps.specs.Holding.{res_holds}
 use Rattle.dm_maps.specs.Trees.{tree_of}
 use Rattle.dm_maps.specs.World.{World}
-use Rattle.dm_paths.specs.declared.result.ResolvePathResult.{ResolvePathResult}
+use Rattle.hir_def_map.specs.declared.path_resolution.result.ResolvePathResult.{ResolvePathResult}
 use Rattle.hir_def_map.specs.Walk.{crossed, in_types}
-use Rattle.dm_paths.specs.Paths.{module_in}
+use Rattle.hir_def_map.specs.Paths.{module_in}
 
 -- a definition that is taken for a module is one
 module_in-is : (d : ModuleDefId) (m : ModuleId) → module_in d ≡ Some m → d ≡ def.ModuleId m

@@ -3,20 +3,20 @@ use Rattle.std.proofs.Common.{◌≡◌, Bool, cond, List, ◌∷◌, ap, sym, �
 use Rattle.dm_base.specs.declared.mod_path.PathKind.{PathKind}
 use Rattle.dm_base.specs.declared.mod_path.PathKind.TheVariants as kind
 use Rattle.dm_base.specs.declared.per_ns.PerNs.{PerNs}
-use Rattle.dm_ids.specs.declared.ids.ModuleId.{ModuleId}
+use Rattle.dm_base.specs.declared.ids.ModuleId.{ModuleId}
 use Rattle.dm_base.specs.PerNs.{overlay}
 use Rattle.dm_base.specs.Tree.{crate_of}
-use Rattle.dm_names.specs.Names.{Name}
+use Rattle.dm_base.specs.Names.{Name}
 use Rattle.dm_def_map.specs.Maps.{LocalMap}
 use Rattle.dm_maps.specs.Readings.{Setting, Reading, setting_of, read}
 use Rattle.dm_maps.specs.World.{World}
-use Rattle.dm_paths.specs.Answers.{nothing_no}
+use Rattle.hir_def_map.specs.Answers.{nothing_no}
 use Rattle.hir_def_map.proofs.WalkLemmas.{empty-map}
-use Rattle.dm_paths.specs.declared.question.Ask.{Ask}
-use Rattle.dm_paths.specs.declared.result.ResolvePathResult.{ResolvePathResult}
-use Rattle.dm_paths.specs.Paths.{from_root, from_super, single, by_2015_rule, layers, missed, by_first_segment, stop, enter, seen_from}
-use Rattle.dm_paths.specs.declared.place.Place.{Place}
-use Rattle.dm_paths.specs.declared.place.Place.TheVariants.{In}
+use Rattle.hir_def_map.specs.declared.path_resolution.question.Ask.{Ask}
+use Rattle.hir_def_map.specs.declared.path_resolution.result.ResolvePathResult.{ResolvePathResult}
+use Rattle.hir_def_map.specs.Paths.{from_root, from_super, single, by_2015_rule, layers, missed, by_first_segment, stop, enter, seen_from}
+use Rattle.hir_def_map.specs.declared.path_resolution.place.Place.{Place}
+use Rattle.hir_def_map.specs.declared.path_resolution.place.Place.TheVariants.{In}
 
 -- the answer by a first segment, along names
 pub first-names : (w : World) (L : LocalMap) (q : Ask) (p : Place) (n : Name) (rest segments : List Name) (x : PerNs) (is_last is_missed : Bool)

@@ -1,11 +1,11 @@
 -- The places where a path's first segment is looked up, one after another.
 use Rattle.std.proofs.Common.{◌≡◌, ◌++◌, List, [], ◌∷◌, map}
-use Rattle.dm_ids.specs.declared.ids.ModuleId.{ModuleId}
+use Rattle.dm_base.specs.declared.ids.ModuleId.{ModuleId}
 use Rattle.dm_base.specs.Tree.{Tree, home, homeward}
 use Rattle.dm_maps.specs.Readings.{Setting}
-use Rattle.dm_paths.specs.Paths.{prelude_place}
-use Rattle.dm_paths.specs.declared.place.Place.{Place}
-use Rattle.dm_paths.specs.declared.place.Place.TheVariants.{In}
+use Rattle.hir_def_map.specs.Paths.{prelude_place}
+use Rattle.hir_def_map.specs.declared.path_resolution.place.Place.{Place}
+use Rattle.hir_def_map.specs.declared.path_resolution.place.Place.TheVariants.{In}
 
 -- the places that a path resolution from m asks, by the tree of the setting
 abbrev pub places_in : Tree → Setting → ModuleId → List Place

@@ -3,12 +3,12 @@ use Rattle.std.proofs.Common.{◌≡◌, ◌∙◌, Option, None, Some, ap, sym,
 use Rattle.std.specs.Map.{lookup}
 use Rattle.std.specs.Option.{option_map}
 use Rattle.std.proofs.lemmas.Map.Made.{lookup-map_values}
-use Rattle.dm_ids.specs.declared.ids.ModuleId.{ModuleId}
+use Rattle.dm_base.specs.declared.ids.ModuleId.{ModuleId}
 use Rattle.dm_base.specs.declared.mod_path.PathKind.{PathKind}
 use Rattle.dm_base.specs.declared.visibility.RawVisibility.{RawVisibility}
 use Rattle.dm_base.specs.Tree.{IsKnown, crate_of, same_module}
-use Rattle.dm_check.specs.Holding.{local_holds, path_holds}
-use Rattle.dm_check.specs.TablesHold.{raw_holds}
+use Rattle.dm_maps.specs.Holding.{local_holds, path_holds}
+use Rattle.dm_maps.specs.TablesHold.{raw_holds}
 use Rattle.dm_def_map.specs.Maps.{Map, Module, LocalMap, module_at}
 use Rattle.dm_maps.specs.Stays.{StaysKnown}
 use Rattle.dm_maps.specs.Readings.{Setting, setting_of}

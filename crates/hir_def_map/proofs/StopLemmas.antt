@@ -2,19 +2,19 @@
 use Rattle.std.proofs.Common.{◌≡◌, ℕ, zero, suc, ◌+◌, ◌≤◌, ◌<◌, Bool, true, false, cond, List, [], ◌∷◌, length, find, is_none, Option, None, Some, refl, sym, ◌∙◌, ap, arith}
 use Rattle.std.specs.Option.{option_map_or}
 use Rattle.std.proofs.lemmas.Bool.{cond-true, eq-eqb}
-use Rattle.dm_ids.specs.declared.ids.ModuleId.{ModuleId}
-use Rattle.dm_ids.specs.declared.imports.ImportOrExternCrate.{ImportOrExternCrate}
-use Rattle.dm_ids.specs.declared.item_ids.ModuleDefId.{ModuleDefId}
-use Rattle.dm_ids.specs.declared.item_ids.ModuleDefId.TheVariants as def
-use Rattle.dm_ids.specs.declared.item_ids.AdtId.TheVariants as adt
+use Rattle.dm_base.specs.declared.ids.ModuleId.{ModuleId}
+use Rattle.dm_base.specs.declared.imports.ImportOrExternCrate.{ImportOrExternCrate}
+use Rattle.dm_base.specs.declared.item_ids.ModuleDefId.{ModuleDefId}
+use Rattle.dm_base.specs.declared.item_ids.ModuleDefId.TheVariants as def
+use Rattle.dm_base.specs.declared.item_ids.AdtId.TheVariants as adt
 use Rattle.dm_base.specs.declared.per_ns.Item.{Item}
 use Rattle.dm_base.specs.declared.per_ns.PerNs.{PerNs}
 use Rattle.dm_base.specs.PerNs.{nothing}
 use Rattle.dm_base.specs.Tree.{Tree, crate_of, in_block_map, home}
 use Rattle.dm_maps.specs.Readings.{Reading}
-use Rattle.dm_paths.specs.declared.result.ResolvePathResult.{ResolvePathResult}
-use Rattle.dm_paths.specs.Answers.{nothing_no, from_other_crate, yes_in_block}
-use Rattle.dm_paths.specs.Paths.{Entering, Station, stations, is_stop, at_stop, stop, next_module, seen_in, root_item, enter_within, enter}
+use Rattle.hir_def_map.specs.declared.path_resolution.result.ResolvePathResult.{ResolvePathResult}
+use Rattle.hir_def_map.specs.Answers.{nothing_no, from_other_crate, yes_in_block}
+use Rattle.hir_def_map.specs.Paths.{Entering, Station, stations, is_stop, at_stop, stop, next_module, seen_in, root_item, enter_within, enter}
 
 module _ (e : Entering) (t : Tree) (f : ModuleId) (x : PerNs) (b : ℕ) (s : Reading) (S : List Reading) where
   -- the answer at the first stop, by the module of the first station

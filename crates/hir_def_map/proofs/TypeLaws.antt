@@ -1,12 +1,12 @@
 -- The type of the layers of a first segment, and that a path which goes on needs no more.
 use Rattle.std.proofs.Common.{◌≡◌, ◌∙◌, ◌&&◌, ◌<◌, ℕ, Bool, true, false, cond, not, List, [], ◌∷◌, Option, None, Some, ap, arith, is_none, is_some, length, map, refl, sym, true≢false}
 use Rattle.std.specs.Option.{option_map_or, option_or}
-use Rattle.dm_ids.specs.declared.ids.MapId.{MapId}
-use Rattle.dm_ids.specs.declared.ids.ModuleId.{ModuleId}
-use Rattle.dm_ids.specs.declared.imports.ImportOrExternCrate.{ImportOrExternCrate}
-use Rattle.dm_ids.specs.declared.item_ids.MacroId.{MacroId}
-use Rattle.dm_ids.specs.declared.item_ids.ModuleDefId.{ModuleDefId}
-use Rattle.dm_names.specs.Names.{Name}
+use Rattle.dm_base.specs.declared.ids.MapId.{MapId}
+use Rattle.dm_base.specs.declared.ids.ModuleId.{ModuleId}
+use Rattle.dm_base.specs.declared.imports.ImportOrExternCrate.{ImportOrExternCrate}
+use Rattle.dm_base.specs.declared.item_ids.MacroId.{MacroId}
+use Rattle.dm_base.specs.declared.item_ids.ModuleDefId.{ModuleDefId}
+use Rattle.dm_base.specs.Names.{Name}
 use Rattle.dm_base.specs.declared.mod_path.PathKind.{PathKind}
 use Rattle.dm_base.specs.declared.mod_path.PathKind.TheVariants as kind
 use Rattle.dm_base.specs.declared.per_ns.Item.{Item}
@@ -23,13 +23,13 @@ use Rattle.dm_maps.specs.declared.rules.Rules.{Rules}
 use Rattle.dm_maps.specs.declared.rules.Rules.TheVariants.{V1, V2}
 use Rattle.dm_maps.specs.Readings.{Setting, Reading, read, setting_of}
 use Rattle.dm_maps.specs.World.{World}
-use Rattle.dm_paths.specs.declared.place.Place.{Place}
-use Rattle.dm_paths.specs.declared.place.Place.TheVariants.{In}
-use Rattle.dm_paths.specs.declared.question.Ask.{Ask}
-use Rattle.dm_paths.specs.Answers.{nothing_no}
-use Rattle.dm_paths.specs.Paths.{are_builtins_first, builtins_of, builtins_or_scope, by_2015_rule, by_first_segment, enter, extern_prelude, fits, fitting, layers, legacy, macro_use_prelude, missed, of_prelude, plain_layers, prelude, seen_from, stop, type_module, unless_block_root}
+use Rattle.hir_def_map.specs.declared.path_resolution.place.Place.{Place}
+use Rattle.hir_def_map.specs.declared.path_resolution.place.Place.TheVariants.{In}
+use Rattle.hir_def_map.specs.declared.path_resolution.question.Ask.{Ask}
+use Rattle.hir_def_map.specs.Answers.{nothing_no}
+use Rattle.hir_def_map.specs.Paths.{are_builtins_first, builtins_of, builtins_or_scope, by_2015_rule, by_first_segment, enter, extern_prelude, fits, fitting, layers, legacy, macro_use_prelude, missed, of_prelude, plain_layers, prelude, seen_from, stop, type_module, unless_block_root}
 use Rattle.hir_def_map.specs.Walk.{in_types, starting, walk}
-use Rattle.dm_paths.specs.LayerLaws.{AreTypes, extern-alone, macro_use-is, layers-abs}
+use Rattle.hir_def_map.specs.LayerLaws.{AreTypes, extern-alone, macro_use-is, layers-abs}
 use Rattle.hir_def_map.proofs.WalkLemmas.{walk-stop}
 
 abbrev Type_item : Type 0

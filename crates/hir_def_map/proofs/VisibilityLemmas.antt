@@ -3,23 +3,23 @@ use Rattle.std.proofs.Common.{◌≡◌, ◌||◌, ℕ, Bool, true, false, cond,
 use Rattle.std.specs.Option.{ForSome, option_map}
 use Rattle.std.proofs.lemmas.Bool.{lt-ltb}
 use Rattle.std.proofs.lemmas.Option.{slice_get_within}
-use Rattle.dm_ids.specs.declared.ids.ModuleId.{ModuleId}
-use Rattle.dm_ids.specs.declared.imports.ImportOrExternCrate.{ImportOrExternCrate}
-use Rattle.dm_ids.specs.declared.item_ids.ModuleDefId.{ModuleDefId}
+use Rattle.dm_base.specs.declared.ids.ModuleId.{ModuleId}
+use Rattle.dm_base.specs.declared.imports.ImportOrExternCrate.{ImportOrExternCrate}
+use Rattle.dm_base.specs.declared.item_ids.ModuleDefId.{ModuleDefId}
 use Rattle.dm_base.specs.declared.per_ns.Item.{Item}
 use Rattle.dm_base.specs.declared.per_ns.PerNs.{PerNs}
 use Rattle.dm_base.specs.declared.visibility.Visibility.TheVariants.{Module}
 use Rattle.dm_base.specs.declared.visibility.VisibilityExplicitness.{VisibilityExplicitness}
 use Rattle.dm_base.specs.Tree.{IsKnown, same_block}
-use Rattle.dm_check.specs.declared.held.HeldId.TheVariants as held
-use Rattle.dm_check.specs.Holding.{res_holds}
+use Rattle.dm_maps.specs.declared.check.held.HeldId.TheVariants as held
+use Rattle.dm_maps.specs.Holding.{res_holds}
 use Rattle.dm_maps.specs.Family.{common}
 use Rattle.dm_maps.specs.Known.{KnowsAll, knows}
 use Rattle.dm_maps.specs.Trees.{tree_of}
 use Rattle.dm_maps.specs.World.{World, crate_map}
 use Rattle.dm_def_map.specs.Maps.{Map}
 use Rattle.hir_def_map.specs.RawVisibilities.{IsOfWorld, module_reached, block_in, restricted}
-use Rattle.dm_paths.specs.Paths.{type_module}
+use Rattle.hir_def_map.specs.Paths.{type_module}
 use Rattle.hir_def_map.proofs.KnownLemmas.{module_in-known}
 
 -- a module that known items lead to is known

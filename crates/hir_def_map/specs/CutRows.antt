@@ -1,12 +1,12 @@
 -- Examples of cuts (a world restricted to some names), as equations that compute.
 use Rattle.std.specs.Prelude.{◌≡◌, ℕ, [], ◌∷◌, Some, None, codes, refl}
-use Rattle.dm_ids.specs.declared.fields_shape.FieldsShape.TheVariants.{Unit}
-use Rattle.dm_ids.specs.declared.macros.MacroExpander.TheVariants.{BuiltIn}
-use Rattle.dm_ids.specs.declared.macros.MacroLoc.TheVariants.{MacroRules}
-use Rattle.dm_names.specs.declared.edition.Edition.TheVariants.{Edition2021}
-use Rattle.dm_names.specs.Names.{Name}
+use Rattle.dm_base.specs.declared.fields_shape.FieldsShape.TheVariants.{Unit}
+use Rattle.dm_base.specs.declared.macros.MacroExpander.TheVariants.{BuiltIn}
+use Rattle.dm_base.specs.declared.macros.MacroLoc.TheVariants.{MacroRules}
+use Rattle.dm_base.specs.declared.edition.Edition.TheVariants.{Edition2021}
+use Rattle.dm_base.specs.Names.{Name}
 use Rattle.dm_def_map.specs.Variants.{Enums, Variants}
-use Rattle.dm_shadowing.specs.Flags.{no_globs}
+use Rattle.dm_scope.specs.Flags.{no_globs}
 use Rattle.dm_scope.specs.Scope.{no_scope}
 use Rattle.dm_def_map.specs.declared.modules.module_origin.ModuleOrigin.TheVariants.{CrateRoot}
 use Rattle.dm_maps.specs.PushRes.{with_push}

@@ -1,17 +1,17 @@
 -- What each path call promises of its answer.
 use Rattle.std.specs.Prelude.{◌≡◌, ◌≤◌, ◌<◌, ℕ, List, Option, length}
 use Rattle.std.specs.Option.{ForSome}
-use Rattle.dm_names.specs.Names.{Name}
+use Rattle.dm_base.specs.Names.{Name}
 use Rattle.dm_base.specs.declared.per_ns.PerNs.{PerNs}
-use Rattle.dm_check.specs.Holding.{res_holds}
+use Rattle.dm_maps.specs.Holding.{res_holds}
 use Rattle.dm_def_map.specs.Maps.{LocalMap}
 use Rattle.dm_maps.specs.Cut.{cut, cut_local}
 use Rattle.dm_maps.specs.Known.{KnowsAll}
 use Rattle.dm_maps.specs.World.{World}
-use Rattle.dm_paths.specs.declared.question.Ask.{Ask}
-use Rattle.dm_paths.specs.declared.result.ReachedFixedPoint.TheVariants.{No}
-use Rattle.dm_paths.specs.declared.result.ResolvePathResult.{ResolvePathResult}
-use Rattle.dm_paths.specs.Answers.{nothing_no}
+use Rattle.hir_def_map.specs.declared.path_resolution.question.Ask.{Ask}
+use Rattle.hir_def_map.specs.declared.path_resolution.result.ReachedFixedPoint.TheVariants.{No}
+use Rattle.hir_def_map.specs.declared.path_resolution.result.ResolvePathResult.{ResolvePathResult}
+use Rattle.hir_def_map.specs.Answers.{nothing_no}
 
 -- the segment of a path of n that is left, if one is: one of the path's, and never the first
 abbrev pub IsLeft : ℕ → Option ℕ → Type 0

@@ -1,3 +1,8 @@
+pub mod Answers
+pub mod KnownLaws
+pub mod LayerLaws
+pub mod Overlays
+pub mod Paths
 pub mod Questions
 pub mod Laws
 pub mod Walk

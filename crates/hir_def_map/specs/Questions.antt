@@ -1,9 +1,9 @@
 -- Path resolutions that a world can answer: all ids in them are the world's.
 use Rattle.std.specs.Prelude.{◌≡◌, Some, IsSome}
-use Rattle.dm_ids.specs.declared.ids.ModuleId.{ModuleId}
+use Rattle.dm_base.specs.declared.ids.ModuleId.{ModuleId}
 use Rattle.dm_base.specs.declared.mod_path.PathKind.{PathKind}
 use Rattle.dm_base.specs.Tree.{IsKnown, crate_of}
-use Rattle.dm_check.specs.Holding.{local_holds, path_holds}
+use Rattle.dm_maps.specs.Holding.{local_holds, path_holds}
 use Rattle.dm_def_map.specs.Maps.{Map, LocalMap, module_at}
 use Rattle.dm_maps.specs.Known.{KnowsAll}
 use Rattle.dm_maps.specs.Stays.{StaysKnown}

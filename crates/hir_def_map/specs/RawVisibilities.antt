@@ -1,17 +1,17 @@
 -- Resolution of raw visibilities: `pub`, `pub(crate)`, `pub(self)`, `pub(in path)`.
 use Rattle.std.specs.Prelude.{◌≡◌, ◌||◌, ℕ, Bool, true, false, IsSome, List, [], Option, Some, None, if◌then◌else◌, map}
 use Rattle.std.specs.Option.{option_map, option_map_or, option_and_then}
-use Rattle.dm_ids.specs.declared.ids.BlockId.{BlockId}
-use Rattle.dm_ids.specs.declared.ids.ModuleId.{ModuleId}
-use Rattle.dm_ids.specs.declared.item_ids.AdtId.TheVariants as adt
-use Rattle.dm_ids.specs.declared.item_ids.AssocItemId.{AssocItemId}
-use Rattle.dm_ids.specs.declared.item_ids.AssocItemId.TheVariants as assoc
-use Rattle.dm_ids.specs.declared.item_ids.ItemContainerId.{ItemContainerId}
-use Rattle.dm_ids.specs.declared.item_ids.ItemContainerId.TheVariants as container
-use Rattle.dm_ids.specs.declared.item_ids.ModuleDefId.{ModuleDefId}
-use Rattle.dm_ids.specs.declared.item_ids.ModuleDefId.TheVariants as def
-use Rattle.dm_ids.specs.declared.item_ids.VariantId.{VariantId}
-use Rattle.dm_ids.specs.declared.item_ids.VariantId.TheVariants as variant
+use Rattle.dm_base.specs.declared.ids.BlockId.{BlockId}
+use Rattle.dm_base.specs.declared.ids.ModuleId.{ModuleId}
+use Rattle.dm_base.specs.declared.item_ids.AdtId.TheVariants as adt
+use Rattle.dm_base.specs.declared.item_ids.AssocItemId.{AssocItemId}
+use Rattle.dm_base.specs.declared.item_ids.AssocItemId.TheVariants as assoc
+use Rattle.dm_base.specs.declared.item_ids.ItemContainerId.{ItemContainerId}
+use Rattle.dm_base.specs.declared.item_ids.ItemContainerId.TheVariants as container
+use Rattle.dm_base.specs.declared.item_ids.ModuleDefId.{ModuleDefId}
+use Rattle.dm_base.specs.declared.item_ids.ModuleDefId.TheVariants as def
+use Rattle.dm_base.specs.declared.item_ids.VariantId.{VariantId}
+use Rattle.dm_base.specs.declared.item_ids.VariantId.TheVariants as variant
 use Rattle.dm_base.specs.declared.per_ns.PerNs.{PerNs}
 use Rattle.dm_base.specs.declared.visibility.RawVisibility.{RawVisibility}
 use Rattle.dm_base.specs.declared.visibility.RawVisibility.TheVariants as raw
@@ -22,8 +22,8 @@ use Rattle.dm_base.specs.declared.visibility.VisibilityExplicitness.TheVariants.
 use Rattle.dm_base.specs.ItemHomes.{def_module}
 use Rattle.dm_base.specs.Tree.{same_block}
 use Rattle.dm_base.specs.Visibility.{NamesKnown}
-use Rattle.dm_check.specs.Holding.{local_holds, vis_holds}
-use Rattle.dm_check.specs.TablesHold.{raw_holds}
+use Rattle.dm_maps.specs.Holding.{local_holds, vis_holds}
+use Rattle.dm_maps.specs.TablesHold.{raw_holds}
 use Rattle.dm_def_map.specs.declared.modules.modes.BuiltinShadowMode.TheVariants as shadow
 use Rattle.dm_def_map.specs.Maps.{Map, LocalMap, module_at}
 use Rattle.dm_maps.specs.First.{local_at}
@@ -32,9 +32,9 @@ use Rattle.dm_maps.specs.Known.{KnowsAll}
 use Rattle.dm_maps.specs.Trees.{tree_of}
 use Rattle.dm_maps.specs.RawTables.{fields_in, assoc_in, trait_visibility_in}
 use Rattle.dm_maps.specs.World.{World, map_of, numbered_map}
-use Rattle.dm_paths.specs.declared.result.ResolveMode.TheVariants.{Other}
-use Rattle.dm_paths.specs.declared.result.ResolvePathResult.{ResolvePathResult}
-use Rattle.dm_paths.specs.Paths.{asked, answer, type_module}
+use Rattle.hir_def_map.specs.declared.path_resolution.result.ResolveMode.TheVariants.{Other}
+use Rattle.hir_def_map.specs.declared.path_resolution.result.ResolvePathResult.{ResolvePathResult}
+use Rattle.hir_def_map.specs.Paths.{asked, answer, type_module}
 
 -- A raw visibility that a world can resolve: the map is the world's of its id, the module that it is written in lies in
 -- it, and local map and path name only what the world has.

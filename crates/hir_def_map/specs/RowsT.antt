@@ -1,14 +1,14 @@
 -- Examples: what each path resolves to, as equations that compute.
 use Rattle.std.specs.Prelude.{◌≡◌, [], ◌∷◌, Some, None, false, codes, refl}
-use Rattle.dm_ids.specs.declared.builtin_type.BuiltinType.TheVariants as builtin
-use Rattle.dm_ids.specs.declared.builtin_type.BuiltinUint.TheVariants as uint
+use Rattle.dm_base.specs.declared.builtin_type.BuiltinType.TheVariants as builtin
+use Rattle.dm_base.specs.declared.builtin_type.BuiltinUint.TheVariants as uint
 use Rattle.dm_base.specs.declared.mod_path.PathKind.TheVariants as kind
 use Rattle.dm_base.specs.declared.visibility.Visibility.TheVariants.{Public}
 use Rattle.dm_base.specs.declared.visibility.VisibilityExplicitness.TheVariants.{Implicit}
 use Rattle.dm_def_map.specs.declared.modules.modes.BuiltinShadowMode.TheVariants as shadow
-use Rattle.dm_paths.specs.declared.result.ResolveMode.TheVariants as mode
-use Rattle.dm_paths.specs.declared.result.ReachedFixedPoint.TheVariants.{Yes, No}
-use Rattle.dm_paths.specs.Paths.{answer}
+use Rattle.hir_def_map.specs.declared.path_resolution.result.ResolveMode.TheVariants as mode
+use Rattle.hir_def_map.specs.declared.path_resolution.result.ReachedFixedPoint.TheVariants.{Yes, No}
+use Rattle.hir_def_map.specs.Paths.{answer}
 use Rattle.hir_def_map.specs.Written.{meaning, meant, said, an_item, a_module, a_struct, a_function, a_builtin, within}
 use Rattle.hir_def_map.specs.WorldT.{world_t}
 

@@ -4,7 +4,7 @@ use Rattle.dm_base.specs.declared.mod_path.PathKind.TheVariants as kind
 use Rattle.dm_base.specs.declared.visibility.RawVisibility.TheVariants as raw
 use Rattle.dm_base.specs.declared.visibility.Visibility.TheVariants.{Public}
 use Rattle.dm_base.specs.declared.visibility.VisibilityExplicitness.TheVariants.{Explicit, Implicit}
-use Rattle.dm_paths.specs.Paths.{answer}
+use Rattle.hir_def_map.specs.Paths.{answer}
 use Rattle.hir_def_map.specs.RawVisibilities.{raw_visibility, visibilities_in}
 use Rattle.hir_def_map.specs.WorldA.{world_a, externs, map_of_block}
 use Rattle.hir_def_map.specs.Written.{number, within, within_crate}

@@ -1,18 +1,18 @@
 -- Path resolution as a walk along the segments: the plain program, which gives the answer at the stop (specs/Paths).
 use Rattle.std.specs.Prelude.{ℕ, ◌+◌, Bool, true, false, List, [], ◌∷◌, Option, Some, None, if◌then◌else◌}
-use Rattle.dm_ids.specs.declared.ids.ModuleId.{ModuleId}
-use Rattle.dm_ids.specs.declared.imports.ImportOrExternCrate.{ImportOrExternCrate}
-use Rattle.dm_ids.specs.declared.item_ids.ModuleDefId.{ModuleDefId}
-use Rattle.dm_ids.specs.declared.item_ids.ModuleDefId.TheVariants as def
+use Rattle.dm_base.specs.declared.ids.ModuleId.{ModuleId}
+use Rattle.dm_base.specs.declared.imports.ImportOrExternCrate.{ImportOrExternCrate}
+use Rattle.dm_base.specs.declared.item_ids.ModuleDefId.{ModuleDefId}
+use Rattle.dm_base.specs.declared.item_ids.ModuleDefId.TheVariants as def
 use Rattle.dm_base.specs.declared.per_ns.Item.{Item}
 use Rattle.dm_base.specs.declared.per_ns.PerNs.{PerNs}
 use Rattle.dm_base.specs.Tree.{Tree, same_crate, crate_of, home}
 use Rattle.dm_maps.specs.Readings.{Reading}
-use Rattle.dm_paths.specs.declared.result.ReachedFixedPoint.TheVariants.{Yes}
-use Rattle.dm_paths.specs.declared.result.ResolvePathResult.{ResolvePathResult}
-use Rattle.hir_def_map.specs.declared.segments.Entered.{Entered}
-use Rattle.dm_paths.specs.Answers.{reached, nothing_no, stopped}
-use Rattle.dm_paths.specs.Paths.{module_in, seen_in, at_adt, is_empty}
+use Rattle.hir_def_map.specs.declared.path_resolution.result.ReachedFixedPoint.TheVariants.{Yes}
+use Rattle.hir_def_map.specs.declared.path_resolution.result.ResolvePathResult.{ResolvePathResult}
+use Rattle.hir_def_map.specs.declared.path_resolution.segments.Entered.{Entered}
+use Rattle.hir_def_map.specs.Answers.{reached, nothing_no, stopped}
+use Rattle.hir_def_map.specs.Paths.{module_in, seen_in, at_adt, is_empty}
 
 -- an answer after the walk has come into another crate, if it has
 abbrev pub crossed : Bool → ResolvePathResult → ResolvePathResult

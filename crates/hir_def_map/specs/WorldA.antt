@@ -1,11 +1,11 @@
 -- An example world of two crates and two blocks.
 use Rattle.std.specs.Prelude.{[], ◌∷◌, Some, None, codes}
-use Rattle.dm_ids.specs.declared.fields_shape.FieldsShape.TheVariants.{Tuple}
-use Rattle.dm_ids.specs.declared.imports.ImportOrDef.TheVariants as stands_for
-use Rattle.dm_ids.specs.declared.item_ids.ItemKind.TheVariants as kind
-use Rattle.dm_ids.specs.declared.macros.MacroExpander.TheVariants.{Declarative}
-use Rattle.dm_ids.specs.declared.macros.MacroLoc.TheVariants.{MacroRules}
-use Rattle.dm_names.specs.declared.edition.Edition.TheVariants.{Edition2015, Edition2021}
+use Rattle.dm_base.specs.declared.fields_shape.FieldsShape.TheVariants.{Tuple}
+use Rattle.dm_base.specs.declared.imports.ImportOrDef.TheVariants as stands_for
+use Rattle.dm_base.specs.declared.item_ids.ItemKind.TheVariants as kind
+use Rattle.dm_base.specs.declared.macros.MacroExpander.TheVariants.{Declarative}
+use Rattle.dm_base.specs.declared.macros.MacroLoc.TheVariants.{MacroRules}
+use Rattle.dm_base.specs.declared.edition.Edition.TheVariants.{Edition2015, Edition2021}
 use Rattle.dm_base.specs.declared.visibility.Visibility.TheVariants.{Public}
 use Rattle.dm_base.specs.declared.visibility.VisibilityExplicitness.TheVariants.{Implicit}
 use Rattle.dm_scope.specs.Scope.{Scope, no_scope}

@@ -1,13 +1,13 @@
 -- The example world of two crates and two blocks, with module 3 as the prelude of its first crate, and two macros
 -- there.
 use Rattle.std.specs.Prelude.{Some, None, codes}
-use Rattle.dm_ids.specs.declared.item_ids.MacroId.{MacroId}
-use Rattle.dm_ids.specs.declared.macros.MacroLoc.TheVariants.{Proc}
-use Rattle.dm_ids.specs.declared.macros.ProcMacroKind.TheVariants.{Attr}
+use Rattle.dm_base.specs.declared.item_ids.MacroId.{MacroId}
+use Rattle.dm_base.specs.declared.macros.MacroLoc.TheVariants.{Proc}
+use Rattle.dm_base.specs.declared.macros.ProcMacroKind.TheVariants.{Attr}
 use Rattle.dm_base.specs.declared.visibility.Visibility.TheVariants.{Public}
-use Rattle.dm_names.specs.Names.{Name}
+use Rattle.dm_base.specs.Names.{Name}
 use Rattle.dm_base.specs.PerNs.{macro_alone}
-use Rattle.dm_shadowing.specs.Flags.{no_globs}
+use Rattle.dm_scope.specs.Flags.{no_globs}
 use Rattle.dm_maps.specs.declared.rules.Rules.TheVariants.{V2}
 use Rattle.dm_maps.specs.Build.{with_rules}
 use Rattle.dm_maps.specs.BuildItems.{with_macro}

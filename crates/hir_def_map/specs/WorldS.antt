@@ -1,13 +1,13 @@
 -- An example world of shadowing: a glob and a named import of one name, legacy macros of one name, and nested blocks.
 use Rattle.std.specs.Prelude.{[], ◌∷◌, Some, None, codes}
-use Rattle.dm_ids.specs.declared.macros.MacroExpander.TheVariants.{Declarative}
-use Rattle.dm_ids.specs.declared.macros.MacroLoc.TheVariants.{MacroRules}
-use Rattle.dm_ids.specs.declared.item_ids.ItemKind.TheVariants as kind
+use Rattle.dm_base.specs.declared.macros.MacroExpander.TheVariants.{Declarative}
+use Rattle.dm_base.specs.declared.macros.MacroLoc.TheVariants.{MacroRules}
+use Rattle.dm_base.specs.declared.item_ids.ItemKind.TheVariants as kind
 use Rattle.dm_base.specs.declared.per_ns.PerNs.{PerNs}
-use Rattle.dm_ids.specs.declared.item_ids.ModuleDefId.{ModuleDefId}
-use Rattle.dm_names.specs.declared.edition.Edition.TheVariants.{Edition2021}
+use Rattle.dm_base.specs.declared.item_ids.ModuleDefId.{ModuleDefId}
+use Rattle.dm_base.specs.declared.edition.Edition.TheVariants.{Edition2021}
 use Rattle.dm_base.specs.declared.visibility.Visibility.TheVariants.{Public}
-use Rattle.dm_shadowing.specs.Flags.{Globs, no_globs}
+use Rattle.dm_scope.specs.Flags.{Globs, no_globs}
 use Rattle.dm_scope.specs.Push.{scope_after, globs_after}
 use Rattle.dm_scope.specs.Scope.{Scope, no_scope}
 use Rattle.dm_maps.specs.Build.{no_world}

@@ -1,7 +1,7 @@
 -- An example world of one crate.
 use Rattle.std.specs.Prelude.{[], ◌∷◌, Some, None, codes}
-use Rattle.dm_ids.specs.declared.item_ids.ItemKind.TheVariants as kind
-use Rattle.dm_names.specs.declared.edition.Edition.TheVariants.{Edition2021}
+use Rattle.dm_base.specs.declared.item_ids.ItemKind.TheVariants as kind
+use Rattle.dm_base.specs.declared.edition.Edition.TheVariants.{Edition2021}
 use Rattle.dm_base.specs.declared.visibility.Visibility.TheVariants.{Public}
 use Rattle.dm_base.specs.declared.visibility.VisibilityExplicitness.TheVariants.{Implicit}
 use Rattle.dm_scope.specs.Scope.{Scope, no_scope}

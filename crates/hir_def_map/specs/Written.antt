@@ -1,29 +1,29 @@
 -- Short forms for example worlds and rows, after the words of the script language.
 use Rattle.std.specs.Prelude.{ℕ, Bool, List, [], Option, Some, None}
-use Rattle.dm_ids.specs.declared.ids.ModuleId.{ModuleId}
-use Rattle.dm_ids.specs.declared.ids.MapId.{MapId}
-use Rattle.dm_ids.specs.declared.builtin_type.BuiltinType.{BuiltinType}
-use Rattle.dm_ids.specs.declared.imports.ImportId.{ImportId}
-use Rattle.dm_ids.specs.declared.imports.ImportOrDef.{ImportOrDef}
-use Rattle.dm_ids.specs.declared.imports.ImportOrExternCrate.{ImportOrExternCrate}
-use Rattle.dm_ids.specs.declared.imports.ImportOrExternCrate.TheVariants as wide
-use Rattle.dm_ids.specs.declared.imports.ImportOrGlob.{ImportOrGlob}
-use Rattle.dm_ids.specs.declared.imports.ImportOrGlob.TheVariants as narrow
-use Rattle.dm_ids.specs.declared.item_ids.ModuleDefId.{ModuleDefId}
-use Rattle.dm_ids.specs.declared.item_ids.ModuleDefId.TheVariants as def
-use Rattle.dm_ids.specs.declared.item_ids.AdtId.TheVariants as adt
-use Rattle.dm_ids.specs.declared.item_ids.MacroId.{MacroId}
-use Rattle.dm_ids.specs.declared.item_ids.MacroId.TheVariants.{MacroRulesId, ProcMacroId}
+use Rattle.dm_base.specs.declared.ids.ModuleId.{ModuleId}
+use Rattle.dm_base.specs.declared.ids.MapId.{MapId}
+use Rattle.dm_base.specs.declared.builtin_type.BuiltinType.{BuiltinType}
+use Rattle.dm_base.specs.declared.imports.ImportId.{ImportId}
+use Rattle.dm_base.specs.declared.imports.ImportOrDef.{ImportOrDef}
+use Rattle.dm_base.specs.declared.imports.ImportOrExternCrate.{ImportOrExternCrate}
+use Rattle.dm_base.specs.declared.imports.ImportOrExternCrate.TheVariants as wide
+use Rattle.dm_base.specs.declared.imports.ImportOrGlob.{ImportOrGlob}
+use Rattle.dm_base.specs.declared.imports.ImportOrGlob.TheVariants as narrow
+use Rattle.dm_base.specs.declared.item_ids.ModuleDefId.{ModuleDefId}
+use Rattle.dm_base.specs.declared.item_ids.ModuleDefId.TheVariants as def
+use Rattle.dm_base.specs.declared.item_ids.AdtId.TheVariants as adt
+use Rattle.dm_base.specs.declared.item_ids.MacroId.{MacroId}
+use Rattle.dm_base.specs.declared.item_ids.MacroId.TheVariants.{MacroRulesId, ProcMacroId}
 use Rattle.dm_base.specs.declared.mod_path.PathKind.{PathKind}
 use Rattle.dm_base.specs.declared.per_ns.Item.{Item}
-use Rattle.dm_names.specs.declared.edition.Edition.{Edition}
-use Rattle.dm_names.specs.declared.edition.Edition.TheVariants.{Edition2021}
-use Rattle.dm_ids.specs.declared.source.HirFileId.TheVariants.{File}
+use Rattle.dm_base.specs.declared.edition.Edition.{Edition}
+use Rattle.dm_base.specs.declared.edition.Edition.TheVariants.{Edition2021}
+use Rattle.dm_base.specs.declared.source.HirFileId.TheVariants.{File}
 use Rattle.dm_base.specs.declared.visibility.Visibility.{Visibility}
 use Rattle.dm_base.specs.declared.visibility.Visibility.TheVariants.{Module, PubCrate, Public}
 use Rattle.dm_base.specs.declared.visibility.VisibilityExplicitness.{VisibilityExplicitness}
-use Rattle.dm_names.specs.Names.{Name}
-use Rattle.dm_bindings.specs.Bindings.{Bound}
+use Rattle.dm_base.specs.Names.{Name}
+use Rattle.dm_scope.specs.Bindings.{Bound}
 use Rattle.dm_scope.specs.Scope.{Scope, no_scope}
 use Rattle.dm_def_map.specs.declared.modules.modes.BuiltinShadowMode.{BuiltinShadowMode}
 use Rattle.dm_def_map.specs.declared.modules.modes.BuiltinShadowMode.TheVariants as asks
@@ -34,11 +34,11 @@ use Rattle.dm_def_map.specs.CrateData.{fresh_data}
 use Rattle.dm_def_map.specs.Maps as maps
 use Rattle.dm_def_map.specs.Maps.{Map, Modules, LocalMap}
 use Rattle.dm_maps.specs.World.{World}
-use Rattle.dm_paths.specs.declared.result.ResolveMode.{ResolveMode}
-use Rattle.dm_paths.specs.declared.result.ResolveMode.TheVariants.{Other}
-use Rattle.dm_paths.specs.declared.result.ReachedFixedPoint.{ReachedFixedPoint}
-use Rattle.dm_paths.specs.declared.result.ResolvePathResult.{ResolvePathResult}
-use Rattle.dm_paths.specs.Paths.{answer, asked}
+use Rattle.hir_def_map.specs.declared.path_resolution.result.ResolveMode.{ResolveMode}
+use Rattle.hir_def_map.specs.declared.path_resolution.result.ResolveMode.TheVariants.{Other}
+use Rattle.hir_def_map.specs.declared.path_resolution.result.ReachedFixedPoint.{ReachedFixedPoint}
+use Rattle.hir_def_map.specs.declared.path_resolution.result.ResolvePathResult.{ResolvePathResult}
+use Rattle.hir_def_map.specs.Paths.{answer, asked}
 
 -- definitions by their numbers
 abbrev pub a_module : ℕ → ModuleDefId

@@ -1,16 +1,16 @@
 //! Lemmas about path resolution, for proofs of callers. Each is a function without effect: code calls it for its proof.
 ghost use Rattle.std.specs.Prelude.{◌≡◌, List};
-ghost use Rattle.dm_names.specs.Names.{Name};
+ghost use Rattle.dm_base.specs.Names.{Name};
 ghost use Rattle.dm_base.specs.Tree.{IsKnown, home};
 ghost use Rattle.dm_maps.specs.Cut.{cut, cut_local};
 ghost use Rattle.dm_maps.specs.Readings.{Reading};
 ghost use Rattle.dm_maps.specs.Trees.{tree_of};
 ghost use Rattle.dm_maps.specs.World as worlds;
 ghost use Rattle.dm_def_map.specs.Maps.{LocalMap};
-ghost use Rattle.dm_paths.specs.Paths.{answer, enter};
+ghost use Rattle.hir_def_map.specs.Paths.{answer, enter};
 ghost use Rattle.hir_def_map.specs.Questions.{IsKnownInCrate, IsKnownQuestion, StaysAsked};
 ghost use Rattle.hir_def_map.specs.RawVisibilities.{IsKnownVisibility};
-ghost use Rattle.dm_paths.specs.declared.question.Ask.{Ask};
+ghost use Rattle.hir_def_map.specs.declared.path_resolution.question.Ask.{Ask};
 
 use dm_base::ids::ModuleId;
 use dm_base::module_tree::ModuleTree;

@@ -5,16 +5,12 @@
 //! of definitions in `item_ids`, `name`, `symbol`, `mod_path`, `source` and `fields_shape`.
 #![tactic(auto)]
 
-mod first_type;
 pub mod item_scope;
 pub mod laws;
 pub mod nameres;
 pub mod path_resolution;
 pub mod per_ns;
-mod places;
-mod segments;
-mod single;
 pub mod visibility;
 
 pub use dm_base::{builtin_type, fields_shape, ids, item_ids, mod_path, name, source, symbol};
-pub use dm_paths::result;
+pub use path_resolution::result;

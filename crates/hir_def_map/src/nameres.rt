@@ -1,5 +1,8 @@
 //! The def maps of crates and blocks, checked worlds of them, and path resolution over one.
 pub use crate::path_resolution::ResolvePath;
+pub use crate::path_resolution::result::{
+    ReachedFixedPoint, ResolveMode, ResolvePathResult, ResolvePathResultPrefixInfo,
+};
 pub use dm_base::macros::{MacroCallStyles, MacroExpander, MacroLoc, ProcMacroKind};
 pub use dm_base::module_tree::ModuleTree;
 pub use dm_maps::build_fault::BuildFault;
@@ -18,8 +21,5 @@ pub use dm_maps::unstable_features::UnstableFeatures;
 pub use dm_maps::world::World;
 pub use dm_maps::world::maps_of::{
     AskWorld, block_def_map, crate_def_map, local_def_map, macro_styles_from_id,
-};
-pub use dm_paths::result::{
-    ReachedFixedPoint, ResolveMode, ResolvePathResult, ResolvePathResultPrefixInfo,
 };
 pub use dm_scope::diagnostics;

@@ -2,19 +2,35 @@
 ghost use Rattle.std.specs.Prelude.{◌≡◌, None, Some, IsSome, IsTrue};
 ghost use Rattle.std.specs.Option.{ForSome};
 ghost use Rattle.dm_base.specs.Tree.{IsKnown};
-ghost use Rattle.dm_check.specs.declared.held.HeldId.TheVariants as held;
+ghost use Rattle.dm_maps.specs.declared.check.held.HeldId.TheVariants as held;
 ghost use Rattle.dm_maps.specs.Known.{knows};
 ghost use Rattle.dm_maps.specs.Trees.{tree_of};
 ghost use Rattle.dm_maps.specs.World.{numbered_map};
 ghost use Rattle.dm_def_map.specs.Maps.{Map, module_at};
-ghost use Rattle.dm_paths.specs.declared.result.ResolveMode.TheVariants.{Other};
+ghost use Rattle.hir_def_map.specs.declared.path_resolution.result.ResolveMode.TheVariants.{Other};
 ghost use Rattle.hir_def_map.specs.Laws.{Finds, Resolves};
-ghost use Rattle.dm_paths.specs.Paths.{asked, answer, answer_alone, prelude_answer};
+ghost use Rattle.hir_def_map.specs.Paths.{asked, answer, answer_alone, prelude_answer};
 ghost use Rattle.hir_def_map.specs.Questions.{IsKnownQuestion, IsKnownInCrate};
 ghost use Rattle.hir_def_map.specs.RawVisibilities.{raw_visibility, IsKnownVisibility, IsOfWorld};
 
-use crate::places::answer_outwards;
-use crate::single::single;
+pub mod answers;
+pub mod first_segment;
+mod first_type;
+pub mod layers;
+pub mod overlays;
+pub mod place;
+mod places;
+pub mod question;
+pub mod result;
+mod segments;
+mod single;
+pub mod type_module;
+
+use crate::path_resolution::place::Place;
+use crate::path_resolution::places::answer_outwards;
+use crate::path_resolution::question::Ask;
+use crate::path_resolution::result::{ResolveMode, ResolvePathResult, ResolvePathResultPrefixInfo};
+use crate::path_resolution::single::single;
 use crate::visibility::{RawVisibility, Visibility, module_reached, restricted};
 use dm_base::ids::ModuleId;
 use dm_base::mod_path::ModPath;
@@ -23,9 +39,6 @@ use dm_maps::def_map::DefMap;
 use dm_maps::local_def_map::LocalDefMap;
 use dm_maps::modes::{BuiltinShadowMode, MacroSubNs};
 use dm_maps::world::World;
-use dm_paths::place::Place;
-use dm_paths::question::Ask;
-use dm_paths::result::{ResolveMode, ResolvePathResult, ResolvePathResultPrefixInfo};
 
 /// What a map resolves. No call allocates (docs/RULES.md, "Paths").
 ///
@@ -33,7 +46,7 @@ use dm_paths::result::{ResolveMode, ResolvePathResult, ResolvePathResultPrefixIn
 /// as `local_def_map` gives a crate's; a mode, of an import or not; `shadow`, whether builtin types may shadow modules;
 /// and what kind of macro is expected. All ids have to be the world's: the map is the world's of its id, the origin
 /// lies in it, or for the calls on preludes in any map of its crate, and local map and path name only what the world
-/// has (`World::knows_local`, and `knows_path` of `dm_world`).
+/// has (`World::knows_local`, `World::knows_path`).
 pub trait ResolvePath {
     /// The map, as contracts see it.
     ghost map: { Self → Map };

@@ -2,15 +2,16 @@
 //! they are written").
 ghost use Rattle.std.specs.Prelude.{◌≡◌, IfOk};
 ghost use Rattle.std.specs.List.{AllByRecursion};
-ghost use Rattle.dm_ids.specs.declared.item_ids.AssocItemId.{AssocItemId};
+ghost use Rattle.dm_base.specs.declared.item_ids.AssocItemId.{AssocItemId};
 ghost use Rattle.dm_base.specs.declared.visibility.RawVisibility.TheVariants as raws;
 ghost use Rattle.dm_base.specs.declared.visibility.VisibilityExplicitness.TheVariants.{Implicit};
-ghost use Rattle.dm_check.specs.Holding.{def_holds};
-ghost use Rattle.dm_check.specs.TablesHold.{raw_holds};
+ghost use Rattle.dm_maps.specs.Holding.{def_holds};
+ghost use Rattle.dm_maps.specs.TablesHold.{raw_holds};
 ghost use Rattle.dm_maps.specs.Known.{KnowsAll};
 ghost use Rattle.hir_def_map.specs.RawVisibilities.{module_reached, block_in, restricted, raw_visibility, or_public, visibility_in, variant_def, visibilities_in, field_visibilities_of, assoc_def, written_at, by_container, assoc_visibility_of, IsKnownVisibility, IsOfWorld};
 
 use crate::path_resolution::ResolvePath;
+use crate::path_resolution::type_module::type_module;
 use dm_base::ids::{BlockId, ModuleId};
 use dm_base::item_ids::{AdtId, AssocItemId, ItemContainerId, ModuleDefId, VariantId};
 use dm_base::item_in_ns::ItemInNs;
@@ -19,7 +20,6 @@ pub use dm_base::visibility::{RawVisibility, Visibility, VisibilityExplicitness}
 use dm_maps::def_map::DefMap;
 use dm_maps::local_def_map::LocalDefMap;
 use dm_maps::world::World;
-use dm_paths::type_module::type_module;
 use std::alloc::{AllocError, Global};
 
 /// The module that a path resolves to: none where a segment is left, or the type is no module.
@@ -56,7 +56,7 @@ pub trait ResolveVisibility {
     /// What a raw visibility in a module of a map resolves to: public where its path leads to no module.
     ///
     /// The map has to be the world's of its id, the module one of it, and the world has to know local map and path
-    /// (`World::knows_local`, and `knows_path` of `dm_world`). Allocates nothing.
+    /// (`World::knows_local`, `World::knows_path`). Allocates nothing.
     fn resolve(
         world: &World,
         map: &DefMap,
@@ -87,7 +87,7 @@ impl ResolveVisibility for Visibility {
 
 /// What a raw visibility in a module resolves to, by the module's own map and the extern prelude of its crate.
 ///
-/// The world has to know the path (`knows_path` of `dm_world`). In a module that it does not have, everything is
+/// The world has to know the path (`World::knows_path`). In a module that it does not have, everything is
 /// public. Allocates nothing.
 pub fn visibility_from_raw(
     world: &World,

@@ -1,15 +1,15 @@
 //! Attributes of texts: what each says, with its string, or the words that the items of its list begin with; whether it is
 //! an inner one, and whether its condition leaves it out.
 use crate::heading::Heading;
-use item_tree::attribute::{AttributeKind, lexemes_in};
-use item_tree::attribute_lists::{helper_list, list_items};
+use item_tree::attributes::attribute::{AttributeKind, lexemes_in};
+use item_tree::attributes::attribute_lists::{helper_list, list_items};
 use item_tree::attributes::{
     Attribute, Attributes, is_active, may_hold, nodes_in, read_attributes,
 };
 use item_tree::cfg::CfgOptions;
 use item_tree::items::Range;
-use item_tree::lexeme::{Lexeme, read_lexemes};
-use item_tree::span::{Span, name_text, string_text};
+use item_tree::lexer::lexeme::{Lexeme, read_lexemes};
+use item_tree::lexer::span::{Span, name_text, string_text};
 use std::alloc::{AllocError, Global};
 use std::fmt::Write;
 

@@ -1,7 +1,7 @@
 //! Predicates.
 use crate::heading::Heading;
-use item_tree::cfg_parser::{CfgParse, parse_cfg};
-use item_tree::lexeme::read_lexemes;
+use item_tree::cfg::cfg_parser::{CfgParse, parse_cfg};
+use item_tree::lexer::lexeme::read_lexemes;
 use std::alloc::{AllocError, Global};
 use std::fmt::Write;
 

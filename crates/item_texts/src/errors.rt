@@ -1,6 +1,6 @@
 //! Syntax errors of texts.
 use crate::parsed::Parsed;
-use item_tree::syntax_error::syntax_errors;
+use item_tree::lexer::syntax_error::syntax_errors;
 use std::alloc::{AllocError, Global};
 use std::fmt::Write;
 

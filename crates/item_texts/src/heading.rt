@@ -1,6 +1,6 @@
 //! Headings of texts.
-use dm_names::edition::Edition;
-use dm_names::symbol::Symbol;
+use dm_base::edition::Edition;
+use dm_base::symbol::Symbol;
 use item_tree::cfg::CfgOptions;
 use std::alloc::{AllocError, Global};
 use std::fmt::Write;

@@ -3,10 +3,10 @@ ghost use Rattle.item_tree.specs.Children.{ByParent};
 
 use crate::heading::Heading;
 use crate::parsed::Parsed;
+use item_tree::attributes::item_attributes::{inner_attributes, outer_attributes};
 use item_tree::attributes::{Attributes, read_attributes};
-use item_tree::children::children_of;
-use item_tree::item_attributes::{inner_attributes, outer_attributes};
 use item_tree::items::{Item, Range};
+use item_tree::lexer::children::children_of;
 use std::alloc::{AllocError, Global};
 use std::fmt::Write;
 

@@ -1,11 +1,11 @@
 //! Items of texts.
 use crate::parsed::{Parsed, lexeme_text, text_in};
 use item_tree::ids::item_range;
-use item_tree::implementations::is_of_trait;
-use item_tree::item_kind::ItemKind;
+use item_tree::items::implementations::is_of_trait;
+use item_tree::items::item_kind::ItemKind;
+use item_tree::items::visibility::raw_visibility;
 use item_tree::items::{Item, Range};
-use item_tree::lexeme::Lexeme;
-use item_tree::visibility::raw_visibility;
+use item_tree::lexer::lexeme::Lexeme;
 use std::alloc::{AllocError, Global};
 use std::fmt::Write;
 

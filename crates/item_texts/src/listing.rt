@@ -1,5 +1,5 @@
 //! The public items of a text, by the caller that docs/USING.md shows.
-use item_callers::listing::{Listing, listed, name_of};
+use defmap_callers::listing::{Listing, listed, name_of};
 use std::alloc::{AllocError, Global};
 use std::fmt::Write;
 

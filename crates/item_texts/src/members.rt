@@ -1,12 +1,12 @@
 //! Members of structs, unions and enums: each with its visibility, the first lexeme of its name or type, whether that is a
 //! name, and the shape of its own fields.
 use crate::parsed::{Parsed, lexeme_text};
-use item_tree::fields::item_fields;
-use item_tree::item_kind::ItemKind;
+use item_tree::items::fields::item_fields;
+use item_tree::items::item_kind::ItemKind;
+use item_tree::items::members::{Fields, FieldsShape, Member, MemberKind, members};
+use item_tree::items::visibility::raw_visibility;
 use item_tree::items::{Item, Range};
-use item_tree::lexeme::Lexeme;
-use item_tree::members::{Fields, FieldsShape, Member, MemberKind, members};
-use item_tree::visibility::raw_visibility;
+use item_tree::lexer::lexeme::Lexeme;
 use std::alloc::{AllocError, Global};
 use std::fmt::Write;
 

@@ -2,11 +2,11 @@
 ghost use Rattle.std.specs.Prelude.{IfOk};
 ghost use Rattle.item_tree.specs.Children.{ByParent};
 
-use dm_names::edition::Edition;
-use item_tree::delimiters::partners;
+use dm_base::edition::Edition;
 use item_tree::ids::TextRange;
 use item_tree::items::{ItemTree, item_tree};
-use item_tree::lexeme::{Lexeme, read_lexemes};
+use item_tree::lexer::delimiters::partners;
+use item_tree::lexer::lexeme::{Lexeme, read_lexemes};
 use std::alloc::{AllocError, Global};
 
 /// A text's lexemes, their partners and its items.

@@ -1,7 +1,7 @@
 //! Tokens and lexemes of texts.
-use dm_names::edition::Edition;
-use item_tree::lexeme::read_lexemes;
+use dm_base::edition::Edition;
 use item_tree::lexer::lex;
+use item_tree::lexer::lexeme::read_lexemes;
 use std::alloc::{AllocError, Global};
 use std::fmt::Write;
 

@@ -1,10 +1,10 @@
 //! Use trees of `use` items: each with the number of the list that it stands in, its text, and what it imports.
 use crate::parsed::{Parsed, lexeme_text, text_in};
 use item_tree::ids::use_tree_range;
-use item_tree::imports::{import_kind, import_path};
 use item_tree::items::Range;
-use item_tree::lexeme::Lexeme;
-use item_tree::use_tree::{UseTree, use_trees};
+use item_tree::items::imports::{import_kind, import_path};
+use item_tree::items::use_tree::{UseTree, use_trees};
+use item_tree::lexer::lexeme::Lexeme;
 use std::alloc::{AllocError, Global};
 use std::fmt::Write;
 

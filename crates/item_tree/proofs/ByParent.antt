@@ -7,10 +7,10 @@ use Rattle.item_tree.specs.Items.{items_from, inner_level, within, children_from
 use Rattle.item_tree.specs.Trees.{trees_of}
 use Rattle.item_tree.specs.declared.items.Item.{Item}
 use Rattle.item_tree.specs.declared.items.Level.{Level}
-use Rattle.item_tree.specs.declared.cfg_if.LevelKind.{LevelKind}
-use Rattle.item_tree.specs.declared.cfg_if.LevelKind.TheVariants.{Items}
-use Rattle.item_tree.specs.declared.lexeme.Lexeme.{Lexeme}
-use Rattle.item_tree.specs.declared.trees.Tree.{Tree}
+use Rattle.item_tree.specs.declared.cfg.cfg_if.LevelKind.{LevelKind}
+use Rattle.item_tree.specs.declared.cfg.cfg_if.LevelKind.TheVariants.{Items}
+use Rattle.item_tree.specs.declared.lexer.lexeme.Lexeme.{Lexeme}
+use Rattle.item_tree.specs.declared.lexer.trees.Tree.{Tree}
 
 -- no rank is below the one before, and none below this
 abbrev Rising : ℕ → List Item → Type 0

@@ -6,18 +6,18 @@ use Rattle.std.proofs.Math.Seq.{take-append_seam, get_or-append_seam}
 use Rattle.item_tree.specs.Cfg.{flat, flat_all, more_all, flat_any, more_any}
 use Rattle.item_tree.specs.CfgGrammar.{Written, WrittenList, True, False, Name, Pair, Not, All, Any, End, Last, More, lexemes_of, list_lexemes_of, IsPredicate, IsList, IsWord, IsOpen, IsClose, IsComma, MayBeComma, expr_of, exprs_of}
 use Rattle.item_tree.specs.CfgReading.{Reading, span_of, may_have_value, leaf, begun, list_of, popped, closed, with_nodes, ending, run, step, after, is_text, at_begin, behind, behind_name, value_of, reading, flushed}
-use Rattle.item_tree.specs.declared.span.Span.{Span}
-use Rattle.item_tree.specs.declared.word.Word.{Word}
-use Rattle.item_tree.specs.declared.word.Word.TheVariants as word
-use Rattle.item_tree.specs.declared.lexeme.LexemeKind.TheVariants as kind
-use Rattle.item_tree.specs.declared.lexeme.Lexeme.{Lexeme}
+use Rattle.item_tree.specs.declared.lexer.span.Span.{Span}
+use Rattle.item_tree.specs.declared.lexer.word.Word.{Word}
+use Rattle.item_tree.specs.declared.lexer.word.Word.TheVariants as word
+use Rattle.item_tree.specs.declared.lexer.lexeme.LexemeKind.TheVariants as kind
+use Rattle.item_tree.specs.declared.lexer.lexeme.Lexeme.{Lexeme}
 use Rattle.item_tree.specs.declared.cfg.CfgNode.{CfgNode}
 use Rattle.item_tree.specs.declared.cfg.CfgNode.TheVariants as node
-use Rattle.item_tree.specs.declared.cfg_parser.CfgList.{CfgList}
-use Rattle.item_tree.specs.declared.cfg_parser.CfgList.TheVariants as of
-use Rattle.item_tree.specs.declared.cfg_parser.CfgLevel.{CfgLevel}
-use Rattle.item_tree.specs.declared.cfg_parser.CfgPhase.{CfgPhase}
-use Rattle.item_tree.specs.declared.cfg_parser.CfgPhase.TheVariants.{Begin, Named, Valued, Done}
+use Rattle.item_tree.specs.declared.cfg.cfg_parser.CfgList.{CfgList}
+use Rattle.item_tree.specs.declared.cfg.cfg_parser.CfgList.TheVariants as of
+use Rattle.item_tree.specs.declared.cfg.cfg_parser.CfgLevel.{CfgLevel}
+use Rattle.item_tree.specs.declared.cfg.cfg_parser.CfgPhase.{CfgPhase}
+use Rattle.item_tree.specs.declared.cfg.cfg_parser.CfgPhase.TheVariants.{Begin, Named, Valued, Done}
 
 abbrev at : List CfgNode → List CfgLevel → CfgLevel → CfgPhase → Reading
 at ns os lv phase = record { nodes = ns; outer = os; level = lv; phase = phase }

@@ -8,15 +8,15 @@ use Rattle.item_tree.specs.CfgIfs.{first_in, kind_behind, level_kind}
 use Rattle.item_tree.specs.Items.{placed, place_at, body_of, body_at, items_from, level_of, level_in, contains_items}
 use Rattle.item_tree.specs.Trees.{single, tree_of, partner_at, trees_from, trees_of}
 use Rattle.item_tree.specs.declared.items.Item.{Item}
-use Rattle.item_tree.specs.declared.cfg_if.LevelKind.{LevelKind}
+use Rattle.item_tree.specs.declared.cfg.cfg_if.LevelKind.{LevelKind}
 use Rattle.item_tree.specs.declared.items.Level.{Level}
 use Rattle.item_tree.specs.declared.items.Range.{Range}
-use Rattle.item_tree.specs.declared.lexeme.Delimiter.{Delimiter}
-use Rattle.item_tree.specs.declared.lexeme.Delimiter.TheVariants.{Parenthesis, Bracket, Brace}
-use Rattle.item_tree.specs.declared.lexeme.Lexeme.{Lexeme}
-use Rattle.item_tree.specs.declared.lexeme.LexemeKind.{LexemeKind}
-use Rattle.item_tree.specs.declared.lexeme.LexemeKind.TheVariants.{Word, Open, Close, Mark, Lifetime, Str, Literal, Error}
-use Rattle.item_tree.specs.declared.trees.Tree.{Tree}
+use Rattle.item_tree.specs.declared.lexer.lexeme.Delimiter.{Delimiter}
+use Rattle.item_tree.specs.declared.lexer.lexeme.Delimiter.TheVariants.{Parenthesis, Bracket, Brace}
+use Rattle.item_tree.specs.declared.lexer.lexeme.Lexeme.{Lexeme}
+use Rattle.item_tree.specs.declared.lexer.lexeme.LexemeKind.{LexemeKind}
+use Rattle.item_tree.specs.declared.lexer.lexeme.LexemeKind.TheVariants.{Word, Open, Close, Mark, Lifetime, Str, Literal, Error}
+use Rattle.item_tree.specs.declared.lexer.trees.Tree.{Tree}
 use Rattle.item_tree.proofs.Weights.{Sized, tree_sized, level_within, both_hold}
 
 -- each tree begins where the one before it ends

@@ -5,8 +5,8 @@ use Rattle.std.proofs.lemmas.Bool.{lt-ltb, le-ltb, cases_lt}
 use Rattle.std.proofs.lemmas.List.{append-nil, reverse-append}
 use Rattle.std.proofs.lemmas.Option.{slice_get_past, slice_get-get_or}
 use Rattle.item_tree.specs.Imports.{counts, segments_from, own_segments, segments_or_none, outer_segments, paths_from, import_path, before, outer_of, own_of}
-use Rattle.item_tree.specs.declared.lexeme.Lexeme.{Lexeme}
-use Rattle.item_tree.specs.declared.use_tree.UseTree.{UseTree}
+use Rattle.item_tree.specs.declared.lexer.lexeme.Lexeme.{Lexeme}
+use Rattle.item_tree.specs.declared.items.use_tree.UseTree.{UseTree}
 
 -- one more lexeme before those whose places are known
 pub one_back : (first at : ℕ) (own : List Lexeme) (d : Lexeme) (placed old : List ℕ) → at < length own → placed ≡ old ++ reverse (segments_from first (at + 1) (drop (at + 1) own))

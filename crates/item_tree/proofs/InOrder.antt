@@ -10,21 +10,21 @@ use Rattle.item_tree.specs.AttributeReading.{Reading, is_in_group, found, finish
 use Rattle.item_tree.specs.Attributes.{Table, cfg_list, with_kind, with_attribute, with_conditions, with_attributes, attributes_of, empty}
 use Rattle.item_tree.specs.AttributeKinds.{input_of}
 use Rattle.item_tree.specs.ItemAttributes.{InOrder}
-use Rattle.item_tree.specs.declared.attribute.AttributeInput.{AttributeInput}
+use Rattle.item_tree.specs.declared.attributes.attribute.AttributeInput.{AttributeInput}
 use Rattle.item_tree.specs.declared.items.Range.{Range}
-use Rattle.item_tree.specs.declared.attribute_reader.AttributePlace.{AttributePlace}
-use Rattle.item_tree.specs.declared.attribute_reader.ConditionPlace.{ConditionPlace}
-use Rattle.item_tree.specs.declared.attribute_reader.AttributeLevel.{AttributeLevel}
-use Rattle.item_tree.specs.declared.attribute_reader.AttributeLevel.TheVariants.{Group, Wrapped}
-use Rattle.item_tree.specs.declared.attribute_reader.AttributePhase.{AttributePhase}
-use Rattle.item_tree.specs.declared.attribute_reader.AttributePhase.TheVariants.{Outside, Hash, Bang, Start, Named, Input, Predicate, Behind}
+use Rattle.item_tree.specs.declared.attributes.attribute_reader.AttributePlace.{AttributePlace}
+use Rattle.item_tree.specs.declared.attributes.attribute_reader.ConditionPlace.{ConditionPlace}
+use Rattle.item_tree.specs.declared.attributes.attribute_reader.AttributeLevel.{AttributeLevel}
+use Rattle.item_tree.specs.declared.attributes.attribute_reader.AttributeLevel.TheVariants.{Group, Wrapped}
+use Rattle.item_tree.specs.declared.attributes.attribute_reader.AttributePhase.{AttributePhase}
+use Rattle.item_tree.specs.declared.attributes.attribute_reader.AttributePhase.TheVariants.{Outside, Hash, Bang, Start, Named, Input, Predicate, Behind}
 use Rattle.item_tree.specs.declared.attributes.Attribute.{Attribute}
-use Rattle.item_tree.specs.declared.lexeme.Delimiter.TheVariants.{Parenthesis, Bracket}
-use Rattle.item_tree.specs.declared.lexeme.LexemeKind.{LexemeKind}
-use Rattle.item_tree.specs.declared.lexeme.LexemeKind.TheVariants as kind
-use Rattle.item_tree.specs.declared.lexeme.Lexeme.{Lexeme}
-use Rattle.item_tree.specs.declared.word.Word.{Word}
-use Rattle.item_tree.specs.declared.word.Word.TheVariants as word
+use Rattle.item_tree.specs.declared.lexer.lexeme.Delimiter.TheVariants.{Parenthesis, Bracket}
+use Rattle.item_tree.specs.declared.lexer.lexeme.LexemeKind.{LexemeKind}
+use Rattle.item_tree.specs.declared.lexer.lexeme.LexemeKind.TheVariants as kind
+use Rattle.item_tree.specs.declared.lexer.lexeme.Lexeme.{Lexeme}
+use Rattle.item_tree.specs.declared.lexer.word.Word.{Word}
+use Rattle.item_tree.specs.declared.lexer.word.Word.TheVariants as word
 
 abbrev place : AttributePlace → ℕ
 place p = p.input.first

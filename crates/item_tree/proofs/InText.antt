@@ -3,10 +3,10 @@ use Rattle.std.proofs.Common.{◌+◌, ◌≤◌, ℕ, List, [], ◌∷◌, arit
 use Rattle.std.specs.Prelude.{Option, Some, None, sum_by, All}
 use Rattle.std.proofs.lemmas.List.Elements.{All-nil, All-cons, All-append}
 use Rattle.std.proofs.lemmas.List.Sums.{sum_by-cons}
-use Rattle.dm_names.specs.declared.edition.Edition.{Edition}
+use Rattle.dm_base.specs.declared.edition.Edition.{Edition}
 use Rattle.item_tree.specs.Lexemes.{LiesIn, classify, placed, lexeme_of, lexemes_of}
-use Rattle.item_tree.specs.declared.lexeme.LexemeKind.{LexemeKind}
-use Rattle.item_tree.specs.declared.token.Token.{Token}
+use Rattle.item_tree.specs.declared.lexer.lexeme.LexemeKind.{LexemeKind}
+use Rattle.item_tree.specs.declared.lexer.token.Token.{Token}
 
 placed_lies : (size start len : ℕ) (k : Option LexemeKind) → start + len ≤ size → All (LiesIn size) (placed start len k)
 placed_lies size start len None h = All-nil (LiesIn size)

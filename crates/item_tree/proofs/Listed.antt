@@ -10,11 +10,11 @@ use Rattle.item_tree.specs.Lists.{kind_of, IsListBefore, StandInLists}
 use Rattle.item_tree.specs.UseTrees.{first_use_tree, parent_of, outer, inner, inner_of, closes_list, step_of, step_to, with_tree, use_trees_from, use_trees_of}
 use Rattle.item_tree.specs.Visibilities.{lexeme_at}
 use Rattle.item_tree.specs.declared.items.Range.{Range}
-use Rattle.item_tree.specs.declared.lexeme.Lexeme.{Lexeme}
-use Rattle.item_tree.specs.declared.use_tree.Step.{Step}
-use Rattle.item_tree.specs.declared.use_tree.UseTree.{UseTree}
-use Rattle.item_tree.specs.declared.use_tree.UseTreeKind.{UseTreeKind}
-use Rattle.item_tree.specs.declared.use_tree.UseTreeKind.TheVariants as tree
+use Rattle.item_tree.specs.declared.lexer.lexeme.Lexeme.{Lexeme}
+use Rattle.item_tree.specs.declared.items.use_tree.Step.{Step}
+use Rattle.item_tree.specs.declared.items.use_tree.UseTree.{UseTree}
+use Rattle.item_tree.specs.declared.items.use_tree.UseTreeKind.{UseTreeKind}
+use Rattle.item_tree.specs.declared.items.use_tree.UseTreeKind.TheVariants as tree
 
 get_front : (trees : List UseTree) (t : UseTree) (n : ℕ) → n < length trees → slice_get (trees ++ t ∷ []) n ≡ slice_get trees n
 get_front trees t n h =

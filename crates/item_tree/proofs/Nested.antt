@@ -7,11 +7,11 @@ use Rattle.std.proofs.Math.ListN.{get_or-append, set}
 use Rattle.item_tree.specs.Delimiters.{Opened, same, innermost, outside, closes, open_behind, with_partner, partners_from, partners_of}
 use Rattle.item_tree.specs.Pairs.{IsPair, ArePartners}
 use Rattle.item_tree.specs.Visibilities.{lexeme_at}
-use Rattle.item_tree.specs.declared.lexeme.Delimiter.{Delimiter}
-use Rattle.item_tree.specs.declared.lexeme.Delimiter.TheVariants.{Parenthesis, Bracket, Brace}
-use Rattle.item_tree.specs.declared.lexeme.LexemeKind.{LexemeKind}
-use Rattle.item_tree.specs.declared.lexeme.LexemeKind.TheVariants.{Word, Open, Close, Mark, Lifetime, Str, Literal, Error}
-use Rattle.item_tree.specs.declared.lexeme.Lexeme.{Lexeme}
+use Rattle.item_tree.specs.declared.lexer.lexeme.Delimiter.{Delimiter}
+use Rattle.item_tree.specs.declared.lexer.lexeme.Delimiter.TheVariants.{Parenthesis, Bracket, Brace}
+use Rattle.item_tree.specs.declared.lexer.lexeme.LexemeKind.{LexemeKind}
+use Rattle.item_tree.specs.declared.lexer.lexeme.LexemeKind.TheVariants.{Word, Open, Close, Mark, Lifetime, Str, Literal, Error}
+use Rattle.item_tree.specs.declared.lexer.lexeme.Lexeme.{Lexeme}
 
 abbrev g : List ℕ → ℕ → ℕ
 g ps k = get_or ps k 0

@@ -4,10 +4,10 @@ use Rattle.std.specs.Prelude.{Option}
 use Rattle.std.proofs.lemmas.List.{drop-drop}
 use Rattle.item_tree.specs.CfgIfs.{first_in, kind_behind}
 use Rattle.item_tree.specs.Items.{placed, items_from}
-use Rattle.item_tree.specs.declared.cfg_if.LevelKind.{LevelKind}
-use Rattle.item_tree.specs.declared.item_parts.ItemParts.{ItemParts}
+use Rattle.item_tree.specs.declared.cfg.cfg_if.LevelKind.{LevelKind}
+use Rattle.item_tree.specs.declared.items.item_parts.ItemParts.{ItemParts}
 use Rattle.item_tree.specs.declared.items.Item.{Item}
-use Rattle.item_tree.specs.declared.trees.Tree.{Tree}
+use Rattle.item_tree.specs.declared.lexer.trees.Tree.{Tree}
 
 items_skipped : (kind : LevelKind) (parent : Option ℕ) (end n : ℕ) (ts : List Tree) → items_from kind parent end n ts ≡ items_from kind parent end 0 (drop n ts)
 items_skipped kind parent end zero ts = refl

@@ -2,11 +2,11 @@
 use Rattle.std.proofs.Common.{◌≡◌, ◌+◌, ◌-◌, ◌++◌, ◌<◌, ℕ, zero, suc, List, [], ◌∷◌, length, drop, refl, ap, sym, ◌∙◌, arith, append_assoc, length-drop}
 use Rattle.std.proofs.lemmas.List.{drop-drop}
 use Rattle.item_tree.specs.Members.{first_member, placed, members_from}
-use Rattle.item_tree.specs.declared.lexeme.Lexeme.{Lexeme}
-use Rattle.item_tree.specs.declared.members.Member.{Member}
-use Rattle.item_tree.specs.declared.members.MemberKind.{MemberKind}
-use Rattle.item_tree.specs.declared.members.MemberParts.{MemberParts}
-use Rattle.item_tree.specs.declared.trees.Tree.{Tree}
+use Rattle.item_tree.specs.declared.lexer.lexeme.Lexeme.{Lexeme}
+use Rattle.item_tree.specs.declared.items.members.Member.{Member}
+use Rattle.item_tree.specs.declared.items.members.MemberKind.{MemberKind}
+use Rattle.item_tree.specs.declared.items.members.MemberParts.{MemberParts}
+use Rattle.item_tree.specs.declared.lexer.trees.Tree.{Tree}
 
 members_skipped : (kind : MemberKind) (ls : List Lexeme) (end n : ℕ) (ts : List Tree) → members_from kind ls end n ts ≡ members_from kind ls end 0 (drop n ts)
 members_skipped kind ls end zero ts = refl

@@ -5,9 +5,9 @@ use Rattle.std.proofs.lemmas.Bool.{lt-ltb, le-ltb, cases_lt}
 use Rattle.std.proofs.lemmas.List.{drop-drop}
 use Rattle.std.proofs.Math.ListN.{drop_of_length-le}
 use Rattle.item_tree.specs.UseTrees.{step_of, with_tree, use_trees_from}
-use Rattle.item_tree.specs.declared.lexeme.Lexeme.{Lexeme}
-use Rattle.item_tree.specs.declared.use_tree.Step.{Step}
-use Rattle.item_tree.specs.declared.use_tree.UseTree.{UseTree}
+use Rattle.item_tree.specs.declared.lexer.lexeme.Lexeme.{Lexeme}
+use Rattle.item_tree.specs.declared.items.use_tree.Step.{Step}
+use Rattle.item_tree.specs.declared.items.use_tree.UseTree.{UseTree}
 
 no_further : (i : ℕ) → i ≡ i + 0
 no_further i = omega arith

@@ -4,13 +4,13 @@ use Rattle.std.specs.Prelude.{Option, Some, None}
 use Rattle.std.specs.List.{AllByRecursion}
 use Rattle.item_tree.specs.SyntaxErrors.{error_at, lacks, item_error, lexeme_error, listed, item_errors, lexeme_errors, errors_of, IsWhole, IsMatchedAt, AreMatched}
 use Rattle.item_tree.specs.Trees.{partner_at}
-use Rattle.item_tree.specs.declared.expected.Expected.{Expected}
-use Rattle.item_tree.specs.declared.expected.Expected.TheVariants as expected
+use Rattle.item_tree.specs.declared.items.expected.Expected.{Expected}
+use Rattle.item_tree.specs.declared.items.expected.Expected.TheVariants as expected
 use Rattle.item_tree.specs.declared.items.Item.{Item}
-use Rattle.item_tree.specs.declared.lexeme.Lexeme.{Lexeme}
-use Rattle.item_tree.specs.declared.lexeme.LexemeKind.{LexemeKind}
-use Rattle.item_tree.specs.declared.lexeme.LexemeKind.TheVariants.{Word, Open, Close, Mark, Lifetime, Str, Literal, Error}
-use Rattle.item_tree.specs.declared.syntax_error.SyntaxError.{SyntaxError}
+use Rattle.item_tree.specs.declared.lexer.lexeme.Lexeme.{Lexeme}
+use Rattle.item_tree.specs.declared.lexer.lexeme.LexemeKind.{LexemeKind}
+use Rattle.item_tree.specs.declared.lexer.lexeme.LexemeKind.TheVariants.{Word, Open, Close, Mark, Lifetime, Str, Literal, Error}
+use Rattle.item_tree.specs.declared.lexer.syntax_error.SyntaxError.{SyntaxError}
 
 whole_item : (x : Item) → IsWhole x → item_error x ≡ None
 whole_item x is = ap (λ b. cond b (Some (error_at x.first expected.Item)) (lacks x.behind x.missing)) is.0 ∙ ap (λ (m : Option Expected). lacks x.behind m) is.1

@@ -4,10 +4,10 @@ use Rattle.std.specs.Prelude.{◌||◌}
 use Rattle.item_tree.specs.Beginnings.{begins_anywhere, begins_another, another_begins}
 use Rattle.item_tree.specs.ItemEnds.{ends_item, depth_in, complete, later, cut, up_to_end}
 use Rattle.item_tree.specs.NoneTaken.{NoneBegins}
-use Rattle.item_tree.specs.declared.item_end.ItemEnd.{ItemEnd}
-use Rattle.item_tree.specs.declared.item_kind.ItemKind.{ItemKind}
-use Rattle.item_tree.specs.declared.lexeme.LexemeKind.{LexemeKind}
-use Rattle.item_tree.specs.declared.trees.Tree.{Tree}
+use Rattle.item_tree.specs.declared.items.item_end.ItemEnd.{ItemEnd}
+use Rattle.item_tree.specs.declared.items.item_kind.ItemKind.{ItemKind}
+use Rattle.item_tree.specs.declared.lexer.lexeme.LexemeKind.{LexemeKind}
+use Rattle.item_tree.specs.declared.lexer.trees.Tree.{Tree}
 
 first_of : (a b : Bool) → (a || b) ≡ false → a ≡ false
 first_of true b e = cc

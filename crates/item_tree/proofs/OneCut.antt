@@ -7,19 +7,19 @@ use Rattle.std.proofs.lemmas.Bool.{ltb-true, leb-true}
 use Rattle.std.proofs.lemmas.List.{drop-append-le, take_all}
 use Rattle.std.proofs.lemmas.List.Sums.{sum_by-cons}
 use Rattle.std.proofs.Math.Seq.{drop-append_seam}
-use Rattle.dm_names.specs.declared.edition.Edition.{Edition}
+use Rattle.dm_base.specs.declared.edition.Edition.{Edition}
 use Rattle.item_tree.specs.Shapes.{is_no_newline, is_escape, matched_with, past_quote, past_comment, past_raw, is_longest_run, is_exact}
 use Rattle.item_tree.specs.Characters.{is_following, is_blank, is_word_char, chars_len}
 use Rattle.item_tree.specs.Numbers.{number_len}
 use Rattle.item_tree.specs.Openings.{opening, begins_order_mark}
 use Rattle.item_tree.specs.Tokens.{fills, never_ends, number_of, same_kind, is_opened, is_token, are_tokens}
-use Rattle.item_tree.specs.declared.bodies.NumberPart.TheVariants.{Digits}
-use Rattle.item_tree.specs.declared.openings.Body.{Body}
-use Rattle.item_tree.specs.declared.openings.Body.TheVariants.{Empty, Following, Blanks, Line, Word, Number, Comment, Quoted, Raw}
-use Rattle.item_tree.specs.declared.openings.Opening.{Opening}
-use Rattle.item_tree.specs.declared.token.Token.{Token}
-use Rattle.item_tree.specs.declared.token.TokenKind.{TokenKind}
-use Rattle.item_tree.specs.declared.token.TokenKind.TheVariants as kind
+use Rattle.item_tree.specs.declared.items.bodies.NumberPart.TheVariants.{Digits}
+use Rattle.item_tree.specs.declared.items.openings.Body.{Body}
+use Rattle.item_tree.specs.declared.items.openings.Body.TheVariants.{Empty, Following, Blanks, Line, Word, Number, Comment, Quoted, Raw}
+use Rattle.item_tree.specs.declared.items.openings.Opening.{Opening}
+use Rattle.item_tree.specs.declared.lexer.token.Token.{Token}
+use Rattle.item_tree.specs.declared.lexer.token.TokenKind.{TokenKind}
+use Rattle.item_tree.specs.declared.lexer.token.TokenKind.TheVariants as kind
 use Rattle.item_tree.proofs.Runs.{run_len, chars_are, number_is}
 
 both : (a b : Bool) → (a && b) ≡ true → (a ≡ true) × (b ≡ true)

@@ -6,12 +6,12 @@ use Rattle.std.proofs.lemmas.Bool.{le-leb}
 use Rattle.std.proofs.lemmas.List.{append-nil, drop-drop, drop-take, length-take-le}
 use Rattle.std.proofs.Math.ListN.{drop_of_length-le}
 use Rattle.std.proofs.Math.Seq.{take-length, drop-length}
-use Rattle.dm_names.specs.declared.edition.Edition.{Edition}
+use Rattle.dm_base.specs.declared.edition.Edition.{Edition}
 use Rattle.item_tree.specs.Openings.{opening}
 use Rattle.item_tree.specs.Tokens.{fills, never_ends, number_of, are_tokens, IsFirst}
-use Rattle.item_tree.specs.declared.openings.Opening.{Opening}
-use Rattle.item_tree.specs.declared.token.Token.{Token}
-use Rattle.item_tree.specs.declared.token.TokenKind.TheVariants.{Error}
+use Rattle.item_tree.specs.declared.items.openings.Opening.{Opening}
+use Rattle.item_tree.specs.declared.lexer.token.Token.{Token}
+use Rattle.item_tree.specs.declared.lexer.token.TokenKind.TheVariants.{Error}
 
 same_number : (n : ℕ) → (n == n) ≡ true
 same_number n = grind (arith, common_steps)

@@ -6,12 +6,12 @@ use Rattle.std.proofs.lemmas.List.{get_or_push, length-set}
 use Rattle.std.proofs.Math.ListN.{get_or-append}
 use Rattle.item_tree.specs.Delimiters.{Opened, same, innermost, outside, closes, open_behind, with_partner, partners_from, partners_of}
 use Rattle.item_tree.specs.Innermost as inner
-use Rattle.item_tree.specs.declared.delimiters.Innermost.{Innermost}
-use Rattle.item_tree.specs.declared.lexeme.Delimiter.{Delimiter}
-use Rattle.item_tree.specs.declared.lexeme.Delimiter.TheVariants.{Parenthesis, Bracket, Brace}
-use Rattle.item_tree.specs.declared.lexeme.LexemeKind.{LexemeKind}
-use Rattle.item_tree.specs.declared.lexeme.LexemeKind.TheVariants.{Word, Open, Close, Mark, Lifetime, Str, Literal, Error}
-use Rattle.item_tree.specs.declared.lexeme.Lexeme.{Lexeme}
+use Rattle.item_tree.specs.declared.lexer.delimiters.Innermost.{Innermost}
+use Rattle.item_tree.specs.declared.lexer.lexeme.Delimiter.{Delimiter}
+use Rattle.item_tree.specs.declared.lexer.lexeme.Delimiter.TheVariants.{Parenthesis, Bracket, Brace}
+use Rattle.item_tree.specs.declared.lexer.lexeme.LexemeKind.{LexemeKind}
+use Rattle.item_tree.specs.declared.lexer.lexeme.LexemeKind.TheVariants.{Word, Open, Close, Mark, Lifetime, Str, Literal, Error}
+use Rattle.item_tree.specs.declared.lexer.lexeme.Lexeme.{Lexeme}
 
 -- the innermost of each kind is told
 abbrev pub Tracks : Innermost → List Opened → Type 0

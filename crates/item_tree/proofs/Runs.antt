@@ -6,7 +6,7 @@ use Rattle.item_tree.specs.Shapes.{begins, is_longest_run}
 use Rattle.item_tree.specs.Characters.{are_all, chars_len}
 use Rattle.item_tree.specs.Characters as chars
 use Rattle.item_tree.specs.Numbers.{takes, after, is_number, number_len}
-use Rattle.item_tree.specs.declared.bodies.NumberPart.{NumberPart}
+use Rattle.item_tree.specs.declared.items.bodies.NumberPart.{NumberPart}
 
 one_more : (n : ℕ) → 1 + n ≡ suc n
 one_more n = omega arith

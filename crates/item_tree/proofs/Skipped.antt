@@ -5,8 +5,8 @@ use Rattle.std.proofs.lemmas.Bool.{lt-ltb, le-ltb, cases_lt}
 use Rattle.std.proofs.lemmas.List.{drop-drop, append-nil}
 use Rattle.std.proofs.Math.ListN.{drop_of_length-le}
 use Rattle.item_tree.specs.Trees.{tree_of, partner_at, trees_from}
-use Rattle.item_tree.specs.declared.lexeme.Lexeme.{Lexeme}
-use Rattle.item_tree.specs.declared.trees.Tree.{Tree}
+use Rattle.item_tree.specs.declared.lexer.lexeme.Lexeme.{Lexeme}
+use Rattle.item_tree.specs.declared.lexer.trees.Tree.{Tree}
 
 plus_zero : (i : ℕ) → i ≡ i + 0
 plus_zero i = omega arith

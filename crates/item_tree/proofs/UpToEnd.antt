@@ -4,13 +4,13 @@ use Rattle.std.specs.Prelude.{◌||◌, ◌&&◌, Option}
 use Rattle.item_tree.specs.Beginnings.{begins_another, another_begins}
 use Rattle.item_tree.specs.Heads.{is_qualifier}
 use Rattle.item_tree.specs.ItemEnds.{ends_item, depth_behind, depth_in, complete, later, cut, up_to_end}
-use Rattle.item_tree.specs.declared.expected.Expected.{Expected}
-use Rattle.item_tree.specs.declared.item_end.ItemEnd.{ItemEnd}
-use Rattle.item_tree.specs.declared.item_kind.ItemKind.{ItemKind}
-use Rattle.item_tree.specs.declared.item_kind.ItemKind.TheVariants as item
-use Rattle.item_tree.specs.declared.lexeme.LexemeKind.{LexemeKind}
-use Rattle.item_tree.specs.declared.lexeme.LexemeKind.TheVariants.{Word, Open, Close, Mark, Lifetime, Str, Literal, Error}
-use Rattle.item_tree.specs.declared.trees.Tree.{Tree}
+use Rattle.item_tree.specs.declared.items.expected.Expected.{Expected}
+use Rattle.item_tree.specs.declared.items.item_end.ItemEnd.{ItemEnd}
+use Rattle.item_tree.specs.declared.items.item_kind.ItemKind.{ItemKind}
+use Rattle.item_tree.specs.declared.items.item_kind.ItemKind.TheVariants as item
+use Rattle.item_tree.specs.declared.lexer.lexeme.LexemeKind.{LexemeKind}
+use Rattle.item_tree.specs.declared.lexer.lexeme.LexemeKind.TheVariants.{Word, Open, Close, Mark, Lifetime, Str, Literal, Error}
+use Rattle.item_tree.specs.declared.lexer.trees.Tree.{Tree}
 
 -- the end, where so many trees are the item's own, and qualifiers stand behind them up to a place
 abbrev pub pending : ItemKind → ℕ → ℕ → LexemeKind → ℕ → List Tree → ItemEnd

@@ -7,15 +7,15 @@ use Rattle.item_tree.specs.ItemKinds.{is_segment, part_behind}
 use Rattle.item_tree.specs.UseGrammar.{Prefix, Nothing, Colons, Behind, prefix_of, IsPrefix, IsSegment, IsMark, IsAs, IsAlias, IsOpen, IsClose}
 use Rattle.item_tree.specs.UseTrees.{takes_segment, path_len, path_alone, renamed, tail_of, with_tail, with_path, first_use_tree, inner, outer, closes_list, step_to, step_of, use_trees_from}
 use Rattle.item_tree.specs.Visibilities.{lexeme_at}
-use Rattle.item_tree.specs.declared.item_kind.PathPart.{PathPart}
-use Rattle.item_tree.specs.declared.item_kind.PathPart.TheVariants as part
-use Rattle.item_tree.specs.declared.lexeme.Delimiter.TheVariants.{Brace}
-use Rattle.item_tree.specs.declared.lexeme.Lexeme.{Lexeme}
-use Rattle.item_tree.specs.declared.lexeme.LexemeKind.{LexemeKind}
-use Rattle.item_tree.specs.declared.lexeme.LexemeKind.TheVariants as kind
-use Rattle.item_tree.specs.declared.use_tree.Tail.{Tail}
-use Rattle.item_tree.specs.declared.use_tree.UseTree.{UseTree}
-use Rattle.item_tree.specs.declared.use_tree.UseTreeKind.TheVariants as tree
+use Rattle.item_tree.specs.declared.items.item_kind.PathPart.{PathPart}
+use Rattle.item_tree.specs.declared.items.item_kind.PathPart.TheVariants as part
+use Rattle.item_tree.specs.declared.lexer.lexeme.Delimiter.TheVariants.{Brace}
+use Rattle.item_tree.specs.declared.lexer.lexeme.Lexeme.{Lexeme}
+use Rattle.item_tree.specs.declared.lexer.lexeme.LexemeKind.{LexemeKind}
+use Rattle.item_tree.specs.declared.lexer.lexeme.LexemeKind.TheVariants as kind
+use Rattle.item_tree.specs.declared.items.use_tree.Tail.{Tail}
+use Rattle.item_tree.specs.declared.items.use_tree.UseTree.{UseTree}
+use Rattle.item_tree.specs.declared.items.use_tree.UseTreeKind.TheVariants as tree
 use Rattle.item_tree.proofs.NextUseTree.{one_step}
 
 -- the lexeme behind some

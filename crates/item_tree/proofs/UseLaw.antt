@@ -8,9 +8,9 @@ use Rattle.item_tree.specs.UseGrammar.{prefix_of, Written, Name, Renamed, Glob, 
 use Rattle.item_tree.specs.UseLeaves.{outer_path, path_or_none, whole_path, alias_of, leaf_of, leaves_from, leaves_of}
 use Rattle.item_tree.specs.UseTrees.{with_tail}
 use Rattle.item_tree.specs.declared.items.Range.{Range}
-use Rattle.item_tree.specs.declared.lexeme.Lexeme.{Lexeme}
-use Rattle.item_tree.specs.declared.use_tree.UseTree.{UseTree}
-use Rattle.item_tree.specs.declared.use_tree.UseTreeKind.TheVariants as tree
+use Rattle.item_tree.specs.declared.lexer.lexeme.Lexeme.{Lexeme}
+use Rattle.item_tree.specs.declared.items.use_tree.UseTree.{UseTree}
+use Rattle.item_tree.specs.declared.items.use_tree.UseTreeKind.TheVariants as tree
 use Rattle.item_tree.proofs.UseWritten.{rows, list_rows}
 
 get_kept : {X : Type 0} (xs ys : List X) (n : ℕ) (x : X) → slice_get xs n ≡ Some x → slice_get (xs ++ ys) n ≡ Some x

@@ -7,10 +7,10 @@ use Rattle.item_tree.specs.UseGrammar.{prefix_of, Written, Name, Renamed, Glob, 
 use Rattle.item_tree.specs.UseTrees.{with_tail, outer, parent_of, closes_list, step_of, first_use_tree, step_to, use_trees_from, use_trees_of}
 use Rattle.item_tree.specs.Visibilities.{lexeme_at}
 use Rattle.item_tree.specs.declared.items.Range.{Range}
-use Rattle.item_tree.specs.declared.lexeme.Lexeme.{Lexeme}
-use Rattle.item_tree.specs.declared.use_tree.Step.{Step}
-use Rattle.item_tree.specs.declared.use_tree.UseTree.{UseTree}
-use Rattle.item_tree.specs.declared.use_tree.UseTreeKind.TheVariants as tree
+use Rattle.item_tree.specs.declared.lexer.lexeme.Lexeme.{Lexeme}
+use Rattle.item_tree.specs.declared.items.use_tree.Step.{Step}
+use Rattle.item_tree.specs.declared.items.use_tree.UseTree.{UseTree}
+use Rattle.item_tree.specs.declared.items.use_tree.UseTreeKind.TheVariants as tree
 use Rattle.item_tree.proofs.NextUseTree.{one_step, nothing_read}
 use Rattle.item_tree.proofs.UseHeads.{Begins, Follows, comma, close, semicolon, name_row, renamed_row, glob_row, list_row, name_begins, glob_begins, list_begins, tree_goes}
 

@@ -12,19 +12,19 @@ use Rattle.item_tree.specs.ItemParts.{first_item, bounded, begins_inner_attribut
 use Rattle.item_tree.specs.CfgIfs.{arm_head, arm_by, first_in, kind_behind, level_kind}
 use Rattle.item_tree.specs.ItemKinds.{item_kind}
 use Rattle.item_tree.specs.ItemEnds.{item_end}
-use Rattle.item_tree.specs.declared.cfg_if.LevelKind.{LevelKind}
-use Rattle.item_tree.specs.declared.cfg_if.LevelKind.TheVariants.{Items, FirstArm, OtherArm, NoArm}
-use Rattle.item_tree.specs.declared.item_kind.ItemKind.{ItemKind}
-use Rattle.item_tree.specs.declared.item_kind.ItemKind.TheVariants as item
+use Rattle.item_tree.specs.declared.cfg.cfg_if.LevelKind.{LevelKind}
+use Rattle.item_tree.specs.declared.cfg.cfg_if.LevelKind.TheVariants.{Items, FirstArm, OtherArm, NoArm}
+use Rattle.item_tree.specs.declared.items.item_kind.ItemKind.{ItemKind}
+use Rattle.item_tree.specs.declared.items.item_kind.ItemKind.TheVariants as item
 use Rattle.item_tree.specs.Items.{placed, body_of, body_at, body_of_tree, items_from, level_of, within, level_in, inner_level, inner_level_of, inner_level_at, contains_items, children_from, top_level_of}
 use Rattle.item_tree.specs.Trees.{single, tree_of, partner_at, trees_from, trees_of}
 use Rattle.item_tree.specs.declared.items.Item.{Item}
 use Rattle.item_tree.specs.declared.items.Range.{Range}
-use Rattle.item_tree.specs.declared.lexeme.Delimiter.TheVariants.{Parenthesis, Bracket, Brace}
-use Rattle.item_tree.specs.declared.lexeme.Lexeme.{Lexeme}
-use Rattle.item_tree.specs.declared.lexeme.LexemeKind.{LexemeKind}
-use Rattle.item_tree.specs.declared.lexeme.LexemeKind.TheVariants.{Word, Open, Close, Mark, Lifetime, Str, Literal, Error}
-use Rattle.item_tree.specs.declared.trees.Tree.{Tree}
+use Rattle.item_tree.specs.declared.lexer.lexeme.Delimiter.TheVariants.{Parenthesis, Bracket, Brace}
+use Rattle.item_tree.specs.declared.lexer.lexeme.Lexeme.{Lexeme}
+use Rattle.item_tree.specs.declared.lexer.lexeme.LexemeKind.{LexemeKind}
+use Rattle.item_tree.specs.declared.lexer.lexeme.LexemeKind.TheVariants.{Word, Open, Close, Mark, Lifetime, Str, Literal, Error}
+use Rattle.item_tree.specs.declared.lexer.trees.Tree.{Tree}
 
 abbrev pub size : Tree → ℕ
 size t = t.behind - t.first

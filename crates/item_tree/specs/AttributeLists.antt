@@ -4,12 +4,12 @@ use Rattle.std.specs.Str.{bytes_eq}
 use Rattle.item_tree.specs.Spans.{name_text}
 use Rattle.item_tree.specs.CfgReading.{span_of}
 use Rattle.item_tree.specs.AttributeKinds.{lexemes_in, input_of}
-use Rattle.item_tree.specs.declared.lexeme.LexemeKind.{LexemeKind}
-use Rattle.item_tree.specs.declared.lexeme.LexemeKind.TheVariants as kind
-use Rattle.item_tree.specs.declared.lexeme.Lexeme.{Lexeme}
+use Rattle.item_tree.specs.declared.lexer.lexeme.LexemeKind.{LexemeKind}
+use Rattle.item_tree.specs.declared.lexer.lexeme.LexemeKind.TheVariants as kind
+use Rattle.item_tree.specs.declared.lexer.lexeme.Lexeme.{Lexeme}
 use Rattle.item_tree.specs.declared.items.Range.{Range}
-use Rattle.item_tree.specs.declared.attribute.AttributeInput.{AttributeInput}
-use Rattle.item_tree.specs.declared.attribute.AttributeInput.TheVariants.{List as InList}
+use Rattle.item_tree.specs.declared.attributes.attribute.AttributeInput.{AttributeInput}
+use Rattle.item_tree.specs.declared.attributes.attribute.AttributeInput.TheVariants.{List as InList}
 
 -- how many brackets are open behind a lexeme
 abbrev pub depth_behind : ℕ → LexemeKind → ℕ

@@ -1,17 +1,17 @@
 -- How the attributes of a file are found, lexeme by lexeme.
 use Rattle.std.specs.Prelude.{◌==◌, ◌+◌, ◌-◌, ◌&&◌, ℕ, Bool, true, false, not, List, [], ◌∷◌, ◌++◌, Option, Some, None, length, take, slice_get, if◌then◌else◌}
-use Rattle.item_tree.specs.declared.word.Word.{Word}
-use Rattle.item_tree.specs.declared.word.Word.TheVariants as word
-use Rattle.item_tree.specs.declared.lexeme.Delimiter.TheVariants.{Parenthesis, Bracket}
-use Rattle.item_tree.specs.declared.lexeme.LexemeKind.{LexemeKind}
-use Rattle.item_tree.specs.declared.lexeme.LexemeKind.TheVariants as kind
-use Rattle.item_tree.specs.declared.lexeme.Lexeme.{Lexeme}
-use Rattle.item_tree.specs.declared.attribute_reader.AttributePlace.{AttributePlace}
-use Rattle.item_tree.specs.declared.attribute_reader.ConditionPlace.{ConditionPlace}
-use Rattle.item_tree.specs.declared.attribute_reader.AttributeLevel.{AttributeLevel}
-use Rattle.item_tree.specs.declared.attribute_reader.AttributeLevel.TheVariants.{Group, Wrapped}
-use Rattle.item_tree.specs.declared.attribute_reader.AttributePhase.{AttributePhase}
-use Rattle.item_tree.specs.declared.attribute_reader.AttributePhase.TheVariants.{Outside, Hash, Bang, Start, Named, Input, Predicate, Behind}
+use Rattle.item_tree.specs.declared.lexer.word.Word.{Word}
+use Rattle.item_tree.specs.declared.lexer.word.Word.TheVariants as word
+use Rattle.item_tree.specs.declared.lexer.lexeme.Delimiter.TheVariants.{Parenthesis, Bracket}
+use Rattle.item_tree.specs.declared.lexer.lexeme.LexemeKind.{LexemeKind}
+use Rattle.item_tree.specs.declared.lexer.lexeme.LexemeKind.TheVariants as kind
+use Rattle.item_tree.specs.declared.lexer.lexeme.Lexeme.{Lexeme}
+use Rattle.item_tree.specs.declared.attributes.attribute_reader.AttributePlace.{AttributePlace}
+use Rattle.item_tree.specs.declared.attributes.attribute_reader.ConditionPlace.{ConditionPlace}
+use Rattle.item_tree.specs.declared.attributes.attribute_reader.AttributeLevel.{AttributeLevel}
+use Rattle.item_tree.specs.declared.attributes.attribute_reader.AttributeLevel.TheVariants.{Group, Wrapped}
+use Rattle.item_tree.specs.declared.attributes.attribute_reader.AttributePhase.{AttributePhase}
+use Rattle.item_tree.specs.declared.attributes.attribute_reader.AttributePhase.TheVariants.{Outside, Hash, Bang, Start, Named, Input, Predicate, Behind}
 
 -- a file that is read in part: the attributes and conditions found, the brackets open in an attribute, the condition
 -- that holds there, whether it is an inner one, and what is being read

@@ -5,17 +5,17 @@ use Rattle.item_tree.specs.Cfg.{value_of}
 use Rattle.item_tree.specs.CfgReading as predicate
 use Rattle.item_tree.specs.AttributeReading as attribute
 use Rattle.item_tree.specs.AttributeLists.{items_of}
-use Rattle.item_tree.specs.declared.span.Span.{Span}
-use Rattle.item_tree.specs.declared.word.Word.{Word}
-use Rattle.item_tree.specs.declared.word.Word.TheVariants as word
-use Rattle.item_tree.specs.declared.lexeme.Delimiter.TheVariants.{Parenthesis, Bracket}
-use Rattle.item_tree.specs.declared.lexeme.LexemeKind.{LexemeKind}
-use Rattle.item_tree.specs.declared.lexeme.LexemeKind.TheVariants.{Word as Named, Open, Close, Mark}
-use Rattle.item_tree.specs.declared.lexeme.Lexeme.{Lexeme}
+use Rattle.item_tree.specs.declared.lexer.span.Span.{Span}
+use Rattle.item_tree.specs.declared.lexer.word.Word.{Word}
+use Rattle.item_tree.specs.declared.lexer.word.Word.TheVariants as word
+use Rattle.item_tree.specs.declared.lexer.lexeme.Delimiter.TheVariants.{Parenthesis, Bracket}
+use Rattle.item_tree.specs.declared.lexer.lexeme.LexemeKind.{LexemeKind}
+use Rattle.item_tree.specs.declared.lexer.lexeme.LexemeKind.TheVariants.{Word as Named, Open, Close, Mark}
+use Rattle.item_tree.specs.declared.lexer.lexeme.Lexeme.{Lexeme}
 use Rattle.item_tree.specs.declared.cfg.CfgAtom.TheVariants as atom
 use Rattle.item_tree.specs.declared.cfg.CfgNode.{CfgNode}
 use Rattle.item_tree.specs.declared.cfg.CfgNode.TheVariants.{Invalid, Flag, Not, All, Any}
-use Rattle.item_tree.specs.declared.attribute_reader.AttributePlace.{AttributePlace}
+use Rattle.item_tree.specs.declared.attributes.attribute_reader.AttributePlace.{AttributePlace}
 
 -- a lexeme of a byte at a place, and a name there
 abbrev pub byte : LexemeKind → ℕ → Lexeme

@@ -4,20 +4,20 @@ use Rattle.item_tree.specs.CfgReading.{reading}
 use Rattle.item_tree.specs.Cfg.{value_of}
 use Rattle.item_tree.specs.AttributeReading as places
 use Rattle.item_tree.specs.AttributeKinds.{lexemes_in, input_of, kind_of}
-use Rattle.item_tree.specs.declared.word.Word.{Word}
-use Rattle.item_tree.specs.declared.word.Word.TheVariants as word
-use Rattle.item_tree.specs.declared.lexeme.Lexeme.{Lexeme}
+use Rattle.item_tree.specs.declared.lexer.word.Word.{Word}
+use Rattle.item_tree.specs.declared.lexer.word.Word.TheVariants as word
+use Rattle.item_tree.specs.declared.lexer.lexeme.Lexeme.{Lexeme}
 use Rattle.item_tree.specs.declared.cfg.CfgAtom.{CfgAtom}
 use Rattle.item_tree.specs.declared.cfg.CfgNode.{CfgNode}
 use Rattle.item_tree.specs.declared.cfg.CfgNode.TheVariants as node
 use Rattle.item_tree.specs.declared.items.Range.{Range}
-use Rattle.item_tree.specs.declared.attribute.NodeRange.{NodeRange}
-use Rattle.item_tree.specs.declared.attribute.AttributeInput.{AttributeInput}
-use Rattle.item_tree.specs.declared.attribute.AttributeInput.TheVariants.{List as InList}
-use Rattle.item_tree.specs.declared.attribute.AttributeKind.{AttributeKind}
-use Rattle.item_tree.specs.declared.attribute.AttributeKind.TheVariants as says
-use Rattle.item_tree.specs.declared.attribute_reader.AttributePlace.{AttributePlace}
-use Rattle.item_tree.specs.declared.attribute_reader.ConditionPlace.{ConditionPlace}
+use Rattle.item_tree.specs.declared.attributes.attribute.NodeRange.{NodeRange}
+use Rattle.item_tree.specs.declared.attributes.attribute.AttributeInput.{AttributeInput}
+use Rattle.item_tree.specs.declared.attributes.attribute.AttributeInput.TheVariants.{List as InList}
+use Rattle.item_tree.specs.declared.attributes.attribute.AttributeKind.{AttributeKind}
+use Rattle.item_tree.specs.declared.attributes.attribute.AttributeKind.TheVariants as says
+use Rattle.item_tree.specs.declared.attributes.attribute_reader.AttributePlace.{AttributePlace}
+use Rattle.item_tree.specs.declared.attributes.attribute_reader.ConditionPlace.{ConditionPlace}
 use Rattle.item_tree.specs.declared.attributes.Attribute.{Attribute}
 use Rattle.item_tree.specs.declared.attributes.Condition.{Condition}
 

@@ -3,7 +3,7 @@ use Rattle.std.specs.Prelude.{◌+◌, ◌&&◌, ℕ, Bool, true, false, not, Li
 use Rattle.std.specs.List.{list_any}
 use Rattle.std.specs.Str.{bytes_eq}
 use Rattle.item_tree.specs.Spans.{name_text, string_text}
-use Rattle.item_tree.specs.declared.span.Span.{Span}
+use Rattle.item_tree.specs.declared.lexer.span.Span.{Span}
 use Rattle.item_tree.specs.declared.cfg.CfgNode.{CfgNode}
 use Rattle.item_tree.specs.declared.cfg.CfgNode.TheVariants as node
 use Rattle.item_tree.specs.declared.cfg.CfgAtom.{CfgAtom}

@@ -3,11 +3,11 @@ use Rattle.std.specs.Prelude.{◌≡◌, ℕ, true, List, [], ◌∷◌, ◌++�
 use Rattle.item_tree.specs.Cfg as cfg
 use Rattle.item_tree.specs.Cfg.{CfgExpr, CfgExprs}
 use Rattle.item_tree.specs.CfgReading.{span_of, is_text, may_have_value}
-use Rattle.item_tree.specs.declared.word.Word.{Word}
-use Rattle.item_tree.specs.declared.word.Word.TheVariants as word
-use Rattle.item_tree.specs.declared.lexeme.Delimiter.TheVariants.{Parenthesis}
-use Rattle.item_tree.specs.declared.lexeme.LexemeKind.TheVariants as kind
-use Rattle.item_tree.specs.declared.lexeme.Lexeme.{Lexeme}
+use Rattle.item_tree.specs.declared.lexer.word.Word.{Word}
+use Rattle.item_tree.specs.declared.lexer.word.Word.TheVariants as word
+use Rattle.item_tree.specs.declared.lexer.lexeme.Delimiter.TheVariants.{Parenthesis}
+use Rattle.item_tree.specs.declared.lexer.lexeme.LexemeKind.TheVariants as kind
+use Rattle.item_tree.specs.declared.lexer.lexeme.Lexeme.{Lexeme}
 
 -- a predicate as it is written: a word; a word, `=` and a string; or a word and a list in parentheses, of which that
 -- of `not` has one predicate, and maybe a comma

@@ -2,15 +2,15 @@
 use Rattle.std.specs.Prelude.{◌==◌, ◌+◌, ◌&&◌, ℕ, Bool, true, false, not, List, None, length, drop, if◌then◌else◌}
 use Rattle.item_tree.specs.Heads.{kind_at, is_mark, is_bracket, is_brace}
 use Rattle.item_tree.specs.ItemParts.{bounded, first_item}
-use Rattle.item_tree.specs.declared.cfg_if.LevelKind.{LevelKind}
-use Rattle.item_tree.specs.declared.cfg_if.LevelKind.TheVariants.{Items, FirstArm, OtherArm, NoArm}
-use Rattle.item_tree.specs.declared.item_kind.ItemKind.{ItemKind}
-use Rattle.item_tree.specs.declared.item_kind.ItemKind.TheVariants as item
-use Rattle.item_tree.specs.declared.item_parts.ItemParts.{ItemParts}
-use Rattle.item_tree.specs.declared.lexeme.LexemeKind.{LexemeKind}
-use Rattle.item_tree.specs.declared.lexeme.LexemeKind.TheVariants.{Word}
-use Rattle.item_tree.specs.declared.trees.Tree.{Tree}
-use Rattle.item_tree.specs.declared.word.Word.TheVariants as word
+use Rattle.item_tree.specs.declared.cfg.cfg_if.LevelKind.{LevelKind}
+use Rattle.item_tree.specs.declared.cfg.cfg_if.LevelKind.TheVariants.{Items, FirstArm, OtherArm, NoArm}
+use Rattle.item_tree.specs.declared.items.item_kind.ItemKind.{ItemKind}
+use Rattle.item_tree.specs.declared.items.item_kind.ItemKind.TheVariants as item
+use Rattle.item_tree.specs.declared.items.item_parts.ItemParts.{ItemParts}
+use Rattle.item_tree.specs.declared.lexer.lexeme.LexemeKind.{LexemeKind}
+use Rattle.item_tree.specs.declared.lexer.lexeme.LexemeKind.TheVariants.{Word}
+use Rattle.item_tree.specs.declared.lexer.trees.Tree.{Tree}
+use Rattle.item_tree.specs.declared.lexer.word.Word.TheVariants as word
 
 abbrev pub is_if : LexemeKind → Bool
 is_if (Word word.If) = true

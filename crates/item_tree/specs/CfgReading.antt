@@ -2,22 +2,22 @@
 use Rattle.std.specs.Prelude.{◌==◌, ◌≤◌, ◌+◌, ◌-◌, ◌||◌, ◌&&◌, ℕ, Bool, true, false, List, [], ◌∷◌, ◌++◌, Option, Some, None, Result, Ok, Err, length, take, slice_get, option_map, option_and_then, if◌then◌else◌}
 use Rattle.item_tree.specs.Shapes.{begins}
 use Rattle.item_tree.specs.Spans.{piece}
-use Rattle.item_tree.specs.declared.span.Span.{Span}
-use Rattle.item_tree.specs.declared.word.Word.{Word}
-use Rattle.item_tree.specs.declared.word.Word.TheVariants as word
-use Rattle.item_tree.specs.declared.lexeme.Delimiter.TheVariants.{Parenthesis}
-use Rattle.item_tree.specs.declared.lexeme.LexemeKind.{LexemeKind}
-use Rattle.item_tree.specs.declared.lexeme.LexemeKind.TheVariants as kind
-use Rattle.item_tree.specs.declared.lexeme.Lexeme.{Lexeme}
+use Rattle.item_tree.specs.declared.lexer.span.Span.{Span}
+use Rattle.item_tree.specs.declared.lexer.word.Word.{Word}
+use Rattle.item_tree.specs.declared.lexer.word.Word.TheVariants as word
+use Rattle.item_tree.specs.declared.lexer.lexeme.Delimiter.TheVariants.{Parenthesis}
+use Rattle.item_tree.specs.declared.lexer.lexeme.LexemeKind.{LexemeKind}
+use Rattle.item_tree.specs.declared.lexer.lexeme.LexemeKind.TheVariants as kind
+use Rattle.item_tree.specs.declared.lexer.lexeme.Lexeme.{Lexeme}
 use Rattle.item_tree.specs.declared.cfg.CfgNode.{CfgNode}
 use Rattle.item_tree.specs.declared.cfg.CfgNode.TheVariants as node
-use Rattle.item_tree.specs.declared.cfg_parser.CfgList.{CfgList}
-use Rattle.item_tree.specs.declared.cfg_parser.CfgList.TheVariants.{Whole, Not, All, Any}
-use Rattle.item_tree.specs.declared.cfg_parser.CfgLevel.{CfgLevel}
-use Rattle.item_tree.specs.declared.cfg_parser.CfgParse.{CfgParse}
-use Rattle.item_tree.specs.declared.cfg_parser.CfgParse.TheVariants.{Predicate, Malformed}
-use Rattle.item_tree.specs.declared.cfg_parser.CfgPhase.{CfgPhase}
-use Rattle.item_tree.specs.declared.cfg_parser.CfgPhase.TheVariants.{Begin, Named, Valued, Done}
+use Rattle.item_tree.specs.declared.cfg.cfg_parser.CfgList.{CfgList}
+use Rattle.item_tree.specs.declared.cfg.cfg_parser.CfgList.TheVariants.{Whole, Not, All, Any}
+use Rattle.item_tree.specs.declared.cfg.cfg_parser.CfgLevel.{CfgLevel}
+use Rattle.item_tree.specs.declared.cfg.cfg_parser.CfgParse.{CfgParse}
+use Rattle.item_tree.specs.declared.cfg.cfg_parser.CfgParse.TheVariants.{Predicate, Malformed}
+use Rattle.item_tree.specs.declared.cfg.cfg_parser.CfgPhase.{CfgPhase}
+use Rattle.item_tree.specs.declared.cfg.cfg_parser.CfgPhase.TheVariants.{Begin, Named, Valued, Done}
 
 -- a predicate that is read in part: its nodes, the lists around the innermost one, that one, and what may come next
 pub record Reading : Type 0 where

@@ -5,7 +5,7 @@ use Rattle.item_tree.specs.Items.{level_of, inner_level}
 use Rattle.item_tree.specs.declared.items.Item.{Item}
 use Rattle.item_tree.specs.declared.items.Level.{Level}
 use Rattle.item_tree.specs.declared.items.Range.{Range}
-use Rattle.item_tree.specs.declared.lexeme.Lexeme.{Lexeme}
+use Rattle.item_tree.specs.declared.lexer.lexeme.Lexeme.{Lexeme}
 
 -- each begins where the one before it ends, the first and the last where they should, and each has a lexeme
 abbrev pub Cover : ℕ → ℕ → List Item → Type 0

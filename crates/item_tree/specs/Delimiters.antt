@@ -1,10 +1,10 @@
 -- Delimiters that belong together.
 use Rattle.std.specs.Prelude.{◌+◌, ◌++◌, ℕ, Bool, true, false, List, [], ◌∷◌, Option, Some, None, slice_set, is_none, if◌then◌else◌}
-use Rattle.item_tree.specs.declared.lexeme.Delimiter.{Delimiter}
-use Rattle.item_tree.specs.declared.lexeme.Delimiter.TheVariants.{Parenthesis, Bracket, Brace}
-use Rattle.item_tree.specs.declared.lexeme.LexemeKind.{LexemeKind}
-use Rattle.item_tree.specs.declared.lexeme.LexemeKind.TheVariants.{Open, Close}
-use Rattle.item_tree.specs.declared.lexeme.Lexeme.{Lexeme}
+use Rattle.item_tree.specs.declared.lexer.lexeme.Delimiter.{Delimiter}
+use Rattle.item_tree.specs.declared.lexer.lexeme.Delimiter.TheVariants.{Parenthesis, Bracket, Brace}
+use Rattle.item_tree.specs.declared.lexer.lexeme.LexemeKind.{LexemeKind}
+use Rattle.item_tree.specs.declared.lexer.lexeme.LexemeKind.TheVariants.{Open, Close}
+use Rattle.item_tree.specs.declared.lexer.lexeme.Lexeme.{Lexeme}
 
 abbrev pub same : Delimiter → Delimiter → Bool
 same Parenthesis Parenthesis = true

@@ -1,8 +1,8 @@
 -- What is said of what a text lacks.
 use Rattle.std.specs.Prelude.{ℕ, List, codes}
-use Rattle.item_tree.specs.declared.expected.Expected.{Expected}
-use Rattle.item_tree.specs.declared.expected.Expected.TheVariants.{Item, Semicolon, Body, Group, Closing, Opening, Token}
-use Rattle.item_tree.specs.declared.lexeme.Delimiter.TheVariants.{Parenthesis, Bracket, Brace}
+use Rattle.item_tree.specs.declared.items.expected.Expected.{Expected}
+use Rattle.item_tree.specs.declared.items.expected.Expected.TheVariants.{Item, Semicolon, Body, Group, Closing, Opening, Token}
+use Rattle.item_tree.specs.declared.lexer.lexeme.Delimiter.TheVariants.{Parenthesis, Bracket, Brace}
 
 abbrev pub expected_text : Expected → List ℕ
 expected_text Item = codes "expected an item"

@@ -6,13 +6,13 @@ use Rattle.item_tree.specs.Members.{fields_at, no_fields}
 use Rattle.item_tree.specs.Trees.{trees_of}
 use Rattle.item_tree.specs.declared.items.Item.{Item}
 use Rattle.item_tree.specs.declared.items.Range.{Range}
-use Rattle.item_tree.specs.declared.lexeme.Lexeme.{Lexeme}
-use Rattle.item_tree.specs.declared.lexeme.LexemeKind.{LexemeKind}
-use Rattle.item_tree.specs.declared.lexeme.LexemeKind.TheVariants.{Word}
-use Rattle.item_tree.specs.declared.members.Fields.{Fields}
-use Rattle.item_tree.specs.declared.members.FieldsShape.TheVariants as shape
-use Rattle.item_tree.specs.declared.trees.Tree.{Tree}
-use Rattle.item_tree.specs.declared.word.Word.TheVariants as word
+use Rattle.item_tree.specs.declared.lexer.lexeme.Lexeme.{Lexeme}
+use Rattle.item_tree.specs.declared.lexer.lexeme.LexemeKind.{LexemeKind}
+use Rattle.item_tree.specs.declared.lexer.lexeme.LexemeKind.TheVariants.{Word}
+use Rattle.item_tree.specs.declared.items.members.Fields.{Fields}
+use Rattle.item_tree.specs.declared.items.members.FieldsShape.TheVariants as shape
+use Rattle.item_tree.specs.declared.lexer.trees.Tree.{Tree}
+use Rattle.item_tree.specs.declared.lexer.word.Word.TheVariants as word
 
 abbrev pub is_where : LexemeKind → Bool
 is_where (Word word.Where) = true

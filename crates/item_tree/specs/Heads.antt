@@ -1,11 +1,11 @@
 -- What stands in an item before its own word: attributes, a visibility, qualifiers.
 use Rattle.std.specs.Prelude.{◌==◌, ◌+◌, ◌||◌, ◌&&◌, ℕ, Bool, true, false, List, [], ◌∷◌, Option, Some, None, slice_get, if◌then◌else◌}
-use Rattle.item_tree.specs.declared.lexeme.Delimiter.TheVariants.{Parenthesis, Bracket, Brace}
-use Rattle.item_tree.specs.declared.lexeme.LexemeKind.{LexemeKind}
-use Rattle.item_tree.specs.declared.lexeme.LexemeKind.TheVariants.{Word, Open, Mark, Str, Error}
-use Rattle.item_tree.specs.declared.trees.Tree.{Tree}
-use Rattle.item_tree.specs.declared.word.Word.TheVariants as word
-use Rattle.item_tree.specs.declared.word.Word as words
+use Rattle.item_tree.specs.declared.lexer.lexeme.Delimiter.TheVariants.{Parenthesis, Bracket, Brace}
+use Rattle.item_tree.specs.declared.lexer.lexeme.LexemeKind.{LexemeKind}
+use Rattle.item_tree.specs.declared.lexer.lexeme.LexemeKind.TheVariants.{Word, Open, Mark, Str, Error}
+use Rattle.item_tree.specs.declared.lexer.trees.Tree.{Tree}
+use Rattle.item_tree.specs.declared.lexer.word.Word.TheVariants as word
+use Rattle.item_tree.specs.declared.lexer.word.Word as words
 
 abbrev pub kind_of_tree : Option Tree → LexemeKind
 kind_of_tree None = Error

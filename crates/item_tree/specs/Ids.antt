@@ -1,18 +1,18 @@
 -- What items and use trees are known by, and which bytes they have.
 use Rattle.std.specs.Prelude.{◌+◌, ◌-◌, ◌^◌, ℕ, List, Option, Some, None, min, nat_lt, slice_get, if◌then◌else◌}
-use Rattle.dm_names.specs.declared.ids.FileAstId.{FileAstId}
-use Rattle.dm_names.specs.declared.ids.UseTreeIdx.{UseTreeIdx}
+use Rattle.dm_base.specs.declared.ids.FileAstId.{FileAstId}
+use Rattle.dm_base.specs.declared.ids.UseTreeIdx.{UseTreeIdx}
 use Rattle.item_tree.specs.Trees.{partner_at}
 use Rattle.item_tree.specs.declared.ids.ModItemId.{ModItemId}
 use Rattle.item_tree.specs.declared.ids.ModItemId.TheVariants as id
 use Rattle.item_tree.specs.declared.ids.TextRange.{TextRange}
-use Rattle.item_tree.specs.declared.item_kind.ItemKind.{ItemKind}
-use Rattle.item_tree.specs.declared.item_kind.ItemKind.TheVariants as item
+use Rattle.item_tree.specs.declared.items.item_kind.ItemKind.{ItemKind}
+use Rattle.item_tree.specs.declared.items.item_kind.ItemKind.TheVariants as item
 use Rattle.item_tree.specs.declared.items.Item.{Item}
-use Rattle.item_tree.specs.declared.lexeme.Lexeme.{Lexeme}
-use Rattle.item_tree.specs.declared.use_tree.UseTree.{UseTree}
-use Rattle.item_tree.specs.declared.use_tree.UseTreeKind.{UseTreeKind}
-use Rattle.item_tree.specs.declared.use_tree.UseTreeKind.TheVariants as tree
+use Rattle.item_tree.specs.declared.lexer.lexeme.Lexeme.{Lexeme}
+use Rattle.item_tree.specs.declared.items.use_tree.UseTree.{UseTree}
+use Rattle.item_tree.specs.declared.items.use_tree.UseTreeKind.{UseTreeKind}
+use Rattle.item_tree.specs.declared.items.use_tree.UseTreeKind.TheVariants as tree
 
 -- ids are numbers of 32 bits
 abbrev pub file_ast_id : ℕ → Option FileAstId

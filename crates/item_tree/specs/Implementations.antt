@@ -3,15 +3,15 @@ use Rattle.std.specs.Prelude.{◌==◌, ◌||◌, ◌&&◌, ℕ, Bool, true, fal
 use Rattle.item_tree.specs.Heads.{is_brace, is_mark, nothing}
 use Rattle.item_tree.specs.ItemEnds.{depth_behind}
 use Rattle.item_tree.specs.Trees.{trees_of}
-use Rattle.item_tree.specs.declared.item_kind.ItemKind.{ItemKind}
-use Rattle.item_tree.specs.declared.item_kind.ItemKind.TheVariants as item
+use Rattle.item_tree.specs.declared.items.item_kind.ItemKind.{ItemKind}
+use Rattle.item_tree.specs.declared.items.item_kind.ItemKind.TheVariants as item
 use Rattle.item_tree.specs.declared.items.Item.{Item}
-use Rattle.item_tree.specs.declared.lexeme.Lexeme.{Lexeme}
-use Rattle.item_tree.specs.declared.lexeme.LexemeKind.{LexemeKind}
-use Rattle.item_tree.specs.declared.lexeme.LexemeKind.TheVariants as lexeme
-use Rattle.item_tree.specs.declared.trees.Tree.{Tree}
-use Rattle.item_tree.specs.declared.word.Word.{Word}
-use Rattle.item_tree.specs.declared.word.Word.TheVariants as word
+use Rattle.item_tree.specs.declared.lexer.lexeme.Lexeme.{Lexeme}
+use Rattle.item_tree.specs.declared.lexer.lexeme.LexemeKind.{LexemeKind}
+use Rattle.item_tree.specs.declared.lexer.lexeme.LexemeKind.TheVariants as lexeme
+use Rattle.item_tree.specs.declared.lexer.trees.Tree.{Tree}
+use Rattle.item_tree.specs.declared.lexer.word.Word.{Word}
+use Rattle.item_tree.specs.declared.lexer.word.Word.TheVariants as word
 
 -- behind these a `for` begins a type, as in `impl dyn for<'a> Read<'a> {}`
 abbrev pub is_type_word : Word → Bool

@@ -3,15 +3,15 @@ use Rattle.std.specs.Prelude.{◌==◌, ◌+◌, ◌-◌, ◌++◌, ◌||◌, �
 use Rattle.item_tree.specs.AttributeKinds.{lexemes_in}
 use Rattle.item_tree.specs.Heads.{is_mark}
 use Rattle.item_tree.specs.Visibilities.{lexeme_at}
-use Rattle.item_tree.specs.declared.imports.ImportKind.{ImportKind}
-use Rattle.item_tree.specs.declared.imports.ImportKind.TheVariants as imports
-use Rattle.item_tree.specs.declared.lexeme.Lexeme.{Lexeme}
-use Rattle.item_tree.specs.declared.lexeme.LexemeKind.{LexemeKind}
-use Rattle.item_tree.specs.declared.lexeme.LexemeKind.TheVariants.{Word}
-use Rattle.item_tree.specs.declared.use_tree.UseTree.{UseTree}
-use Rattle.item_tree.specs.declared.use_tree.UseTreeKind.{UseTreeKind}
-use Rattle.item_tree.specs.declared.use_tree.UseTreeKind.TheVariants as tree
-use Rattle.item_tree.specs.declared.word.Word.TheVariants as word
+use Rattle.item_tree.specs.declared.items.imports.ImportKind.{ImportKind}
+use Rattle.item_tree.specs.declared.items.imports.ImportKind.TheVariants as imports
+use Rattle.item_tree.specs.declared.lexer.lexeme.Lexeme.{Lexeme}
+use Rattle.item_tree.specs.declared.lexer.lexeme.LexemeKind.{LexemeKind}
+use Rattle.item_tree.specs.declared.lexer.lexeme.LexemeKind.TheVariants.{Word}
+use Rattle.item_tree.specs.declared.items.use_tree.UseTree.{UseTree}
+use Rattle.item_tree.specs.declared.items.use_tree.UseTreeKind.{UseTreeKind}
+use Rattle.item_tree.specs.declared.items.use_tree.UseTreeKind.TheVariants as tree
+use Rattle.item_tree.specs.declared.lexer.word.Word.TheVariants as word
 
 abbrev pub is_self : LexemeKind → Bool
 is_self (Word word.SelfValue) = true

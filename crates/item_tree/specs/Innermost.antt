@@ -1,10 +1,10 @@
 -- The innermost open delimiter of each kind.
 use Rattle.std.specs.Prelude.{ℕ, List, Option, Some, None, slice_get}
-use Rattle.item_tree.specs.declared.lexeme.Delimiter.{Delimiter}
-use Rattle.item_tree.specs.declared.lexeme.Delimiter.TheVariants.{Parenthesis, Bracket, Brace}
-use Rattle.item_tree.specs.declared.lexeme.LexemeKind.{LexemeKind}
-use Rattle.item_tree.specs.declared.lexeme.LexemeKind.TheVariants.{Open, Close}
-use Rattle.item_tree.specs.declared.delimiters.Innermost.{Innermost}
+use Rattle.item_tree.specs.declared.lexer.lexeme.Delimiter.{Delimiter}
+use Rattle.item_tree.specs.declared.lexer.lexeme.Delimiter.TheVariants.{Parenthesis, Bracket, Brace}
+use Rattle.item_tree.specs.declared.lexer.lexeme.LexemeKind.{LexemeKind}
+use Rattle.item_tree.specs.declared.lexer.lexeme.LexemeKind.TheVariants.{Open, Close}
+use Rattle.item_tree.specs.declared.lexer.delimiters.Innermost.{Innermost}
 
 abbrev pub of_kind : Delimiter → Innermost → Option ℕ
 of_kind Parenthesis pending = pending.parenthesis

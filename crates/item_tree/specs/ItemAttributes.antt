@@ -4,13 +4,13 @@ use Rattle.std.specs.List.{list_all}
 use Rattle.std.specs.List.Sorted.{IsNonDecreasingBy}
 use Rattle.item_tree.specs.Attributes.{Table, nodes_in, may_hold, is_active}
 use Rattle.item_tree.specs.Cfg.{value_of}
-use Rattle.item_tree.specs.declared.attribute.AttributeKind.{AttributeKind}
-use Rattle.item_tree.specs.declared.attribute.AttributeKind.TheVariants as says
+use Rattle.item_tree.specs.declared.attributes.attribute.AttributeKind.{AttributeKind}
+use Rattle.item_tree.specs.declared.attributes.attribute.AttributeKind.TheVariants as says
 use Rattle.item_tree.specs.declared.attributes.Attribute.{Attribute}
 use Rattle.item_tree.specs.declared.cfg.CfgAtom.{CfgAtom}
 use Rattle.item_tree.specs.declared.cfg.CfgNode.{CfgNode}
-use Rattle.item_tree.specs.declared.item_kind.ItemKind.{ItemKind}
-use Rattle.item_tree.specs.declared.item_kind.ItemKind.TheVariants as item
+use Rattle.item_tree.specs.declared.items.item_kind.ItemKind.{ItemKind}
+use Rattle.item_tree.specs.declared.items.item_kind.ItemKind.TheVariants as item
 use Rattle.item_tree.specs.declared.items.Item.{Item}
 use Rattle.item_tree.specs.declared.items.Range.{Range}
 

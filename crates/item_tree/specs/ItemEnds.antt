@@ -4,14 +4,14 @@ use Rattle.item_tree.specs.Beginnings.{another_begins}
 use Rattle.item_tree.specs.Heads.{kind_at, is_mark, is_brace, nothing}
 use Rattle.item_tree.specs.ItemKinds.{path_len, is_group}
 use Rattle.item_tree.specs.ItemNames.{words_len}
-use Rattle.item_tree.specs.declared.expected.Expected.{Expected}
-use Rattle.item_tree.specs.declared.expected.Expected.TheVariants as expected
-use Rattle.item_tree.specs.declared.item_end.ItemEnd.{ItemEnd}
-use Rattle.item_tree.specs.declared.item_kind.ItemKind.{ItemKind}
-use Rattle.item_tree.specs.declared.item_kind.ItemKind.TheVariants as item
-use Rattle.item_tree.specs.declared.item_kind.PathPart.TheVariants.{Start}
-use Rattle.item_tree.specs.declared.lexeme.LexemeKind.{LexemeKind}
-use Rattle.item_tree.specs.declared.trees.Tree.{Tree}
+use Rattle.item_tree.specs.declared.items.expected.Expected.{Expected}
+use Rattle.item_tree.specs.declared.items.expected.Expected.TheVariants as expected
+use Rattle.item_tree.specs.declared.items.item_end.ItemEnd.{ItemEnd}
+use Rattle.item_tree.specs.declared.items.item_kind.ItemKind.{ItemKind}
+use Rattle.item_tree.specs.declared.items.item_kind.ItemKind.TheVariants as item
+use Rattle.item_tree.specs.declared.items.item_kind.PathPart.TheVariants.{Start}
+use Rattle.item_tree.specs.declared.lexer.lexeme.LexemeKind.{LexemeKind}
+use Rattle.item_tree.specs.declared.lexer.trees.Tree.{Tree}
 
 abbrev pub is_semicolon : LexemeKind → Bool
 is_semicolon k = is_mark 59 k

@@ -1,15 +1,15 @@
 -- The kinds of items, and what tells them.
 use Rattle.std.specs.Prelude.{◌+◌, ◌-◌, ◌||◌, ◌&&◌, ℕ, Bool, true, false, List, [], ◌∷◌, nat_lt, if◌then◌else◌}
 use Rattle.item_tree.specs.Heads.{kind_at, is_mark, is_brace, is_string}
-use Rattle.item_tree.specs.declared.item_kind.ItemKind.{ItemKind}
-use Rattle.item_tree.specs.declared.item_kind.ItemKind.TheVariants as item
-use Rattle.item_tree.specs.declared.item_kind.PathPart.{PathPart}
-use Rattle.item_tree.specs.declared.item_kind.PathPart.TheVariants.{Start, Colon, Segment, Behind, Bang}
-use Rattle.item_tree.specs.declared.lexeme.LexemeKind.{LexemeKind}
-use Rattle.item_tree.specs.declared.lexeme.LexemeKind.TheVariants.{Word, Open, Mark}
-use Rattle.item_tree.specs.declared.trees.Tree.{Tree}
-use Rattle.item_tree.specs.declared.word.Word as words
-use Rattle.item_tree.specs.declared.word.Word.TheVariants as word
+use Rattle.item_tree.specs.declared.items.item_kind.ItemKind.{ItemKind}
+use Rattle.item_tree.specs.declared.items.item_kind.ItemKind.TheVariants as item
+use Rattle.item_tree.specs.declared.items.item_kind.PathPart.{PathPart}
+use Rattle.item_tree.specs.declared.items.item_kind.PathPart.TheVariants.{Start, Colon, Segment, Behind, Bang}
+use Rattle.item_tree.specs.declared.lexer.lexeme.LexemeKind.{LexemeKind}
+use Rattle.item_tree.specs.declared.lexer.lexeme.LexemeKind.TheVariants.{Word, Open, Mark}
+use Rattle.item_tree.specs.declared.lexer.trees.Tree.{Tree}
+use Rattle.item_tree.specs.declared.lexer.word.Word as words
+use Rattle.item_tree.specs.declared.lexer.word.Word.TheVariants as word
 
 -- the words that are no names: the keywords, and `_`
 abbrev pub may_be_name : words.Word → Bool

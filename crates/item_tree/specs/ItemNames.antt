@@ -2,9 +2,9 @@
 use Rattle.std.specs.Prelude.{◌+◌, ℕ, List, Option, Some, None, if◌then◌else◌}
 use Rattle.item_tree.specs.Heads.{kind_at}
 use Rattle.item_tree.specs.ItemKinds.{is_mutable}
-use Rattle.item_tree.specs.declared.item_kind.ItemKind.{ItemKind}
-use Rattle.item_tree.specs.declared.item_kind.ItemKind.TheVariants as item
-use Rattle.item_tree.specs.declared.trees.Tree.{Tree}
+use Rattle.item_tree.specs.declared.items.item_kind.ItemKind.{ItemKind}
+use Rattle.item_tree.specs.declared.items.item_kind.ItemKind.TheVariants as item
+use Rattle.item_tree.specs.declared.lexer.trees.Tree.{Tree}
 
 -- the name stands behind the item's own word; behind `macro_rules` and `!`, `extern` and `crate`, `static` and `mut`
 abbrev pub name_place : ItemKind → List Tree → Option ℕ

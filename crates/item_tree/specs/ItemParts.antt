@@ -4,11 +4,11 @@ use Rattle.item_tree.specs.Heads.{kind_at, is_mark, is_bracket, nothing, attribu
 use Rattle.item_tree.specs.ItemKinds.{item_kind}
 use Rattle.item_tree.specs.ItemEnds.{item_end}
 use Rattle.item_tree.specs.ItemNames.{name_place}
-use Rattle.item_tree.specs.declared.item_end.ItemEnd.{ItemEnd}
-use Rattle.item_tree.specs.declared.item_kind.ItemKind.{ItemKind}
-use Rattle.item_tree.specs.declared.item_kind.ItemKind.TheVariants as item
-use Rattle.item_tree.specs.declared.item_parts.ItemParts.{ItemParts}
-use Rattle.item_tree.specs.declared.trees.Tree.{Tree}
+use Rattle.item_tree.specs.declared.items.item_end.ItemEnd.{ItemEnd}
+use Rattle.item_tree.specs.declared.items.item_kind.ItemKind.{ItemKind}
+use Rattle.item_tree.specs.declared.items.item_kind.ItemKind.TheVariants as item
+use Rattle.item_tree.specs.declared.items.item_parts.ItemParts.{ItemParts}
+use Rattle.item_tree.specs.declared.lexer.trees.Tree.{Tree}
 
 abbrev pub from_item : ℕ → Option ℕ → Option ℕ
 from_item word None = None

@@ -7,20 +7,20 @@ use Rattle.item_tree.specs.ItemParts.{first_item}
 use Rattle.item_tree.specs.Items.{level_of}
 use Rattle.item_tree.specs.UseGrammar.{Nothing, Behind, Written, Name, Renamed, Glob, List_, WrittenList, Last, More}
 use Rattle.item_tree.specs.UseTrees.{use_trees_of}
-use Rattle.item_tree.specs.declared.cfg_if.LevelKind.TheVariants.{FirstArm}
-use Rattle.item_tree.specs.declared.expected.Expected.{Expected}
-use Rattle.item_tree.specs.declared.item_kind.ItemKind.{ItemKind}
-use Rattle.item_tree.specs.declared.item_kind.ItemKind.TheVariants as item
-use Rattle.item_tree.specs.declared.item_parts.ItemParts.{ItemParts}
+use Rattle.item_tree.specs.declared.cfg.cfg_if.LevelKind.TheVariants.{FirstArm}
+use Rattle.item_tree.specs.declared.items.expected.Expected.{Expected}
+use Rattle.item_tree.specs.declared.items.item_kind.ItemKind.{ItemKind}
+use Rattle.item_tree.specs.declared.items.item_kind.ItemKind.TheVariants as item
+use Rattle.item_tree.specs.declared.items.item_parts.ItemParts.{ItemParts}
 use Rattle.item_tree.specs.declared.items.Item.{Item}
-use Rattle.item_tree.specs.declared.lexeme.Delimiter.TheVariants.{Parenthesis, Bracket, Brace}
-use Rattle.item_tree.specs.declared.lexeme.Lexeme.{Lexeme}
-use Rattle.item_tree.specs.declared.lexeme.LexemeKind.{LexemeKind}
-use Rattle.item_tree.specs.declared.lexeme.LexemeKind.TheVariants.{Word, Open, Close, Mark, Lifetime, Str}
-use Rattle.item_tree.specs.declared.trees.Tree.{Tree}
-use Rattle.item_tree.specs.declared.use_tree.UseTree.{UseTree}
-use Rattle.item_tree.specs.declared.use_tree.UseTreeKind.{UseTreeKind}
-use Rattle.item_tree.specs.declared.word.Word.TheVariants as word
+use Rattle.item_tree.specs.declared.lexer.lexeme.Delimiter.TheVariants.{Parenthesis, Bracket, Brace}
+use Rattle.item_tree.specs.declared.lexer.lexeme.Lexeme.{Lexeme}
+use Rattle.item_tree.specs.declared.lexer.lexeme.LexemeKind.{LexemeKind}
+use Rattle.item_tree.specs.declared.lexer.lexeme.LexemeKind.TheVariants.{Word, Open, Close, Mark, Lifetime, Str}
+use Rattle.item_tree.specs.declared.lexer.trees.Tree.{Tree}
+use Rattle.item_tree.specs.declared.items.use_tree.UseTree.{UseTree}
+use Rattle.item_tree.specs.declared.items.use_tree.UseTreeKind.{UseTreeKind}
+use Rattle.item_tree.specs.declared.lexer.word.Word.TheVariants as word
 
 -- trees of these kinds, of one lexeme each
 abbrev pub trees_at : ℕ → List LexemeKind → List Tree

@@ -2,21 +2,21 @@
 use Rattle.std.specs.Prelude.{◌+◌, ◌-◌, ◌++◌, ℕ, zero, suc, Bool, true, false, List, [], ◌∷◌, Option, Some, None, length, slice_get, nat_lt, if◌then◌else◌}
 use Rattle.item_tree.specs.CfgIfs.{first_in, kind_behind, level_kind}
 use Rattle.item_tree.specs.Trees.{trees_of}
-use Rattle.item_tree.specs.declared.cfg_if.LevelKind.{LevelKind}
-use Rattle.item_tree.specs.declared.cfg_if.LevelKind.TheVariants.{Items}
-use Rattle.item_tree.specs.declared.item_kind.ItemKind.{ItemKind}
-use Rattle.item_tree.specs.declared.item_kind.ItemKind.TheVariants as item
-use Rattle.item_tree.specs.declared.item_parts.ItemParts.{ItemParts}
+use Rattle.item_tree.specs.declared.cfg.cfg_if.LevelKind.{LevelKind}
+use Rattle.item_tree.specs.declared.cfg.cfg_if.LevelKind.TheVariants.{Items}
+use Rattle.item_tree.specs.declared.items.item_kind.ItemKind.{ItemKind}
+use Rattle.item_tree.specs.declared.items.item_kind.ItemKind.TheVariants as item
+use Rattle.item_tree.specs.declared.items.item_parts.ItemParts.{ItemParts}
 use Rattle.item_tree.specs.declared.items.Item.{Item}
 use Rattle.item_tree.specs.declared.items.Level.{Level}
 use Rattle.item_tree.specs.declared.items.ModKind.{ModKind}
 use Rattle.item_tree.specs.declared.items.ModKind.TheVariants.{Inline, Outline}
 use Rattle.item_tree.specs.declared.items.Range.{Range}
-use Rattle.item_tree.specs.declared.lexeme.Delimiter.TheVariants.{Brace}
-use Rattle.item_tree.specs.declared.lexeme.Lexeme.{Lexeme}
-use Rattle.item_tree.specs.declared.lexeme.LexemeKind.{LexemeKind}
-use Rattle.item_tree.specs.declared.lexeme.LexemeKind.TheVariants.{Open}
-use Rattle.item_tree.specs.declared.trees.Tree.{Tree}
+use Rattle.item_tree.specs.declared.lexer.lexeme.Delimiter.TheVariants.{Brace}
+use Rattle.item_tree.specs.declared.lexer.lexeme.Lexeme.{Lexeme}
+use Rattle.item_tree.specs.declared.lexer.lexeme.LexemeKind.{LexemeKind}
+use Rattle.item_tree.specs.declared.lexer.lexeme.LexemeKind.TheVariants.{Open}
+use Rattle.item_tree.specs.declared.lexer.trees.Tree.{Tree}
 
 abbrev pub place_of : Option Tree → ℕ → ℕ
 place_of None end = end

@@ -1,14 +1,14 @@
 -- The tokens that are neither blanks nor comments, told apart.
 use Rattle.std.specs.Prelude.{◌==◌, ◌+◌, ◌≤◌, ◌++◌, ℕ, List, [], ◌∷◌, Option, Some, None, drop, take, if◌then◌else◌}
-use Rattle.dm_names.specs.declared.edition.Edition.{Edition}
+use Rattle.dm_base.specs.declared.edition.Edition.{Edition}
 use Rattle.item_tree.specs.Words.{word_of}
-use Rattle.item_tree.specs.declared.lexeme.Delimiter.TheVariants.{Parenthesis, Bracket, Brace}
-use Rattle.item_tree.specs.declared.lexeme.LexemeKind.{LexemeKind}
-use Rattle.item_tree.specs.declared.lexeme.LexemeKind.TheVariants.{Word, Open, Close, Mark, Lifetime, Str, Literal, Error}
-use Rattle.item_tree.specs.declared.lexeme.Lexeme.{Lexeme}
-use Rattle.item_tree.specs.declared.token.Token.{Token}
-use Rattle.item_tree.specs.declared.token.TokenKind.{TokenKind}
-use Rattle.item_tree.specs.declared.token.TokenKind.TheVariants as kind
+use Rattle.item_tree.specs.declared.lexer.lexeme.Delimiter.TheVariants.{Parenthesis, Bracket, Brace}
+use Rattle.item_tree.specs.declared.lexer.lexeme.LexemeKind.{LexemeKind}
+use Rattle.item_tree.specs.declared.lexer.lexeme.LexemeKind.TheVariants.{Word, Open, Close, Mark, Lifetime, Str, Literal, Error}
+use Rattle.item_tree.specs.declared.lexer.lexeme.Lexeme.{Lexeme}
+use Rattle.item_tree.specs.declared.lexer.token.Token.{Token}
+use Rattle.item_tree.specs.declared.lexer.token.TokenKind.{TokenKind}
+use Rattle.item_tree.specs.declared.lexer.token.TokenKind.TheVariants as kind
 
 -- a byte of punctuation: one of the six brackets, or a mark
 abbrev pub punctuation : ℕ → LexemeKind

@@ -8,18 +8,18 @@ use Rattle.item_tree.specs.Items.{place_at}
 use Rattle.item_tree.specs.Trees.{trees_of}
 use Rattle.item_tree.specs.Visibilities.{lexeme_at}
 use Rattle.item_tree.specs.declared.items.Range.{Range}
-use Rattle.item_tree.specs.declared.lexeme.Delimiter.TheVariants.{Parenthesis, Brace}
-use Rattle.item_tree.specs.declared.lexeme.Lexeme.{Lexeme}
-use Rattle.item_tree.specs.declared.lexeme.LexemeKind.{LexemeKind}
-use Rattle.item_tree.specs.declared.lexeme.LexemeKind.TheVariants.{Word, Open, Close}
-use Rattle.item_tree.specs.declared.members.Fields.{Fields}
-use Rattle.item_tree.specs.declared.members.FieldsShape.TheVariants as shape
-use Rattle.item_tree.specs.declared.members.Member.{Member}
-use Rattle.item_tree.specs.declared.members.MemberKind.{MemberKind}
-use Rattle.item_tree.specs.declared.members.MemberKind.TheVariants.{Variant, RecordField, TupleField}
-use Rattle.item_tree.specs.declared.members.MemberParts.{MemberParts}
-use Rattle.item_tree.specs.declared.trees.Tree.{Tree}
-use Rattle.item_tree.specs.declared.word.Word.TheVariants as word
+use Rattle.item_tree.specs.declared.lexer.lexeme.Delimiter.TheVariants.{Parenthesis, Brace}
+use Rattle.item_tree.specs.declared.lexer.lexeme.Lexeme.{Lexeme}
+use Rattle.item_tree.specs.declared.lexer.lexeme.LexemeKind.{LexemeKind}
+use Rattle.item_tree.specs.declared.lexer.lexeme.LexemeKind.TheVariants.{Word, Open, Close}
+use Rattle.item_tree.specs.declared.items.members.Fields.{Fields}
+use Rattle.item_tree.specs.declared.items.members.FieldsShape.TheVariants as shape
+use Rattle.item_tree.specs.declared.items.members.Member.{Member}
+use Rattle.item_tree.specs.declared.items.members.MemberKind.{MemberKind}
+use Rattle.item_tree.specs.declared.items.members.MemberKind.TheVariants.{Variant, RecordField, TupleField}
+use Rattle.item_tree.specs.declared.items.members.MemberParts.{MemberParts}
+use Rattle.item_tree.specs.declared.lexer.trees.Tree.{Tree}
+use Rattle.item_tree.specs.declared.lexer.word.Word.TheVariants as word
 
 abbrev pub no_fields : ℕ → Fields
 no_fields i = record { shape = shape.Unit; range = record { first = i; behind = i } }

@@ -3,8 +3,8 @@ use Rattle.std.specs.Prelude.{◌≡◌, ℕ, zero, suc, false, List, [], ◌∷
 use Rattle.item_tree.specs.Beginnings.{begins_anywhere}
 use Rattle.item_tree.specs.Heads.{nothing}
 use Rattle.item_tree.specs.ItemEnds.{up_to_end}
-use Rattle.item_tree.specs.declared.item_kind.ItemKind.{ItemKind}
-use Rattle.item_tree.specs.declared.trees.Tree.{Tree}
+use Rattle.item_tree.specs.declared.items.item_kind.ItemKind.{ItemKind}
+use Rattle.item_tree.specs.declared.lexer.trees.Tree.{Tree}
 
 -- none of the first so many trees begins an item, wherever it stands
 abbrev pub NoneBegins : ℕ → List Tree → Type 0

@@ -4,8 +4,8 @@ use Rattle.std.specs.Char.{is_ascii_digit}
 use Rattle.item_tree.specs.Characters.{is_word_start, is_word_char, begins_char}
 use Rattle.item_tree.specs.Characters as chars
 use Rattle.item_tree.specs.Shapes.{begins}
-use Rattle.item_tree.specs.declared.bodies.NumberPart.{NumberPart}
-use Rattle.item_tree.specs.declared.bodies.NumberPart.TheVariants.{Digits, Fraction, Exponent, Suffix}
+use Rattle.item_tree.specs.declared.items.bodies.NumberPart.{NumberPart}
+use Rattle.item_tree.specs.declared.items.bodies.NumberPart.TheVariants.{Digits, Fraction, Exponent, Suffix}
 
 -- a dot belongs to a number of digits alone, unless a dot or a name follows it
 abbrev pub takes_dot : NumberPart → List ℕ → Bool

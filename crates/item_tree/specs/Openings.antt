@@ -2,15 +2,15 @@
 use Rattle.std.specs.Prelude.{◌==◌, ◌+◌, ◌&&◌, ℕ, Bool, true, false, not, List, [], ◌∷◌, drop, nat_eq, codes, if◌then◌else◌}
 use Rattle.std.specs.List.{prefix_len, starts_with}
 use Rattle.std.specs.Char.{is_ascii_digit, is_ascii_punctuation}
-use Rattle.dm_names.specs.declared.edition.Edition.{Edition}
-use Rattle.dm_names.specs.declared.edition.Edition.TheVariants.{Edition2015, Edition2018, Edition2021, Edition2024}
+use Rattle.dm_base.specs.declared.edition.Edition.{Edition}
+use Rattle.dm_base.specs.declared.edition.Edition.TheVariants.{Edition2015, Edition2018, Edition2021, Edition2024}
 use Rattle.item_tree.specs.Characters.{is_blank, is_word_start, is_word_char, begins_char, chars_len}
 use Rattle.item_tree.specs.Shapes.{begins}
-use Rattle.item_tree.specs.declared.token.TokenKind.{TokenKind}
-use Rattle.item_tree.specs.declared.token.TokenKind.TheVariants as kind
-use Rattle.item_tree.specs.declared.openings.Body.{Body}
-use Rattle.item_tree.specs.declared.openings.Body.TheVariants.{Empty, Following, Blanks, Line, Word, Number, Comment, Quoted, Raw}
-use Rattle.item_tree.specs.declared.openings.Opening.{Opening}
+use Rattle.item_tree.specs.declared.lexer.token.TokenKind.{TokenKind}
+use Rattle.item_tree.specs.declared.lexer.token.TokenKind.TheVariants as kind
+use Rattle.item_tree.specs.declared.items.openings.Body.{Body}
+use Rattle.item_tree.specs.declared.items.openings.Body.TheVariants.{Empty, Following, Blanks, Line, Word, Number, Comment, Quoted, Raw}
+use Rattle.item_tree.specs.declared.items.openings.Opening.{Opening}
 
 -- a token of the kind opens with n bytes, and the body follows
 abbrev pub opens : TokenKind → ℕ → Body → Opening

@@ -2,12 +2,12 @@
 use Rattle.std.specs.Prelude.{◌+◌, ℕ, Bool, false, List, Option, Some, None, drop, if◌then◌else◌}
 use Rattle.item_tree.specs.UseTrees.{is_alias, path_len}
 use Rattle.item_tree.specs.Visibilities.{lexeme_at}
-use Rattle.item_tree.specs.declared.item_kind.PathPart.TheVariants.{Start}
+use Rattle.item_tree.specs.declared.items.item_kind.PathPart.TheVariants.{Start}
 use Rattle.item_tree.specs.declared.items.Range.{Range}
-use Rattle.item_tree.specs.declared.lexeme.Lexeme.{Lexeme}
-use Rattle.item_tree.specs.declared.lexeme.LexemeKind.{LexemeKind}
-use Rattle.item_tree.specs.declared.lexeme.LexemeKind.TheVariants.{Word}
-use Rattle.item_tree.specs.declared.word.Word.TheVariants as word
+use Rattle.item_tree.specs.declared.lexer.lexeme.Lexeme.{Lexeme}
+use Rattle.item_tree.specs.declared.lexer.lexeme.LexemeKind.{LexemeKind}
+use Rattle.item_tree.specs.declared.lexer.lexeme.LexemeKind.TheVariants.{Word}
+use Rattle.item_tree.specs.declared.lexer.word.Word.TheVariants as word
 
 -- the path that begins at a place
 abbrev pub path_at : List Lexeme → ℕ → Range

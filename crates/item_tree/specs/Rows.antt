@@ -1,10 +1,10 @@
 -- Texts that are easy to cut wrongly, and how they are cut.
 use Rattle.std.specs.Prelude.{ℕ, Bool, true, List, [], ◌∷◌, codes}
-use Rattle.dm_names.specs.declared.edition.Edition.TheVariants.{Edition2018, Edition2021}
+use Rattle.dm_base.specs.declared.edition.Edition.TheVariants.{Edition2018, Edition2021}
 use Rattle.item_tree.specs.Tokens.{are_tokens}
-use Rattle.item_tree.specs.declared.token.TokenKind.{TokenKind}
-use Rattle.item_tree.specs.declared.token.TokenKind.TheVariants.{Blank, LineComment, BlockComment, Shebang, Identifier, Lifetime, Char, Str, RawStr, Number, Punctuation, Error}
-use Rattle.item_tree.specs.declared.token.Token.{Token}
+use Rattle.item_tree.specs.declared.lexer.token.TokenKind.{TokenKind}
+use Rattle.item_tree.specs.declared.lexer.token.TokenKind.TheVariants.{Blank, LineComment, BlockComment, Shebang, Identifier, Lifetime, Char, Str, RawStr, Number, Punctuation, Error}
+use Rattle.item_tree.specs.declared.lexer.token.Token.{Token}
 
 abbrev pub of : TokenKind → ℕ → Token
 of k n = record { kind = k; len = n }

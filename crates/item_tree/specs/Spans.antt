@@ -1,7 +1,7 @@
 -- Pieces of a text, and what names and strings stand for.
 use Rattle.std.specs.Prelude.{◌==◌, ◌+◌, ◌-◌, ℕ, not, List, drop, take, length, max, nat_eq, codes, if◌then◌else◌}
 use Rattle.std.specs.List.{prefix_len, starts_with}
-use Rattle.item_tree.specs.declared.span.Span.{Span}
+use Rattle.item_tree.specs.declared.lexer.span.Span.{Span}
 
 -- the piece of a text
 abbrev pub piece : List ℕ → Span → List ℕ

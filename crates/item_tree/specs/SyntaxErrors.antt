@@ -2,15 +2,15 @@
 use Rattle.std.specs.Prelude.{◌≡◌, ◌==◌, ◌+◌, ℕ, List, [], ◌∷◌, ◌++◌, Option, Some, None, Bool, true, false, if◌then◌else◌}
 use Rattle.std.specs.List.{AllByRecursion}
 use Rattle.item_tree.specs.Trees.{partner_at}
-use Rattle.item_tree.specs.declared.expected.Expected.{Expected}
-use Rattle.item_tree.specs.declared.expected.Expected.TheVariants as expected
-use Rattle.item_tree.specs.declared.item_kind.ItemKind.{ItemKind}
-use Rattle.item_tree.specs.declared.item_kind.ItemKind.TheVariants as item
+use Rattle.item_tree.specs.declared.items.expected.Expected.{Expected}
+use Rattle.item_tree.specs.declared.items.expected.Expected.TheVariants as expected
+use Rattle.item_tree.specs.declared.items.item_kind.ItemKind.{ItemKind}
+use Rattle.item_tree.specs.declared.items.item_kind.ItemKind.TheVariants as item
 use Rattle.item_tree.specs.declared.items.Item.{Item}
-use Rattle.item_tree.specs.declared.lexeme.Lexeme.{Lexeme}
-use Rattle.item_tree.specs.declared.lexeme.LexemeKind.{LexemeKind}
-use Rattle.item_tree.specs.declared.lexeme.LexemeKind.TheVariants.{Open, Close, Error}
-use Rattle.item_tree.specs.declared.syntax_error.SyntaxError.{SyntaxError}
+use Rattle.item_tree.specs.declared.lexer.lexeme.Lexeme.{Lexeme}
+use Rattle.item_tree.specs.declared.lexer.lexeme.LexemeKind.{LexemeKind}
+use Rattle.item_tree.specs.declared.lexer.lexeme.LexemeKind.TheVariants.{Open, Close, Error}
+use Rattle.item_tree.specs.declared.lexer.syntax_error.SyntaxError.{SyntaxError}
 
 abbrev pub error_at : ℕ → Expected → SyntaxError
 error_at i e = record { at = i; expected = e }

@@ -1,17 +1,17 @@
 -- The tokens of a text.
 use Rattle.std.specs.Prelude.{◌≡◌, ◌==◌, ◌<◌, ◌≤◌, ◌++◌, ◌||◌, ◌&&◌, ℕ, Bool, true, false, List, [], ◌∷◌, length, drop, take, nat_lt, nat_le, is_none}
-use Rattle.dm_names.specs.declared.edition.Edition.{Edition}
+use Rattle.dm_base.specs.declared.edition.Edition.{Edition}
 use Rattle.item_tree.specs.Characters.{is_following, is_blank, is_word_char, are_all}
 use Rattle.item_tree.specs.Shapes.{is_no_newline, is_longest_run, past_quote, past_comment, past_raw, is_exact}
 use Rattle.item_tree.specs.Numbers.{is_number}
 use Rattle.item_tree.specs.Openings.{opening, begins_order_mark}
-use Rattle.item_tree.specs.declared.bodies.NumberPart.TheVariants.{Digits}
-use Rattle.item_tree.specs.declared.openings.Body.{Body}
-use Rattle.item_tree.specs.declared.openings.Body.TheVariants.{Empty, Following, Blanks, Line, Word, Number, Comment, Quoted, Raw}
-use Rattle.item_tree.specs.declared.openings.Opening.{Opening}
-use Rattle.item_tree.specs.declared.token.TokenKind.{TokenKind}
-use Rattle.item_tree.specs.declared.token.TokenKind.TheVariants as kind
-use Rattle.item_tree.specs.declared.token.Token.{Token}
+use Rattle.item_tree.specs.declared.items.bodies.NumberPart.TheVariants.{Digits}
+use Rattle.item_tree.specs.declared.items.openings.Body.{Body}
+use Rattle.item_tree.specs.declared.items.openings.Body.TheVariants.{Empty, Following, Blanks, Line, Word, Number, Comment, Quoted, Raw}
+use Rattle.item_tree.specs.declared.items.openings.Opening.{Opening}
+use Rattle.item_tree.specs.declared.lexer.token.TokenKind.{TokenKind}
+use Rattle.item_tree.specs.declared.lexer.token.TokenKind.TheVariants as kind
+use Rattle.item_tree.specs.declared.lexer.token.Token.{Token}
 
 -- the piece is all of such a body, and the rest follows it: what may go on is as long as it can be, and what has
 -- an end ends with the piece

@@ -2,10 +2,10 @@
 use Rattle.std.specs.Prelude.{ℕ, List, [], ◌∷◌, ◌++◌, Option, Some, None, slice_get}
 use Rattle.item_tree.specs.AttributeKinds.{lexemes_in}
 use Rattle.item_tree.specs.UseGrammar.{Leaf}
-use Rattle.item_tree.specs.declared.lexeme.Lexeme.{Lexeme}
-use Rattle.item_tree.specs.declared.use_tree.UseTree.{UseTree}
-use Rattle.item_tree.specs.declared.use_tree.UseTreeKind.{UseTreeKind}
-use Rattle.item_tree.specs.declared.use_tree.UseTreeKind.TheVariants as tree
+use Rattle.item_tree.specs.declared.lexer.lexeme.Lexeme.{Lexeme}
+use Rattle.item_tree.specs.declared.items.use_tree.UseTree.{UseTree}
+use Rattle.item_tree.specs.declared.items.use_tree.UseTreeKind.{UseTreeKind}
+use Rattle.item_tree.specs.declared.items.use_tree.UseTreeKind.TheVariants as tree
 
 abbrev pub path_or_none : Option (List Lexeme) → List Lexeme
 path_or_none None = []

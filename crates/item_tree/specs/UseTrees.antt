@@ -3,19 +3,19 @@ use Rattle.std.specs.Prelude.{◌==◌, ◌+◌, ◌-◌, ◌++◌, ◌||◌, �
 use Rattle.item_tree.specs.Heads.{is_mark}
 use Rattle.item_tree.specs.ItemKinds.{takes, part_behind, is_name}
 use Rattle.item_tree.specs.Visibilities.{lexeme_at}
-use Rattle.item_tree.specs.declared.item_kind.PathPart.{PathPart}
-use Rattle.item_tree.specs.declared.item_kind.PathPart.TheVariants.{Start}
+use Rattle.item_tree.specs.declared.items.item_kind.PathPart.{PathPart}
+use Rattle.item_tree.specs.declared.items.item_kind.PathPart.TheVariants.{Start}
 use Rattle.item_tree.specs.declared.items.Range.{Range}
-use Rattle.item_tree.specs.declared.lexeme.Delimiter.TheVariants.{Brace}
-use Rattle.item_tree.specs.declared.lexeme.Lexeme.{Lexeme}
-use Rattle.item_tree.specs.declared.lexeme.LexemeKind.{LexemeKind}
-use Rattle.item_tree.specs.declared.lexeme.LexemeKind.TheVariants.{Word, Open, Close, Mark}
-use Rattle.item_tree.specs.declared.use_tree.Step.{Step}
-use Rattle.item_tree.specs.declared.use_tree.Tail.{Tail}
-use Rattle.item_tree.specs.declared.use_tree.UseTree.{UseTree}
-use Rattle.item_tree.specs.declared.use_tree.UseTreeKind.{UseTreeKind}
-use Rattle.item_tree.specs.declared.use_tree.UseTreeKind.TheVariants as tree
-use Rattle.item_tree.specs.declared.word.Word.TheVariants as word
+use Rattle.item_tree.specs.declared.lexer.lexeme.Delimiter.TheVariants.{Brace}
+use Rattle.item_tree.specs.declared.lexer.lexeme.Lexeme.{Lexeme}
+use Rattle.item_tree.specs.declared.lexer.lexeme.LexemeKind.{LexemeKind}
+use Rattle.item_tree.specs.declared.lexer.lexeme.LexemeKind.TheVariants.{Word, Open, Close, Mark}
+use Rattle.item_tree.specs.declared.items.use_tree.Step.{Step}
+use Rattle.item_tree.specs.declared.items.use_tree.Tail.{Tail}
+use Rattle.item_tree.specs.declared.items.use_tree.UseTree.{UseTree}
+use Rattle.item_tree.specs.declared.items.use_tree.UseTreeKind.{UseTreeKind}
+use Rattle.item_tree.specs.declared.items.use_tree.UseTreeKind.TheVariants as tree
+use Rattle.item_tree.specs.declared.lexer.word.Word.TheVariants as word
 
 -- a path is segments with two colons between, perhaps before and behind them
 abbrev pub takes_segment : PathPart → LexemeKind → Bool

@@ -1,10 +1,10 @@
 -- The words that items and attributes are read by.
 use Rattle.std.specs.Prelude.{◌&&◌, ℕ, List, codes, if◌then◌else◌}
 use Rattle.std.specs.Str.{bytes_eq}
-use Rattle.dm_names.specs.declared.edition.Edition.{Edition}
+use Rattle.dm_base.specs.declared.edition.Edition.{Edition}
 use Rattle.item_tree.specs.Openings.{since_2018}
-use Rattle.item_tree.specs.declared.word.Word.{Word}
-use Rattle.item_tree.specs.declared.word.Word.TheVariants as word
+use Rattle.item_tree.specs.declared.lexer.word.Word.{Word}
+use Rattle.item_tree.specs.declared.lexer.word.Word.TheVariants as word
 
 -- the names of attributes of macros
 unfoldable pub builtin_word : List ℕ → Word

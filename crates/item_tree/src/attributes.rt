@@ -6,13 +6,21 @@ ghost use Rattle.item_tree.specs.ItemAttributes as own;
 ghost use Rattle.item_tree.specs.ItemAttributes.{InOrder};
 ghost use Rattle.item_tree.specs.declared.attributes.Attribute.{Attribute};
 
-use crate::attribute::{AttributeInput, AttributeKind, NodeRange, input_of, kind_of, lexemes_in};
-use crate::attribute_reader::{AttributePlace, ConditionPlace, find_attributes};
+pub mod attribute;
+pub mod attribute_lists;
+pub mod attribute_reader;
+pub mod attribute_rows;
+pub mod item_attributes;
+
+use crate::attributes::attribute::{
+    AttributeInput, AttributeKind, NodeRange, input_of, kind_of, lexemes_in,
+};
+use crate::attributes::attribute_reader::{AttributePlace, ConditionPlace, find_attributes};
+use crate::cfg::cfg_parser::{CfgParse, parse_cfg};
 use crate::cfg::{CfgNode, CfgOptions};
-use crate::cfg_parser::{CfgParse, parse_cfg};
 use crate::items::Range;
-use crate::lexeme::Lexeme;
-use crate::word::Word;
+use crate::lexer::lexeme::Lexeme;
+use crate::lexer::word::Word;
 use std::alloc::{AllocError, Global};
 use std::marker::Model;
 

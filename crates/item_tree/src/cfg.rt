@@ -4,8 +4,11 @@ ghost use Rattle.item_tree.specs.Cfg as spec;
 ghost use Rattle.item_tree.specs.Cfg.{CfgExpr};
 ghost use Rattle.item_tree.specs.declared.cfg.CfgAtom.TheVariants as atom;
 
-use crate::span::{Span, name_text, string_text};
-use dm_names::symbol::Symbol;
+pub mod cfg_if;
+pub mod cfg_parser;
+
+use crate::lexer::span::{Span, name_text, string_text};
+use dm_base::symbol::Symbol;
 use std::alloc::{AllocError, Global};
 use std::marker::Model;
 

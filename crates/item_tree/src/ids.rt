@@ -2,12 +2,12 @@
 ghost use Rattle.std.specs.Prelude.{◌≡◌, ◌-◌, option_copied};
 ghost use Rattle.item_tree.specs.Ids as spec;
 
-use crate::item_kind::ItemKind;
 use crate::items::Item;
-use crate::lexeme::Lexeme;
-use crate::trees::partner_at;
-use crate::use_tree::{UseTree, UseTreeKind};
-use dm_names::ids::{FileAstId, UseTreeIdx};
+use crate::items::item_kind::ItemKind;
+use crate::items::use_tree::{UseTree, UseTreeKind};
+use crate::lexer::lexeme::Lexeme;
+use crate::lexer::trees::partner_at;
+use dm_base::ids::{FileAstId, UseTreeIdx};
 
 /// An item of a module, by its kind and its number in its file.
 #[derive(Clone, Copy, PartialEq, Eq, Debug)]

@@ -3,12 +3,30 @@ ghost use Rattle.std.specs.Prelude.{◌≡◌, ◌<◌, ◌≤◌, ◌++◌, ℕ
 ghost use Rattle.item_tree.specs.Children.{ByParent};
 ghost use Rattle.item_tree.specs.Items as spec;
 
-use crate::cfg_if::{LevelKind, first_in, kind_behind, level_kind};
-use crate::expected::Expected;
-use crate::item_kind::ItemKind;
-use crate::item_parts::ItemParts;
-use crate::lexeme::{Delimiter, Lexeme, LexemeKind};
-use crate::trees::{Tree, trees};
+pub(crate) mod beginnings;
+pub(crate) mod bodies;
+pub mod expected;
+pub mod fields;
+pub(crate) mod head;
+pub mod implementations;
+pub mod imports;
+pub mod item_end;
+pub mod item_kind;
+pub(crate) mod item_name;
+pub mod item_parts;
+pub mod item_rows;
+pub mod members;
+pub mod openings;
+pub mod paths;
+pub mod use_tree;
+pub mod visibility;
+
+use crate::cfg::cfg_if::{LevelKind, first_in, kind_behind, level_kind};
+use crate::items::expected::Expected;
+use crate::items::item_kind::ItemKind;
+use crate::items::item_parts::ItemParts;
+use crate::lexer::lexeme::{Delimiter, Lexeme, LexemeKind};
+use crate::lexer::trees::{Tree, trees};
 use std::alloc::{AllocError, Global};
 
 /// The lexemes from one place up to another.

@@ -2,10 +2,20 @@
 ghost use Rattle.std.specs.Prelude.{◌≡◌, ◌<◌, true, IfOk, length, sum_by};
 ghost use Rattle.item_tree.specs.Tokens.{IsFirst, are_tokens, IsOnlyCut};
 
-use crate::bodies::body_end;
-use crate::openings::{begins_order_mark, first_opening};
-use crate::token::{Token, TokenKind};
-use dm_names::edition::Edition;
+pub(crate) mod characters;
+pub mod children;
+pub mod delimiters;
+pub mod lexeme;
+pub mod span;
+pub mod syntax_error;
+pub mod token;
+pub mod trees;
+pub mod word;
+
+use crate::items::bodies::body_end;
+use crate::items::openings::{begins_order_mark, first_opening};
+use crate::lexer::token::{Token, TokenKind};
+use dm_base::edition::Edition;
 use std::alloc::{AllocError, Global};
 
 /// The token that the text begins with.

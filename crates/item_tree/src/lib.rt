@@ -1,43 +1,10 @@
 //! A Rust text, read: its tokens, with nothing left out, and the items that it declares.
 #![tactic(auto)]
 
-pub mod attribute;
-pub mod attribute_lists;
-pub mod attribute_reader;
-pub mod attribute_rows;
 pub mod attributes;
-mod beginnings;
-mod bodies;
 pub mod cfg;
-pub mod cfg_if;
-pub mod cfg_parser;
-mod characters;
-pub mod children;
-pub mod delimiters;
-pub mod expected;
-pub mod fields;
-mod head;
 pub mod ids;
-pub mod implementations;
-pub mod imports;
-pub mod item_attributes;
-pub mod item_end;
-pub mod item_kind;
-mod item_name;
-pub mod item_parts;
-pub mod item_rows;
 pub mod items;
 pub mod laws;
-pub mod lexeme;
 pub mod lexer;
-pub mod members;
-pub mod openings;
-pub mod paths;
 pub mod rows;
-pub mod span;
-pub mod syntax_error;
-pub mod token;
-pub mod trees;
-pub mod use_tree;
-pub mod visibility;
-pub mod word;

@@ -1,7 +1,7 @@
 //! Globs bring the unnamed traits of their sources.
 ghost use Rattle.std.specs.Prelude.{◌≡◌, false, is_some, true, All, Contains, IfErr, IfOk, IfSome, IsTrue, List, None, OnErr, OnOk};
-ghost use Rattle.dm_check.specs.declared.held.HeldId.TheVariants as held;
-ghost use Rattle.dm_check.specs.Holding.{vis_holds};
+ghost use Rattle.dm_maps.specs.declared.check.held.HeldId.TheVariants as held;
+ghost use Rattle.dm_maps.specs.Holding.{vis_holds};
 ghost use Rattle.dm_maps.specs.Known.{knows, KnowsAll};
 ghost use Rattle.dm_collector.specs.Globs.{glob_holds, resolved};
 ghost use Rattle.dm_collector.specs.MacroUses.{Uses};

@@ -1,7 +1,7 @@
 //! Globs are filled: each binds what it has yet to bind.
 ghost use Rattle.std.specs.Prelude.{◌≡◌, false, not, true, All, Contains, IfErr, IfOk, IsTrue, List, OnErr, OnOk};
-ghost use Rattle.dm_check.specs.declared.held.HeldId.TheVariants as held;
-ghost use Rattle.dm_check.specs.Holding.{vis_holds};
+ghost use Rattle.dm_maps.specs.declared.check.held.HeldId.TheVariants as held;
+ghost use Rattle.dm_maps.specs.Holding.{vis_holds};
 ghost use Rattle.dm_base.specs.PerNs.{is_empty};
 ghost use Rattle.dm_maps.specs.Known.{knows, KnowsAll};
 ghost use Rattle.dm_collector.specs.Globs.{glob_holds, IsFilledBySource, missing};

@@ -1,7 +1,7 @@
 //! The unstable features that a crate enables.
 ghost use Rattle.std.specs.Prelude.{◌≡◌, [], IfOk, OnOk, OnErr};
 ghost use Rattle.indexmap.specs.IndexSet.{insert_key};
-ghost use Rattle.dm_names.specs.Names.{same_name};
+ghost use Rattle.dm_base.specs.Names.{same_name};
 ghost use Rattle.dm_def_map.specs.CrateData.{enables};
 
 use dm_base::symbol::Symbol;

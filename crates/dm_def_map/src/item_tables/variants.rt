@@ -1,7 +1,7 @@
 //! The variants of an enum, by name.
 ghost use Rattle.std.specs.Prelude.{◌≡◌, ◌<◌, ◌++◌, ◌∷◌, [], None, length, OnOk, OnErr, is_some};
 ghost use Rattle.std.specs.Option.{option_copied};
-ghost use Rattle.dm_names.specs.Names.{find_name};
+ghost use Rattle.dm_base.specs.Names.{find_name};
 ghost use Rattle.dm_def_map.specs.Variants.{variants_in, enums_with_variant, IsFreeAt, enums_with_variant_at};
 
 use crate::growth::put_last;
@@ -30,9 +30,9 @@ impl Drop for EnumVariants {
 
 impl Model for EnumVariants {
     ghost use Rattle.std.specs.Prelude.{List};
-    ghost use Rattle.dm_names.specs.Names.{Name};
-    ghost use Rattle.dm_ids.specs.declared.ids.EnumVariantId.{EnumVariantId};
-    ghost use Rattle.dm_ids.specs.declared.fields_shape.FieldsShape.{FieldsShape};
+    ghost use Rattle.dm_base.specs.Names.{Name};
+    ghost use Rattle.dm_base.specs.declared.ids.EnumVariantId.{EnumVariantId};
+    ghost use Rattle.dm_base.specs.declared.fields_shape.FieldsShape.{FieldsShape};
 
     ghost Value = { List (Name × (EnumVariantId × FieldsShape)) };
 

@@ -1,7 +1,7 @@
 //! The modules of a def map that fill a file, and the inline modules of a macro expansion.
 ghost use Rattle.std.specs.Prelude.{◌≡◌};
 ghost use Rattle.std.specs.Map.Iter.{ShowsInOrder};
-ghost use Rattle.dm_ids.specs.declared.ids.ModuleId.{ModuleId};
+ghost use Rattle.dm_base.specs.declared.ids.ModuleId.{ModuleId};
 ghost use Rattle.dm_def_map.specs.Queries.{fills, is_inline_in, modules_with};
 
 use crate::modules::modules_iter::{InlineModules, ModulesForFile, ModulesWith};

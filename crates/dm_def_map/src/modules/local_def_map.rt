@@ -3,7 +3,7 @@ ghost use Rattle.std.specs.Prelude.{◌≡◌, [], Some, IfSome, length, OnOk, O
 ghost use Rattle.std.specs.Iterator.{at_most, UpTo};
 ghost use Rattle.std.specs.Iterator.SizeHint.{IsWithinCount};
 ghost use Rattle.std.specs.Map.Iter.{TakesFirst, ShowsInOrder};
-ghost use Rattle.dm_names.specs.Names.{find_name};
+ghost use Rattle.dm_base.specs.Names.{find_name};
 ghost use Rattle.dm_def_map.specs.Locals.{with_extern};
 ghost use Rattle.dm_def_map.specs.LocalHash.{deref_extern};
 

@@ -1,7 +1,7 @@
 //! `ModuleData`: a module of a def map.
 ghost use Rattle.std.specs.Prelude.{◌≡◌, OnOk, OnErr, is_some};
 ghost use Rattle.std.specs.Borrow.{sem};
-ghost use Rattle.dm_names.specs.Names.{find_name};
+ghost use Rattle.dm_base.specs.Names.{find_name};
 ghost use Rattle.dm_def_map.specs.Maps.{fresh_module, with_child};
 ghost use Rattle.dm_def_map.specs.LendingModule.{LendsModuleScope};
 ghost use Rattle.dm_def_map.specs.Origins.{source_file};
@@ -13,7 +13,7 @@ use dm_base::name::Name;
 use dm_base::source::HirFileId;
 use dm_base::visibility::Visibility;
 use dm_scope::item_scope::ItemScope;
-use dm_scope::lazy_map::LazyMap;
+use dm_scope::bindings::lazy_map::LazyMap;
 use indexmap::map::Slice;
 use std::alloc::{AllocError, Global};
 use std::marker::Model;

@@ -3,7 +3,7 @@ ghost use Rattle.std.specs.Prelude.{◌≡◌, Some, IfSome, length};
 ghost use Rattle.std.specs.Iterator.{at_most, UpTo};
 ghost use Rattle.std.specs.Iterator.SizeHint.{IsWithinCount};
 ghost use Rattle.std.specs.Map.Iter.{TakesFirst, ShowsInOrder};
-ghost use Rattle.dm_ids.specs.declared.ids.ModuleId.{ModuleId};
+ghost use Rattle.dm_base.specs.declared.ids.ModuleId.{ModuleId};
 ghost use Rattle.dm_def_map.specs.Queries.{deref_module, modules_with};
 
 use crate::modules::module_data::ModuleData;
@@ -83,7 +83,7 @@ pub struct ModulesWith<'a, P: Origins> {
 
 impl<'a, P: Origins> Model for ModulesWith<'a, P> {
     ghost use Rattle.std.specs.Prelude.{List};
-    ghost use Rattle.dm_ids.specs.declared.ids.ModuleId.{ModuleId};
+    ghost use Rattle.dm_base.specs.declared.ids.ModuleId.{ModuleId};
     ghost use Rattle.dm_def_map.specs.Queries.{modules_with};
 
     ghost Value = { List ModuleId };

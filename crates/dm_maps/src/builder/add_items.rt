@@ -1,6 +1,6 @@
 //! Items, added to a builder.
 ghost use Rattle.std.specs.Prelude.{◌≡◌, IfOk, OnOk, OnErr, length};
-ghost use Rattle.dm_check.specs.Holding.{def_holds};
+ghost use Rattle.dm_maps.specs.Holding.{def_holds};
 ghost use Rattle.dm_maps.specs.Added.{AreAdded};
 ghost use Rattle.dm_maps.specs.Build.{with_item, item_def};
 ghost use Rattle.dm_maps.specs.Faults.{Answers, item_fault, is_full};

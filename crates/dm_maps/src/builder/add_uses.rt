@@ -1,6 +1,6 @@
 //! Uses and macros, added to a builder.
 ghost use Rattle.std.specs.Prelude.{◌≡◌, ◌∷◌, [], IfOk, OnOk, OnErr, length};
-ghost use Rattle.dm_check.specs.declared.held.HeldId.TheVariants as held;
+ghost use Rattle.dm_maps.specs.declared.check.held.HeldId.TheVariants as held;
 ghost use Rattle.dm_maps.specs.Added.{AreAdded};
 ghost use Rattle.dm_maps.specs.BuildItems.{with_use, with_macro, next_use, macro_id};
 ghost use Rattle.dm_maps.specs.Faults.{Answers};

@@ -1,7 +1,7 @@
 //! Variants of enums, added to a builder.
 ghost use Rattle.std.specs.Prelude.{◌≡◌, ◌<◌, ◌∷◌, [], None, IfOk, OnOk, OnErr, length};
-ghost use Rattle.dm_names.specs.Names.{find_name};
-ghost use Rattle.dm_check.specs.declared.held.HeldId.TheVariants as held;
+ghost use Rattle.dm_base.specs.Names.{find_name};
+ghost use Rattle.dm_maps.specs.declared.check.held.HeldId.TheVariants as held;
 ghost use Rattle.dm_maps.specs.Added.{AreAdded};
 ghost use Rattle.dm_maps.specs.BuildItems.{with_variant, next_variant};
 ghost use Rattle.dm_maps.specs.Faults.{Answers, first_fault, none_found, is_full};
@@ -12,12 +12,12 @@ ghost use Rattle.dm_maps.specs.Readings.{variants_of};
 use crate::build_fault::BuildFault;
 use crate::builder::WorldBuilder;
 use crate::builder::add_modules::LAST_NUMBER;
+use crate::check::held::HeldId;
+use crate::check::known_ids::KnownIds;
 use dm_base::fields_shape::FieldsShape;
 use dm_base::ids::{EnumId, EnumVariantId};
 use dm_base::item_ids::ItemKind;
 use dm_base::name::Name;
-use dm_check::held::HeldId;
-use dm_check::known_ids::KnownIds;
 use dm_def_map::item_tables::variants::add_to_enum;
 use std::alloc::AllocError;
 

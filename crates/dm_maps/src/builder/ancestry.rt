@@ -1,7 +1,7 @@
 //! The ancestor test on the module tree of a builder, by ladders: jump pointers (binary lifting).
 ghost use Rattle.std.specs.Prelude.{◌≡◌, ◌<◌, ◌≤◌, length};
 ghost use Rattle.dm_base.specs.Tree.{chain, is_among};
-ghost use Rattle.dm_ladders.specs.Ancestry.{moves};
+ghost use Rattle.dm_maps.specs.Ancestry.{moves};
 ghost use Rattle.dm_maps.specs.Trees.{tree_of};
 
 use crate::builder::WorldBuilder;

@@ -14,7 +14,7 @@ pub(crate) struct BlockList {
 
 impl Model for BlockList {
     ghost use Rattle.std.specs.Prelude.{List};
-    ghost use Rattle.dm_ids.specs.declared.ids.BlockId.{BlockId};
+    ghost use Rattle.dm_base.specs.declared.ids.BlockId.{BlockId};
 
     ghost Value = { List BlockId };
 

@@ -7,14 +7,14 @@ ghost use Rattle.dm_def_map.specs.MapChanges.{changed, grows};
 
 use crate::build_fault::BuildFault;
 use crate::builder::WorldBuilder;
+use crate::check::held::HeldId;
+use crate::check::known_ids::KnownIds;
 use dm_base::ids::{
     BuiltinDeriveImplId, Crate, ExternCrateId, MacroCallId, MapId, ModuleId, UseId,
 };
 use dm_base::item_ids::MacroId;
 use dm_base::name::Name;
 use dm_base::source::AstId;
-use dm_check::held::HeldId;
-use dm_check::known_ids::KnownIds;
 use dm_def_map::map_change::MapChange;
 use dm_def_map::modules::local_def_map::LocalDefMap;
 use either::Either;

@@ -5,6 +5,7 @@ ghost use Rattle.dm_maps.specs.BlockLists.{entry_with};
 ghost use Rattle.dm_maps.specs.Maps.{IsFree, maps_with_child, maps_and, nth_module_in};
 
 use crate::builder::block_list::{BlockList, list_block, unlist_block};
+use crate::ladders::Ladders;
 use crate::maps::Maps;
 use crate::place::Place;
 use dm_base::ids::{BlockId, Crate, ModuleId};
@@ -12,7 +13,6 @@ use dm_base::name::Name;
 use dm_def_map::def_map::DefMap;
 use dm_def_map::modules::local_def_map::LocalDefMap;
 use dm_def_map::modules::module_data::ModuleData;
-use dm_ladders::ladders::Ladders;
 use std::alloc::{AllocError, Global};
 
 /// A module that is added: its number, its name as a child of the module at `at`, and its own place.

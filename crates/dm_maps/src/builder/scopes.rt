@@ -3,7 +3,7 @@ ghost use Rattle.std.specs.Prelude.{◌≡◌, IsTrue, Some};
 ghost use Rattle.std.specs.Option.{option_copied_mut};
 ghost use Rattle.std.specs.Borrow.{sem};
 ghost use Rattle.dm_scope.specs.Scope.{Scope};
-ghost use Rattle.dm_check.specs.declared.held.HeldId.TheVariants as held;
+ghost use Rattle.dm_maps.specs.declared.check.held.HeldId.TheVariants as held;
 ghost use Rattle.dm_maps.specs.Added.{IsScoped};
 ghost use Rattle.dm_maps.specs.Known.{knows};
 ghost use Rattle.dm_maps.specs.World.{scope_if_known, scope_of, with_scope};

@@ -1,7 +1,7 @@
 //! Look-ups in the tables of a world, also while it is built. None of them takes memory.
 ghost use Rattle.std.specs.Prelude.{◌≡◌, ◌↔◌, IsTrue, IfSome, Some, slice_get, nat_lt, length};
 ghost use Rattle.std.specs.Option.{option_copied, option_map};
-ghost use Rattle.dm_names.specs.Names.{find_name};
+ghost use Rattle.dm_base.specs.Names.{find_name};
 ghost use Rattle.dm_base.specs.Tree.{IsTree, IsKnown};
 ghost use Rattle.dm_scope.specs.Scope.{bound_in};
 ghost use Rattle.dm_maps.specs.World.{crate_map, place_of, numbered_map, map_of, placed_module, module_of, scope_of};

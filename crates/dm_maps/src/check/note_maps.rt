@@ -1,19 +1,19 @@
 //! The ids that maps and modules hold.
 ghost use Rattle.std.specs.Prelude.{[]};
 ghost use Rattle.std.specs.Option.{option_map_or};
-ghost use Rattle.dm_check.specs.Held.{IsLeastFault};
-ghost use Rattle.dm_check.specs.Holding.{local_holds};
-ghost use Rattle.dm_check.specs.Holds.{prelude_holds};
+ghost use Rattle.dm_maps.specs.Held.{IsLeastFault};
+ghost use Rattle.dm_maps.specs.Holding.{local_holds};
+ghost use Rattle.dm_maps.specs.ScopeHolds.{prelude_holds};
 ghost use Rattle.dm_maps.specs.Holds.{map_holds, module_holds};
 ghost use Rattle.dm_maps.specs.Known.{knows};
 
 use crate::builder::WorldBuilder;
-use dm_check::held::HeldFault;
-use dm_check::note_diagnostics::note_diagnostics;
-use dm_check::note_preludes::{note_externs, note_macro_uses, note_prelude};
-use dm_check::note_scopes::note_scope;
-use dm_check::note_tables::{note_helpers, note_macro_defs};
-use dm_check::notes::{lesser, vis_fault};
+use crate::check::held::HeldFault;
+use crate::check::note_diagnostics::note_diagnostics;
+use crate::check::note_preludes::{note_externs, note_macro_uses, note_prelude};
+use crate::check::note_scopes::note_scope;
+use crate::check::note_tables::{note_helpers, note_macro_defs};
+use crate::check::notes::{lesser, vis_fault};
 use dm_def_map::building::{derive_helpers, macro_defs, macro_uses};
 use dm_def_map::def_map::DefMap;
 use dm_def_map::modules::local_def_map::LocalDefMap;

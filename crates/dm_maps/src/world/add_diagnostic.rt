@@ -1,7 +1,7 @@
 //! Diagnostics, added to the maps of a checked world.
 ghost use Rattle.std.specs.Prelude.{◌≡◌, false, List, OnOk, OnErr};
-ghost use Rattle.dm_check.specs.TablesHold.{diagnostic_holds};
-ghost use Rattle.dm_names.specs.Names.{Name};
+ghost use Rattle.dm_maps.specs.TablesHold.{diagnostic_holds};
+ghost use Rattle.dm_base.specs.Names.{Name};
 ghost use Rattle.dm_maps.specs.Added.{IsGrown};
 ghost use Rattle.dm_maps.specs.BuildMaps.{lacks_map, with_diagnostic};
 ghost use Rattle.dm_maps.specs.Cut.{cut};

@@ -1,7 +1,7 @@
 //! Macros, added to the `macro_use` preludes of a checked world.
 ghost use Rattle.std.specs.Prelude.{◌≡◌, false, OnOk, OnErr};
-ghost use Rattle.dm_check.specs.Holding.{def_holds};
-ghost use Rattle.dm_ids.specs.declared.item_ids.ModuleDefId.TheVariants as def;
+ghost use Rattle.dm_maps.specs.Holding.{def_holds};
+ghost use Rattle.dm_base.specs.declared.item_ids.ModuleDefId.TheVariants as def;
 ghost use Rattle.dm_maps.specs.Added.{IsGrown};
 ghost use Rattle.dm_maps.specs.BuildMaps.{lacks_map, with_macro_use};
 ghost use Rattle.dm_maps.specs.First.{IsChecked};

@@ -1,7 +1,7 @@
 //! The ancestor test on the module tree, by jump pointers (binary lifting): at most 32 hops.
 ghost use Rattle.std.specs.Prelude.{◌≡◌, ◌≤◌};
 ghost use Rattle.dm_base.specs.Tree.{IsKnown, chain, is_among};
-ghost use Rattle.dm_ladders.specs.Ancestry.{moves};
+ghost use Rattle.dm_maps.specs.Ancestry.{moves};
 ghost use Rattle.dm_maps.specs.Trees.{tree_of};
 
 use crate::world::World;

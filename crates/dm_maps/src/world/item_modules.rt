@@ -1,17 +1,17 @@
 //! Where a world's items were declared: in modules and crates of its own. None of these look-ups takes memory.
 ghost use Rattle.std.specs.Prelude.{◌≡◌, IsTrue};
 ghost use Rattle.std.specs.Option.{ForSome};
-ghost use Rattle.dm_ids.specs.declared.item_ids.ItemKind.TheVariants as item;
-ghost use Rattle.dm_check.specs.declared.held.HeldId.TheVariants as held;
+ghost use Rattle.dm_base.specs.declared.item_ids.ItemKind.TheVariants as item;
+ghost use Rattle.dm_maps.specs.declared.check.held.HeldId.TheVariants as held;
 ghost use Rattle.dm_maps.specs.Known.{knows};
 ghost use Rattle.dm_maps.specs.ItemHomes.{homes_of, module_of_item, module_of_def, module_of_macro};
 
 use crate::builder::WorldBuilder;
+use crate::check::kinds::{is_of_kind, macro_number};
 use crate::world::World;
 use dm_base::ids::{Crate, EnumId, EnumVariantId, ModuleId};
 use dm_base::item_ids::{AdtId, ItemKind, MacroId, ModuleDefId};
 use dm_base::item_in_ns::ItemModules;
-use dm_check::kinds::{is_of_kind, macro_number};
 
 #[tactic(auto, unfolding(crate::specs::ItemHomes::homes_of))]
 impl ItemModules for World {

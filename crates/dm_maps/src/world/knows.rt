@@ -1,21 +1,21 @@
 //! Tests whether ids that are handed in are the world's. None of them takes memory.
 ghost use Rattle.std.specs.Prelude.{◌≡◌, ◌↔◌, IsTrue, nat_lt, length};
-ghost use Rattle.dm_check.specs.declared.held.HeldId.TheVariants as held;
-ghost use Rattle.dm_check.specs.Pushes.{push_holds};
+ghost use Rattle.dm_maps.specs.declared.check.held.HeldId.TheVariants as held;
+ghost use Rattle.dm_maps.specs.Pushes.{push_holds};
 ghost use Rattle.dm_maps.specs.Known.{knows, KnowsAll};
-ghost use Rattle.dm_check.specs.Holding.{def_holds, res_holds, local_holds};
+ghost use Rattle.dm_maps.specs.Holding.{def_holds, res_holds, local_holds};
 
 use crate::builder::WorldBuilder;
+use crate::check::held::HeldId;
+use crate::check::known_ids::KnownIds;
 use crate::check::note_maps::note_local_map;
+use crate::check::note_pushes::note_push;
+use crate::check::notes::def_fault;
 use crate::world::World;
 use dm_base::ids::{BlockId, Crate, ModuleId};
 use dm_base::imports::ImportOrExternCrate;
 use dm_base::item_ids::ModuleDefId;
 use dm_base::per_ns::PerNs;
-use dm_check::held::HeldId;
-use dm_check::known_ids::KnownIds;
-use dm_check::note_pushes::note_push;
-use dm_check::notes::def_fault;
 use dm_def_map::modules::local_def_map::LocalDefMap;
 
 impl World {

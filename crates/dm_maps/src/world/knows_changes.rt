@@ -1,17 +1,17 @@
 //! Tests whether what the calls that change a checked world take is the world's. None of them takes memory.
 ghost use Rattle.std.specs.Prelude.{◌≡◌, ◌↔◌, IsTrue};
-ghost use Rattle.dm_check.specs.Holding.{vis_holds};
+ghost use Rattle.dm_maps.specs.Holding.{vis_holds};
 ghost use Rattle.dm_maps.specs.BuildMaps.{lacks_map};
 ghost use Rattle.dm_maps.specs.GoesOn.{trait_import_holds};
 ghost use Rattle.dm_maps.specs.Known.{KnowsAll};
 
+use crate::check::notes::vis_fault;
 use crate::world::World;
 use dm_base::ids::{MapId, ModuleId, TraitId};
 use dm_base::imports::{ImportId, ImportOrExternCrate};
 use dm_base::item_ids::ModuleDefId;
 use dm_base::per_ns::PerNs;
 use dm_base::visibility::Visibility;
-use dm_check::notes::vis_fault;
 
 impl World {
     /// Whether there is no map of that number, or it is another crate's.

@@ -1,8 +1,8 @@
 //! The maps of a world, by crate and by block.
 ghost use Rattle.std.specs.Prelude.{◌≡◌, IsTrue, IfOk, Some, None, nat_lt, length, slice_get, string_bytes};
-ghost use Rattle.dm_check.specs.declared.held.HeldId.TheVariants as held;
+ghost use Rattle.dm_maps.specs.declared.check.held.HeldId.TheVariants as held;
 ghost use Rattle.dm_maps.specs.Known.{knows, KnowsAll};
-ghost use Rattle.dm_check.specs.Holding.{local_holds};
+ghost use Rattle.dm_maps.specs.Holding.{local_holds};
 ghost use Rattle.dm_maps.specs.MapDumps.{map_dump};
 ghost use Rattle.dm_maps.specs.MapFacts.{IsMapOf};
 ghost use Rattle.dm_maps.specs.Outwards.{maps_outwards, AsksMaps, MayAskMaps};

@@ -1,19 +1,19 @@
 //! What path resolution reads of the tables of a world.
 ghost use Rattle.std.specs.Prelude.{◌≡◌};
 ghost use Rattle.std.specs.Option.{option_copied};
-ghost use Rattle.dm_names.specs.Names.{find_name};
+ghost use Rattle.dm_base.specs.Names.{find_name};
 ghost use Rattle.dm_maps.specs.Readings.{root_of, block_root_of, prelude_of, macro_uses_of, styles_by, styles_of};
 ghost use Rattle.dm_maps.specs.World.{crate_map, scope_of};
-ghost use Rattle.dm_bindings.specs.Pushes.{last_of};
+ghost use Rattle.dm_scope.specs.Pushes.{last_of};
 ghost use Rattle.dm_scope.specs.Scope.{legacy_in};
 
 use crate::builder::WorldBuilder;
+use crate::check::kinds::macro_number;
 use bitflags::Flags;
 use dm_base::ids::{BlockId, Crate, ExternCrateId, MapId, ModuleId};
 use dm_base::item_ids::MacroId;
 use dm_base::macros::{MacroCallStyles, MacroLoc};
 use dm_base::name::Name;
-use dm_check::kinds::macro_number;
 use dm_def_map::def_map::DefMap;
 
 impl WorldBuilder {

@@ -1,14 +1,14 @@
 //! Pushes into the scopes of a world.
 ghost use Rattle.std.specs.Prelude.{◌≡◌, false, List, IsSome, OnOk, OnErr};
-ghost use Rattle.dm_ids.specs.declared.ids.ModuleId.{ModuleId};
+ghost use Rattle.dm_base.specs.declared.ids.ModuleId.{ModuleId};
 ghost use Rattle.dm_base.specs.Tree.{same_module};
 ghost use Rattle.dm_scope.specs.Gives.{PushGives};
 ghost use Rattle.dm_scope.specs.Push.{scope_after};
 ghost use Rattle.dm_scope.specs.PushLaw.{PushLaw, itself};
 ghost use Rattle.dm_scope.specs.Shows.{PushAnswers, PushShows, ShowsElsewhere, StillShows, push_of};
-ghost use Rattle.dm_check.specs.Pushes.{push_holds};
+ghost use Rattle.dm_maps.specs.Pushes.{push_holds};
 ghost use Rattle.dm_maps.specs.PushRes.{with_push, StaysShown};
-ghost use Rattle.dm_names.specs.Names.{Name};
+ghost use Rattle.dm_base.specs.Names.{Name};
 ghost use Rattle.dm_maps.specs.Cut.{among, cut};
 ghost use Rattle.dm_maps.specs.First.{IsChecked};
 ghost use Rattle.dm_maps.specs.Known.{KnowsAll};

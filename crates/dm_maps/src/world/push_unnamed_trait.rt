@@ -1,8 +1,8 @@
 //! Traits that are imported without a name into the scopes of a checked world.
 ghost use Rattle.std.specs.Prelude.{◌≡◌, List, IsSome, OnOk, OnErr};
-ghost use Rattle.dm_ids.specs.declared.ids.ModuleId.{ModuleId};
-ghost use Rattle.dm_names.specs.Names.{Name};
-ghost use Rattle.dm_shadowing.specs.Flags.{Globs};
+ghost use Rattle.dm_base.specs.declared.ids.ModuleId.{ModuleId};
+ghost use Rattle.dm_base.specs.Names.{Name};
+ghost use Rattle.dm_scope.specs.Flags.{Globs};
 ghost use Rattle.dm_maps.specs.Cut.{cut};
 ghost use Rattle.dm_maps.specs.First.{IsChecked};
 ghost use Rattle.dm_maps.specs.GoesOn.{HasTraitMore, trait_import_holds, with_unnamed_trait};

@@ -4,8 +4,8 @@
 ghost use Rattle.std.specs.Prelude.{◌≡◌, IfSome, Some, slice_get};
 ghost use Rattle.std.specs.List.{AllByRecursion};
 ghost use Rattle.std.specs.Option.{option_copied};
-ghost use Rattle.dm_check.specs.Holding.{local_holds};
-ghost use Rattle.dm_check.specs.TablesHold.{raw_holds, container_holds};
+ghost use Rattle.dm_maps.specs.Holding.{local_holds};
+ghost use Rattle.dm_maps.specs.TablesHold.{raw_holds, container_holds};
 ghost use Rattle.dm_maps.specs.Known.{KnowsAll};
 ghost use Rattle.dm_maps.specs.RawTables.{fields_in, assoc_in, trait_visibility_in};
 ghost use Rattle.dm_maps.specs.World.{numbered_map};

@@ -1,7 +1,7 @@
 //! What import chains and dumps read of a world. None of these calls takes memory.
 ghost use Rattle.std.specs.Prelude.{◌≡◌, IsTrue, IfSome, is_some, slice_get, unwrap_or};
 ghost use Rattle.std.specs.Option.{ForSome, option_copied};
-ghost use Rattle.dm_check.specs.declared.held.HeldId.TheVariants as held;
+ghost use Rattle.dm_maps.specs.declared.check.held.HeldId.TheVariants as held;
 ghost use Rattle.dm_maps.specs.Known.{knows};
 ghost use Rattle.dm_maps.specs.ScopeTables.{scope_tables};
 ghost use Rattle.dm_maps.specs.World.{scope_if_known, scope_of};

@@ -1,7 +1,7 @@
 //! Visibilities of what the scopes of a checked world bind. None of these calls takes memory.
 ghost use Rattle.std.specs.Prelude.{◌≡◌, IsSome};
-ghost use Rattle.dm_check.specs.Holding.{vis_holds};
-ghost use Rattle.dm_names.specs.Names.{find_name};
+ghost use Rattle.dm_maps.specs.Holding.{vis_holds};
+ghost use Rattle.dm_base.specs.Names.{find_name};
 ghost use Rattle.dm_scope.specs.Scope.{bound_in};
 ghost use Rattle.dm_maps.specs.Added.{IsScoped};
 ghost use Rattle.dm_maps.specs.First.{IsChecked};

@@ -7,13 +7,13 @@ ghost use Rattle.dm_maps.specs.GoesOn.{AreKnown, AreVariantsOf, deref_variant, v
 ghost use Rattle.dm_maps.specs.Readings.{variants_of};
 
 use crate::builder::WorldBuilder;
+use crate::check::held::HeldId;
+use crate::check::known_ids::KnownIds;
 use crate::world::World;
 use dm_base::fields_shape::FieldsShape;
 use dm_base::ids::{EnumId, EnumVariantId};
 use dm_base::item_ids::ItemKind;
 use dm_base::name::Name;
-use dm_check::held::HeldId;
-use dm_check::known_ids::KnownIds;
 use indexmap::map::{self, Slice};
 use std::marker::Model;
 

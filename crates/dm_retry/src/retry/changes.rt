@@ -1,14 +1,14 @@
 //! Changes of the world between rounds, beside pushes.
 ghost use Rattle.std.specs.Prelude.{◌≡◌, false, IsSome, OnErr, OnOk};
-ghost use Rattle.dm_check.specs.Holding.{def_holds, vis_holds};
-ghost use Rattle.dm_check.specs.TablesHold.{diagnostic_holds};
-ghost use Rattle.dm_ids.specs.declared.item_ids.ModuleDefId.TheVariants as def;
+ghost use Rattle.dm_maps.specs.Holding.{def_holds, vis_holds};
+ghost use Rattle.dm_maps.specs.TablesHold.{diagnostic_holds};
+ghost use Rattle.dm_base.specs.declared.item_ids.ModuleDefId.TheVariants as def;
 ghost use Rattle.dm_scope.specs.Scope.{bound_in};
 ghost use Rattle.dm_maps.specs.BuildMaps.{lacks_map, with_diagnostic, with_macro_use};
 ghost use Rattle.dm_maps.specs.GoesOn.{trait_import_holds, with_macro_seen, with_type_seen, with_unnamed_trait, with_value_seen};
 ghost use Rattle.dm_maps.specs.Known.{KnowsAll};
 ghost use Rattle.dm_maps.specs.World.{scope_of};
-ghost use Rattle.dm_pending.specs.Rounds.{changed_beside, changed_under};
+ghost use Rattle.dm_retry.specs.Rounds.{changed_beside, changed_under};
 
 use crate::retry::Retry;
 use dm_base::ids::{ExternCrateId, MapId, ModuleId, TraitId};

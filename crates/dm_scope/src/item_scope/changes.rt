@@ -1,8 +1,8 @@
 //! Mutators that change a scope in place. None of them has to allocate: `shrink_to_fit` may ask for some, and goes on
 //! without it.
 ghost use Rattle.std.specs.Prelude.{◌≡◌, IsSome, map};
-ghost use Rattle.dm_names.specs.Names.{find_name};
-ghost use Rattle.dm_bindings.specs.Changes.{without_binding, with_vis, with_def, change_all, censored, censored_macro};
+ghost use Rattle.dm_base.specs.Names.{find_name};
+ghost use Rattle.dm_scope.specs.Changes.{without_binding, with_vis, with_def, change_all, censored, censored_macro};
 ghost use Rattle.dm_scope.specs.Rare.{censored_trait};
 ghost use Rattle.dm_base.specs.Sameness.{same_def};
 

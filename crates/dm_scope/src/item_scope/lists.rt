@@ -2,30 +2,31 @@
 ghost use Rattle.std.specs.Prelude.{◌≡◌, ◌++◌, [], length, map, Option};
 ghost use Rattle.std.specs.List.{filter_map};
 ghost use Rattle.std.specs.Map.Iter.{ShowsInOrder, deref_pair};
-ghost use Rattle.dm_ids.specs.declared.ids.BuiltinDeriveImplId.{BuiltinDeriveImplId};
-ghost use Rattle.dm_ids.specs.declared.ids.ExternBlockId.{ExternBlockId};
-ghost use Rattle.dm_ids.specs.declared.ids.ExternCrateId.{ExternCrateId};
-ghost use Rattle.dm_ids.specs.declared.ids.ConstId.{ConstId};
-ghost use Rattle.dm_ids.specs.declared.ids.TraitId.{TraitId};
-ghost use Rattle.dm_ids.specs.declared.ids.UseId.{UseId};
-ghost use Rattle.dm_ids.specs.declared.ids.ImplId.{ImplId};
-ghost use Rattle.dm_ids.specs.declared.ids.ModuleId.{ModuleId};
-ghost use Rattle.dm_ids.specs.declared.ids.MacroCallId.{MacroCallId};
-ghost use Rattle.dm_ids.specs.declared.imports.ImportId.{ImportId};
-ghost use Rattle.dm_ids.specs.declared.imports.ImportOrDef.{ImportOrDef};
+ghost use Rattle.dm_base.specs.declared.ids.BuiltinDeriveImplId.{BuiltinDeriveImplId};
+ghost use Rattle.dm_base.specs.declared.ids.ExternBlockId.{ExternBlockId};
+ghost use Rattle.dm_base.specs.declared.ids.ExternCrateId.{ExternCrateId};
+ghost use Rattle.dm_base.specs.declared.ids.ConstId.{ConstId};
+ghost use Rattle.dm_base.specs.declared.ids.TraitId.{TraitId};
+ghost use Rattle.dm_base.specs.declared.ids.UseId.{UseId};
+ghost use Rattle.dm_base.specs.declared.ids.ImplId.{ImplId};
+ghost use Rattle.dm_base.specs.declared.ids.ModuleId.{ModuleId};
+ghost use Rattle.dm_base.specs.declared.ids.MacroCallId.{MacroCallId};
+ghost use Rattle.dm_base.specs.declared.imports.ImportId.{ImportId};
+ghost use Rattle.dm_base.specs.declared.imports.ImportOrDef.{ImportOrDef};
 ghost use Rattle.dm_base.specs.declared.visibility.Visibility.{Visibility};
-ghost use Rattle.dm_ids.specs.declared.source.AstId.{AstId};
-ghost use Rattle.dm_ids.specs.declared.imports.ImportOrExternCrate.{ImportOrExternCrate};
-ghost use Rattle.dm_ids.specs.declared.imports.ImportOrGlob.{ImportOrGlob};
-ghost use Rattle.dm_ids.specs.declared.item_ids.MacroId.{MacroId};
-ghost use Rattle.dm_ids.specs.declared.item_ids.ModuleDefId.{ModuleDefId};
+ghost use Rattle.dm_base.specs.declared.source.AstId.{AstId};
+ghost use Rattle.dm_base.specs.declared.imports.ImportOrExternCrate.{ImportOrExternCrate};
+ghost use Rattle.dm_base.specs.declared.imports.ImportOrGlob.{ImportOrGlob};
+ghost use Rattle.dm_base.specs.declared.item_ids.MacroId.{MacroId};
+ghost use Rattle.dm_base.specs.declared.item_ids.ModuleDefId.{ModuleDefId};
 ghost use Rattle.dm_base.specs.declared.per_ns.Item.{Item};
 ghost use Rattle.dm_scope.specs.AllCalls.{all_calls};
 ghost use Rattle.dm_scope.specs.Records.{records_in};
-ghost use Rattle.dm_bindings.specs.Iterators.{deref_name};
+ghost use Rattle.dm_scope.specs.BindingIterators.{deref_name};
 ghost use Rattle.dm_scope.specs.Iterators.{any_impl, trait_impl, inherent_impl, bound_module, trait_of, deref_legacy};
 
 use super::ItemScope;
+use crate::bindings::Iter;
 use crate::import_records::ImportRecords;
 use crate::iterators::{
     AttrMacroInvocations, Impls, InherentImpls, LegacyMacros, Listed, MacroInvocations,
@@ -39,7 +40,6 @@ use dm_base::imports::{ImportId, ImportOrExternCrate, ImportOrGlob};
 use dm_base::item_ids::{MacroId, ModuleDefId};
 use dm_base::per_ns::Namespace;
 use dm_base::visibility::Visibility;
-use dm_bindings::bindings::Iter;
 
 impl ItemScope {
     /// What is declared in the scope, in order of definition. Takes no memory.

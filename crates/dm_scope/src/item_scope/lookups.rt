@@ -1,8 +1,8 @@
 //! Look-ups in a scope: by name, by definition (the reverse look-up), by AST id, or by import.
 ghost use Rattle.std.specs.Prelude.{◌≡◌, option_map, option_copied, find, slice_get};
 ghost use Rattle.std.specs.Map.{lookup};
-ghost use Rattle.dm_names.specs.Names.{find_name};
-ghost use Rattle.dm_bindings.specs.Lookups.{deref_named, MayAskNames, AsksNames};
+ghost use Rattle.dm_base.specs.Names.{find_name};
+ghost use Rattle.dm_scope.specs.BindingLookups.{deref_named, MayAskNames, AsksNames};
 ghost use Rattle.dm_scope.specs.Chains.{record_of};
 ghost use Rattle.dm_scope.specs.Lookups.{def_and_vis, names_for, trait_vis};
 ghost use Rattle.dm_base.specs.Sameness.{same_ast};

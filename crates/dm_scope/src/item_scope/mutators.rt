@@ -1,7 +1,7 @@
 //! What a `DefCollector` puts into a scope beside pushes of names.
 ghost use Rattle.std.specs.Prelude.{◌≡◌, [], ◌∷◌, ◌++◌, OnOk, OnErr};
 ghost use Rattle.indexmap.specs.IndexMap.{insert_entry};
-ghost use Rattle.dm_names.specs.Names.{same_name};
+ghost use Rattle.dm_base.specs.Names.{same_name};
 ghost use Rattle.dm_scope.specs.TableLists.{add_to_list};
 ghost use Rattle.dm_base.specs.Sameness.{same_ast};
 

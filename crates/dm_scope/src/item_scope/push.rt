@@ -1,9 +1,9 @@
 //! `push_res_with_import`: pushes a resolution into all namespaces of a scope.
 ghost use Rattle.std.specs.Prelude.{◌≡◌, ◌||◌, false, List, [], ◌∷◌, ◌++◌, IfOk, OnOk, OnErr};
-ghost use Rattle.dm_ids.specs.declared.ids.ModuleId.{ModuleId};
-ghost use Rattle.dm_names.specs.Names.{Name};
+ghost use Rattle.dm_base.specs.declared.ids.ModuleId.{ModuleId};
+ghost use Rattle.dm_base.specs.Names.{Name};
 ghost use Rattle.dm_base.specs.Tree.{same_module};
-ghost use Rattle.dm_bindings.specs.Bindings.{bound_after, flags_after, is_effective_at};
+ghost use Rattle.dm_scope.specs.Bindings.{bound_after, flags_after, is_effective_at};
 ghost use Rattle.dm_scope.specs.Gives.{PushGives};
 ghost use Rattle.dm_scope.specs.Push.{types_reading, values_reading, macros_reading, unresolved_after, is_new_unresolved, scope_after, globs_after};
 ghost use Rattle.dm_scope.specs.PushLaw.{PushLaw, itself};

@@ -2,7 +2,7 @@
 ghost use Rattle.std.specs.Prelude.{◌≡◌, ◌++◌, ◌∷◌, [], None, IfOk, OnOk, map};
 ghost use Rattle.std.specs.List.{filter_map};
 ghost use Rattle.dm_scope.specs.Scope.{bound_in};
-ghost use Rattle.dm_ids.specs.Imports.{named_import};
+ghost use Rattle.dm_base.specs.Imports.{named_import};
 ghost use Rattle.dm_scope.specs.Sorted.{seen, deref_entry, AreNames, AreEntries, imports_of, AreImports, deref_resolution, named_resolution, AreResolutions, unnamed_resolution, unnamed_type};
 
 use super::ItemScope;

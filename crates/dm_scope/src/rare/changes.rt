@@ -1,7 +1,7 @@
 //! Mutators of the rare tables of a scope. Those that put nothing in do not allocate the tables.
 ghost use Rattle.std.specs.Prelude.{◌≡◌, OnOk, OnErr, map};
 ghost use Rattle.indexmap.specs.IndexSet.{insert_key};
-ghost use Rattle.dm_names.specs.Names.{same_name};
+ghost use Rattle.dm_base.specs.Names.{same_name};
 ghost use Rattle.dm_scope.specs.Rare.{censored_trait, rare_in};
 
 use super::{Rare, RareTables};

@@ -1,7 +1,7 @@
 //! Reads of the rare tables of a scope. None of them allocates.
 ghost use Rattle.std.specs.Prelude.{◌≡◌};
 ghost use Rattle.std.specs.List.{list_any};
-ghost use Rattle.dm_names.specs.Names.{same_name};
+ghost use Rattle.dm_base.specs.Names.{same_name};
 ghost use Rattle.dm_scope.specs.Derives.{derives_of};
 ghost use Rattle.dm_scope.specs.TableLists.{lists_of};
 

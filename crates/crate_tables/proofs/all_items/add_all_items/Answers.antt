@@ -1,7 +1,7 @@
 use Rattle.crate_tables.proofs.KeptLemmas.{kept-further, kept-grown}
 use Rattle.crate_tables.proofs.all_items.add_all_items.Goals as goal
 use Rattle.crate_tables.specs.CrateRoots.{root_id}
-use Rattle.dm_check.specs.declared.held.HeldId.TheVariants as held
+use Rattle.dm_maps.specs.declared.check.held.HeldId.TheVariants as held
 
 pub add_all_macros-requires-clause-root : goal.add_all_macros-requires-clause-root
 add_all_macros-requires-clause-root c = c.add_extern_crates.ensures.grown.known (held.Module (root_id c.args.view.now.krate)) c.requires.roots.0

@@ -1,7 +1,7 @@
 use Rattle.crate_tables.proofs.KeptLemmas.{kept-further, kept-grown}
 use Rattle.crate_tables.proofs.all_macros.add_all_macros.Goals as goal
 use Rattle.crate_tables.specs.CrateRoots.{root_id}
-use Rattle.dm_check.specs.declared.held.HeldId.TheVariants as held
+use Rattle.dm_maps.specs.declared.check.held.HeldId.TheVariants as held
 
 pub add_procedural_macros-requires-clause-root : goal.add_procedural_macros-requires-clause-root
 add_procedural_macros-requires-clause-root c = c.in_ok-add_macros_in_scope.ensures.stays.known (held.Module (root_id c.args.view.now.krate)) c.requires.root

@@ -1,7 +1,7 @@
 use Rattle.std.proofs.Common.{◌≡◌, drop}
 use Rattle.crate_tables.specs.Blocks.{with_blocks}
 use Rattle.crate_tables.specs.CrateTables.{IsTableOf}
-use Rattle.dm_names.specs.declared.ids.Crate.{Crate}
+use Rattle.dm_base.specs.declared.ids.Crate.{Crate}
 use Rattle.dm_maps.specs.World.{World}
 use Rattle.crate_tables.proofs.blocks.add_blocks.Given as goal
 

@@ -4,10 +4,10 @@ use Rattle.crate_tables.proofs.GrownLemmas.{grown-further}
 use Rattle.crate_tables.proofs.VariantLemmas.{variant-free, variant-short, variant-taken}
 use Rattle.crate_tables.specs.CrateDefs.{with_new_variant}
 use Rattle.dm_base.specs.declared.visibility.RawVisibility.{RawVisibility}
-use Rattle.dm_check.specs.declared.held.HeldId.TheVariants as held
-use Rattle.dm_ids.specs.declared.ids.EnumVariantId.{EnumVariantId}
-use Rattle.dm_ids.specs.declared.item_ids.ItemKind.TheVariants as kinds
-use Rattle.dm_ids.specs.declared.item_ids.VariantId.TheVariants as variant
+use Rattle.dm_maps.specs.declared.check.held.HeldId.TheVariants as held
+use Rattle.dm_base.specs.declared.ids.EnumVariantId.{EnumVariantId}
+use Rattle.dm_base.specs.declared.item_ids.ItemKind.TheVariants as kinds
+use Rattle.dm_base.specs.declared.item_ids.VariantId.TheVariants as variant
 use Rattle.dm_maps.specs.BuildItems.{with_variant}
 use Rattle.dm_maps.specs.BuildTables.{with_fields}
 use Rattle.dm_maps.specs.Faults.{Answers}

@@ -1,8 +1,8 @@
 use Rattle.std.proofs.Common.{◌≡◌}
 use Rattle.std.specs.Prelude.{IsTrue}
 use Rattle.crate_tables.specs.CrateDefs.{with_variants}
-use Rattle.dm_check.specs.declared.held.HeldId.TheVariants as held
-use Rattle.dm_ids.specs.declared.item_ids.ItemKind.TheVariants as kinds
+use Rattle.dm_maps.specs.declared.check.held.HeldId.TheVariants as held
+use Rattle.dm_base.specs.declared.item_ids.ItemKind.TheVariants as kinds
 use Rattle.dm_maps.specs.Added.{IsGrown}
 use Rattle.dm_maps.specs.Known.{knows}
 use Rattle.crate_tables.proofs.crate_defs.add_variants.Given as goal

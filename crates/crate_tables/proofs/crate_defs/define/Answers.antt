@@ -5,7 +5,7 @@ use Rattle.crate_tables.specs.CrateDefs.{constructor_vis}
 use Rattle.crate_tables.specs.CrateTables.{IsTableOf, with_named}
 use Rattle.dm_base.specs.PerNs.{of_def}
 use Rattle.dm_base.specs.declared.per_ns.PerNs.{PerNs}
-use Rattle.dm_check.specs.Holding.{def_holds}
+use Rattle.dm_maps.specs.Holding.{def_holds}
 use Rattle.crate_tables.proofs.crate_defs.define.Goals as goal
 
 pub returns-clause-kept : goal.returns-clause-kept

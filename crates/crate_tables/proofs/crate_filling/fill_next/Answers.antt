@@ -3,7 +3,7 @@ use Rattle.std.specs.Prelude.{All, slice_get}
 use Rattle.crate_tables.proofs.FillingLemmas.{fault-in, linkable-known, tables-more}
 use Rattle.crate_tables.specs.CrateFillings.{IsCrateIn, IsKnownTable}
 use Rattle.crate_tables.specs.ExternCrates.{Linked}
-use Rattle.dm_names.specs.declared.ids.Crate.{Crate}
+use Rattle.dm_base.specs.declared.ids.Crate.{Crate}
 use Rattle.crate_tables.proofs.crate_filling.fill_next.Goals as goal
 
 pub fill_crate-requires-clause-root : goal.fill_crate-requires-clause-root

@@ -1,6 +1,6 @@
 use Rattle.crate_tables.proofs.GrownLemmas.{grown-further}
 use Rattle.crate_tables.proofs.crate_filling.prepare.Goals as goal
-use Rattle.dm_check.specs.declared.held.HeldId.TheVariants as held
+use Rattle.dm_maps.specs.declared.check.held.HeldId.TheVariants as held
 
 pub set_attributes-requires : goal.set_attributes-requires
 set_attributes-requires c = c.add_externs.ensures.grown.known (held.Crate c.args.krate) c.requires

@@ -3,7 +3,7 @@ use Rattle.std.specs.Prelude.{Err}
 use Rattle.dm_maps.specs.Faults.{Answers, child_fault}
 use Rattle.dm_maps.specs.declared.build_fault.BuildFault.TheVariants.{TakenChild}
 use Rattle.crate_tables.proofs.ChildLemmas.{added-free, refused-short, refused-taken}
-use Rattle.dm_ids.specs.declared.ids.ModuleId.{ModuleId}
+use Rattle.dm_base.specs.declared.ids.ModuleId.{ModuleId}
 use Rattle.dm_maps.specs.Build.{next_module, with_module}
 use Rattle.crate_tables.proofs.crate_maps.add_child.Goals as goal
 

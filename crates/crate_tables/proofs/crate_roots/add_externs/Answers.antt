@@ -2,7 +2,7 @@ use Rattle.std.proofs.Common.{◌≡◌, ◌∙◌, ◌+◌, ap, drop, sym, take
 use Rattle.crate_tables.proofs.GrownLemmas.{grown-further}
 use Rattle.crate_tables.proofs.StepLemmas.{next-of}
 use Rattle.crate_tables.specs.CrateRoots.{with_extern, with_externs_from}
-use Rattle.crate_modules.specs.declared.dependency.Dependency.{Dependency}
+use Rattle.crate_items.specs.declared.files.dependency.Dependency.{Dependency}
 use Rattle.std.specs.Prelude.{List}
 use Rattle.crate_tables.proofs.crate_roots.add_externs.Goals as goal
 

@@ -1,7 +1,7 @@
 use Rattle.std.proofs.Common.{◌≡◌, drop}
 use Rattle.std.specs.Prelude.{IsTrue}
 use Rattle.crate_tables.specs.CrateRoots.{with_externs, with_externs_from}
-use Rattle.dm_check.specs.declared.held.HeldId.TheVariants as held
+use Rattle.dm_maps.specs.declared.check.held.HeldId.TheVariants as held
 use Rattle.dm_maps.specs.Added.{IsGrown}
 use Rattle.dm_maps.specs.Known.{knows}
 use Rattle.crate_tables.proofs.crate_roots.add_externs.Given as goal

@@ -1,6 +1,6 @@
 use Rattle.std.proofs.Common.{◌≡◌, drop, length}
 use Rattle.crate_tables.specs.CrateRoots.{HasRoots, with_roots}
-use Rattle.dm_ids.specs.declared.ids.ModuleId.{ModuleId}
+use Rattle.dm_base.specs.declared.ids.ModuleId.{ModuleId}
 use Rattle.dm_maps.specs.Build.{no_world}
 use Rattle.dm_maps.specs.World.{scope_of}
 use Rattle.dm_scope.specs.Scope.{no_scope}

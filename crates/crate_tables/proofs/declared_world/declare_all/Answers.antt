@@ -1,5 +1,5 @@
 use Rattle.std.proofs.Common.{◌≡◌, ◌∙◌, ◌+◌, ◌++◌, ◌∷◌, [], None, ap, drop, subst, sym, take}
-use Rattle.dm_check.specs.Pushes.{push_holds}
+use Rattle.dm_maps.specs.Pushes.{push_holds}
 use Rattle.std.proofs.lemmas.List.{take_more}
 use Rattle.crate_tables.proofs.DeclaredLemmas.{shown-more}
 use Rattle.crate_tables.specs.CrateTables.{IsNameOf}

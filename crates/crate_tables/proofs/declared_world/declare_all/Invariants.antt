@@ -1,6 +1,6 @@
 use Rattle.std.proofs.Common.{◌≡◌, List, drop, take}
 use Rattle.crate_tables.specs.DeclaredWorlds.{AreShown, with_all_declared}
-use Rattle.dm_check.specs.declared.held.HeldId.{HeldId}
+use Rattle.dm_maps.specs.declared.check.held.HeldId.{HeldId}
 use Rattle.dm_maps.specs.Known.{KnowsAll}
 use Rattle.crate_tables.proofs.declared_world.declare_all.Given as goal
 

@@ -1,6 +1,6 @@
 use Rattle.std.proofs.Common.{rules, ◌≡◌, ◌∙◌, Some, ap, if◌then◌else◌, sym}
 use Rattle.std.specs.Prelude.{Option}
-use Rattle.crate_modules.specs.declared.declared_module.Declaration.{Declaration}
+use Rattle.crate_items.specs.declared.modules.declared_module.Declaration.{Declaration}
 use Rattle.crate_tables.specs.ModuleIndexes.{declares, number_of}
 use Rattle.crate_tables.proofs.module_index.number_module.Goals as goal
 

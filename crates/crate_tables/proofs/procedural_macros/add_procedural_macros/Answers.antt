@@ -3,7 +3,7 @@ use Rattle.crate_tables.proofs.GrownLemmas.{grown-further}
 use Rattle.crate_tables.proofs.StepLemmas.{next-of}
 use Rattle.crate_tables.specs.CrateRoots.{root_id}
 use Rattle.crate_tables.specs.ProceduralMacros.{with_procedural_macros}
-use Rattle.dm_check.specs.declared.held.HeldId.TheVariants as held
+use Rattle.dm_maps.specs.declared.check.held.HeldId.TheVariants as held
 use Rattle.crate_tables.proofs.procedural_macros.add_procedural_macros.Goals as goal
 
 pub add_one-requires-clause-root : goal.add_one-requires-clause-root

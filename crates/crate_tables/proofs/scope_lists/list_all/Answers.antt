@@ -3,7 +3,7 @@ use Rattle.crate_tables.proofs.StepLemmas.{next-copied}
 use Rattle.crate_tables.proofs.TextualLemmas.{table-stays}
 use Rattle.crate_tables.specs.ScopeLists.{with_scope_lists}
 use Rattle.crate_tables.specs.declared.item_outline.ItemOutline.{ItemOutline}
-use Rattle.item_tree.specs.declared.item_kind.ItemKind.TheVariants as item
+use Rattle.item_tree.specs.declared.items.item_kind.ItemKind.TheVariants as item
 use Rattle.crate_tables.proofs.scope_lists.list_all.Goals as goal
 
 pub returns-in_err-list_item-clause-kept : goal.returns-in_err-list_item-clause-kept

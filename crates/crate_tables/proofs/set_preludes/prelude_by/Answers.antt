@@ -2,7 +2,7 @@ use Rattle.std.proofs.Common.{◌≡◌, ◌∙◌, ap, None}
 use Rattle.crate_items.specs.CrateAttributes.{crate_attributes}
 use Rattle.crate_tables.specs.CrateFillings.{attributes_of, importer_of, or_standard}
 use Rattle.crate_tables.specs.PreludeImports.{Importer, named_among}
-use Rattle.dm_names.specs.declared.ids.FileId.{FileId}
+use Rattle.dm_base.specs.declared.ids.FileId.{FileId}
 use Rattle.crate_tables.proofs.set_preludes.prelude_by.Goals as goal
 
 pub returns : goal.returns

@@ -1,6 +1,6 @@
 use Rattle.std.proofs.Common.{◌≡◌, length}
 use Rattle.std.specs.List.{All}
-use Rattle.dm_ids.specs.declared.ids.ModuleId.{ModuleId}
+use Rattle.dm_base.specs.declared.ids.ModuleId.{ModuleId}
 use Rattle.dm_scope.specs.Scope.{no_scope}
 use Rattle.dm_maps.specs.World.{scope_of}
 use Rattle.defmap_callers.specs.Building.{IsBelow}

@@ -3,13 +3,13 @@ use Rattle.std.specs.List.{cons_option, filter_map}
 use Rattle.std.proofs.lemmas.Bool.{eqb-true}
 use Rattle.std.proofs.lemmas.List.{append-nil}
 use Rattle.std.proofs.lemmas.List.Elements.{filter_map-append}
-use Rattle.dm_names.specs.Names.{Name}
-use Rattle.dm_ids.specs.declared.ids.ModuleId.{ModuleId}
-use Rattle.dm_ids.specs.declared.item_ids.ModuleDefId.{ModuleDefId}
+use Rattle.dm_base.specs.Names.{Name}
+use Rattle.dm_base.specs.declared.ids.ModuleId.{ModuleId}
+use Rattle.dm_base.specs.declared.item_ids.ModuleDefId.{ModuleDefId}
 use Rattle.dm_base.specs.PerNs.{type_alone}
 use Rattle.dm_base.specs.Tree.{same_module}
 use Rattle.dm_base.specs.declared.visibility.Visibility.TheVariants.{Public}
-use Rattle.dm_shadowing.specs.Flags.{Globs}
+use Rattle.dm_scope.specs.Flags.{Globs}
 use Rattle.dm_scope.specs.Shows.{ScopePush, Shows, push_of}
 use Rattle.dm_maps.specs.PushRes.{StaysShown}
 use Rattle.dm_maps.specs.World.{World, scope_of}

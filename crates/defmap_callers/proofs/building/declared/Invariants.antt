@@ -1,4 +1,4 @@
-use Rattle.dm_ids.specs.declared.ids.ModuleId.{ModuleId}
+use Rattle.dm_base.specs.declared.ids.ModuleId.{ModuleId}
 use Rattle.dm_scope.specs.Shows.{Shows}
 use Rattle.dm_maps.specs.World.{scope_of}
 use Rattle.defmap_callers.specs.Building.{pushes_to}

@@ -1,5 +1,5 @@
 use Rattle.std.proofs.Common.{rules}
-use Rattle.dm_bindings.specs.Lookups.{MayAskNames-any}
+use Rattle.dm_scope.specs.BindingLookups.{MayAskNames-any}
 use Rattle.defmap_callers.specs.Finding.{public_name}
 use Rattle.defmap_callers.proofs.NameLemmas.{AsksNames-first}
 use Rattle.defmap_callers.proofs.finding.is_exported.Goals as goal

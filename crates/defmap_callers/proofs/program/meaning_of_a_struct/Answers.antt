@@ -1,10 +1,10 @@
 use Rattle.std.proofs.Common.{◌≡◌, ◌∙◌, [], ◌∷◌, Some, None, ap, refl, slice_get, subst, sym}
 use Rattle.std.specs.Option.{option_map_or}
 use Rattle.std.specs.Prelude.{codes}
-use Rattle.dm_names.specs.Names.{Name}
-use Rattle.dm_names.specs.declared.ids.Crate.{Crate}
-use Rattle.dm_names.specs.declared.edition.Edition.TheVariants.{Edition2021}
-use Rattle.dm_ids.specs.declared.source.EditionedFileId.{EditionedFileId}
+use Rattle.dm_base.specs.Names.{Name}
+use Rattle.dm_base.specs.declared.ids.Crate.{Crate}
+use Rattle.dm_base.specs.declared.edition.Edition.TheVariants.{Edition2021}
+use Rattle.dm_base.specs.declared.source.EditionedFileId.{EditionedFileId}
 use Rattle.dm_base.specs.Path.{Path}
 use Rattle.dm_base.specs.PerNs.{definition}
 use Rattle.dm_base.specs.declared.mod_path.PathKind.TheVariants.{Plain}
@@ -13,8 +13,8 @@ use Rattle.dm_def_map.specs.Maps.{LocalMap, Map}
 use Rattle.dm_def_map.specs.declared.modules.modes.BuiltinShadowMode.TheVariants.{Module}
 use Rattle.dm_maps.specs.Build.{fresh_crate}
 use Rattle.dm_maps.specs.World.{World, crate_map}
-use Rattle.dm_paths.specs.Paths.{answer, asked}
-use Rattle.dm_paths.specs.declared.result.ResolveMode.TheVariants.{Other}
+use Rattle.hir_def_map.specs.Paths.{answer, asked}
+use Rattle.hir_def_map.specs.declared.path_resolution.result.ResolveMode.TheVariants.{Other}
 use Rattle.defmap_callers.specs.Program.{is_struct, root, struct_0, tables_of, world_of}
 use Rattle.defmap_callers.proofs.program.meaning_of_a_struct.Goals as goal
 

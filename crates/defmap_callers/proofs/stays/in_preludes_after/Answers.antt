@@ -1,5 +1,5 @@
 use Rattle.std.proofs.Common.{◌≡◌, ◌∙◌, Some, ap, slice_get, subst, sym}
-use Rattle.dm_ids.specs.declared.ids.MapId.{MapId}
+use Rattle.dm_base.specs.declared.ids.MapId.{MapId}
 use Rattle.dm_maps.specs.World.{numbered_map}
 use Rattle.dm_def_map.specs.Maps.{LocalMap}
 use Rattle.hir_def_map.specs.Questions.{IsKnownInCrate}

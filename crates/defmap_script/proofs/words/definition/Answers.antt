@@ -1,10 +1,10 @@
 use Rattle.std.proofs.Common.{◌≡◌, ◌∙◌, Option, Some, ap, sym}
 use Rattle.std.specs.Option.{option_map, option_and_then}
-use Rattle.dm_names.specs.Names.{Name}
-use Rattle.dm_ids.specs.declared.item_ids.ModuleDefId.{ModuleDefId}
-use Rattle.dm_ids.specs.declared.item_ids.AdtId.TheVariants as adt
-use Rattle.dm_ids.specs.declared.item_ids.MacroId.TheVariants as «macro»
-use Rattle.dm_ids.specs.declared.item_ids.ModuleDefId.TheVariants as def
+use Rattle.dm_base.specs.Names.{Name}
+use Rattle.dm_base.specs.declared.item_ids.ModuleDefId.{ModuleDefId}
+use Rattle.dm_base.specs.declared.item_ids.AdtId.TheVariants as adt
+use Rattle.dm_base.specs.declared.item_ids.MacroId.TheVariants as «macro»
+use Rattle.dm_base.specs.declared.item_ids.ModuleDefId.TheVariants as def
 use Rattle.defmap_script.specs.Words.{at_colon, read_by, definition, definition_forms}
 use Rattle.defmap_script.proofs.words.definition.Goals as goal
 

@@ -7,10 +7,10 @@ use dm_base::per_ns::PerNs;
 use dm_base::source::{Edition, EditionedFileId, HirFileId, TreeId};
 use dm_base::visibility::Visibility;
 use dm_maps::builder::WorldBuilder;
+use dm_maps::check::check_tables::CheckTables;
 use dm_maps::module_origin::ModuleOrigin;
 use dm_maps::world::World;
 use dm_scope::glob_imports::PerNsGlobImports;
-use dm_world::check::CheckTables;
 use std::alloc::Global;
 
 const ROOT: ModuleId = ModuleId(0);

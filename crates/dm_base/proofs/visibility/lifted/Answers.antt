@@ -1,5 +1,5 @@
 use Rattle.std.proofs.Common.{◌≡◌, Bool, cond, Some, Option, List, find, unwrap_or, sym, ap, ◌∙◌}
-use Rattle.dm_ids.specs.declared.ids.ModuleId.{ModuleId}
+use Rattle.dm_base.specs.declared.ids.ModuleId.{ModuleId}
 use Rattle.dm_base.specs.Tree.{outward, outside, is_lifted}
 use Rattle.dm_base.proofs.TreeLemmas.{outward-outside}
 use Rattle.dm_base.proofs.SeesLemmas.{outward_within-stays}

@@ -1,6 +1,6 @@
 use Rattle.std.proofs.Common.{◌∙◌, [], List, subst}
-use Rattle.assoc_items.specs.AssocItems.{AreAllAdded, Filled}
-use Rattle.crate_modules.specs.Modules.{Listing}
+use Rattle.crate_tables.specs.AssocItems.{AreAllAdded, Filled}
+use Rattle.crate_items.specs.Modules.{Listing}
 use Rattle.crate_tables.specs.CrateFillings.{Crates, IsKnownTable}
 use Rattle.crate_tables.specs.CrateTables.{Table}
 use Rattle.std.proofs.lemmas.List.Elements.{All-weaker}

@@ -1,4 +1,4 @@
-use Rattle.crate_modules.specs.CrateGraphs.{numbers}
+use Rattle.crate_items.specs.CrateGraphs.{numbers}
 use Rattle.dm_collector.proofs.collect.ordered.Goals as goal
 
 pub returns-in-Ok-clause-order : goal.returns-in-Ok-clause-order

@@ -2,7 +2,7 @@ use Rattle.std.proofs.Common.{◌≡◌, ◌∙◌, Bor, ap, false, subst, sym, 
 use Rattle.std.proofs.lemmas.List.{take_all}
 use Rattle.std.proofs.lemmas.List.Elements.{All-contains, All-map, All-more}
 use Rattle.std.specs.List.{All}
-use Rattle.dm_names.specs.Names.{Name}
+use Rattle.dm_base.specs.Names.{Name}
 use Rattle.dm_base.specs.PerNs.{is_empty}
 use Rattle.dm_scope.specs.Sorted.{seen}
 use Rattle.dm_collector.specs.Globs.{missing}

@@ -1,6 +1,6 @@
 use Rattle.std.proofs.Common.{◌≡◌, [], Bor, false, take, true}
 use Rattle.std.specs.List.{All}
-use Rattle.dm_names.specs.Names.{Name}
+use Rattle.dm_base.specs.Names.{Name}
 use Rattle.dm_base.specs.PerNs.{is_empty}
 use Rattle.dm_collector.specs.Globs.{missing}
 use Rattle.dm_collector.proofs.globs.missing_names.Given as goal

@@ -2,7 +2,7 @@ use Rattle.std.proofs.Common.{subst, sym, Bool}
 use Rattle.dm_base.specs.Tree.{sees}
 use Rattle.dm_base.specs.declared.per_ns.PerNs.{PerNs}
 use Rattle.dm_base.specs.declared.visibility.Visibility.{Visibility}
-use Rattle.dm_check.specs.Holding.{res_holds}
+use Rattle.dm_maps.specs.Holding.{res_holds}
 use Rattle.dm_maps.specs.Known.{KnowsAll}
 use Rattle.dm_maps.specs.KnownLaws.{macro_vis-known, type_vis-known, value_vis-known}
 use Rattle.dm_maps.specs.Trees.{tree_of}

@@ -1,6 +1,6 @@
 use Rattle.std.proofs.Common.{subst, sym}
 use Rattle.dm_base.specs.declared.per_ns.PerNs.{PerNs}
-use Rattle.dm_check.specs.Holding.{res_holds}
+use Rattle.dm_maps.specs.Holding.{res_holds}
 use Rattle.dm_maps.specs.Known.{KnowsAll}
 use Rattle.dm_collector.proofs.KnownLemmas.{variant-known}
 use Rattle.dm_collector.proofs.globs.variant.Goals as goal

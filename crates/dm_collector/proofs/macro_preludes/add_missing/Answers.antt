@@ -2,7 +2,7 @@ use Rattle.std.proofs.Common.{◌≡◌, ◌∙◌, Bor, None, ap, false, is_non
 use Rattle.std.proofs.lemmas.List.{take_all}
 use Rattle.std.proofs.lemmas.List.Elements.{All-map, All-more}
 use Rattle.std.specs.List.{All}
-use Rattle.dm_names.specs.Names.{Name}
+use Rattle.dm_base.specs.Names.{Name}
 use Rattle.dm_collector.proofs.ListLemmas.{added-all}
 use Rattle.dm_collector.proofs.MacroLemmas.{none-test, none-there}
 use Rattle.dm_collector.specs.MacroPreludes.{missing_macro}

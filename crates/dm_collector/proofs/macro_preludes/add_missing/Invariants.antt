@@ -1,6 +1,6 @@
 use Rattle.std.proofs.Common.{◌≡◌, [], Bor, None, false, is_none, take}
 use Rattle.std.specs.List.{All}
-use Rattle.dm_names.specs.Names.{Name}
+use Rattle.dm_base.specs.Names.{Name}
 use Rattle.dm_collector.specs.MacroPreludes.{missing_macro}
 use Rattle.dm_collector.proofs.macro_preludes.add_missing.Given as goal
 

@@ -1,6 +1,6 @@
 use Rattle.std.proofs.Common.{◌≡◌, Bor, List, None, subst}
 use Rattle.std.specs.List.{All}
-use Rattle.dm_names.specs.Names.{Name}
+use Rattle.dm_base.specs.Names.{Name}
 use Rattle.dm_collector.proofs.MacroLemmas.{all-among}
 use Rattle.dm_collector.specs.MacroPreludes.{missing_macro, used_names}
 use Rattle.dm_scope.specs.Sorted.{seen}

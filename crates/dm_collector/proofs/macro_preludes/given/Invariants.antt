@@ -1,7 +1,7 @@
 use Rattle.std.proofs.Common.{◌≡◌, drop}
 use Rattle.std.specs.Option.{IfSome, option_or}
-use Rattle.dm_check.specs.Holding.{def_holds}
-use Rattle.dm_ids.specs.declared.item_ids.ModuleDefId.TheVariants as def
+use Rattle.dm_maps.specs.Holding.{def_holds}
+use Rattle.dm_base.specs.declared.item_ids.ModuleDefId.TheVariants as def
 use Rattle.dm_maps.specs.Known.{KnowsAll}
 use Rattle.dm_collector.specs.MacroPreludes.{Entry, given}
 use Rattle.dm_collector.proofs.macro_preludes.given.Given as goal

@@ -1,6 +1,6 @@
 use Rattle.std.proofs.Common.{◌≡◌, [], false, is_none, take}
 use Rattle.std.specs.List.{All}
-use Rattle.dm_names.specs.Names.{Name}
+use Rattle.dm_base.specs.Names.{Name}
 use Rattle.dm_collector.specs.MacroPreludes.{HasMacrosOf, missing_macro}
 use Rattle.dm_collector.proofs.macro_preludes.missing_macro_names.Given as goal
 

@@ -1,8 +1,8 @@
 use Rattle.std.proofs.Common.{Option, subst, sym}
 use Rattle.std.specs.Option.{IfSome}
-use Rattle.dm_check.specs.Holding.{def_holds}
-use Rattle.dm_ids.specs.declared.item_ids.MacroId.{MacroId}
-use Rattle.dm_ids.specs.declared.item_ids.ModuleDefId.TheVariants as def
+use Rattle.dm_maps.specs.Holding.{def_holds}
+use Rattle.dm_base.specs.declared.item_ids.MacroId.{MacroId}
+use Rattle.dm_base.specs.declared.item_ids.ModuleDefId.TheVariants as def
 use Rattle.dm_maps.specs.Known.{KnowsAll}
 use Rattle.dm_collector.proofs.MacroLemmas.{public-known}
 use Rattle.dm_collector.proofs.macro_preludes.public_macro.Goals as goal

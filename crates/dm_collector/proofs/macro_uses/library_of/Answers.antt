@@ -2,7 +2,7 @@ use Rattle.std.proofs.Common.{◌≡◌, ◌∙◌, ap}
 use Rattle.crate_items.specs.CrateAttributes.{crate_attributes}
 use Rattle.crate_tables.specs.CrateFillings.{attributes_of}
 use Rattle.crate_tables.specs.StandardPreludes.{library}
-use Rattle.dm_names.specs.declared.ids.FileId.{FileId}
+use Rattle.dm_base.specs.declared.ids.FileId.{FileId}
 use Rattle.dm_collector.proofs.macro_uses.library_of.Goals as goal
 
 pub returns : goal.returns

@@ -2,7 +2,7 @@ use Rattle.std.proofs.Common.{◌≡◌, ◌∙◌, ◌++◌, Option, Some, ap, 
 use Rattle.std.proofs.lemmas.List.{append-nil}
 use Rattle.std.proofs.lemmas.Option.{slice_get-get_or, slice_get_past}
 use Rattle.std.specs.Prelude.{OnOk}
-use Rattle.crate_modules.specs.Modules.{Listing}
+use Rattle.crate_items.specs.Modules.{Listing}
 use Rattle.dm_collector.specs.MacroUses.{sources_if}
 use Rattle.dm_collector.proofs.macro_uses.push_sources_in.Goals as goal
 

@@ -1,6 +1,6 @@
 use Rattle.std.proofs.Common.{◌∙◌, ◌++◌, List, map, subst, sym}
 use Rattle.std.specs.List.{Contains}
-use Rattle.dm_names.specs.Names.{Name}
+use Rattle.dm_base.specs.Names.{Name}
 use Rattle.dm_scope.specs.Scope.{Scope}
 use Rattle.dm_scope.specs.Sorted.{deref_entry, names_of, seen}
 use Rattle.dm_collector.proofs.sources.module_names.Goals as goal

@@ -2,7 +2,7 @@ use Rattle.std.proofs.Common.{◌∙◌, ◌++◌, [], List, Option, ap, map, su
 use Rattle.std.specs.List.{Contains}
 use Rattle.std.specs.Option.{option_map_or}
 use Rattle.dm_def_map.specs.Variants.{Variants}
-use Rattle.dm_names.specs.Names.{Name}
+use Rattle.dm_base.specs.Names.{Name}
 use Rattle.dm_scope.specs.Sorted.{seen}
 use Rattle.dm_collector.proofs.sources.variant_names.Goals as goal
 

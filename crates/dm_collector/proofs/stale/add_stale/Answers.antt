@@ -1,7 +1,7 @@
 use Rattle.std.proofs.Common.{◌∙◌, ◌++◌, Bor, List, ap, refl}
 use Rattle.std.specs.List.{flat_map}
 use Rattle.dm_collector.specs.StaleBindings.{stale_under}
-use Rattle.dm_names.specs.Names.{Name}
+use Rattle.dm_base.specs.Names.{Name}
 use Rattle.dm_scope.specs.Sorted.{seen}
 use Rattle.dm_collector.proofs.stale.add_stale.Goals as goal
 

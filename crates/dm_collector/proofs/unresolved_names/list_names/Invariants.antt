@@ -1,6 +1,6 @@
 use Rattle.std.proofs.Common.{◌≡◌}
 use Rattle.dm_collector.specs.UnresolvedNames.{IsListedSome, with_names}
-use Rattle.dm_pending.specs.Rounds.{State}
+use Rattle.dm_retry.specs.Rounds.{State}
 use Rattle.dm_collector.proofs.unresolved_names.list_names.Given as goal
 
 abbrev pub invariant-loop-name : goal.invariant-loop-name

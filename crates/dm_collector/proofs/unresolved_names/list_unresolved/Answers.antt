@@ -1,5 +1,5 @@
 use Rattle.dm_collector.proofs.ListedLemmas.{none-listed}
-use Rattle.dm_shadowing.specs.Outcomes.{on-err}
+use Rattle.dm_scope.specs.Outcomes.{on-err}
 use Rattle.dm_collector.specs.UnresolvedNames.{unresolved_names}
 use Rattle.dm_collector.proofs.unresolved_names.list_unresolved.Goals as goal
 

@@ -1,6 +1,6 @@
 use Rattle.std.proofs.Common.{◌≡◌, [], Bor, false, take}
 use Rattle.std.specs.List.{All}
-use Rattle.dm_names.specs.Names.{Name}
+use Rattle.dm_base.specs.Names.{Name}
 use Rattle.dm_collector.specs.Widening.{is_nothing_wider, nothing_wider, wider}
 use Rattle.dm_collector.proofs.widening.wider_names.Given as goal
 

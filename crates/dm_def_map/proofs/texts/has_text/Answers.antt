@@ -1,7 +1,7 @@
 use Rattle.std.proofs.Common.{◌∙◌, ap, sym}
 use Rattle.std.proofs.lemmas.Map.Made.{is_some-lookup}
 use Rattle.std.specs.List.{list_any}
-use Rattle.dm_names.specs.Names.{same_name}
+use Rattle.dm_base.specs.Names.{same_name}
 use Rattle.dm_def_map.proofs.texts.has_text.Goals as goal
 
 pub returns : goal.returns

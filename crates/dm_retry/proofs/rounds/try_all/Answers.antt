@@ -1,5 +1,5 @@
 use Rattle.std.proofs.Common.{◌≡◌, ◌∙◌, ap, length, arith}
-use Rattle.dm_pending.specs.Rounds.{State}
+use Rattle.dm_retry.specs.Rounds.{State}
 use Rattle.dm_retry.proofs.RoundLemmas.{length-tries}
 use Rattle.dm_retry.proofs.rounds.try_all.Goals as goal
 

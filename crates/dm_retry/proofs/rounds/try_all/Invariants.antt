@@ -1,5 +1,5 @@
 use Rattle.std.proofs.Common.{◌≡◌, length}
-use Rattle.dm_pending.specs.Rounds.{after, any_would_write}
+use Rattle.dm_retry.specs.Rounds.{after, any_would_write}
 use Rattle.dm_retry.proofs.rounds.try_all.Given as goal
 
 abbrev pub invariant-loop-i : goal.invariant-loop-i

@@ -1,6 +1,6 @@
 use Rattle.std.proofs.Common.{◌≡◌, ◌∙◌, ◌+◌, ◌<◌, ◌≤◌, ◌||◌, add-one, ap, ap₂, arith, length, subst, sym, true≢false}
 use Rattle.std.proofs.lemmas.Result.{err_from_is_err_and}
-use Rattle.dm_pending.specs.Rounds.{State, is_due, refused_at}
+use Rattle.dm_retry.specs.Rounds.{State, is_due, refused_at}
 use Rattle.dm_retry.proofs.RoundLemmas.{last-turn, length-tries, next-turn}
 use Rattle.dm_retry.proofs.rounds.try_due.Goals as goal
 

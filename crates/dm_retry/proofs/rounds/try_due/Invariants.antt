@@ -1,5 +1,5 @@
 use Rattle.std.proofs.Common.{◌≡◌, ◌≤◌, ◌-◌, ℕ, false, length}
-use Rattle.dm_pending.specs.Rounds.{after, any_would_write, due_turns, is_due}
+use Rattle.dm_retry.specs.Rounds.{after, any_would_write, due_turns, is_due}
 use Rattle.dm_retry.specs.Retries.{NoneDue, RestsAt}
 use Rattle.dm_retry.proofs.rounds.try_due.Given as goal
 

@@ -1,6 +1,6 @@
 use Rattle.std.proofs.Common.{◌∙◌, sym, ap}
 use Rattle.dm_scope.specs.TableLists.{lists_of}
-use Rattle.dm_shadowing.specs.Outcomes.{on-err}
+use Rattle.dm_scope.specs.Outcomes.{on-err}
 use Rattle.dm_scope.proofs.TableListLemmas.{add_to_list-present, lists_of-unchanged}
 use Rattle.dm_scope.proofs.table_lists.add_to_list.Goals as goal
 

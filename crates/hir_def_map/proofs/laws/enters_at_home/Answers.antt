@@ -1,9 +1,9 @@
 use Rattle.std.proofs.Common.{◌≡◌, ◌∙◌, Option, Some, None, ap, refl, slice_get, unwrap_or, length}
 use Rattle.dm_base.specs.Tree.{Tree, home, outer, in_block_map}
-use Rattle.dm_ids.specs.declared.ids.ModuleId.{ModuleId}
+use Rattle.dm_base.specs.declared.ids.ModuleId.{ModuleId}
 use Rattle.dm_maps.specs.Trees.{tree_of}
-use Rattle.dm_paths.specs.Answers.{yes_in_block}
-use Rattle.dm_paths.specs.Paths.{enter_within, stop, root_item}
+use Rattle.hir_def_map.specs.Answers.{yes_in_block}
+use Rattle.hir_def_map.specs.Paths.{enter_within, stop, root_item}
 use Rattle.hir_def_map.proofs.laws.enters_at_home.Goals as goal
 
 twice : (o : Option ModuleId) (m : ModuleId) → unwrap_or o m ≡ unwrap_or o (unwrap_or o m)

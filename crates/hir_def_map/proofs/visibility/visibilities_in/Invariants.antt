@@ -1,6 +1,6 @@
 use Rattle.std.proofs.Common.{◌≡◌, ◌++◌, length}
 use Rattle.std.specs.List.{AllByRecursion}
-use Rattle.dm_check.specs.TablesHold.{raw_holds}
+use Rattle.dm_maps.specs.TablesHold.{raw_holds}
 use Rattle.dm_maps.specs.Known.{KnowsAll}
 use Rattle.hir_def_map.specs.RawVisibilities.{IsOfWorld, visibilities_in}
 use Rattle.hir_def_map.proofs.visibility.visibilities_in.Given as goal

@@ -1,6 +1,6 @@
 use Rattle.std.proofs.Common.{◌≡◌, ◌++◌, ◌≤◌, ◌-◌, true, List, length, drop}
 use Rattle.item_tree.specs.Tokens.{are_tokens}
-use Rattle.item_tree.specs.declared.token.Token.{Token}
+use Rattle.item_tree.specs.declared.lexer.token.Token.{Token}
 use Rattle.item_tree.proofs.lexer.lex.Given as goal
 
 abbrev pub invariant-loop-at : goal.invariant-loop-at

@@ -12,12 +12,12 @@ use dm_base::item_ids::{ItemKind, ModuleDefId};
 use dm_base::mod_path::PathKind;
 use dm_base::name::Name;
 use dm_base::visibility::Visibility;
+use dm_maps::world::knows_paths::KnowsPaths;
 use dm_retry::import_kind::ImportKind;
 use dm_retry::pending::Pending;
 use dm_retry::retry::Retry;
 use dm_retry::round_kind::RoundKind;
 use dm_scope::diagnostics::DefDiagnostic;
-use dm_world::knows::KnowsPaths;
 use std::alloc::{AllocError, Global};
 
 /// A module of the root, which has a struct and a trait.

@@ -1,7 +1,7 @@
 use Rattle.std.proofs.Common.{◌≡◌, ◌∙◌, false, inl, inr, subst, sym}
 use Rattle.std.proofs.lemmas.Bool.{or_cases, or_parts}
 use Rattle.std.proofs.lemmas.List.Elements.{All-push}
-use Rattle.dm_names.specs.Names.{Name}
+use Rattle.dm_base.specs.Names.{Name}
 use Rattle.dm_retry.specs.Retries.{Retries}
 use Rattle.dm_collector.specs.Steps.{Bind, writes}
 use Rattle.dm_collector.proofs.ReachLemmas.{reached-more, reached-then, reached-written}

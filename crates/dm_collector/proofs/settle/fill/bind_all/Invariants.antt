@@ -1,6 +1,6 @@
 use Rattle.std.proofs.Common.{◌≡◌, List, false, true}
 use Rattle.std.specs.List.{All, Contains}
-use Rattle.dm_names.specs.Names.{Name}
+use Rattle.dm_base.specs.Names.{Name}
 use Rattle.dm_collector.specs.MacroUses.{Uses}
 use Rattle.dm_collector.specs.Steps.{Bind, IsReached, writes}
 use Rattle.dm_collector.specs.declared.sources.GlobImport.{GlobImport}

@@ -1,6 +1,6 @@
 use Rattle.std.proofs.Common.{◌≡◌, [], false, is_none, subst}
 use Rattle.std.specs.List.{All}
-use Rattle.dm_names.specs.Names.{Name}
+use Rattle.dm_base.specs.Names.{Name}
 use Rattle.dm_maps.specs.World.{World}
 use Rattle.dm_collector.specs.MacroPreludes.{HasMacros, missing_macro}
 use Rattle.dm_collector.proofs.MacroLemmas.{used-by-none}

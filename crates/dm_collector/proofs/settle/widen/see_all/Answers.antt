@@ -3,7 +3,7 @@ use Rattle.std.proofs.lemmas.Bool.{or_cases, or_parts}
 use Rattle.std.proofs.lemmas.List.{take_all}
 use Rattle.std.proofs.lemmas.List.Elements.{All-more}
 use Rattle.std.specs.List.{All}
-use Rattle.dm_names.specs.Names.{Name}
+use Rattle.dm_base.specs.Names.{Name}
 use Rattle.dm_retry.specs.Retries.{Retries}
 use Rattle.dm_collector.specs.Steps.{SeesNothing}
 use Rattle.dm_collector.proofs.ReachLemmas.{reached-then}

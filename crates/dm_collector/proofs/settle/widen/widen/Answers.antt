@@ -1,6 +1,6 @@
 use Rattle.std.proofs.Common.{◌≡◌, ◌∙◌, [], ap, false, subst}
 use Rattle.std.specs.List.{All}
-use Rattle.dm_names.specs.Names.{Name}
+use Rattle.dm_base.specs.Names.{Name}
 use Rattle.dm_maps.specs.World.{World}
 use Rattle.dm_collector.specs.Globs.{resolved}
 use Rattle.dm_collector.specs.Steps.{SeesNothing}

@@ -4,7 +4,7 @@ use Rattle.std.proofs.lemmas.List.{take_all}
 use Rattle.std.specs.Cmp.Lexicographic.{nat_list_eq_equiv}
 use Rattle.indexmap.specs.IndexSet.{insert_all, insert_key}
 use Rattle.indexmap.proofs.SetLemmas.{set_all_distinct}
-use Rattle.dm_names.specs.Names.{same_name}
+use Rattle.dm_base.specs.Names.{same_name}
 use Rattle.dm_def_map.proofs.crate_data.unstable_features.copy_enabled.Goals as goal
 
 pub loop-feature-preserved : goal.loop-feature-preserved

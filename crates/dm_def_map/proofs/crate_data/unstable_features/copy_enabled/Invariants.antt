@@ -1,6 +1,6 @@
 use Rattle.std.proofs.Common.{◌≡◌, [], take}
 use Rattle.indexmap.specs.IndexSet.{insert_all}
-use Rattle.dm_names.specs.Names.{same_name}
+use Rattle.dm_base.specs.Names.{same_name}
 use Rattle.dm_def_map.proofs.crate_data.unstable_features.copy_enabled.Given as goal
 
 -- the features so far were added in turn

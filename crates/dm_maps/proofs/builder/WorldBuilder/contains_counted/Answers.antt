@@ -1,6 +1,6 @@
 use Rattle.std.proofs.Common.{◌<◌, ◌∙◌, length, sym, subst, ap}
 use Rattle.dm_base.specs.Tree.{chain, is_among}
-use Rattle.dm_ladders.specs.Ancestry.{moves}
+use Rattle.dm_maps.specs.Ancestry.{moves}
 use Rattle.dm_maps.specs.Trees.{tree_of}
 use Rattle.dm_maps.specs.World.{World}
 use Rattle.dm_maps.proofs.LadderLemmas.{chain-listed, moves-listed}

@@ -1,7 +1,7 @@
 use Rattle.std.proofs.Common.{◌≡◌, ◌++◌, ◌∷◌, [], List, Some, map, rules, subst}
 use Rattle.std.specs.List.{AllByRecursion}
-use Rattle.dm_check.specs.declared.fault.Holder.TheVariants as holder
-use Rattle.dm_check.specs.TablesHold.{tables_hold}
+use Rattle.dm_maps.specs.declared.check.fault.Holder.TheVariants as holder
+use Rattle.dm_maps.specs.TablesHold.{tables_hold}
 use Rattle.dm_maps.specs.First.{Held, IsAnswer, IsFirstFault, block_holder, crate_holder, each_from, holders, module_holder, tables_holder}
 use Rattle.dm_maps.specs.World.{World}
 use Rattle.dm_maps.proofs.FirstLemmas.{AllKnown, first-before, first-behind, none-checked}

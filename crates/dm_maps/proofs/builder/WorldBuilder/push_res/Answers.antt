@@ -2,7 +2,7 @@ use Rattle.std.proofs.Common.{◌≡◌, ◌∙◌, ◌+◌, ◌-◌, ◌^◌, �
 use Rattle.std.specs.Result.{IsErr}
 use Rattle.std.specs.declared.alloc.AllocError.{AllocError}
 use Rattle.dm_maps.proofs.Ids.{ModuleId}
-use Rattle.dm_shadowing.specs.Flags.{Globs}
+use Rattle.dm_scope.specs.Flags.{Globs}
 use Rattle.dm_scope.specs.Gives.{PushGives}
 use Rattle.std.specs.Option.{option_copied_mut, option_map, option_map_or}
 use Rattle.dm_def_map.specs.Maps.{Module}
@@ -15,7 +15,7 @@ use Rattle.dm_base.specs.declared.per_ns.Namespace.TheVariants.{Types, Values, M
 use Rattle.dm_scope.specs.Records.{records_in}
 use Rattle.dm_maps.specs.CountGrowth.{grown}
 use Rattle.dm_maps.specs.World.{module_of, scope_of, with_scope}
-use Rattle.dm_shadowing.specs.Outcomes.{on-err}
+use Rattle.dm_scope.specs.Outcomes.{on-err}
 use Rattle.dm_maps.proofs.ScopeWrites.{scope_of-own, with_scope-own}
 use Rattle.dm_maps.proofs.builder.WorldBuilder.push_res.Goals as goal
 

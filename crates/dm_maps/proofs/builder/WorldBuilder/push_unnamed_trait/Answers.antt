@@ -1,6 +1,6 @@
 use Rattle.std.proofs.Common.{◌∙◌, ap, sym}
 use Rattle.std.specs.Option.{option_copied_mut}
-use Rattle.dm_shadowing.specs.Outcomes.{on-err}
+use Rattle.dm_scope.specs.Outcomes.{on-err}
 use Rattle.dm_maps.specs.GoesOn.{and_trait}
 use Rattle.dm_maps.specs.World.{module_of, with_scope}
 use Rattle.dm_maps.proofs.ScopeChanges.{lent-read}

@@ -1,6 +1,6 @@
 use Rattle.std.proofs.Common.{◌∙◌, IsSome, ap, subst, sym}
 use Rattle.std.specs.Option.{option_copied_mut}
-use Rattle.dm_names.specs.Names.{find_name}
+use Rattle.dm_base.specs.Names.{find_name}
 use Rattle.dm_scope.specs.Scope.{Scope}
 use Rattle.dm_maps.specs.GoesOn.{seen_type}
 use Rattle.dm_maps.specs.World.{module_of, with_scope}

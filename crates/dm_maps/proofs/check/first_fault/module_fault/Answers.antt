@@ -1,5 +1,5 @@
 use Rattle.std.proofs.Common.{rules, subst}
-use Rattle.dm_check.specs.Held.{IsLeastFault}
+use Rattle.dm_maps.specs.Held.{IsLeastFault}
 use Rattle.dm_maps.specs.Known.{knows}
 use Rattle.dm_maps.specs.First.{module_holder}
 use Rattle.dm_maps.proofs.FirstLemmas.{first-one}

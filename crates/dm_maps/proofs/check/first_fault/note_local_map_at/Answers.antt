@@ -3,8 +3,8 @@ use Rattle.std.proofs.lemmas.Bool.{ltb-true}
 use Rattle.std.proofs.lemmas.Option.{slice_get_read}
 use Rattle.std.specs.Option.{option_map_or}
 use Rattle.std.specs.Prelude.{[]}
-use Rattle.dm_check.specs.Held.{IsLeastFault}
-use Rattle.dm_check.specs.Holding.{local_holds}
+use Rattle.dm_maps.specs.Held.{IsLeastFault}
+use Rattle.dm_maps.specs.Holding.{local_holds}
 use Rattle.dm_maps.specs.Known.{knows}
 use Rattle.dm_maps.proofs.check.first_fault.note_local_map_at.Goals as goal
 

@@ -1,5 +1,5 @@
 use Rattle.std.proofs.Common.{drop, Option}
-use Rattle.dm_check.specs.declared.fault.WorldFault.{WorldFault}
+use Rattle.dm_maps.specs.declared.check.fault.WorldFault.{WorldFault}
 use Rattle.dm_maps.specs.First.{IsAnswer, each_from, crate_holder}
 use Rattle.dm_maps.proofs.check.first_fault.of_crate_maps.Given as goal
 

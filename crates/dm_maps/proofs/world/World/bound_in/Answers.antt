@@ -4,7 +4,7 @@ use Rattle.dm_scope.specs.Scope.{bound_in}
 use Rattle.dm_maps.specs.World.{scope_of}
 use Rattle.dm_maps.specs.Sound.{IsSound, IsCheckedWorld}
 use Rattle.dm_maps.specs.Known.{KnowsAll}
-use Rattle.dm_check.specs.Holding.{res_holds}
+use Rattle.dm_maps.specs.Holding.{res_holds}
 use Rattle.dm_maps.proofs.world.World.bound_in.Goals as goal
 
 pub returns-clause-known : goal.returns-clause-known

@@ -1,4 +1,4 @@
-use Rattle.dm_check.specs.Holding.{local_holds}
+use Rattle.dm_maps.specs.Holding.{local_holds}
 use Rattle.dm_maps.proofs.FirstLemmas.{known-by}
 use Rattle.dm_maps.proofs.world.World.knows_local.Goals as goal
 

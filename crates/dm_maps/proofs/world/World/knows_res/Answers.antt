@@ -1,4 +1,4 @@
-use Rattle.dm_check.specs.Pushes.{push_holds}
+use Rattle.dm_maps.specs.Pushes.{push_holds}
 use Rattle.dm_maps.proofs.FirstLemmas.{known-by}
 use Rattle.dm_maps.proofs.world.World.knows_res.Goals as goal
 

@@ -1,4 +1,4 @@
-use Rattle.dm_check.specs.Holding.{vis_holds}
+use Rattle.dm_maps.specs.Holding.{vis_holds}
 use Rattle.dm_maps.proofs.FirstLemmas.{known-by}
 use Rattle.dm_maps.proofs.world.World.knows_vis.Goals as goal
 

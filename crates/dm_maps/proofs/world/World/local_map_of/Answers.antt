@@ -1,6 +1,6 @@
 use Rattle.std.proofs.Common.{IsTrue, subst, sym}
 use Rattle.dm_maps.proofs.Ids.{Crate}
-use Rattle.dm_check.specs.declared.held.HeldId.TheVariants as held
+use Rattle.dm_maps.specs.declared.check.held.HeldId.TheVariants as held
 use Rattle.dm_maps.specs.Known.{knows}
 use Rattle.dm_maps.proofs.MapLemmas.{crate-known}
 use Rattle.dm_maps.proofs.world.World.local_map_of.Goals as goal

@@ -5,7 +5,7 @@ use Rattle.dm_scope.specs.Push.{push_answer, scope_after, globs_after}
 use Rattle.dm_scope.specs.PushLaw.{PushLaw, itself}
 use Rattle.dm_scope.specs.Scope.{Scope}
 use Rattle.dm_scope.specs.Shows.{ScopePush, Shows}
-use Rattle.dm_check.specs.declared.held.HeldId.TheVariants as held
+use Rattle.dm_maps.specs.declared.check.held.HeldId.TheVariants as held
 use Rattle.dm_maps.specs.PushRes.{with_push}
 use Rattle.dm_maps.specs.Cut.{cut}
 use Rattle.dm_base.specs.declared.per_ns.Namespace.TheVariants.{Types, Values, Macros}

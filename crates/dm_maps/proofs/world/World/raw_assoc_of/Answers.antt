@@ -2,7 +2,7 @@ use Rattle.std.proofs.Common.{◌≡◌, ◌∙◌, ap}
 use Rattle.std.specs.Option.{option_copied}
 use Rattle.dm_maps.proofs.Ids.{ItemContainerId}
 use Rattle.dm_base.specs.declared.visibility.RawVisibility.{RawVisibility}
-use Rattle.dm_check.specs.TablesHold.{raw_holds, container_holds}
+use Rattle.dm_maps.specs.TablesHold.{raw_holds, container_holds}
 use Rattle.dm_maps.specs.Known.{KnowsAll}
 use Rattle.dm_maps.specs.RawTables.{assoc_in}
 use Rattle.dm_maps.specs.World.{World}

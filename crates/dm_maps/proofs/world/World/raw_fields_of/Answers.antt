@@ -1,7 +1,7 @@
 use Rattle.std.proofs.Common.{◌∙◌, ap, List}
 use Rattle.std.specs.List.{AllByRecursion}
 use Rattle.dm_base.specs.declared.visibility.RawVisibility.{RawVisibility}
-use Rattle.dm_check.specs.TablesHold.{raw_holds}
+use Rattle.dm_maps.specs.TablesHold.{raw_holds}
 use Rattle.dm_maps.specs.Known.{KnowsAll}
 use Rattle.dm_maps.specs.RawTables.{fields_in}
 use Rattle.dm_maps.specs.World.{World}

@@ -1,6 +1,6 @@
 use Rattle.std.proofs.Common.{◌∙◌, ap}
 use Rattle.dm_base.specs.declared.visibility.RawVisibility.{RawVisibility}
-use Rattle.dm_check.specs.TablesHold.{raw_holds}
+use Rattle.dm_maps.specs.TablesHold.{raw_holds}
 use Rattle.dm_maps.specs.Known.{KnowsAll}
 use Rattle.dm_maps.specs.RawTables.{trait_visibility_in}
 use Rattle.dm_maps.specs.World.{World}

@@ -1,7 +1,7 @@
 use Rattle.std.proofs.Common.{◌≡◌, ◌∙◌, IsSome, IsTrue, ap, subst, sym, true≢false}
-use Rattle.dm_names.specs.Names.{Name, find_name}
+use Rattle.dm_base.specs.Names.{Name, find_name}
 use Rattle.dm_scope.specs.Scope.{Scope}
-use Rattle.dm_check.specs.declared.held.HeldId.TheVariants as held
+use Rattle.dm_maps.specs.declared.check.held.HeldId.TheVariants as held
 use Rattle.dm_maps.specs.Cut.{cut}
 use Rattle.dm_maps.specs.GoesOn.{seen_macro, with_macro_seen}
 use Rattle.dm_maps.specs.Known.{knows}

@@ -1,7 +1,7 @@
 use Rattle.std.proofs.Common.{◌≡◌, ◌∙◌, List, None, ap, subst, sym}
-use Rattle.dm_pending.specs.Known.{add_fault}
-use Rattle.dm_pending.specs.Rounds.{Pending, State}
-use Rattle.dm_pending.specs.Settled.{IsSettled}
+use Rattle.dm_retry.specs.Known.{add_fault}
+use Rattle.dm_retry.specs.Rounds.{Pending, State}
+use Rattle.dm_retry.specs.Settled.{IsSettled}
 use Rattle.dm_retry.proofs.AddLemmas.{adds}
 use Rattle.dm_retry.proofs.imports.Imports.add.Goals.{in-Err, in-Ok}
 use Rattle.dm_retry.proofs.imports.Imports.add.Goals as goal

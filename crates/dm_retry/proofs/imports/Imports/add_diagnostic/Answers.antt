@@ -1,9 +1,9 @@
 use Rattle.std.proofs.Common.{[], None}
 use Rattle.dm_def_map.specs.declared.modules.modes.BuiltinShadowMode.TheVariants as shadow
-use Rattle.dm_paths.specs.declared.result.ResolveMode.TheVariants as mode
-use Rattle.dm_paths.specs.Paths.{asked}
-use Rattle.dm_pending.specs.Rounds.{State}
-use Rattle.dm_pending.proofs.ChangeLemmas.{grown-keeps, stay-settled}
+use Rattle.hir_def_map.specs.declared.path_resolution.result.ResolveMode.TheVariants as mode
+use Rattle.hir_def_map.specs.Paths.{asked}
+use Rattle.dm_retry.specs.Rounds.{State}
+use Rattle.dm_retry.proofs.ChangeLemmas.{grown-keeps, stay-settled}
 use Rattle.dm_retry.proofs.imports.Imports.add_diagnostic.Goals as goal
 
 pub invariant_of-self-2 : goal.invariant_of-self-2

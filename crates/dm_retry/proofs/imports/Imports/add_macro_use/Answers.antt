@@ -1,10 +1,10 @@
 use Rattle.std.proofs.Common.{◌∙◌, List, [], None, ap, map, refl, subst, sym}
 use Rattle.dm_def_map.specs.declared.modules.modes.BuiltinShadowMode.TheVariants as shadow
-use Rattle.dm_paths.specs.declared.result.ResolveMode.TheVariants as mode
-use Rattle.dm_paths.specs.Paths.{asked}
-use Rattle.dm_pending.specs.Rounds.{Pending, State, awoken}
-use Rattle.dm_pending.specs.Settled.{IsSettled}
-use Rattle.dm_pending.proofs.ChangeLemmas.{grown-keeps, wake-settled}
+use Rattle.hir_def_map.specs.declared.path_resolution.result.ResolveMode.TheVariants as mode
+use Rattle.hir_def_map.specs.Paths.{asked}
+use Rattle.dm_retry.specs.Rounds.{Pending, State, awoken}
+use Rattle.dm_retry.specs.Settled.{IsSettled}
+use Rattle.dm_retry.proofs.ChangeLemmas.{grown-keeps, wake-settled}
 use Rattle.dm_retry.proofs.imports.Imports.add_macro_use.Goals as goal
 
 pub invariant_of-self-2 : goal.invariant_of-self-2

@@ -1,7 +1,7 @@
 use Rattle.std.proofs.Common.{List, subst, sym}
-use Rattle.dm_pending.specs.Rounds.{Pending}
-use Rattle.dm_pending.specs.Settled.{IsSettled}
-use Rattle.dm_pending.proofs.StartLemmas.{starts}
+use Rattle.dm_retry.specs.Rounds.{Pending}
+use Rattle.dm_retry.specs.Settled.{IsSettled}
+use Rattle.dm_retry.proofs.StartLemmas.{starts}
 use Rattle.dm_retry.proofs.imports.Imports.all_due.Goals as goal
 
 pub invariant_of-result : goal.invariant_of-result

@@ -1,6 +1,6 @@
 use Rattle.std.proofs.Common.{◌∙◌, List, ap, slice_get, subst, sym}
 use Rattle.std.specs.Option.{option_map}
-use Rattle.dm_pending.specs.Rounds.{Pending, State}
+use Rattle.dm_retry.specs.Rounds.{Pending, State}
 use Rattle.dm_retry.specs.Retries.{RestsAt}
 use Rattle.dm_retry.proofs.SettleLemmas.{rests, undue}
 use Rattle.dm_retry.proofs.imports.Imports.due.Goals as goal

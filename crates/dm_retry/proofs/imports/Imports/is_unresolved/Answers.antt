@@ -1,6 +1,6 @@
 use Rattle.std.proofs.Common.{◌≡◌, ◌∙◌, Bool, true, false, not, Option, Some, None, ap, is_none, is_some, refl, slice_get, sym, true≢false}
 use Rattle.std.specs.Option.{option_map}
-use Rattle.dm_pending.specs.Rounds.{State, finds_nothing}
+use Rattle.dm_retry.specs.Rounds.{State, finds_nothing}
 use Rattle.dm_retry.proofs.imports.Imports.is_unresolved.Goals as goal
 
 pub to_push-requires : goal.to_push-requires

@@ -1,11 +1,11 @@
 use Rattle.std.proofs.Common.{◌≡◌, ◌∙◌, List, None, false, ap, cond, map, subst, sym}
 use Rattle.dm_def_map.specs.declared.modules.modes.BuiltinShadowMode.TheVariants as shadow
-use Rattle.dm_paths.specs.declared.result.ResolveMode.TheVariants as mode
-use Rattle.dm_paths.specs.Paths.{asked}
-use Rattle.dm_pending.specs.Known.{comes_by, parts}
-use Rattle.dm_pending.specs.Rounds.{Pending, State, awoken}
-use Rattle.dm_pending.specs.Settled.{IsSettled}
-use Rattle.dm_pending.proofs.TryLemmas.{push-traits}
+use Rattle.hir_def_map.specs.declared.path_resolution.result.ResolveMode.TheVariants as mode
+use Rattle.hir_def_map.specs.Paths.{asked}
+use Rattle.dm_retry.specs.Known.{comes_by, parts}
+use Rattle.dm_retry.specs.Rounds.{Pending, State, awoken}
+use Rattle.dm_retry.specs.Settled.{IsSettled}
+use Rattle.dm_retry.proofs.TryLemmas.{push-traits}
 use Rattle.dm_retry.proofs.PushLemmas.{push-settles}
 use Rattle.dm_retry.proofs.imports.Imports.push_res.Goals as goal
 

@@ -1,5 +1,5 @@
 use Rattle.std.proofs.Common.{subst}
-use Rattle.dm_pending.specs.Settled.{IsSettled}
+use Rattle.dm_retry.specs.Settled.{IsSettled}
 use Rattle.dm_retry.proofs.SettleLemmas.{rests}
 use Rattle.dm_retry.proofs.imports.Imports.rests.Goals as goal
 

@@ -2,10 +2,10 @@ use Rattle.std.proofs.Common.{◌≡◌, ◌∙◌, ◌<◌, ℕ, List, ap, fals
 use Rattle.std.specs.Option.{option_map_or}
 use Rattle.dm_maps.specs.Cut.{among}
 use Rattle.dm_maps.specs.Known.{KnowsAll}
-use Rattle.dm_pending.specs.Known.{parts, same_leaf}
-use Rattle.dm_pending.specs.Rounds.{Pending, State, would_write, would_write_at, marked_after, marked_at, refused_at, tried, try_at}
-use Rattle.dm_pending.specs.Settled.{IsSettled}
-use Rattle.dm_pending.proofs.TryLemmas.{idle-table, idle-world}
+use Rattle.dm_retry.specs.Known.{parts, same_leaf}
+use Rattle.dm_retry.specs.Rounds.{Pending, State, would_write, would_write_at, marked_after, marked_at, refused_at, tried, try_at}
+use Rattle.dm_retry.specs.Settled.{IsSettled}
+use Rattle.dm_retry.proofs.TryLemmas.{idle-table, idle-world}
 use Rattle.dm_retry.proofs.SettleLemmas.{refuses, settles}
 use Rattle.dm_retry.proofs.TakeLemmas.{Taken, back, same-would_write, same-globs, same-world, taken, wakes}
 use Rattle.dm_retry.proofs.imports.Imports.try_at.Goals as goal

@@ -1,5 +1,5 @@
 use Rattle.std.proofs.Common.{◌≡◌, length, take}
-use Rattle.dm_pending.specs.Rounds.{unresolved_from}
+use Rattle.dm_retry.specs.Rounds.{unresolved_from}
 use Rattle.dm_retry.proofs.imports.Imports.unresolved.Given as goal
 
 abbrev pub invariant-loop-i : goal.invariant-loop-i

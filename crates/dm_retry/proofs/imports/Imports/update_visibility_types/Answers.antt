@@ -1,12 +1,12 @@
 use Rattle.std.proofs.Common.{List, [], None, refl, subst, sym}
 use Rattle.dm_def_map.specs.declared.modules.modes.BuiltinShadowMode.TheVariants as shadow
-use Rattle.dm_paths.specs.declared.result.ResolveMode.TheVariants as mode
-use Rattle.dm_paths.specs.Paths.{asked}
+use Rattle.hir_def_map.specs.declared.path_resolution.result.ResolveMode.TheVariants as mode
+use Rattle.hir_def_map.specs.Paths.{asked}
 use Rattle.dm_maps.specs.GoesOn.{seen_type}
 use Rattle.dm_maps.specs.World.{scope_of}
-use Rattle.dm_pending.specs.Rounds.{Pending, State}
-use Rattle.dm_pending.specs.Settled.{IsSettled}
-use Rattle.dm_pending.proofs.ChangeLemmas.{keeps-type, scoped-keeps, wake-settled}
+use Rattle.dm_retry.specs.Rounds.{Pending, State}
+use Rattle.dm_retry.specs.Settled.{IsSettled}
+use Rattle.dm_retry.proofs.ChangeLemmas.{keeps-type, scoped-keeps, wake-settled}
 use Rattle.dm_retry.proofs.imports.Imports.update_visibility_types.Goals as goal
 
 pub invariant_of-self : goal.invariant_of-self

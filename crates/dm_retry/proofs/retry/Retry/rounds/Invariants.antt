@@ -1,5 +1,5 @@
 use Rattle.std.proofs.Common.{◌≡◌}
-use Rattle.dm_pending.specs.Rounds.{rounds}
+use Rattle.dm_retry.specs.Rounds.{rounds}
 use Rattle.dm_retry.proofs.retry.Retry.rounds.Given as goal
 
 abbrev pub invariant-loop-kind : goal.invariant-loop-kind

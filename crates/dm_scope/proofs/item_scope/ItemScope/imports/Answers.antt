@@ -2,8 +2,8 @@ use Rattle.std.proofs.Common.{◌≡◌, ◌∙◌, rules, subst, true}
 use Rattle.std.specs.List.{Contains}
 use Rattle.std.proofs.lemmas.Iterator.Adapters.{YieldsList-from_vec}
 use Rattle.std.proofs.lemmas.Map.Views.{Contains-from_any}
-use Rattle.dm_ids.specs.contracts.imports.ImportIdPartialEq.TheImpl as import_eq
-use Rattle.dm_ids.specs.declared.imports.ImportId.{ImportId}
+use Rattle.dm_base.specs.contracts.imports.ImportIdPartialEq.TheImpl as import_eq
+use Rattle.dm_base.specs.declared.imports.ImportId.{ImportId}
 use Rattle.dm_scope.specs.Sorted.{imports_of}
 use Rattle.dm_scope.proofs.SortLemmas.{run_is}
 use Rattle.dm_scope.proofs.item_scope.ItemScope.imports.Goals as goal

@@ -1,5 +1,5 @@
 use Rattle.std.proofs.Common.{rules, ◌≡◌, ◌∙◌, List, None, replicate, ap, map}
-use Rattle.dm_ids.specs.declared.source.AstId.{AstId}
+use Rattle.dm_base.specs.declared.source.AstId.{AstId}
 use Rattle.dm_scope.specs.Derives.{derive_of, derives_of, fresh_derive}
 use Rattle.dm_base.specs.Sameness.{same_ast}
 use Rattle.dm_scope.specs.Rare.{RareScope, rare_in}

@@ -1,7 +1,7 @@
 use Rattle.std.proofs.Common.{◌∙◌, sym, ap}
 use Rattle.dm_base.specs.declared.item_in_ns.ItemInNs.TheVariants.{Types, Values, Macros}
 use Rattle.dm_scope.specs.Lookups.{names_for}
-use Rattle.dm_bindings.proofs.AskLemmas.{AsksNames-same, MayAskNames-same}
+use Rattle.dm_scope.proofs.AskLemmas.{AsksNames-same, MayAskNames-same}
 use Rattle.dm_scope.proofs.item_scope.ItemScope.names_of.Goals as goal
 
 pub names_of-requires : goal.names_of-requires

@@ -1,5 +1,5 @@
 use Rattle.std.proofs.Common.{rules, [], sym, subst}
-use Rattle.dm_shadowing.specs.Flags.{no_globs}
+use Rattle.dm_scope.specs.Flags.{no_globs}
 use Rattle.dm_scope.specs.Shows.{Shows}
 use Rattle.dm_scope.proofs.ClosedLemmas.{Shows-none}
 use Rattle.dm_scope.proofs.item_scope.ItemScope.new.Goals as goal

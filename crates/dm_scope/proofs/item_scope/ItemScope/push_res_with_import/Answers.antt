@@ -1,11 +1,11 @@
 use Rattle.std.proofs.Common.{◌∙◌, ◌++◌, ◌∷◌, [], sym, subst, subst₂}
-use Rattle.dm_names.specs.Names.{Name}
+use Rattle.dm_base.specs.Names.{Name}
 use Rattle.dm_scope.specs.PushLaw.{PushLaw, itself}
 use Rattle.dm_scope.specs.Shows.{IsByNameInEach, ScopePush, Shows}
 use Rattle.dm_scope.proofs.ClosedLemmas.{Shows-after, push_answer-is_answered, Shows-elsewhere}
 use Rattle.dm_scope.specs.Push.{types_reading, values_reading, macros_reading}
 use Rattle.dm_scope.proofs.LawLemmas.{push_law}
-use Rattle.dm_bindings.proofs.NameLemmas.{is_by_name}
+use Rattle.dm_scope.proofs.NameLemmas.{is_by_name}
 use Rattle.dm_scope.proofs.item_scope.ItemScope.push_res_with_import.Goals as goal
 
 pub returns-clause-shown : goal.returns-clause-shown

@@ -1,6 +1,6 @@
 use Rattle.std.proofs.Common.{◌≡◌, ◌++◌, drop}
 use Rattle.std.specs.List.{filter_map}
-use Rattle.dm_ids.specs.Imports.{named_import}
+use Rattle.dm_base.specs.Imports.{named_import}
 use Rattle.dm_scope.proofs.item_scope.sorted.add_imports.Given as goal
 
 -- what is there, with what is left, is what the call began with, with all

@@ -1,8 +1,8 @@
 use Rattle.std.proofs.Common.{◌∙◌, map, ap}
 use Rattle.dm_base.specs.declared.mod_path.PathKind.{PathKind}
 use Rattle.dm_maps.specs.Readings.{setting_of, read}
-use Rattle.dm_paths.specs.Paths.{prelude_answer, asked, single}
-use Rattle.dm_paths.specs.declared.place.Place.TheVariants.{Preludes}
+use Rattle.hir_def_map.specs.Paths.{prelude_answer, asked, single}
+use Rattle.hir_def_map.specs.declared.path_resolution.place.Place.TheVariants.{Preludes}
 use Rattle.hir_def_map.proofs.CallLemmas.{preludes_resolve}
 use Rattle.hir_def_map.proofs.path_resolution.DefMapResolvePath.resolve_path_fp_in_all_preludes_with_macro.Goals as goal
 

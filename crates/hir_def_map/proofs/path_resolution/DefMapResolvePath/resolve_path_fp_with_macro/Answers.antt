@@ -1,7 +1,7 @@
 use Rattle.std.proofs.Common.{◌∙◌, ap}
 use Rattle.dm_base.specs.declared.mod_path.PathKind.{PathKind}
-use Rattle.dm_paths.specs.declared.question.Ask.{Ask}
-use Rattle.dm_paths.specs.Paths.{answer, asked}
+use Rattle.hir_def_map.specs.declared.path_resolution.question.Ask.{Ask}
+use Rattle.hir_def_map.specs.Paths.{answer, asked}
 use Rattle.hir_def_map.proofs.CallLemmas.{answer_resolves}
 use Rattle.hir_def_map.proofs.path_resolution.DefMapResolvePath.resolve_path_fp_with_macro.Goals as goal
 

@@ -1,8 +1,8 @@
 use Rattle.std.proofs.Common.{◌∙◌, map, ap}
 use Rattle.dm_base.specs.declared.mod_path.PathKind.{PathKind}
 use Rattle.dm_maps.specs.Readings.{setting_of, read}
-use Rattle.dm_paths.specs.Paths.{answer_alone, asked, single}
-use Rattle.dm_paths.specs.declared.place.Place.TheVariants.{In}
+use Rattle.hir_def_map.specs.Paths.{answer_alone, asked, single}
+use Rattle.hir_def_map.specs.declared.path_resolution.place.Place.TheVariants.{In}
 use Rattle.hir_def_map.proofs.CallLemmas.{alone_resolves}
 use Rattle.hir_def_map.proofs.path_resolution.DefMapResolvePath.resolve_path_fp_with_macro_single.Goals as goal
 

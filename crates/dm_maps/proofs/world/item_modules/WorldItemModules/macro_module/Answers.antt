@@ -1,7 +1,7 @@
 use Rattle.std.proofs.Common.{◌∙◌, ap, sym, subst, IsTrue, Option}
 use Rattle.std.specs.Option.{ForSome}
 use Rattle.dm_maps.proofs.Ids.{ModuleId}
-use Rattle.dm_check.specs.declared.held.HeldId.TheVariants as held
+use Rattle.dm_maps.specs.declared.check.held.HeldId.TheVariants as held
 use Rattle.dm_maps.specs.ItemHomes.{module_of_macro}
 use Rattle.dm_maps.specs.Known.{knows}
 use Rattle.dm_maps.specs.Sound.{IsSound, IsCheckedWorld}

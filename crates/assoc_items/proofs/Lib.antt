@@ -1,2 +1,0 @@
-pub mod ContainerLemmas
-pub mod FillLemmas

@@ -1,7 +1,0 @@
-use Rattle.std.proofs.Common.{◌≡◌, ◌++◌, drop}
-use Rattle.std.specs.Prelude.{map}
-use Rattle.assoc_items.specs.Containers.{home_of}
-use Rattle.assoc_items.proofs.containers.homes_of.Given as goal
-
-abbrev pub invariant-loop-container : goal.invariant-loop-container
-invariant-loop-container l = l.homes.items ++ map home_of (drop l.container-index l.containers) ≡ map home_of l.containers

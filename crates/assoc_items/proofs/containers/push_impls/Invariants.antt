@@ -1,7 +1,0 @@
-use Rattle.std.proofs.Common.{◌≡◌, ◌++◌, drop}
-use Rattle.assoc_items.specs.Containers.{impls_from}
-use Rattle.assoc_items.proofs.containers.push_impls.Given as goal
-
-abbrev pub invariant-loop-block : goal.invariant-loop-block
-invariant-loop-block l =
-    l.found.items ++ impls_from l.number (drop l.block-index l.blocks) ≡ l.fn.found.items ++ impls_from l.first l.blocks

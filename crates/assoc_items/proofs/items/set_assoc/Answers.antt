@@ -1,5 +1,0 @@
-use Rattle.crate_tables.proofs.GrownLemmas.{grown-tables}
-use Rattle.assoc_items.proofs.items.set_assoc.Goals as goal
-
-pub returns-clause-grown : goal.returns-clause-grown
-returns-clause-grown c = grown-tables _ _ _ c.in_ok-set_assoc.ensures.ok

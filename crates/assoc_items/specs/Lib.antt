@@ -1,2 +1,0 @@
-pub mod Containers
-pub mod AssocItems

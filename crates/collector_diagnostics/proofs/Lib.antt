@@ -1,4 +1,0 @@
-mod AddedLemmas
-pub mod KnownLemmas
-pub mod OpenLemmas
-mod ToldLemmas

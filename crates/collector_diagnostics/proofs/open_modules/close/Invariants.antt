@@ -1,8 +1,0 @@
-use Rattle.collector_diagnostics.specs.OpenModules.{AllOpen, Keeps}
-use Rattle.collector_diagnostics.proofs.open_modules.close.Given as goal
-
-abbrev pub invariant-loop : goal.invariant-loop
-invariant-loop l = record {
-  kept : Keeps l.fn.modules.keys l.modules.keys;
-  sound : AllOpen l.fn.modules.keys l.edges l.modules.keys;
-}

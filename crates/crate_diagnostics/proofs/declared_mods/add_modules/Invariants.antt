@@ -1,7 +1,0 @@
-use Rattle.std.proofs.Common.{◌≡◌, drop}
-use Rattle.std.specs.Prelude.{fold}
-use Rattle.crate_diagnostics.specs.DeclaredMods.{with_module}
-use Rattle.crate_diagnostics.proofs.declared_mods.add_modules.Given as goal
-
-abbrev pub invariant-loop-outer : goal.invariant-loop-outer
-invariant-loop-outer l = fold with_module l.items.keys (drop l.outer-index l.modules) ≡ fold with_module l.fn.items.keys l.modules

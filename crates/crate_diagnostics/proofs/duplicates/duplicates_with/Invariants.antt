@@ -1,7 +1,0 @@
-use Rattle.std.proofs.Common.{◌≡◌, ◌++◌, [], drop}
-use Rattle.crate_diagnostics.specs.Duplicates.{duplicates_from}
-use Rattle.crate_diagnostics.proofs.duplicates.duplicates_with.Given as goal
-
-abbrev pub invariant-loop-item : goal.invariant-loop-item
-invariant-loop-item l =
-    l.found.items ++ duplicates_from l.list l.mods l.taken.keys (drop l.item-index l.items) ≡ duplicates_from l.list l.mods [] l.items

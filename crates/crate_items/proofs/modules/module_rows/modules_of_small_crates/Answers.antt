@@ -1,0 +1,17 @@
+use Rattle.std.proofs.Common.{refl}
+use Rattle.crate_items.specs.Paths.{above, entered}
+use Rattle.crate_items.proofs.modules.module_rows.modules_of_small_crates.Goals as goal
+
+pub returns : goal.returns
+unfolding above entered
+returns c = record {
+  file_by_path = refl;
+  one_file = refl;
+  two_files = refl;
+  no_file = refl;
+  within_itself = refl;
+  inline = refl;
+  arms = refl;
+  shown = refl;
+  shown_in_2015 = refl;
+}

@@ -1,0 +1,186 @@
+-- Modules of small crates, and how items stand: worked rows.
+use Rattle.std.specs.Prelude.{◌≡◌, ◌+◌, ℕ, Bool, true, false, List, [], ◌∷◌, Option, Some, None, codes, map}
+use Rattle.crate_items.specs.DeclaredModules.{Module}
+use Rattle.crate_items.specs.Files.{SourceFile, file_at, id_of}
+use Rattle.crate_items.specs.ModDirs as dirs
+use Rattle.crate_items.specs.ModuleVisibilities.{Standpoint, shown}
+use Rattle.crate_items.specs.Modules.{faulty, found_as, inline, outline, root_module}
+use Rattle.crate_items.specs.Standings.{standings}
+use Rattle.crate_items.specs.declared.modules.declared_module.Declaration.{Declaration}
+use Rattle.crate_items.specs.declared.files.found.Found.TheVariants.{Declared}
+use Rattle.crate_items.specs.declared.modules.mod_items.ModItem.{ModItem}
+use Rattle.crate_items.specs.declared.modules.module_visibility.DeclaredVisibility.TheVariants as seen
+use Rattle.crate_items.specs.declared.modules.standing.Standing.{Standing}
+use Rattle.dm_base.specs.declared.edition.Edition.TheVariants.{Edition2015, Edition2021}
+use Rattle.item_tree.specs.declared.attributes.attribute.AttributeKind.TheVariants.{Cfg}
+use Rattle.item_tree.specs.declared.attributes.Attribute.{Attribute}
+use Rattle.item_tree.specs.declared.cfg.CfgNode.TheVariants.{False}
+use Rattle.item_tree.specs.declared.items.item_kind.ItemKind.{ItemKind}
+use Rattle.item_tree.specs.declared.items.item_kind.ItemKind.TheVariants as item
+use Rattle.item_tree.specs.declared.items.Item.{Item}
+use Rattle.item_tree.specs.declared.lexer.lexeme.Lexeme.{Lexeme}
+use Rattle.item_tree.specs.declared.lexer.lexeme.LexemeKind.TheVariants as kind
+use Rattle.item_tree.specs.declared.lexer.span.Span.{Span}
+use Rattle.item_tree.specs.declared.items.visibility.RawVisibility.{RawVisibility}
+use Rattle.item_tree.specs.declared.items.visibility.RawVisibility.TheVariants as raw
+use Rattle.item_tree.specs.declared.lexer.word.Word.{Word}
+use Rattle.item_tree.specs.declared.lexer.word.Word.TheVariants as word
+
+-- a crate of four files. The text of the second has the string of a `#[path]` behind a name
+abbrev pub files : List SourceFile
+files =
+    record { path = codes "src/lib.rs"; text = codes "abc\"a.rs\"" }
+    ∷ record { path = codes "src/a.rs"; text = codes "d\"a.rs\"" }
+    ∷ record { path = codes "src/b.rs"; text = [] }
+    ∷ record { path = codes "src/b/mod.rs"; text = [] } ∷ []
+
+abbrev pub root : Module
+root = root_module files (id_of 0)
+
+-- `mod` and the name at a place, in an inline module or none
+abbrev pub mod_at : ℕ → Option ℕ → Option Span → Bool → ModItem
+mod_at start home path is_outline =
+    record {
+      item = start + 5;
+      home = home;
+      name = record { start = start; len = 1 };
+      visibility = raw.Inherited;
+      path = path;
+      is_outline = is_outline;
+    }
+
+abbrev pub in_root : ℕ → List ℕ → Declaration
+in_root item name = record { parent = 0; name = name; visibility = raw.Inherited; file = id_of 0; item = item }
+
+-- `mod a;`, whose file alone is there
+abbrev pub module_a : Module
+module_a = outline root (in_root 5 (codes "a")) (id_of 1) (record { path = codes "src/a.rs"; is_owner = false })
+
+abbrev pub FileByPath : Type 0
+FileByPath = map (file_at files) (codes "src/b.rs" ∷ codes "src/c.rs" ∷ []) ≡ Some (id_of 2) ∷ None ∷ []
+
+abbrev pub OneFile : Type 0
+OneFile = found_as files 0 root (mod_at 0 None None true) (Some (codes "a")) ≡ Declared module_a
+
+-- `mod b;`, of which both files are there, and `mod c;`, of which none is
+abbrev pub TwoFiles : Type 0
+TwoFiles =
+    found_as files 0 root (mod_at 1 None None true) (Some (codes "b"))
+    ≡ faulty (in_root 6 (codes "b")) (dirs.candidates root.dir (codes "b") None) None
+
+abbrev pub NoFile : Type 0
+NoFile =
+    found_as files 0 root (mod_at 2 None None true) (Some (codes "c"))
+    ≡ faulty (in_root 7 (codes "c")) (dirs.candidates root.dir (codes "c") None) None
+
+-- `#[path = "a.rs"] mod d;` in the file of that path
+abbrev pub in_a : Declaration
+in_a = record { parent = 1; name = codes "d"; visibility = raw.Inherited; file = id_of 1; item = 5 }
+
+abbrev pub WithinItself : Type 0
+WithinItself =
+    found_as files 1 module_a (mod_at 0 None (Some (record { start = 1; len = 6 })) true) (Some (codes "d"))
+    ≡ faulty in_a (dirs.candidates module_a.dir (codes "d") (Some (codes "a.rs"))) (Some (id_of 1))
+
+-- `mod c { .. }` stands in the files of the root
+abbrev pub inline_c : Module
+inline_c = inline root (in_root 7 (codes "c")) None
+
+abbrev pub Inline : Type 0
+Inline = found_as files 0 root (mod_at 2 None None false) (Some (codes "c")) ≡ Declared inline_c
+
+-- items of a file, by their kinds, parents, and the lexemes of their outer attributes
+abbrev pub item_of : ItemKind → Option ℕ → ℕ → ℕ → Item
+item_of kind parent first visibility =
+    record {
+      kind = kind;
+      parent = parent;
+      first = first;
+      visibility = visibility;
+      qualifiers = visibility;
+      word = visibility;
+      name = None;
+      behind = visibility;
+      body = None;
+      missing = None;
+    }
+
+-- a `cfg_if!` with three arms, of which the first has `cfg(false)`; a function in each; and a module with a function
+abbrev pub arms : List Item
+arms =
+    item_of item.CfgIf None 0 0
+    ∷ item_of item.Mod None 30 30
+    ∷ item_of item.CfgIfArm (Some 0) 2 9
+    ∷ item_of item.CfgIfArm (Some 0) 12 12
+    ∷ item_of item.CfgIfArm (Some 0) 20 20
+    ∷ item_of item.Function (Some 1) 31 31
+    ∷ item_of item.Function (Some 2) 10 10
+    ∷ item_of item.Function (Some 3) 13 13
+    ∷ item_of item.Function (Some 4) 21 21 ∷ []
+
+abbrev pub stands : Option ℕ → Option ℕ → Bool → Standing
+stands home inner is_configured = record { home = home; inner = inner; is_configured = is_configured }
+
+-- the attribute of the first arm
+abbrev pub cfg_false : Attribute
+cfg_false =
+    record {
+      kind = Cfg (record { start = 0; len = 1 });
+      inner = false;
+      condition = None;
+      input = record { first = 5; behind = 8 };
+    }
+
+-- the second arm is taken, and neither the first nor the last; the functions of arms stand in the file's module
+abbrev pub Arms : Type 0
+Arms =
+    standings (record {
+      options = [];
+      text = [];
+      attributes = record {
+        attributes = cfg_false ∷ [];
+        conditions = [];
+        nodes = False ∷ [];
+        errors = [];
+      };
+      active = [];
+      items = arms;
+      is_enabled = true;
+    })
+    ≡ stands None None true
+    ∷ stands None (Some 1) true
+    ∷ stands None None false
+    ∷ stands None None true
+    ∷ stands None None false
+    ∷ stands (Some 1) (Some 5) true
+    ∷ stands None (Some 6) false
+    ∷ stands None (Some 7) true
+    ∷ stands None (Some 8) false ∷ []
+
+-- in `mod c { .. }` of the root, in a text "crate::c super c"
+abbrev pub within_c : Standpoint
+within_c = record { modules = root ∷ inline_c ∷ []; number = 1; edition = Edition2021; text = codes "crate::c super c" }
+
+abbrev pub word_at : Word → ℕ → ℕ → Lexeme
+word_at w start len = record { kind = kind.Word w; start = start; len = len }
+
+abbrev pub colon_at : ℕ → Lexeme
+colon_at start = record { kind = kind.Mark 58; start = start; len = 1 }
+
+abbrev pub lexemes : List Lexeme
+lexemes =
+    word_at word.Crate 0 5 ∷ colon_at 5 ∷ colon_at 6 ∷ word_at word.Other 7 1
+    ∷ word_at word.Super 9 5 ∷ word_at word.Other 15 1 ∷ []
+
+abbrev pub in_path : ℕ → ℕ → RawVisibility
+in_path first behind = raw.In (record { first = first; behind = behind })
+
+-- `pub(in crate::c)` and `pub(self)` show it to the module itself, `pub(in super)` to the root, and `pub(in c)` to the
+-- module in the edition 2015 alone
+abbrev pub Shown : Type 0
+Shown =
+    map (shown within_c lexemes) (in_path 0 4 ∷ raw.PubSelf ∷ in_path 4 5 ∷ in_path 5 6 ∷ [])
+    ≡ Some (seen.Within 1) ∷ Some (seen.Within 1) ∷ Some (seen.Within 0) ∷ None ∷ []
+
+abbrev pub ShownIn2015 : Type 0
+ShownIn2015 = shown (record within_c { edition = Edition2015 }) lexemes (in_path 5 6) ≡ Some (seen.Within 1)

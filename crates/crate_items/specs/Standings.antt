@@ -1,0 +1,92 @@
+-- Which items of a file a crate has, and in which module each stands.
+use Rattle.std.specs.Prelude.{◌==◌, ◌+◌, ◌&&◌, ℕ, Bool, true, false, not, List, [], ◌∷◌, ◌++◌, Option, Some, None, slice_get, if◌then◌else◌}
+use Rattle.crate_items.specs.declared.modules.standing.Standing.{Standing}
+use Rattle.item_tree.specs.Attributes.{Table}
+use Rattle.item_tree.specs.CfgIfs.{is_arm}
+use Rattle.item_tree.specs.Children.{children_of}
+use Rattle.item_tree.specs.ItemAttributes.{inner_range, is_cfg_enabled, outer_range}
+use Rattle.item_tree.specs.declared.cfg.CfgAtom.{CfgAtom}
+use Rattle.item_tree.specs.declared.items.item_kind.ItemKind.{ItemKind}
+use Rattle.item_tree.specs.declared.items.item_kind.ItemKind.TheVariants as item
+use Rattle.item_tree.specs.declared.items.Item.{Item}
+use Rattle.item_tree.specs.declared.items.Range.{Range}
+
+-- a file as a crate reads it: the crate's options, the text, the attributes, their active conditions, the items, and
+-- whether each `cfg` may hold that the file begins with
+pub record View : Type 0 where
+  pub options : List CfgAtom
+  pub text : List ℕ
+  pub attributes : Table
+  pub active : List Bool
+  pub items : List Item
+  pub is_enabled : Bool
+
+-- each `cfg` that begins in a range may hold
+abbrev pub may_stand : View → Range → Bool
+may_stand v r = is_cfg_enabled v.options v.text v.active r v.attributes
+
+-- so may the inner ones that a body begins with, which is that of the item of a number
+abbrev pub inner_may_stand : View → ℕ → Option Range → Bool
+inner_may_stand v n None = true
+inner_may_stand v n (Some body) = may_stand v (inner_range body.first (children_of n v.items))
+
+-- an item's own `cfg`s may hold: its outer ones, and the inner ones that its body begins with
+abbrev pub holds : View → ℕ → Item → Bool
+holds v n x = may_stand v (outer_range x) && inner_may_stand v n x.body
+
+-- a `cfg_if!` and its arms: what is in them stands in the module around
+abbrev pub is_part_of_cfg_if : ItemKind → Bool
+is_part_of_cfg_if item.CfgIf = true
+is_part_of_cfg_if item.CfgIfArm = true
+is_part_of_cfg_if _ = false
+
+-- where what is in an item of a number stands, that stands so itself: in that item, or in the module around
+abbrev pub inner_module : ItemKind → ℕ → Option ℕ → Option ℕ
+inner_module kind n around = if is_part_of_cfg_if kind then around else Some n
+
+-- how the item stands that an item is in; the module of the file has all at the top level, and a file that begins with a
+-- `cfg` that does not hold has nothing
+abbrev pub of_file : View → Standing
+of_file v = record { home = None; inner = None; is_configured = v.is_enabled }
+
+abbrev pub or_of_file : View → Option Standing → Standing
+or_of_file v None = of_file v
+or_of_file v (Some s) = s
+
+abbrev pub around : View → List Standing → Option ℕ → Standing
+around v before None = of_file v
+around v before (Some p) = or_of_file v (slice_get before p)
+
+-- two arms of one `cfg_if!`
+abbrev pub are_same : Option ℕ → Option ℕ → Bool
+are_same (Some a) (Some b) = a == b
+are_same _ _ = false
+
+-- an arm is passed over where one before it holds: the `cfg_if!` that was chosen from is its own
+abbrev pub is_passed : Option ℕ → Item → Bool
+is_passed chosen x = is_arm x.kind && are_same chosen x.parent
+
+-- the `cfg_if!` of the last arm that holds, behind an item; the arms of one stand together
+abbrev pub chosen_behind : Option ℕ → Item → Bool → Option ℕ
+chosen_behind chosen x h = if is_arm x.kind && h then x.parent else chosen
+
+-- how the item of a number stands, behind those before it: in the module that the item around it tells; and a crate has
+-- it where its own `cfg`s may hold, the crate has the item around it, and it is no arm that is passed over
+abbrev pub standing_of : Option ℕ → ℕ → Item → Bool → Standing → Standing
+standing_of chosen n x h outer =
+    record {
+      home = outer.inner;
+      inner = inner_module x.kind n outer.inner;
+      is_configured = h && outer.is_configured && not (is_passed chosen x);
+    }
+
+-- how the items from a number on stand, behind those before them
+abbrev pub standings_from : View → List Standing → Option ℕ → ℕ → List Item → List Standing
+standings_from v before chosen n [] = before
+standings_from v before chosen n (x ∷ xs) =
+    standings_from v (before ++ standing_of chosen n x (holds v n x) (around v before x.parent) ∷ [])
+    (chosen_behind chosen x (holds v n x)) (n + 1) xs
+
+-- how each item of a file stands
+abbrev pub standings : View → List Standing
+standings v = standings_from v [] None 0 v.items

@@ -1,0 +1,309 @@
+//! What `use` items import.
+ghost use Rattle.std.specs.Prelude.{◌≡◌, ◌++◌, ◌+◌, IfOk, OnOk};
+ghost use Rattle.crate_items.specs.DeclaredImports as spec;
+ghost use Rattle.item_tree.specs.UseTrees.{use_trees_of};
+
+use crate::files::file_table::FileTable;
+use crate::files::source::Source;
+use crate::items::declared_item::DeclaredItem;
+use crate::items::lexeme_names::{kind_at, name_at};
+use crate::items::lookups::{item_at, text_of};
+use crate::items::use_paths::path_of;
+use crate::modules::CrateModules;
+use dm_base::ids::UseTreeIdx;
+use dm_base::mod_path::ModPath;
+use dm_base::name::Name;
+use item_tree::ids::use_tree_idx;
+use item_tree::items::imports::{ImportKind, import_kind, import_path};
+use item_tree::items::item_kind::ItemKind;
+use item_tree::items::use_tree::{UseTree, use_trees};
+use item_tree::items::{Item, Range};
+use item_tree::lexer::lexeme::{Lexeme, LexemeKind};
+use item_tree::lexer::word::Word;
+use std::alloc::{AllocError, Global};
+
+/// A leaf of the use trees of an item: what it imports, and what it binds that under.
+#[derive(Drop)]
+pub struct DeclaredImport {
+    /// The number of the tree, among those of its item.
+    pub tree: UseTreeIdx,
+    pub kind: ImportKind,
+    /// The whole path, behind those of the lists around.
+    pub path: ModPath,
+    /// The name that is bound; none for a glob, and for `as _`.
+    pub name: Option<Name>,
+    /// Whether it is `as _`.
+    pub is_unnamed: bool,
+}
+
+/// What is bound.
+#[derive(Drop)]
+struct Binding {
+    name: Option<Name>,
+    is_unnamed: bool,
+}
+
+fn named(name: Option<Name>) -> Option<Binding>
+    ensures { result ≡ spec.named name }
+{
+    match name {
+        None => None,
+        Some(name) => Some(Binding {
+            name: Some(name),
+            is_unnamed: false,
+        }),
+    }
+}
+
+/// What the lexeme behind `as` binds.
+fn by_alias(
+    alloc: Global,
+    text: &[u8],
+    lexemes: &[Lexeme],
+    alias: usize,
+) -> Result<Option<Binding>, AllocError>
+    ensures { IfOk result (λ bound. bound ≡ spec.by_alias text.now lexemes.now alias) }
+{
+    match kind_at(lexemes, alias) {
+        LexemeKind::Word(Word::Underscore) => Ok(Some(Binding {
+            name: None,
+            is_unnamed: true,
+        })),
+        _ => {
+            let name = name_at(alloc, text, lexemes, alias)?;
+            Ok(named(name))
+        }
+    }
+}
+
+/// The last segment of a path.
+fn last_segment(alloc: Global, path: &ModPath) -> Result<Option<Name>, AllocError>
+    ensures { IfOk result (λ name. name ≡ spec.last_segment path.now) }
+{
+    match path.segments().last() {
+        None => Ok(None),
+        Some(name) => {
+            let copied = name.copy(alloc)?;
+            Ok(Some(copied))
+        }
+    }
+}
+
+/// What is bound of what a path names, under the name behind `as` or the last one of the path.
+fn single(
+    alloc: Global,
+    text: &[u8],
+    lexemes: &[Lexeme],
+    alias: Option<usize>,
+    path: &ModPath,
+) -> Result<Option<Binding>, AllocError>
+    ensures { IfOk result (λ bound. bound ≡ spec.single text.now lexemes.now alias path.now) }
+{
+    match alias {
+        Some(place) => by_alias(alloc, text, lexemes, place),
+        None => {
+            let name = last_segment(alloc, path)?;
+            Ok(named(name))
+        }
+    }
+}
+
+/// What a tree of a kind binds.
+fn bound_by(
+    alloc: Global,
+    text: &[u8],
+    lexemes: &[Lexeme],
+    kind: ImportKind,
+    alias: Option<usize>,
+    path: &ModPath,
+) -> Result<Option<Binding>, AllocError>
+    ensures { IfOk result (λ bound. bound ≡ spec.bound_by text.now lexemes.now kind alias path.now) }
+{
+    match kind {
+        ImportKind::Glob => Ok(Some(Binding {
+            name: None,
+            is_unnamed: false,
+        })),
+        ImportKind::Plain | ImportKind::TypeOnly => single(alloc, text, lexemes, alias, path),
+    }
+}
+
+/// Adds an import by a path, if there is one, and if it binds anything.
+fn push_by_path(
+    found: &mut Vec<DeclaredImport>,
+    tree: UseTreeIdx,
+    kind: ImportKind,
+    path: ModPath,
+    bound: Option<Binding>,
+) -> Result<(), AllocError>
+    ensures { OnOk result
+        (found.new.items ≡ found.old.items ++ spec.of_binding tree kind path bound) }
+{
+    match bound {
+        None => Ok(()),
+        Some(bound) => {
+            found.push(DeclaredImport {
+                tree,
+                kind,
+                path,
+                name: bound.name,
+                is_unnamed: bound.is_unnamed,
+            })?;
+            Ok(())
+        }
+    }
+}
+
+/// Where a leaf stands, and what it is.
+#[derive(Clone, Copy)]
+struct Leaf {
+    tree: UseTreeIdx,
+    kind: ImportKind,
+    alias: Option<usize>,
+}
+
+/// The tree of a number as a leaf; none, if it is a list or an error.
+fn leaf_of(lexemes: &[Lexeme], number: usize, tree: UseTree) -> Option<Leaf>
+    ensures { result ≡ spec.leaf_of lexemes.now number tree }
+{
+    match (use_tree_idx(number), import_kind(lexemes, tree)) {
+        (Some(idx), Some(kind)) => Some(Leaf {
+            tree: idx,
+            kind,
+            alias: tree.alias,
+        }),
+        _ => None,
+    }
+}
+
+/// Adds a leaf with its path, if that is one.
+fn push_leaf(
+    found: &mut Vec<DeclaredImport>,
+    alloc: Global,
+    text: &[u8],
+    lexemes: &[Lexeme],
+    leaf: Leaf,
+    path: Option<ModPath>,
+) -> Result<(), AllocError>
+    ensures { OnOk result (found.new.items ≡ found.old.items
+        ++ spec.of_path text.now lexemes.now leaf path) }
+{
+    match path {
+        None => Ok(()),
+        Some(path) => {
+            let bound = bound_by(alloc, text, lexemes, leaf.kind, leaf.alias, &path)?;
+            push_by_path(found, leaf.tree, leaf.kind, path, bound)?;
+            Ok(())
+        }
+    }
+}
+
+/// Adds what the tree of a number imports.
+fn push_tree(
+    found: &mut Vec<DeclaredImport>,
+    alloc: Global,
+    text: &[u8],
+    lexemes: &[Lexeme],
+    trees: &[UseTree],
+    number: usize,
+    tree: UseTree,
+) -> Result<(), AllocError>
+    ensures { OnOk result (found.new.items ≡ found.old.items
+        ++ spec.import_of text.now lexemes.now trees.now number tree) }
+{
+    match leaf_of(lexemes, number, tree) {
+        None => Ok(()),
+        Some(leaf) => {
+            let places = import_path(alloc, lexemes, trees, number)?;
+            let path = path_of(alloc, text, lexemes, places.as_slice())?;
+            push_leaf(found, alloc, text, lexemes, leaf, path)?;
+            Ok(())
+        }
+    }
+}
+
+/// What some use trees import.
+fn imports_of_trees(
+    alloc: Global,
+    text: &[u8],
+    lexemes: &[Lexeme],
+    trees: &[UseTree],
+) -> Result<Vec<DeclaredImport>, AllocError>
+    ensures { IfOk result (λ found. found.items ≡
+        spec.imports_from text.now lexemes.now trees.now 0 trees.now) }
+{
+    let mut found = Vec::new(alloc);
+    for (number, tree) in trees.iter().enumerate() {
+        push_tree(&mut found, alloc, text, lexemes, trees, number, *tree)?;
+    }
+    Ok(found)
+}
+
+/// The use trees behind a `use`.
+fn trees_behind(
+    alloc: Global,
+    lexemes: &[Lexeme],
+    word: usize,
+    behind: usize,
+) -> Result<Vec<UseTree>, AllocError>
+    ensures { IfOk result (λ found. found.items ≡
+        use_trees_of lexemes.now (record { first = word + 1; behind = behind })) }
+{
+    if word < lexemes.len() {
+        let range = Range {
+            first: word + 1,
+            behind,
+        };
+        let trees = use_trees(alloc, lexemes, range)?;
+        Ok(trees)
+    } else {
+        Ok(Vec::new(alloc))
+    }
+}
+
+/// What an item of a tree imports.
+fn imports_of_item(
+    alloc: Global,
+    text: &[u8],
+    lexemes: &[Lexeme],
+    item: Item,
+) -> Result<Vec<DeclaredImport>, AllocError>
+    ensures { IfOk result (λ found. found.items ≡
+        spec.imports_of_item text.now lexemes.now item.kind item.word item.behind) }
+{
+    match item.kind {
+        ItemKind::Use => {
+            let trees = trees_behind(alloc, lexemes, item.word, item.behind)?;
+            imports_of_trees(alloc, text, lexemes, trees.as_slice())
+        }
+        _ => Ok(Vec::new(alloc)),
+    }
+}
+
+/// What a `use` item imports: each leaf of its use trees, in order, with its whole path and the name that it binds.
+/// Where a path has anything but names behind its beginning, or more than 255 `super`, or nothing to bind, there is no
+/// import. What is no `use` imports nothing.
+///
+/// # Errors
+///
+/// Fails only where memory runs out.
+pub fn declared_imports(
+    alloc: Global,
+    list: &CrateModules,
+    files: &FileTable,
+    item: &DeclaredItem,
+) -> Result<Vec<DeclaredImport>, AllocError>
+    ensures { IfOk result
+        (λ found. found.items ≡ spec.declared_imports list.now files.now item.now) }
+{
+    match list.sources().get(item.file) {
+        None => Ok(Vec::new(alloc)),
+        Some(source) => match item_at(source, item.item) {
+            None => Ok(Vec::new(alloc)),
+            Some(read) => {
+                let text = text_of(files, item.file);
+                imports_of_item(alloc, text, source.lexemes(), read)
+            }
+        },
+    }
+}

@@ -1,0 +1,15 @@
+//! Modules of small crates, how items stand, and whom visibilities show: worked rows.
+ghost use Rattle.crate_items.specs.ModuleRows as rows;
+
+/// Files that are there or not, arms of a `cfg_if!`, and paths of visibilities.
+pub fn modules_of_small_crates()
+    ensures file_by_path { rows.FileByPath }
+    ensures one_file { rows.OneFile }
+    ensures two_files { rows.TwoFiles }
+    ensures no_file { rows.NoFile }
+    ensures within_itself { rows.WithinItself }
+    ensures inline { rows.Inline }
+    ensures arms { rows.Arms }
+    ensures shown { rows.Shown }
+    ensures shown_in_2015 { rows.ShownIn2015 }
+{}

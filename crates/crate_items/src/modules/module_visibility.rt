@@ -1,0 +1,228 @@
+//! Whom a visibility, as it is written in a module of a crate, shows what it stands before.
+ghost use Rattle.std.specs.Prelude.{◌≡◌, slice_get};
+ghost use Rattle.crate_items.specs.ModuleVisibilities as spec;
+ghost use Rattle.crate_items.specs.declared.modules.module_visibility.Reach.TheVariants.{Start};
+
+use crate::modules::declared_module::DeclaredModule;
+use dm_base::edition::Edition;
+use item_tree::attributes::attribute::lexemes_in;
+use item_tree::items::visibility::RawVisibility;
+use item_tree::lexer::lexeme::{Lexeme, LexemeKind};
+use item_tree::lexer::span::{Span, name_text};
+use item_tree::lexer::word::Word;
+use std::marker::Model;
+
+/// Whom something is shown to.
+#[derive(Clone, Copy, PartialEq, Eq, Debug)]
+pub enum DeclaredVisibility {
+    Public,
+    /// The module of this number in the list of the crate, and those in it.
+    Within(usize),
+}
+
+/// Where a path leads so far.
+#[derive(Clone, Copy)]
+pub(crate) enum Reach {
+    Start,
+    /// To the module of this number.
+    At(usize),
+    Nowhere,
+}
+
+/// Where a path is read: the modules of the crate, the one that it stands in, the edition, and the text.
+#[derive(Drop)]
+pub(crate) struct Standpoint<'a> {
+    pub(crate) modules: &'a [DeclaredModule],
+    pub(crate) number: usize,
+    pub(crate) edition: Edition,
+    pub(crate) text: &'a [u8],
+}
+
+impl<'a> Model for Standpoint<'a> {
+    ghost use Rattle.crate_items.specs.ModuleVisibilities.{Standpoint};
+
+    ghost Value = { Standpoint };
+
+    ghost view = { λ s. record {
+      modules = s.modules.now;
+      number = s.number;
+      edition = s.edition;
+      text = s.text.now;
+    } };
+}
+
+/// The module that a module is declared in.
+fn parent_of(modules: &[DeclaredModule], number: usize) -> Option<usize>
+    ensures { result ≡ spec.parent_of modules.now number }
+{
+    match modules.get(number) {
+        None => None,
+        Some(module) => match &module.declaration {
+            None => None,
+            Some(declaration) => Some(declaration.parent),
+        },
+    }
+}
+
+/// Whether a module is declared under a name.
+fn is_named(modules: &[DeclaredModule], number: usize, name: &[u8]) -> bool
+    ensures { result ≡ spec.is_named name.now (spec.declaration_of (slice_get modules.now number)) }
+{
+    match modules.get(number) {
+        None => false,
+        Some(module) => match &module.declaration {
+            None => false,
+            Some(declaration) => declaration.name.as_str().as_bytes() == name,
+        },
+    }
+}
+
+/// The module on the way from one up to an outer one, right below that.
+fn below(modules: &[DeclaredModule], outer: usize, number: usize) -> Option<usize>
+    ensures { result ≡ spec.below number modules.now outer number (spec.parent_of modules.now number) }
+{
+    let mut around = number;
+    for _ in 0..number {
+        match parent_of(modules, around) {
+            None => return None,
+            Some(parent) if parent == outer => return Some(around),
+            Some(parent) => around = parent,
+        }
+    }
+    match parent_of(modules, around) {
+        Some(parent) if parent == outer => Some(around),
+        _ => None,
+    }
+}
+
+fn up_to(parent: Option<usize>) -> Reach
+    ensures { result ≡ spec.up_to parent }
+{
+    match parent {
+        None => Reach::Nowhere,
+        Some(parent) => Reach::At(parent),
+    }
+}
+
+fn is_colon(kind: LexemeKind) -> bool
+    ensures { result ≡ spec.is_colon kind }
+{
+    matches!(kind, LexemeKind::Mark(b':'))
+}
+
+fn within(reach: Reach) -> Option<DeclaredVisibility>
+    ensures { result ≡ spec.within reach }
+{
+    match reach {
+        Reach::At(number) => Some(DeclaredVisibility::Within(number)),
+        Reach::Start | Reach::Nowhere => None,
+    }
+}
+
+impl<'a> Standpoint<'a> {
+    /// Where a name leads down from a module.
+    fn down(&self, outer: usize, name: &[u8]) -> Reach
+        ensures { result ≡ spec.down self.now outer name.now }
+    {
+        match below(self.modules, outer, self.number) {
+            None => Reach::Nowhere,
+            Some(inner) => {
+                if is_named(self.modules, inner, name) {
+                    Reach::At(inner)
+                } else {
+                    Reach::Nowhere
+                }
+            }
+        }
+    }
+
+    fn first_name(&self, edition: Edition, name: &[u8]) -> Reach
+        ensures { result ≡ spec.first_name self.now edition name.now }
+    {
+        match edition {
+            Edition::Edition2015 => self.down(0, name),
+            _ => Reach::Nowhere,
+        }
+    }
+
+    /// Where the first word of a path leads.
+    fn first_word(&self, word: Word, name: &[u8]) -> Reach
+        ensures { result ≡ spec.first_word self.now word name.now }
+    {
+        match word {
+            Word::Crate => Reach::At(0),
+            Word::SelfValue => Reach::At(self.number),
+            Word::Super => up_to(parent_of(self.modules, self.number)),
+            _ => self.first_name(self.edition, name),
+        }
+    }
+
+    /// Where a further word leads from a module.
+    fn next_word(&self, at: usize, word: Word, name: &[u8]) -> Reach
+        ensures { result ≡ spec.next_word self.now at word name.now }
+    {
+        match word {
+            Word::Super => up_to(parent_of(self.modules, at)),
+            _ => self.down(at, name),
+        }
+    }
+
+    fn word_behind(&self, reach: Reach, word: Word, name: &[u8]) -> Reach
+        ensures { result ≡ spec.word_behind self.now reach word name.now }
+    {
+        match reach {
+            Reach::Start => self.first_word(word, name),
+            Reach::At(number) => self.next_word(number, word, name),
+            Reach::Nowhere => Reach::Nowhere,
+        }
+    }
+
+    /// Where a path leads behind one more of its lexemes.
+    fn behind_lexeme(&self, reach: Reach, lexeme: Lexeme) -> Reach
+        ensures { result ≡ spec.behind_lexeme self.now reach lexeme }
+    {
+        let (start, len) = (lexeme.start, lexeme.len);
+        let name = name_text(self.text, Span { start, len });
+        match lexeme.kind {
+            LexemeKind::Word(word) => self.word_behind(reach, word, name),
+            kind => {
+                if is_colon(kind) {
+                    reach
+                } else {
+                    Reach::Nowhere
+                }
+            }
+        }
+    }
+
+    /// Where a path leads.
+    fn reached(&self, path: &[Lexeme]) -> Reach
+        ensures { result ≡ spec.reached self.now Start path.now }
+    {
+        let mut reach = Reach::Start;
+        for lexeme in path {
+            reach = self.behind_lexeme(reach, *lexeme);
+        }
+        reach
+    }
+
+    /// Whom a visibility of these lexemes shows what stands in the module; none where it leads to no module around.
+    pub(crate) fn shown(
+        &self,
+        lexemes: &[Lexeme],
+        written: RawVisibility,
+    ) -> Option<DeclaredVisibility>
+        ensures { result ≡ spec.shown self.now lexemes.now written }
+    {
+        match written {
+            RawVisibility::Public => Some(DeclaredVisibility::Public),
+            RawVisibility::PubCrate => Some(DeclaredVisibility::Within(0)),
+            RawVisibility::Inherited | RawVisibility::PubSelf => {
+                Some(DeclaredVisibility::Within(self.number))
+            }
+            RawVisibility::PubSuper => within(up_to(parent_of(self.modules, self.number))),
+            RawVisibility::In(path) => within(self.reached(lexemes_in(lexemes, path))),
+            RawVisibility::Error => None,
+        }
+    }
+}

@@ -1,0 +1,193 @@
+//! Which items of a file a crate has, and in which module each stands.
+ghost use Rattle.std.specs.Prelude.{◌≡◌, ◌<◌, IfOk, length};
+ghost use Rattle.crate_items.specs.Standings as spec;
+ghost use Rattle.item_tree.specs.CfgIfs as arms;
+ghost use Rattle.item_tree.specs.Children.{ByParent};
+
+use item_tree::attributes::Attributes;
+use item_tree::attributes::item_attributes::{inner_attributes, outer_attributes};
+use item_tree::cfg::CfgOptions;
+use item_tree::items::item_kind::ItemKind;
+use item_tree::items::{Item, Range};
+use item_tree::lexer::children::children_of;
+use std::alloc::{AllocError, Global};
+use std::marker::Model;
+
+/// How an item stands in its file, as a crate reads that.
+#[derive(Clone, Copy, PartialEq, Eq, Debug)]
+pub struct Standing {
+    /// The item of the inline module that it stands in, in an arm of `cfg_if!` too; none, where that is the file's.
+    pub home: Option<usize>,
+    /// The same of what stands in it.
+    pub inner: Option<usize>,
+    /// Whether the crate has it, by its options.
+    pub is_configured: bool,
+}
+
+/// A file as a crate reads it. A contract sees what the parts stand for.
+#[derive(Drop)]
+pub(crate) struct View<'a> {
+    pub(crate) options: &'a CfgOptions,
+    pub(crate) text: &'a [u8],
+    pub(crate) attributes: &'a Attributes,
+    /// The conditions that are active, by the options.
+    pub(crate) active: &'a [bool],
+    pub(crate) items: &'a [Item],
+    /// Whether each `cfg` may hold that the file begins with.
+    pub(crate) is_enabled: bool,
+}
+
+impl<'a> Model for View<'a> {
+    ghost use Rattle.crate_items.specs.Standings.{View};
+
+    ghost Value = { View };
+
+    ghost view = { λ v. record {
+      options = v.options.now;
+      text = v.text.now;
+      attributes = v.attributes.now;
+      active = v.active.now;
+      items = v.items.now;
+      is_enabled = v.is_enabled;
+    } };
+}
+
+impl<'a> View<'a> {
+    /// Whether each `cfg` that begins in a range may hold.
+    pub(crate) fn may_stand(&self, range: Range) -> bool
+        ensures { result ≡ spec.may_stand self.now range }
+    {
+        self.attributes
+            .is_cfg_enabled(self.options, self.text, self.active, range)
+    }
+
+    /// Whether those may hold that the body of an item begins with.
+    fn inner_may_stand(&self, number: usize, body: Option<Range>) -> bool
+        requires by_parent { ByParent self.now.items }
+        requires there { number < length self.now.items }
+        ensures { result ≡ spec.inner_may_stand self.now number body }
+    {
+        match body {
+            None => true,
+            Some(body) => {
+                let inner = inner_attributes(body.first, children_of(self.items, number));
+                self.may_stand(inner)
+            }
+        }
+    }
+
+    /// Whether an item's own `cfg`s may hold.
+    fn holds(&self, number: usize, item: Item) -> bool
+        requires by_parent { ByParent self.now.items }
+        requires there { number < length self.now.items }
+        ensures { result ≡ spec.holds self.now number item }
+    {
+        self.may_stand(outer_attributes(item)) && self.inner_may_stand(number, item.body)
+    }
+}
+
+fn is_part_of_cfg_if(kind: ItemKind) -> bool
+    ensures { result ≡ spec.is_part_of_cfg_if kind }
+{
+    matches!(kind, ItemKind::CfgIf | ItemKind::CfgIfArm)
+}
+
+fn is_arm(kind: ItemKind) -> bool
+    ensures { result ≡ arms.is_arm kind }
+{
+    matches!(kind, ItemKind::CfgIfArm)
+}
+
+/// Where what is in an item stands.
+fn inner_module(kind: ItemKind, number: usize, around: Option<usize>) -> Option<usize>
+    ensures { result ≡ spec.inner_module kind number around }
+{
+    if is_part_of_cfg_if(kind) {
+        around
+    } else {
+        Some(number)
+    }
+}
+
+/// How the item stands that an item is in.
+fn around(view: &View<'_>, before: &[Standing], parent: Option<usize>) -> Standing
+    ensures { result ≡ spec.around view.now before.now parent }
+{
+    let of_file = Standing {
+        home: None,
+        inner: None,
+        is_configured: view.is_enabled,
+    };
+    match parent {
+        None => of_file,
+        Some(place) => match before.get(place) {
+            None => of_file,
+            Some(standing) => *standing,
+        },
+    }
+}
+
+/// Whether two arms are of one `cfg_if!`.
+fn are_same(one: Option<usize>, other: Option<usize>) -> bool
+    ensures { result ≡ spec.are_same one other }
+{
+    match (one, other) {
+        (Some(one), Some(other)) => one == other,
+        _ => false,
+    }
+}
+
+/// Whether it is an arm behind one that holds.
+fn is_passed(chosen: Option<usize>, item: Item) -> bool
+    ensures { result ≡ spec.is_passed chosen item }
+{
+    is_arm(item.kind) && are_same(chosen, item.parent)
+}
+
+/// The `cfg_if!` of the last arm that holds.
+fn chosen_behind(chosen: Option<usize>, item: Item, holds: bool) -> Option<usize>
+    ensures { result ≡ spec.chosen_behind chosen item holds }
+{
+    if is_arm(item.kind) && holds {
+        item.parent
+    } else {
+        chosen
+    }
+}
+
+/// How an item stands, by the one that it is in.
+fn standing_of(
+    chosen: Option<usize>,
+    number: usize,
+    item: Item,
+    holds: bool,
+    outer: Standing,
+) -> Standing
+    ensures { result ≡ spec.standing_of chosen number item holds outer }
+{
+    Standing {
+        home: outer.inner,
+        inner: inner_module(item.kind, number, outer.inner),
+        is_configured: holds && outer.is_configured && !is_passed(chosen, item),
+    }
+}
+
+/// How each item of a file stands. One pass over the items.
+///
+/// # Errors
+///
+/// Fails only where memory runs out.
+pub(crate) fn standings(alloc: Global, view: &View<'_>) -> Result<Vec<Standing>, AllocError>
+    requires { ByParent view.now.items }
+    ensures { IfOk result (λ found. found.items ≡ spec.standings view.now) }
+{
+    let mut found: Vec<Standing> = Vec::new(alloc);
+    let mut chosen = None;
+    for (number, item) in view.items.iter().enumerate() {
+        let holds = view.holds(number, *item);
+        let outer = around(view, found.as_slice(), item.parent);
+        found.push(standing_of(chosen, number, *item, holds, outer))?;
+        chosen = chosen_behind(chosen, *item, holds);
+    }
+    Ok(found)
+}

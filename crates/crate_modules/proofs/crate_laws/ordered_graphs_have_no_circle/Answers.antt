@@ -1,5 +1,0 @@
-use Rattle.crate_modules.proofs.CircleLemmas.{no-circle}
-use Rattle.crate_modules.proofs.crate_laws.ordered_graphs_have_no_circle.Goals as goal
-
-pub returns : goal.returns
-returns c = no-circle

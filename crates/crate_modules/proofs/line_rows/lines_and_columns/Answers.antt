@@ -1,9 +1,0 @@
-use Rattle.std.proofs.Common.{refl}
-use Rattle.crate_modules.proofs.line_rows.lines_and_columns.Goals as goal
-
-pub returns : goal.returns
-returns c = record {
-  lines = refl;
-  characters = refl;
-  order_mark = refl;
-}

@@ -1,6 +1,0 @@
-use Rattle.std.proofs.Common.{◌≡◌, ◌-◌}
-use Rattle.crate_modules.specs.ModuleVisibilities.{below, parent_of}
-use Rattle.crate_modules.proofs.module_visibility.below.Given as goal
-
-abbrev pub invariant-loop : goal.invariant-loop
-invariant-loop l = below (l.number - l.counter) l.modules l.outer l.around (parent_of l.modules l.around) ≡ below l.number l.modules l.outer l.number (parent_of l.modules l.number)

@@ -1,6 +1,0 @@
-use Rattle.std.proofs.Common.{◌≡◌, ◌+◌, length, map, take}
-use Rattle.crate_modules.specs.CrateGraphs.{rows}
-use Rattle.crate_modules.proofs.order_search.all_left.Given as goal
-
-abbrev pub invariant-loop-data : goal.invariant-loop-data
-invariant-loop-data l = l.left.items ≡ map (λ r. length r + 1) (rows (take l.data-index l.crates))

@@ -1,9 +1,0 @@
-use Rattle.std.proofs.Common.{◌≡◌, length}
-use Rattle.crate_modules.specs.Paths.{entered_all}
-use Rattle.crate_modules.proofs.paths.enter_all.Given as goal
-
-abbrev pub invariant-components : goal.invariant-components
-invariant-components l = entered_all l.folder.items l.rest ≡ entered_all l.fn.folder.items l.path
-
-abbrev pub decreases-components : goal.decreases-components
-decreases-components l = length l.rest

@@ -1,5 +1,0 @@
-use Rattle.crate_modules.proofs.StandingLemmas as lemma
-use Rattle.crate_modules.proofs.standing_laws.standings_go_by_parents.Goals as goal
-
-pub returns : goal.returns
-returns c = lemma.standings_go_by_parents

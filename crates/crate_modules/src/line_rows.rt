@@ -1,9 +1,0 @@
-//! Lines and columns of some offsets.
-ghost use Rattle.crate_modules.specs.LineRows as rows;
-
-/// Offsets in lines, between characters, and behind a byte order mark.
-pub fn lines_and_columns()
-    ensures lines { rows.Lines }
-    ensures characters { rows.Characters }
-    ensures order_mark { rows.OrderMark }
-{}

@@ -1,0 +1,6 @@
+pub mod TextLemmas
+pub mod TakenLemmas
+mod AddedLemmas
+pub mod KnownLemmas
+pub mod OpenLemmas
+mod ToldLemmas

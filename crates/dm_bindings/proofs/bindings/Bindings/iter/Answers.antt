@@ -1,6 +1,0 @@
-use Rattle.dm_bindings.specs.Iterators.{deref_name}
-use Rattle.dm_base.specs.RunLaws.{shows_in_order}
-use Rattle.dm_bindings.proofs.bindings.Bindings.iter.Goals as goal
-
-pub returns-clause-runs : goal.returns-clause-runs
-returns-clause-runs g c = shows_in_order deref_name

@@ -1,7 +1,0 @@
-use Rattle.std.proofs.Common.{rules}
-use Rattle.std.proofs.lemmas.Map.Made.{map_same_pairs}
-use Rattle.dm_bindings.specs.Changes.{censored_macro}
-use Rattle.dm_bindings.proofs.bindings.changes.censor_macros.Goals as goal
-
-pub returns : goal.returns
-returns c = map_same_pairs _ (censored_macro c.args.krate) _ (λ k v b w f' t. search rules) _ _ c.retain.ensures.filtered

@@ -1,9 +1,0 @@
-pub mod Bindings
-pub mod Changes
-pub mod Entries
-pub mod Gives
-pub mod Iterators
-pub mod LazyMaps
-pub mod Lookups
-pub mod PushSteps
-pub mod Pushes

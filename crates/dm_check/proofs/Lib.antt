@@ -1,4 +1,0 @@
-pub mod Sets
-pub mod RecordLemmas
-pub mod Order
-pub mod Least

@@ -1,8 +1,0 @@
-use Rattle.std.proofs.Common.{◌≡◌}
-use Rattle.std.specs.List.{fold, flat_map}
-use Rattle.dm_check.specs.Held.{noted}
-use Rattle.dm_check.specs.TablesHold.{assoc_holds}
-use Rattle.dm_check.proofs.note_tables.note_assocs.Given as goal
-
-abbrev pub invariant-loop-id : goal.invariant-loop-id
-invariant-loop-id g l = fold (noted (g.T.KnownIds.known l.world)) l.least (flat_map assoc_holds l.id-iterator) ≡ fold (noted (g.T.KnownIds.known l.world)) l.fn.least (flat_map assoc_holds l.table.entries)

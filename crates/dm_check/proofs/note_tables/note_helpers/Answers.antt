@@ -1,8 +1,0 @@
-use Rattle.std.proofs.Common.{arith}
-use Rattle.dm_check.specs.TablesHold.{helpers_hold}
-use Rattle.dm_check.proofs.Least.{least-found}
-use Rattle.dm_check.proofs.Sets.{parts}
-use Rattle.dm_check.proofs.note_tables.note_helpers.Goals as goal
-
-pub returns : goal.returns
-returns g c = least-found (g.T.KnownIds.known c.args.world.now) (helpers_hold c.args.table.now.entries) c.fold.result (grind (arith, parts))

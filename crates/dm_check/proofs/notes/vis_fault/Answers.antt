@@ -1,8 +1,0 @@
-use Rattle.std.proofs.Common.{arith}
-use Rattle.dm_check.specs.Holding.{vis_holds}
-use Rattle.dm_check.proofs.Least.{least-found}
-use Rattle.dm_check.proofs.Sets.{parts}
-use Rattle.dm_check.proofs.notes.vis_fault.Goals as goal
-
-pub returns : goal.returns
-returns g c = least-found (g.T.KnownIds.known c.args.world.now) (vis_holds c.args.vis) c.note_vis.result (grind (arith, parts))

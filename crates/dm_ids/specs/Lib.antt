@@ -1,5 +1,0 @@
-pub mod Imports
-pub mod Builtins
-pub mod Kinds
-pub mod Styles
-pub mod Files

@@ -1,5 +1,0 @@
-pub mod ChainLemmas
-pub mod RowLemmas
-pub mod TableLemmas
-pub mod MoveLemmas
-pub mod FillLemmas

@@ -1,5 +1,0 @@
-use Rattle.dm_ladders.proofs.FillLemmas.{IsFilled}
-use Rattle.dm_ladders.proofs.ladders.ladder_below.Given as goal
-
-abbrev pub invariant-loop-k : goal.invariant-loop-k
-invariant-loop-k l = IsFilled l.ladders l.c l.entries l.k

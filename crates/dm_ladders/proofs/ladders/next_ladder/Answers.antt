@@ -1,6 +1,0 @@
-use Rattle.std.proofs.Common.{length, refl}
-use Rattle.dm_ladders.proofs.FillLemmas.{alone-ladder}
-use Rattle.dm_ladders.proofs.ladders.next_ladder.Goals as goal
-
-pub returns-in-None-clause-lawful : goal.returns-in-None-clause-lawful
-returns-in-None-clause-lawful c = alone-ladder c.args.ladders.now (length c.args.ladders.now) refl

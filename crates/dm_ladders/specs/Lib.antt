@@ -1,3 +1,0 @@
-pub mod Ancestry
-pub mod AncestryRows
-pub mod Ladders

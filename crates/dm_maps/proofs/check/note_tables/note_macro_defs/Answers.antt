@@ -1,0 +1,8 @@
+use Rattle.std.proofs.Common.{arith}
+use Rattle.dm_maps.specs.TablesHold.{macro_defs_hold}
+use Rattle.dm_maps.proofs.Least.{least-found}
+use Rattle.dm_maps.proofs.Sets.{parts}
+use Rattle.dm_maps.proofs.check.note_tables.note_macro_defs.Goals as goal
+
+pub returns : goal.returns
+returns g c = least-found (g.T.KnownIds.known c.args.world.now) (macro_defs_hold c.args.table.now.entries) c.fold.result (grind (arith, parts))

@@ -1,5 +1,0 @@
-pub mod Answers
-pub mod KnownLaws
-pub mod LayerLaws
-pub mod Overlays
-pub mod Paths

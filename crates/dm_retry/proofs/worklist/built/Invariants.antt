@@ -1,0 +1,6 @@
+use Rattle.std.proofs.Common.{take}
+use Rattle.dm_retry.specs.Index.{IsKept}
+use Rattle.dm_retry.proofs.worklist.built.Given as goal
+
+abbrev pub invariant-loop-k : goal.invariant-loop-k
+invariant-loop-k g l = IsKept g.I.Unresolved.reading l.index.entries l.dirty (take l.k l.imports)

@@ -1,0 +1,18 @@
+use Rattle.std.proofs.Common.{◌∙◌, sym, ap, not}
+use Rattle.indexmap.specs.IndexMap.{insert_entry}
+use Rattle.indexmap.proofs.MapLemmas.{insert_entry-absent, absent_from_lookup}
+use Rattle.dm_base.specs.Names.{same_name}
+use Rattle.dm_scope.proofs.EntryLemmas.{add_entry-new, add_entry-present, absent}
+use Rattle.dm_scope.proofs.bindings.lazy_map.LazyMap+Name+V.add_name.Goals as goal
+
+pub returns-then-contains_key-clause-entries : goal.returns-then-contains_key-clause-entries
+returns-then-contains_key-clause-entries g c =
+    sym (add_entry-present same_name c.args.name.now c.args.value c.args.self.now (ap not (sym c.if-contains_key.ensures)))
+
+pub returns-clause-entries : goal.returns-clause-entries
+returns-clause-entries g c =
+    let e = sym c.if-contains_key.ensures in
+    c.in_ok-insert.ensures.ok
+    ∙ ap (λ key. insert_entry same_name c.args.self.now key c.args.value) c.in_ok-key.ensures
+    ∙ insert_entry-absent same_name c.args.name.now c.args.value c.args.self.now (absent_from_lookup (same_name c.args.name.now) c.args.self.now (absent _ e))
+    ∙ sym (add_entry-new same_name c.args.name.now c.args.value c.args.self.now (ap not e))

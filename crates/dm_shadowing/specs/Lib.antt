@@ -1,4 +1,0 @@
-pub mod FlagLaws
-pub mod Flags
-pub mod Outcomes
-pub mod Shadowing

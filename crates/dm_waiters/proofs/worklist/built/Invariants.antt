@@ -1,6 +1,0 @@
-use Rattle.std.proofs.Common.{take}
-use Rattle.dm_waiters.specs.Index.{IsKept}
-use Rattle.dm_waiters.proofs.worklist.built.Given as goal
-
-abbrev pub invariant-loop-k : goal.invariant-loop-k
-invariant-loop-k g l = IsKept g.I.Unresolved.reading l.index.entries l.dirty (take l.k l.imports)

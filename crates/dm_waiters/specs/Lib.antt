@@ -1,3 +1,0 @@
-pub mod Unresolved
-pub mod Bits
-pub mod Index

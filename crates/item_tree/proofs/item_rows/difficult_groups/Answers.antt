@@ -1,5 +1,0 @@
-use Rattle.std.proofs.Common.{refl}
-use Rattle.item_tree.proofs.item_rows.difficult_groups.Goals as goal
-
-pub returns : goal.returns
-returns c = record { partners = refl; unclosed = refl }

@@ -1,7 +1,0 @@
-use Rattle.std.proofs.Common.{refl}
-use Rattle.item_tree.specs.UseTrees.{first_use_tree, step_of}
-use Rattle.item_tree.proofs.item_rows.difficult_uses.Goals as goal
-
-pub returns : goal.returns
-unfolding first_use_tree step_of
-returns c = refl

@@ -1,0 +1,14 @@
+use Rattle.std.proofs.Common.{◌≡◌, ◌+◌, ◌-◌, ◌≤◌, length, drop}
+use Rattle.item_tree.specs.Heads.{nothing}
+use Rattle.item_tree.specs.Fields.{before_parentheses}
+use Rattle.item_tree.proofs.items.fields.before_parentheses.Given as goal
+
+abbrev pub invariant-loop-at : goal.invariant-loop-at
+invariant-loop-at l = record {
+  in_range : l.at ≤ length l.trees;
+  small : l.depth ≤ l.at;
+  counted : l.at + before_parentheses l.before l.depth (drop l.at l.trees) ≡ before_parentheses nothing 0 l.trees;
+}
+
+abbrev pub decreases-loop-at : goal.decreases-loop-at
+decreases-loop-at l = length l.trees - l.at
