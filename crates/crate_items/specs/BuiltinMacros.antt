@@ -8,8 +8,8 @@ use Rattle.crate_items.specs.Modules.{Listing}
 use Rattle.dm_base.specs.Names.{Name}
 use Rattle.dm_base.specs.declared.macros.MacroExpander.{MacroExpander}
 use Rattle.dm_base.specs.declared.macros.MacroExpander.TheVariants as expander
-use Rattle.item_tree.specs.declared.attributes.attribute.AttributeKind.{AttributeKind}
-use Rattle.item_tree.specs.declared.attributes.attribute.AttributeKind.TheVariants as says
+use Rattle.item_tree.specs.declared.attributes.attribute_kind.AttributeKind.{AttributeKind}
+use Rattle.item_tree.specs.declared.attributes.attribute_kind.AttributeKind.TheVariants as says
 use Rattle.item_tree.specs.declared.items.item_kind.ItemKind.{ItemKind}
 use Rattle.item_tree.specs.declared.items.item_kind.ItemKind.TheVariants as item
 

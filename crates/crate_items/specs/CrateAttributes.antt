@@ -16,8 +16,8 @@ use Rattle.dm_base.specs.Names.{Name}
 use Rattle.dm_base.specs.declared.ids.FileId.{FileId}
 use Rattle.item_tree.specs.AttributeKinds.{lexemes_in}
 use Rattle.item_tree.specs.Spans.{string_text}
-use Rattle.item_tree.specs.declared.attributes.attribute.AttributeKind.{AttributeKind}
-use Rattle.item_tree.specs.declared.attributes.attribute.AttributeKind.TheVariants as says
+use Rattle.item_tree.specs.declared.attributes.attribute_kind.AttributeKind.{AttributeKind}
+use Rattle.item_tree.specs.declared.attributes.attribute_kind.AttributeKind.TheVariants as says
 use Rattle.item_tree.specs.declared.lexer.lexeme.Lexeme.{Lexeme}
 
 -- decimal digits, one at least, of a value below 2^32; zeros may lead

@@ -10,8 +10,8 @@ use Rattle.crate_items.specs.Modules.{Listing}
 use Rattle.crate_items.specs.Sources.{source_at}
 use Rattle.dm_base.specs.Names.{Name}
 use Rattle.item_tree.specs.AttributeKinds.{lexemes_in}
-use Rattle.item_tree.specs.declared.attributes.attribute.AttributeKind.{AttributeKind}
-use Rattle.item_tree.specs.declared.attributes.attribute.AttributeKind.TheVariants as says
+use Rattle.item_tree.specs.declared.attributes.attribute_kind.AttributeKind.{AttributeKind}
+use Rattle.item_tree.specs.declared.attributes.attribute_kind.AttributeKind.TheVariants as says
 use Rattle.item_tree.specs.declared.lexer.lexeme.Lexeme.{Lexeme}
 
 abbrev pub is_export : AttributeKind → Bool

@@ -6,7 +6,7 @@ use Rattle.crate_items.specs.Modules.{Listing}
 use Rattle.crate_items.specs.Sources.{Source, source_at}
 use Rattle.item_tree.specs.Attributes.{is_active}
 use Rattle.item_tree.specs.ItemAttributes.{attributes_in, inner_range, outer_range}
-use Rattle.item_tree.specs.declared.attributes.attribute.AttributeKind.{AttributeKind}
+use Rattle.item_tree.specs.declared.attributes.attribute_kind.AttributeKind.{AttributeKind}
 use Rattle.item_tree.specs.declared.attributes.Attribute.{Attribute}
 use Rattle.item_tree.specs.declared.items.Item.{Item}
 use Rattle.item_tree.specs.declared.items.Range.{Range}

@@ -8,8 +8,8 @@ use Rattle.crate_items.specs.declared.modules.standing.Standing.{Standing}
 use Rattle.item_tree.specs.Attributes.{is_active}
 use Rattle.item_tree.specs.ItemAttributes.{attributes_in, outer_range}
 use Rattle.item_tree.specs.Visibilities.{raw_visibility}
-use Rattle.item_tree.specs.declared.attributes.attribute.AttributeKind.{AttributeKind}
-use Rattle.item_tree.specs.declared.attributes.attribute.AttributeKind.TheVariants as says
+use Rattle.item_tree.specs.declared.attributes.attribute_kind.AttributeKind.{AttributeKind}
+use Rattle.item_tree.specs.declared.attributes.attribute_kind.AttributeKind.TheVariants as says
 use Rattle.item_tree.specs.declared.attributes.Attribute.{Attribute}
 use Rattle.item_tree.specs.declared.items.item_kind.ItemKind.{ItemKind}
 use Rattle.item_tree.specs.declared.items.item_kind.ItemKind.TheVariants as item

@@ -12,7 +12,7 @@ use Rattle.crate_items.specs.declared.modules.mod_items.ModItem.{ModItem}
 use Rattle.crate_items.specs.declared.modules.module_visibility.DeclaredVisibility.TheVariants as seen
 use Rattle.crate_items.specs.declared.modules.standing.Standing.{Standing}
 use Rattle.dm_base.specs.declared.edition.Edition.TheVariants.{Edition2015, Edition2021}
-use Rattle.item_tree.specs.declared.attributes.attribute.AttributeKind.TheVariants.{Cfg}
+use Rattle.item_tree.specs.declared.attributes.attribute_kind.AttributeKind.TheVariants.{Cfg}
 use Rattle.item_tree.specs.declared.attributes.Attribute.{Attribute}
 use Rattle.item_tree.specs.declared.cfg.CfgNode.TheVariants.{False}
 use Rattle.item_tree.specs.declared.items.item_kind.ItemKind.{ItemKind}

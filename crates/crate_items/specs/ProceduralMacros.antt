@@ -13,8 +13,8 @@ use Rattle.dm_base.specs.Names.{Name}
 use Rattle.dm_base.specs.declared.macros.ProcMacroKind.{ProcMacroKind}
 use Rattle.dm_base.specs.declared.macros.ProcMacroKind.TheVariants as proc
 use Rattle.item_tree.specs.AttributeKinds.{lexemes_in}
-use Rattle.item_tree.specs.declared.attributes.attribute.AttributeKind.{AttributeKind}
-use Rattle.item_tree.specs.declared.attributes.attribute.AttributeKind.TheVariants as says
+use Rattle.item_tree.specs.declared.attributes.attribute_kind.AttributeKind.{AttributeKind}
+use Rattle.item_tree.specs.declared.attributes.attribute_kind.AttributeKind.TheVariants as says
 use Rattle.item_tree.specs.declared.items.item_kind.ItemKind.{ItemKind}
 use Rattle.item_tree.specs.declared.items.item_kind.ItemKind.TheVariants as item
 use Rattle.item_tree.specs.declared.lexer.lexeme.Lexeme.{Lexeme}

@@ -14,8 +14,8 @@ use Rattle.crate_items.specs.Sources.{source_at}
 use Rattle.crate_items.specs.declared.modules.declared_module.Declaration.{Declaration}
 use Rattle.dm_base.specs.Names.{Name, same_name}
 use Rattle.dm_base.specs.declared.ids.FileId.{FileId}
-use Rattle.item_tree.specs.declared.attributes.attribute.AttributeKind.{AttributeKind}
-use Rattle.item_tree.specs.declared.attributes.attribute.AttributeKind.TheVariants as says
+use Rattle.item_tree.specs.declared.attributes.attribute_kind.AttributeKind.{AttributeKind}
+use Rattle.item_tree.specs.declared.attributes.attribute_kind.AttributeKind.TheVariants as says
 use Rattle.item_tree.specs.declared.items.item_kind.ItemKind.{ItemKind}
 use Rattle.item_tree.specs.declared.items.item_kind.ItemKind.TheVariants as item
 

@@ -20,8 +20,8 @@ use Rattle.dm_base.specs.declared.ids.ModuleId.{ModuleId}
 use Rattle.dm_base.specs.declared.ids.UseId.{UseId}
 use Rattle.dm_base.specs.declared.edition.Edition.{Edition}
 use Rattle.dm_base.specs.declared.edition.Edition.TheVariants as edition
-use Rattle.item_tree.specs.declared.attributes.attribute.AttributeKind.{AttributeKind}
-use Rattle.item_tree.specs.declared.attributes.attribute.AttributeKind.TheVariants as says
+use Rattle.item_tree.specs.declared.attributes.attribute_kind.AttributeKind.{AttributeKind}
+use Rattle.item_tree.specs.declared.attributes.attribute_kind.AttributeKind.TheVariants as says
 use Rattle.item_tree.specs.declared.items.imports.ImportKind.{ImportKind}
 use Rattle.item_tree.specs.declared.items.imports.ImportKind.TheVariants as imports
 

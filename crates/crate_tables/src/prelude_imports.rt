@@ -18,7 +18,7 @@ use dm_base::ids::{Crate, ModuleId, UseId};
 use dm_base::mod_path::{ModPath, PathKind};
 use dm_base::name::Name;
 use dm_base::source::Edition;
-use item_tree::attributes::attribute::AttributeKind;
+use item_tree::attributes::attribute_kind::AttributeKind;
 use item_tree::items::imports::ImportKind;
 use std::alloc::{AllocError, Global};
 use std::marker::Model;

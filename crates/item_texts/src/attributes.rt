@@ -1,7 +1,7 @@
 //! Attributes of texts: what each says, with its string, or the words that the items of its list begin with; whether it is
 //! an inner one, and whether its condition leaves it out.
 use crate::heading::Heading;
-use item_tree::attributes::attribute::{AttributeKind, lexemes_in};
+use item_tree::attributes::attribute_kind::{AttributeKind, lexemes_in};
 use item_tree::attributes::attribute_lists::{helper_list, list_items};
 use item_tree::attributes::{
     Attribute, Attributes, is_active, may_hold, nodes_in, read_attributes,

@@ -10,7 +10,7 @@ use Rattle.item_tree.specs.AttributeReading.{Reading, is_in_group, found, finish
 use Rattle.item_tree.specs.Attributes.{Table, cfg_list, with_kind, with_attribute, with_conditions, with_attributes, attributes_of, empty}
 use Rattle.item_tree.specs.AttributeKinds.{input_of}
 use Rattle.item_tree.specs.ItemAttributes.{InOrder}
-use Rattle.item_tree.specs.declared.attributes.attribute.AttributeInput.{AttributeInput}
+use Rattle.item_tree.specs.declared.attributes.attribute_kind.AttributeInput.{AttributeInput}
 use Rattle.item_tree.specs.declared.items.Range.{Range}
 use Rattle.item_tree.specs.declared.attributes.attribute_reader.AttributePlace.{AttributePlace}
 use Rattle.item_tree.specs.declared.attributes.attribute_reader.ConditionPlace.{ConditionPlace}

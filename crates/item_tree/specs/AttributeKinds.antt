@@ -9,10 +9,10 @@ use Rattle.item_tree.specs.declared.lexer.lexeme.LexemeKind.{LexemeKind}
 use Rattle.item_tree.specs.declared.lexer.lexeme.LexemeKind.TheVariants as kind
 use Rattle.item_tree.specs.declared.lexer.lexeme.Lexeme.{Lexeme}
 use Rattle.item_tree.specs.declared.items.Range.{Range}
-use Rattle.item_tree.specs.declared.attributes.attribute.AttributeInput.{AttributeInput}
-use Rattle.item_tree.specs.declared.attributes.attribute.AttributeInput.TheVariants.{Empty, Value, List as InList, Other}
-use Rattle.item_tree.specs.declared.attributes.attribute.AttributeKind.{AttributeKind}
-use Rattle.item_tree.specs.declared.attributes.attribute.AttributeKind.TheVariants as says
+use Rattle.item_tree.specs.declared.attributes.attribute_kind.AttributeInput.{AttributeInput}
+use Rattle.item_tree.specs.declared.attributes.attribute_kind.AttributeInput.TheVariants.{Empty, Value, List as InList, Other}
+use Rattle.item_tree.specs.declared.attributes.attribute_kind.AttributeKind.{AttributeKind}
+use Rattle.item_tree.specs.declared.attributes.attribute_kind.AttributeKind.TheVariants as says
 
 -- the lexemes of these numbers
 abbrev pub lexemes_in : List Lexeme → Range → List Lexeme

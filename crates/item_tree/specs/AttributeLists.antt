@@ -8,8 +8,8 @@ use Rattle.item_tree.specs.declared.lexer.lexeme.LexemeKind.{LexemeKind}
 use Rattle.item_tree.specs.declared.lexer.lexeme.LexemeKind.TheVariants as kind
 use Rattle.item_tree.specs.declared.lexer.lexeme.Lexeme.{Lexeme}
 use Rattle.item_tree.specs.declared.items.Range.{Range}
-use Rattle.item_tree.specs.declared.attributes.attribute.AttributeInput.{AttributeInput}
-use Rattle.item_tree.specs.declared.attributes.attribute.AttributeInput.TheVariants.{List as InList}
+use Rattle.item_tree.specs.declared.attributes.attribute_kind.AttributeInput.{AttributeInput}
+use Rattle.item_tree.specs.declared.attributes.attribute_kind.AttributeInput.TheVariants.{List as InList}
 
 -- how many brackets are open behind a lexeme
 abbrev pub depth_behind : ℕ → LexemeKind → ℕ

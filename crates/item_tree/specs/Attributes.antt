@@ -11,11 +11,11 @@ use Rattle.item_tree.specs.declared.cfg.CfgAtom.{CfgAtom}
 use Rattle.item_tree.specs.declared.cfg.CfgNode.{CfgNode}
 use Rattle.item_tree.specs.declared.cfg.CfgNode.TheVariants as node
 use Rattle.item_tree.specs.declared.items.Range.{Range}
-use Rattle.item_tree.specs.declared.attributes.attribute.NodeRange.{NodeRange}
-use Rattle.item_tree.specs.declared.attributes.attribute.AttributeInput.{AttributeInput}
-use Rattle.item_tree.specs.declared.attributes.attribute.AttributeInput.TheVariants.{List as InList}
-use Rattle.item_tree.specs.declared.attributes.attribute.AttributeKind.{AttributeKind}
-use Rattle.item_tree.specs.declared.attributes.attribute.AttributeKind.TheVariants as says
+use Rattle.item_tree.specs.declared.attributes.attribute_kind.NodeRange.{NodeRange}
+use Rattle.item_tree.specs.declared.attributes.attribute_kind.AttributeInput.{AttributeInput}
+use Rattle.item_tree.specs.declared.attributes.attribute_kind.AttributeInput.TheVariants.{List as InList}
+use Rattle.item_tree.specs.declared.attributes.attribute_kind.AttributeKind.{AttributeKind}
+use Rattle.item_tree.specs.declared.attributes.attribute_kind.AttributeKind.TheVariants as says
 use Rattle.item_tree.specs.declared.attributes.attribute_reader.AttributePlace.{AttributePlace}
 use Rattle.item_tree.specs.declared.attributes.attribute_reader.ConditionPlace.{ConditionPlace}
 use Rattle.item_tree.specs.declared.attributes.Attribute.{Attribute}

@@ -6,13 +6,13 @@ ghost use Rattle.item_tree.specs.ItemAttributes as own;
 ghost use Rattle.item_tree.specs.ItemAttributes.{InOrder};
 ghost use Rattle.item_tree.specs.declared.attributes.Attribute.{Attribute};
 
-pub mod attribute;
+pub mod attribute_kind;
 pub mod attribute_lists;
 pub mod attribute_reader;
 pub mod attribute_rows;
 pub mod item_attributes;
 
-use crate::attributes::attribute::{
+use crate::attributes::attribute_kind::{
     AttributeInput, AttributeKind, NodeRange, input_of, kind_of, lexemes_in,
 };
 use crate::attributes::attribute_reader::{AttributePlace, ConditionPlace, find_attributes};

@@ -11,7 +11,7 @@ use crate::modules::CrateModules;
 use dm_base::ids::FileId;
 use dm_base::name::Name;
 use dm_base::symbol::Symbol;
-use item_tree::attributes::attribute::{AttributeKind, lexemes_in};
+use item_tree::attributes::attribute_kind::{AttributeKind, lexemes_in};
 use item_tree::lexer::lexeme::Lexeme;
 use item_tree::lexer::span::string_text;
 use std::alloc::{AllocError, Global};

@@ -9,7 +9,7 @@ use crate::items::declared_item::DeclaredItem;
 use crate::items::lookups::item_at;
 use crate::modules::CrateModules;
 use dm_base::ids::FileId;
-use item_tree::attributes::attribute::AttributeKind;
+use item_tree::attributes::attribute_kind::AttributeKind;
 use item_tree::attributes::item_attributes::{inner_attributes, outer_attributes};
 use item_tree::attributes::{Attribute, is_active};
 use item_tree::items::Range;

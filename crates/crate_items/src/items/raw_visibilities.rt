@@ -12,7 +12,7 @@ use crate::modules::CrateModules;
 use dm_base::ids::FileId;
 use dm_base::mod_path::{ModPath, PathKind};
 use dm_base::visibility::{RawVisibility, VisibilityExplicitness};
-use item_tree::attributes::attribute::lexemes_in;
+use item_tree::attributes::attribute_kind::lexemes_in;
 use item_tree::items::Range;
 use item_tree::lexer::lexeme::Lexeme;
 use item_tree::items::visibility;

@@ -8,7 +8,7 @@ use crate::items::item_attributes::item_attributes;
 use crate::modules::CrateModules;
 use dm_base::macros::{MacroCallStyles, MacroExpander};
 use dm_base::name::Name;
-use item_tree::attributes::attribute::AttributeKind;
+use item_tree::attributes::attribute_kind::AttributeKind;
 use item_tree::items::item_kind::ItemKind;
 use std::alloc::{AllocError, Global};
 

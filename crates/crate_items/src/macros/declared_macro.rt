@@ -10,7 +10,7 @@ use crate::items::lexeme_names::names_among;
 use crate::items::lookups::{lexemes_of, text_of};
 use crate::modules::CrateModules;
 use dm_base::name::Name;
-use item_tree::attributes::attribute::{AttributeKind, lexemes_in};
+use item_tree::attributes::attribute_kind::{AttributeKind, lexemes_in};
 use item_tree::lexer::lexeme::Lexeme;
 use std::alloc::{AllocError, Global};
 use std::marker::Model;

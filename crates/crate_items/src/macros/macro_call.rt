@@ -10,7 +10,7 @@ use crate::items::lookups::{item_at, text_of};
 use crate::items::use_paths::path_of;
 use crate::modules::CrateModules;
 use dm_base::mod_path::ModPath;
-use item_tree::attributes::attribute::lexemes_in;
+use item_tree::attributes::attribute_kind::lexemes_in;
 use item_tree::items::item_kind::ItemKind;
 use item_tree::items::paths::path_at;
 use item_tree::items::{Item, Range};

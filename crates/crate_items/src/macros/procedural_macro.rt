@@ -12,7 +12,7 @@ use crate::items::lookups::{lexemes_of, text_of};
 use crate::modules::CrateModules;
 use dm_base::macros::ProcMacroKind;
 use dm_base::name::Name;
-use item_tree::attributes::attribute::{AttributeKind, lexemes_in};
+use item_tree::attributes::attribute_kind::{AttributeKind, lexemes_in};
 use item_tree::items::item_kind::ItemKind;
 use item_tree::lexer::lexeme::{Lexeme, LexemeKind};
 use std::alloc::{AllocError, Global};

@@ -12,7 +12,7 @@ use crate::macros::textual_order::{
 use crate::modules::CrateModules;
 use crate::modules::declared_module::DeclaredModule;
 use dm_base::name::Name;
-use item_tree::attributes::attribute::AttributeKind;
+use item_tree::attributes::attribute_kind::AttributeKind;
 use item_tree::items::item_kind::ItemKind;
 use std::alloc::{AllocError, Global};
 use std::marker::Model;

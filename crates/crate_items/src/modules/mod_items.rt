@@ -3,7 +3,7 @@ ghost use Rattle.std.specs.Prelude.{◌≡◌, ◌++◌, IfOk, OnOk, slice_get};
 ghost use Rattle.crate_items.specs.ModItems as spec;
 
 use crate::modules::standing::{Standing, View};
-use item_tree::attributes::attribute::AttributeKind;
+use item_tree::attributes::attribute_kind::AttributeKind;
 use item_tree::attributes::item_attributes::outer_attributes;
 use item_tree::attributes::{Attribute, is_active};
 use item_tree::items::item_kind::ItemKind;

@@ -5,7 +5,7 @@ ghost use Rattle.crate_items.specs.declared.modules.module_visibility.Reach.TheV
 
 use crate::modules::declared_module::DeclaredModule;
 use dm_base::edition::Edition;
-use item_tree::attributes::attribute::lexemes_in;
+use item_tree::attributes::attribute_kind::lexemes_in;
 use item_tree::items::visibility::RawVisibility;
 use item_tree::lexer::lexeme::{Lexeme, LexemeKind};
 use item_tree::lexer::span::{Span, name_text};

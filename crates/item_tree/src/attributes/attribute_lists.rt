@@ -2,7 +2,7 @@
 ghost use Rattle.std.specs.Prelude.{◌≡◌, ◌+◌, ◌<◌, ◌^◌, ◌++◌, IfOk, OnOk, length};
 ghost use Rattle.item_tree.specs.AttributeLists as spec;
 
-use crate::attributes::attribute::{AttributeInput, input_of, lexemes_in};
+use crate::attributes::attribute_kind::{AttributeInput, input_of, lexemes_in};
 use crate::cfg::cfg_parser::span_of;
 use crate::items::Range;
 use crate::lexer::lexeme::{Lexeme, LexemeKind};

@@ -2,7 +2,7 @@
 ghost use Rattle.std.specs.Prelude.{[], ◌∷◌, ◌≡◌, ◌++◌, ◌+◌, ◌<◌, ◌^◌, IfOk, IfSome, OnOk, reverse, slice_get, if◌then◌else◌};
 ghost use Rattle.item_tree.specs.Imports as spec;
 
-use crate::attributes::attribute::lexemes_in;
+use crate::attributes::attribute_kind::lexemes_in;
 use crate::items::head::is_mark;
 use crate::items::use_tree::{UseTree, UseTreeKind};
 use crate::items::visibility::lexeme_at;
