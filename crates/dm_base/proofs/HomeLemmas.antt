@@ -5,7 +5,7 @@ use Rattle.std.specs.Option.{option_map_or, option_or, option_and_then, option_e
 use Rattle.dm_base.specs.declared.ids.ModuleId.{ModuleId}
 use Rattle.dm_base.specs.declared.ids.MapId.{MapId}
 use Rattle.dm_base.specs.Tree.{Tree, IsTree, IsKnown, same_module, in_block_map, containing, outside, chain_within, chain, is_block_root, outer, home, up_to, homeward}
-use Rattle.dm_base.proofs.TreeLemmas.{chain-containing}
+use Rattle.dm_base.specs.TreeLaws.{chain-containing}
 
 module _ (t : Tree) where
   abbrev outside_blocks : List ModuleId → List ModuleId

@@ -1,5 +1,4 @@
 -- Lemmas of the crate.
 mod NamedWords
 pub mod HomeLemmas
-pub mod TreeLemmas
 pub mod SeesLemmas

@@ -10,7 +10,7 @@ use Rattle.dm_base.specs.declared.visibility.Visibility.TheVariants.{Module}
 use Rattle.dm_base.specs.Tree.{Tree, IsTree, IsKnown, same_module, same_crate, same_map, crate_of, containing, outside, chain, is_among, is_ancestor, outward_within, outward, lies_in, is_lifted, lift_to, lift, sees}
 use Rattle.dm_base.specs.Visibility.{both_lie_in, max_of_modules, min_of_modules, IsUnion, IsIntersection, AreMostAndLeast}
 use Rattle.dm_base.specs.IdLaws.{same_module-true, same_map-true, same_map-refl}
-use Rattle.dm_base.proofs.TreeLemmas.{chain-step, outward-step}
+use Rattle.dm_base.specs.TreeLaws.{chain-step, outward-step}
 
 -- one of two, by cases
 or_either : {P : Type 0} (x y : Bool) → (x || y) ≡ true → (x ≡ true → P) → (y ≡ true → P) → P

@@ -7,6 +7,7 @@ pub mod Styles
 pub mod Files
 pub mod Path
 pub mod Tree
+pub mod TreeLaws
 pub mod Visibility
 pub mod Definitions
 pub mod Sameness

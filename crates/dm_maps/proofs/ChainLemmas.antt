@@ -6,7 +6,7 @@ use Rattle.std.specs.Option.{option_map_or}
 use Rattle.dm_base.specs.declared.ids.ModuleId.{ModuleId}
 use Rattle.dm_base.specs.Tree.{Tree, IsTree, IsKnown, same_module, containing, chain_within, chain, is_among}
 use Rattle.dm_base.specs.IdLaws.{same_module-true}
-use Rattle.dm_base.proofs.TreeLemmas.{chain-containing, chain-alone}
+use Rattle.dm_base.specs.TreeLaws.{chain-containing, chain-alone}
 use Rattle.dm_maps.specs.Ancestry.{depth, member, moves}
 use Rattle.dm_maps.specs.JumpPointers.{up, climb}
 

@@ -1,4 +1,4 @@
-use Rattle.dm_base.proofs.TreeLemmas.{chain-step}
+use Rattle.dm_base.specs.TreeLaws.{chain-step}
 use Rattle.dm_base.proofs.module_tree.climb.Goals as goal
 
 pub returns-clause-chain : goal.returns-clause-chain

@@ -1,7 +1,7 @@
 use Rattle.std.proofs.Common.{◌≡◌, Bool, cond, Some, Option, List, find, unwrap_or, sym, ap, ◌∙◌}
 use Rattle.dm_base.specs.declared.ids.ModuleId.{ModuleId}
 use Rattle.dm_base.specs.Tree.{outward, outside, is_lifted}
-use Rattle.dm_base.proofs.TreeLemmas.{outward-outside}
+use Rattle.dm_base.specs.TreeLaws.{outward-outside}
 use Rattle.dm_base.proofs.SeesLemmas.{outward_within-stays}
 use Rattle.dm_base.proofs.visibility.lifted.Goals as goal
 

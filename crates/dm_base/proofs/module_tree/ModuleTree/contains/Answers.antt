@@ -1,6 +1,6 @@
 use Rattle.std.proofs.Common.{◌≡◌, Bool, ◌||◌, Some, sym, ap, ◌∙◌}
 use Rattle.dm_base.specs.Tree.{chain, is_among, containing}
-use Rattle.dm_base.proofs.TreeLemmas.{chain-containing}
+use Rattle.dm_base.specs.TreeLaws.{chain-containing}
 use Rattle.dm_base.proofs.module_tree.ModuleTree.contains.Goals as goal
 
 pub loop-a-preserved : goal.loop-a-preserved
