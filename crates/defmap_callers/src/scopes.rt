@@ -20,7 +20,6 @@ use dm_scope::diagnostics::SaidEq;
 use dm_scope::glob_imports::PerNsGlobImports;
 use dm_scope::item_scope::ItemScope;
 use dm_scope::scope_tables::ScopeTables;
-use hir_def_map::item_scope::ImportChains;
 use std::alloc::AllocError;
 
 /// Declares a public type in a module: the list of pushes that scope and table show has it last.

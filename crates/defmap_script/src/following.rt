@@ -6,7 +6,6 @@ use crate::fault::Fault;
 use dm_base::ids::ModuleId;
 use dm_base::imports::ImportId;
 use dm_maps::world::World;
-use dm_scope::import_chains::ImportChains;
 use dm_scope::scope_tables::ScopeTables;
 
 /// What an import resolves to in each namespace, from the scope of a module, where the module and the use are the

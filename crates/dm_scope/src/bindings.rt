@@ -24,8 +24,8 @@ pub mod lazy_map;
 mod names;
 pub mod reads;
 pub mod records;
-pub mod shadowing;
-pub mod steps;
+pub(crate) mod shadowing;
+mod steps;
 
 use crate::bindings::glob_flags::GlobFlags;
 use crate::bindings::lazy_map::LazyMap;
@@ -257,7 +257,7 @@ impl<D: Definition, I: ImportSource> Bindings<D, I> {
 
     /// The first step of a push, which makes all its allocations: new keys go last. The second step cannot fail, so a
     /// push is all or nothing.
-    pub fn grow(
+    pub(crate) fn grow(
         &mut self,
         flags: &mut GlobFlags,
         m: ModuleId,
@@ -303,7 +303,7 @@ impl<D: Definition, I: ImportSource> Bindings<D, I> {
     }
 
     /// Undoes the first step of a push.
-    pub fn undo(&mut self, flags: &mut GlobFlags, new: NewKeys, m: ModuleId, name: &Name)
+    pub(crate) fn undo(&mut self, flags: &mut GlobFlags, new: NewKeys, m: ModuleId, name: &Name)
         ensures bindings { self.new ≡ without_keys self.old new.item new.record_key }
         ensures flags { flags.new ≡ flags_undone flags.old m name.now new.flag }
     {
@@ -312,7 +312,7 @@ impl<D: Definition, I: ImportSource> Bindings<D, I> {
     }
 
     /// The second step of a push. Takes no memory.
-    pub fn finish(
+    pub(crate) fn finish(
         &mut self,
         flags: &mut GlobFlags,
         new: NewKeys,

@@ -1,10 +1,9 @@
-//! `ImportChains`: the definition that an import of a scope finally resolves to, through re-exports.
+//! Chains of imports: the definition that an import of a scope finally resolves to, through re-exports.
 ghost use Rattle.std.specs.Prelude.{◌≡◌};
 ghost use Rattle.std.specs.Option.{option_map, option_and_then};
 ghost use Rattle.dm_base.specs.Definitions.{widened_macro};
 ghost use Rattle.dm_base.specs.declared.per_ns.Namespace.{Namespace};
 ghost use Rattle.dm_scope.specs.Chains.{IsFound, public_item};
-ghost use Rattle.dm_scope.specs.Scope.{Scope};
 ghost use Rattle.dm_scope.specs.ChainSteps.{found_from, macro_of};
 
 mod circles;
@@ -17,26 +16,17 @@ use dm_base::item_ids::{MacroId, ModuleDefId};
 use dm_base::per_ns::{Item, Namespace, PerNs};
 use dm_base::visibility::Visibility;
 
-/// What the imports of a scope finally resolve to. No call takes memory.
-pub trait ImportChains {
-    /// The scope, as contracts see it.
-    ghost scope: { Self → Scope };
-
+impl ItemScope {
     /// The definitions that a named import of this scope finally resolves to, one for each namespace (docs/RULES.md,
-    /// "Chains of imports"). A look-up for each import of the chain.
-    fn fully_resolve_import<T: ScopeTables>(&self, tables: &T, import: ImportId) -> PerNs
-        ensures types { IsFound Namespace.Types (T.tables tables.now) (scope self.now, import) (λ d. d)
+    /// "Chains of imports"). A look-up for each import of the chain. Takes no memory.
+    pub fn fully_resolve_import<T: ScopeTables>(&self, tables: &T, import: ImportId) -> PerNs
+        ensures types { IsFound Namespace.Types (T.tables tables.now) (self.now, import) (λ d. d)
             result.types }
-        ensures values { IsFound Namespace.Values (T.tables tables.now) (scope self.now, import) (λ d. d)
+        ensures values { IsFound Namespace.Values (T.tables tables.now) (self.now, import) (λ d. d)
             result.values }
-        ensures macros { IsFound Namespace.Macros (T.tables tables.now) (scope self.now, import) widened_macro
-            result.macros };
-}
-
-impl ImportChains for ItemScope {
-    ghost scope = { λ s. s };
-
-    fn fully_resolve_import<T: ScopeTables>(&self, tables: &T, import: ImportId) -> PerNs {
+        ensures macros { IsFound Namespace.Macros (T.tables tables.now) (self.now, import) widened_macro
+            result.macros }
+    {
         let types = chain_end(self, tables, Namespace::Types, import);
         let values = chain_end(self, tables, Namespace::Values, import);
         let macros = chain_end(self, tables, Namespace::Macros, import);

@@ -6,7 +6,7 @@ pub mod bindings;
 pub mod derives;
 pub mod diagnostics;
 pub mod glob_imports;
-pub mod import_chains;
+mod import_chains;
 pub mod import_records;
 pub mod item_scope;
 pub mod iterators;

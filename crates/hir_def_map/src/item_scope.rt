@@ -7,7 +7,6 @@ pub use dm_maps::modes::BuiltinShadowMode;
 pub use dm_scope::bindings::{self, Bindings};
 pub use dm_scope::derives::DeriveMacroInvocation;
 pub use dm_scope::glob_imports::{GlobFlags, PerNsGlobImports};
-pub use dm_scope::import_chains::ImportChains;
 pub use dm_scope::import_records::ImportRecords;
 pub use dm_scope::item_scope::ItemScope;
 pub use dm_scope::iterators;

@@ -53,7 +53,7 @@ impl GlobFlags {
 
     /// The first step of a push that writes: a glob's flag is set. Answers whether it is new. Where an allocation
     /// fails, nothing changes.
-    pub fn grow(&mut self, m: ModuleId, name: &Name, glob: bool) -> Result<bool, AllocError>
+    pub(crate) fn grow(&mut self, m: ModuleId, name: &Name, glob: bool) -> Result<bool, AllocError>
         ensures ok { OnOk result (self.new ≡ flags_grown self.old m name.now glob) }
         ensures undo { IfOk result (λ new. flags_undone self.new m name.now new ≡ self.old) }
         ensures err { OnErr result (self.new ≡ self.old) }
@@ -70,7 +70,7 @@ impl GlobFlags {
     }
 
     /// The second step of a push that writes: the flag of any other push is cleared. Takes no memory.
-    pub fn finish(&mut self, m: ModuleId, name: &Name, glob: bool)
+    pub(crate) fn finish(&mut self, m: ModuleId, name: &Name, glob: bool)
         ensures { self.new ≡ flags_finished self.old m name.now glob }
     {
         if !glob {
@@ -79,7 +79,7 @@ impl GlobFlags {
     }
 
     /// Takes the first step back. A module's set stays, also where it is empty.
-    pub fn undo(&mut self, m: ModuleId, name: &Name, new: bool)
+    pub(crate) fn undo(&mut self, m: ModuleId, name: &Name, new: bool)
         ensures { self.new ≡ flags_undone self.old m name.now new }
     {
         if new {

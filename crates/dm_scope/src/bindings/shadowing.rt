@@ -10,7 +10,7 @@ use dm_base::imports::ImportOrExternCrate;
 use dm_base::per_ns::Item;
 
 /// The import of a push, as a namespace with imports `I` stores it. Takes no memory.
-pub fn narrowed<I: ImportSource>(import: Option<ImportOrExternCrate>) -> Option<I>
+pub(crate) fn narrowed<I: ImportSource>(import: Option<ImportOrExternCrate>) -> Option<I>
     ensures { result ≡ option_and_then I.narrowed import }
 {
     match import {
@@ -20,7 +20,7 @@ pub fn narrowed<I: ImportSource>(import: Option<ImportOrExternCrate>) -> Option<
 }
 
 /// Whether there is an import and it is a glob. Takes no memory.
-pub fn is_glob<I: ImportSource>(import: Option<I>) -> bool
+pub(crate) fn is_glob<I: ImportSource>(import: Option<I>) -> bool
     ensures { result ≡ is_glob_by I.globs import }
 {
     match import {
@@ -31,7 +31,7 @@ pub fn is_glob<I: ImportSource>(import: Option<I>) -> bool
 
 /// Whether a push replaces what is bound under its name: from that, whether the glob flag of the name stands, and what
 /// is pushed by which import (docs/RULES.md, "Pushes"). Takes no memory.
-pub fn replaces<D: Definition, I: ImportSource>(
+pub(crate) fn replaces<D: Definition, I: ImportSource>(
     bound: &Item<D, I>,
     flag: bool,
     item: &Item<D, I>,

@@ -3,7 +3,7 @@ ghost use Rattle.std.specs.Prelude.{◌≡◌, false};
 
 /// What it put into a namespace and its flags, and whether the second step is to write.
 #[derive(Clone, Copy)]
-pub struct NewKeys {
+pub(crate) struct NewKeys {
     pub writes: bool,
     pub item: bool,
     pub record_key: bool,

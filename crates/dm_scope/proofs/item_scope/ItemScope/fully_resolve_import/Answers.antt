@@ -6,7 +6,7 @@ use Rattle.dm_scope.specs.Chains.{public_item}
 use Rattle.dm_scope.specs.ChainSteps.{macro_of}
 use Rattle.dm_scope.proofs.ChainLemmas.{some_is}
 use Rattle.dm_scope.proofs.ChainTables.{IsFound-found_from, macro_of-back, option_and_then-some}
-use Rattle.dm_scope.proofs.import_chains.ItemScopeImportChains.fully_resolve_import.Goals as goal
+use Rattle.dm_scope.proofs.item_scope.ItemScope.fully_resolve_import.Goals as goal
 
 pub returns-clause-types : goal.returns-clause-types
 returns-clause-types g c =
