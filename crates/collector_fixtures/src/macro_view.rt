@@ -9,7 +9,6 @@ use def_diagnostics::open_modules::{GlobEdge, OpenModules};
 use dm_base::ids::ModuleId;
 use dm_base::mod_path::ModPath;
 use dm_maps::world::World;
-use dm_maps::world::knows_paths::KnowsPaths;
 use std::alloc::{AllocError, Global};
 
 /// The macro calls of all crates, and the modules that these leave open.

@@ -24,7 +24,6 @@ use dm_base::source::Edition;
 use dm_collector::collect::{Collected, collect};
 use dm_collector::collect_fault::CollectFault;
 use dm_maps::world::World;
-use dm_maps::world::knows_paths::KnowsPaths;
 use item_tree::cfg::CfgOptions;
 use std::alloc::{AllocError, Global};
 

@@ -18,7 +18,6 @@ use crate::declared_name::DeclaredName;
 use dm_base::imports::ImportOrExternCrate;
 use dm_base::per_ns::PerNs;
 use dm_maps::builder::WorldBuilder;
-use dm_maps::check::check_tables::CheckTables;
 use dm_maps::fault::WorldFault;
 use dm_maps::world::World;
 use dm_scope::glob_imports::PerNsGlobImports;

@@ -12,7 +12,6 @@ use crate::item_modules::MappedCrate;
 use crate::told_in_maps::{CallPlace, told_in_map};
 use dm_base::ids::MapId;
 use dm_maps::world::World;
-use dm_maps::world::knows_paths::KnowsPaths;
 use dm_retry::retry::Retry;
 use dm_scope::diagnostics::DefDiagnostic;
 use std::alloc::{AllocError, Global};

@@ -8,7 +8,6 @@ use dm_base::per_ns::{Namespace, PerNs};
 use dm_base::visibility::Visibility;
 use dm_maps::modes::{BuiltinShadowMode, MacroSubNs};
 use dm_maps::world::World;
-use dm_maps::world::knows_paths::KnowsPaths;
 use dm_maps::world::maps_of::local_def_map;
 use dm_retry::meaning::path_meaning;
 use hir_def_map::path_resolution::ResolvePath;

@@ -15,7 +15,6 @@ use dm_base::source::{Edition, EditionedFileId};
 use dm_base::visibility::Visibility;
 use dm_maps::build_fault::BuildFault;
 use dm_maps::builder::WorldBuilder;
-use dm_maps::check::check_tables::CheckTables;
 use dm_maps::check::fault::WorldFault;
 use dm_maps::module_origin::ModuleOrigin;
 use dm_maps::world::World;

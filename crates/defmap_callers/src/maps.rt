@@ -28,7 +28,6 @@ use dm_base::symbol::Symbol;
 use dm_base::visibility::Visibility;
 use dm_maps::build_fault::BuildFault;
 use dm_maps::builder::WorldBuilder;
-use dm_maps::check::check_tables::CheckTables;
 use dm_maps::crate_setting::CrateSetting;
 use dm_maps::def_map::DefMap;
 use dm_maps::module_data::ModuleData;

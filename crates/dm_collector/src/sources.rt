@@ -21,7 +21,6 @@ use dm_base::name::Name;
 use dm_base::per_ns::PerNs;
 use dm_base::visibility::Visibility;
 use dm_maps::world::World;
-use dm_maps::world::knows_paths::KnowsPaths;
 use dm_maps::world::variants::Variants;
 use dm_retry::meaning::path_meaning;
 use dm_scope::scope_tables::ScopeTables;

@@ -17,7 +17,7 @@ mod ancestry;
 mod item_modules;
 mod knows;
 mod knows_changes;
-pub mod knows_paths;
+mod knows_paths;
 mod map_dump;
 pub mod maps_of;
 mod outwards;
@@ -72,7 +72,7 @@ impl Model for World {
 
 impl World {
     /// The world of these tables, which have to be checked (`WorldBuilder::first_fault`). Takes no memory.
-    pub fn of_checked(tables: WorldBuilder) -> World
+    pub(crate) fn of_checked(tables: WorldBuilder) -> World
         requires checked { IsChecked tables }
         ensures { result ≡ tables }
     {

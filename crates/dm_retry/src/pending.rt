@@ -18,7 +18,6 @@ use dm_base::name::Name;
 use dm_base::per_ns::PerNs;
 use dm_base::visibility::Visibility;
 use dm_maps::world::World;
-use dm_maps::world::knows_paths::KnowsPaths;
 use std::marker::Model;
 
 /// An unresolved import, and whether it is due (dirty): it was not tried yet, or a name on its path was bound since.

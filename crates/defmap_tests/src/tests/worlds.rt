@@ -21,7 +21,6 @@ use dm_base::symbol::Symbol;
 use dm_base::visibility::{RawVisibility, Visibility, VisibilityExplicitness};
 use dm_maps::build_fault::BuildFault;
 use dm_maps::builder::WorldBuilder;
-use dm_maps::check::check_tables::CheckTables;
 use dm_maps::check::held::HeldId;
 use dm_maps::check::known_ids::KnownIds;
 use dm_maps::fault::WorldFault;

@@ -133,7 +133,7 @@ impl WorldBuilder {
     /// The first holder with a fault, in the order of crates' maps, blocks' maps, modules and tables, each by number:
     /// of it the least kind of fault, and of that the least id. None where each id is one of the builder's own. Takes
     /// no memory.
-    pub fn first_fault(&self) -> Option<WorldFault>
+    pub(crate) fn first_fault(&self) -> Option<WorldFault>
         ensures answer { IsAnswer self.now (holders self.now) result }
         ensures checked { IsNone result ↔ IsChecked self.now }
         ensures built { IsBuilt self.now }

@@ -18,8 +18,8 @@ use std::alloc::AllocError;
 impl World {
     /// Adds what went wrong while a map was made, the last of that map's list.
     ///
-    /// The map has to be the world's, and all that the diagnostic holds: `lacks_map` and `knows_diagnostic` (of
-    /// `dm_world`) test it. Other maps and all tables stay. Where an allocation fails, nothing changes.
+    /// The map has to be the world's, and all that the diagnostic holds: `lacks_map` and `knows_diagnostic`
+    /// test it. Other maps and all tables stay. Where an allocation fails, nothing changes.
     pub fn add_diagnostic(
         &mut self,
         map: MapId,

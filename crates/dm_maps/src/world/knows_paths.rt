@@ -3,39 +3,28 @@ ghost use Rattle.std.specs.Prelude.{◌↔◌, IsTrue};
 ghost use Rattle.dm_maps.specs.Holding.{path_holds};
 ghost use Rattle.dm_maps.specs.TablesHold.{diagnostic_holds, diagnostic_kind_holds};
 ghost use Rattle.dm_maps.specs.Known.{KnowsAll};
-ghost use Rattle.dm_maps.specs.World as spec;
 
 use crate::world::World;
 use dm_base::item_ids::ModuleDefId;
 use dm_base::mod_path::{ModPath, PathKind};
 use dm_scope::diagnostics::{DefDiagnostic, DefDiagnosticKind};
 
-/// The tests of a world for paths, and for diagnostics, which may have one.
-pub trait KnowsPaths {
-    /// The world, as contracts see it.
-    ghost world: { Self → spec.World };
-
+impl World {
     /// Whether the crate of a path's `$crate` is the world's, if the path has one. Names are everyone's.
-    fn knows_path(&self, path: &ModPath) -> bool
-        ensures { IsTrue result ↔ KnowsAll (world self.now) (path_holds path.now.kind) };
-
-    /// Whether all that a diagnostic holds is the world's: its module, and the crate of the `$crate` of the path that
-    /// it is about, if it is about one.
-    fn knows_diagnostic(&self, diagnostic: &DefDiagnostic) -> bool
-        ensures { IsTrue result ↔ KnowsAll (world self.now) (diagnostic_holds diagnostic.now) };
-}
-
-impl KnowsPaths for World {
-    ghost world = { λ w. w };
-
-    fn knows_path(&self, path: &ModPath) -> bool {
+    pub fn knows_path(&self, path: &ModPath) -> bool
+        ensures { IsTrue result ↔ KnowsAll self.now (path_holds path.now.kind) }
+    {
         match path.kind() {
             PathKind::DollarCrate(krate) => self.has_crate(krate),
             _ => true,
         }
     }
 
-    fn knows_diagnostic(&self, diagnostic: &DefDiagnostic) -> bool {
+    /// Whether all that a diagnostic holds is the world's: its module, and the crate of the `$crate` of the path that
+    /// it is about, if it is about one.
+    pub fn knows_diagnostic(&self, diagnostic: &DefDiagnostic) -> bool
+        ensures { IsTrue result ↔ KnowsAll self.now (diagnostic_holds diagnostic.now) }
+    {
         if !self.knows_def(ModuleDefId::ModuleId(diagnostic.in_module)) {
             return false;
         }

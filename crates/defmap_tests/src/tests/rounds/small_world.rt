@@ -7,7 +7,6 @@ use dm_base::per_ns::PerNs;
 use dm_base::source::{Edition, EditionedFileId, HirFileId, TreeId};
 use dm_base::visibility::Visibility;
 use dm_maps::builder::WorldBuilder;
-use dm_maps::check::check_tables::CheckTables;
 use dm_maps::module_origin::ModuleOrigin;
 use dm_maps::world::World;
 use dm_scope::glob_imports::PerNsGlobImports;

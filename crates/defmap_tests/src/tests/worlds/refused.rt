@@ -23,7 +23,6 @@ use dm_base::symbol::Symbol;
 use dm_base::visibility::Visibility;
 use dm_maps::def_map::DefMap;
 use dm_maps::world::World;
-use dm_maps::world::knows_paths::KnowsPaths;
 use dm_scope::scope_tables::ScopeTables;
 use hir_def_map::visibility::VariantFields;
 use std::alloc::Global;

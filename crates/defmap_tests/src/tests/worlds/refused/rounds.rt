@@ -12,7 +12,6 @@ use dm_base::item_ids::{ItemKind, ModuleDefId};
 use dm_base::mod_path::PathKind;
 use dm_base::name::Name;
 use dm_base::visibility::Visibility;
-use dm_maps::world::knows_paths::KnowsPaths;
 use dm_retry::import_kind::ImportKind;
 use dm_retry::pending::Pending;
 use dm_retry::retry::Retry;
