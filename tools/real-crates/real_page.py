@@ -8,10 +8,10 @@ from dataclasses import asdict, dataclass, field
 
 from cargo_builds import PASSES, RUSTC, read_text
 from judging import ROOT
-from real_answers import ATTRIBUTES, BEHIND, INJECTED, TESTS
+from real_answers import ATTRIBUTES, BEHIND, CONSTRUCTORS, INJECTED, PROCEDURAL, TESTS
 
 PAGE = f"{ROOT}/docs/REAL-CRATES.md"
-SHARES = f"{ROOT}/tools/real-crates.shares"
+SHARES = f"{ROOT}/tools/real-crates/shares"
 
 
 @dataclass
@@ -144,7 +144,7 @@ def time_table(rows):
 
 def limits(rows):
     """What cannot be right without expansion, or is another thing by decision, with the number of places."""
-    reasons = (TESTS, INJECTED, BEHIND, ATTRIBUTES)
+    reasons = (TESTS, INJECTED, BEHIND, ATTRIBUTES, CONSTRUCTORS, PROCEDURAL)
     places = {reason: sum(it.reasons.get(reason, 0) for it in rows) for reason in reasons}
     unknown, brought = sum(it.unknown for it in rows), sum(it.brought for it in rows)
     names, partly = sum(it.unknown_names for it in rows), sum(it.partly + it.partly_names for it in rows)
@@ -156,7 +156,9 @@ def limits(rows):
         ["functions that an attribute as `#[test]` takes away, which are bound", places[TESTS]],
         ["names that a glob brings of an import that is unknown: told as absent", places[BEHIND]],
         ["names that a macro by attribute brings or takes, of a module where one stands at a `use` or an `extern` block", places[ATTRIBUTES]],
-        ["names of the standard library that rustc binds in roots of edition 2015: absent", places[INJECTED]]])
+        ["names of the standard library that rustc binds in roots of edition 2015: absent", places[INJECTED]],
+        ["constructors that rustc lets those see alone who see the fields: bound, and not compared", places[CONSTRUCTORS]],
+        ["procedural macros, of which the crates alone are compared, not the names", places[PROCEDURAL]]])
 
 
 def version():
@@ -165,7 +167,7 @@ def version():
 
 HEAD = """# Compared with rustc over real crates
 
-`tools/real-crates --page` wrote this page: what it ran, what agrees, and how long each side took. The crates are of
+`tools/real-crates/compare --page` wrote this page: what it ran, what agrees, and how long each side took. The crates are of
 Debian 12: of its packages, with their default features, and of its `rust-src`; it is {version} that they are compared
 with. {crates} crates have {imports} named imports and {globs} globs outside macros and bodies. Of which build the
 program was, and what is proved of it, [PROGRAM.md](PROGRAM.md) tells.
@@ -175,7 +177,7 @@ Each leaf of each `use`, private ones and globs too, is compared in each namespa
 that `defmap tree` or rustc could bind there, or of more than 400 as many at even distances: a probe in a copy of the
 crate imports all of them, and both sides tell what each import means, so that a name that one side does not bind is
 absent on the other. *Unknown* is what leads nowhere and a macro may bring; how much of each crate that may be stands in
-`tools/real-crates.shares`. *By macros* are the imports in modules that a macro brings.
+`tools/real-crates/shares`. *By macros* are the imports in modules that a macro brings.
 """
 
 TIMES = """## Time and memory
