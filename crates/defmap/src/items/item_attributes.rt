@@ -1,8 +1,8 @@
-//! Attributes of items, and inner ones of their bodies.
+//! The attributes of items, and the inner ones of their bodies.
 ghost use Rattle.item_tree.specs.Children.{ByParent};
 
-use crate::heading::Heading;
-use crate::parsed::Parsed;
+use crate::items::Manner;
+use crate::items::parsed::Parsed;
 use item_tree::attributes::item_attributes::{inner_attributes, outer_attributes};
 use item_tree::attributes::{Attributes, read_attributes};
 use item_tree::items::{Item, Range};
@@ -31,23 +31,24 @@ fn insides(alloc: Global, items: &[Item]) -> Result<Vec<Range>, AllocError>
 }
 
 /// Adds how many attributes begin in a range, and whether they leave there what they belong to.
-fn print_range(
+fn push_range(
     out: &mut String,
-    heading: &Heading<'_>,
+    manner: Manner<'_>,
     text: &[u8],
     table: &Attributes,
     active: &[bool],
     range: Range,
 ) -> Result<(), AllocError> {
     let count = table.attributes_in(range).len();
-    let is_there = table.is_cfg_enabled(&heading.options, text, active, range);
+    let is_there = table.is_cfg_enabled(manner.options, text, active, range);
     write!(out, " {count} {is_there}")
 }
 
-pub(crate) fn print_item_attributes(
-    alloc: Global,
+/// Adds those of each item.
+pub(crate) fn push_item_attributes(
     out: &mut String,
-    heading: &Heading<'_>,
+    alloc: Global,
+    manner: Manner<'_>,
     text: &str,
     read: &Parsed,
 ) -> Result<(), AllocError>
@@ -56,13 +57,13 @@ pub(crate) fn print_item_attributes(
     let bytes = text.as_bytes();
     let insides = insides(alloc, read.tree.items.as_slice())?;
     let table = read_attributes(alloc, bytes, read.lexemes.as_slice())?;
-    let active = table.active_conditions(alloc, &heading.options, bytes)?;
+    let active = table.active_conditions(alloc, manner.options, bytes)?;
     let active = active.as_slice();
     for (item, inner) in read.tree.items.iter().zip(&insides) {
         write!(out, "{:?}", item.kind)?;
         let outer = outer_attributes(*item);
-        print_range(out, heading, bytes, &table, active, outer)?;
-        print_range(out, heading, bytes, &table, active, *inner)?;
+        push_range(out, manner, bytes, &table, active, outer)?;
+        push_range(out, manner, bytes, &table, active, *inner)?;
         out.push_str("\n")?;
     }
     Ok(())

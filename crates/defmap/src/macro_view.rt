@@ -1,5 +1,5 @@
 //! What macros that are not expanded may hide.
-use crate::left::{Settled, items_of};
+use crate::settled::Settled;
 use def_diagnostics::glob_edges::glob_edge;
 use def_diagnostics::hidden::is_hidden;
 use def_diagnostics::hidden_calls::is_call_hidden;
@@ -36,14 +36,13 @@ pub(crate) fn calls_of(
     number: usize,
 ) -> Result<Vec<MacroCall>, AllocError> {
     let collected = &settled.collected;
-    let (Some(krate), Some(list), Some(table)) = (
-        settled.graph.crates().get(number),
+    let (Some(list), Some(table), Some(items)) = (
         collected.lists.get(number),
         collected.tables.get(number),
+        settled.items().get(number),
     ) else {
         return Ok(Vec::new(alloc));
     };
-    let items = items_of(alloc, krate, list, &settled.files)?;
     macro_calls(
         alloc,
         settled.world(),

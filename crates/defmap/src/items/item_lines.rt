@@ -1,5 +1,5 @@
-//! Items of texts.
-use crate::parsed::{Parsed, lexeme_text, text_in};
+//! The items of a text, what is written before each, and of which kind its implementations are.
+use crate::items::parsed::{Parsed, lexeme_text, text_in};
 use item_tree::ids::item_range;
 use item_tree::items::implementations::is_of_trait;
 use item_tree::items::item_kind::ItemKind;
@@ -9,7 +9,8 @@ use item_tree::lexer::lexeme::Lexeme;
 use std::alloc::{AllocError, Global};
 use std::fmt::Write;
 
-fn print_item(
+/// Adds an item: its kind and name, the number of the item that it stands in, and its own text.
+fn push_item(
     out: &mut String,
     text: &str,
     lexemes: &[Lexeme],
@@ -26,14 +27,16 @@ fn print_item(
     write!(out, ": {}\n", text_in(text, item_range(lexemes, item)))
 }
 
-pub(crate) fn print_items(out: &mut String, text: &str, read: &Parsed) -> Result<(), AllocError> {
+/// Adds each item.
+pub(crate) fn push_items(out: &mut String, text: &str, read: &Parsed) -> Result<(), AllocError> {
     for item in &read.tree.items {
-        print_item(out, text, read.lexemes.as_slice(), *item)?;
+        push_item(out, text, read.lexemes.as_slice(), *item)?;
     }
     Ok(())
 }
 
-pub(crate) fn print_visibilities(out: &mut String, read: &Parsed) -> Result<(), AllocError> {
+/// Adds what is written before each item.
+pub(crate) fn push_visibilities(out: &mut String, read: &Parsed) -> Result<(), AllocError> {
     for item in &read.tree.items {
         let range = Range {
             first: item.visibility,
@@ -45,9 +48,10 @@ pub(crate) fn print_visibilities(out: &mut String, read: &Parsed) -> Result<(), 
     Ok(())
 }
 
-fn print_implementation(
-    alloc: Global,
+/// Adds an implementation, and whether it is one of a trait.
+fn push_implementation(
     out: &mut String,
+    alloc: Global,
     text: &str,
     read: &Parsed,
     item: &Item,
@@ -66,15 +70,16 @@ fn print_implementation(
     )
 }
 
-pub(crate) fn print_implementations(
-    alloc: Global,
+/// Adds each implementation, and whether it is one of a trait.
+pub(crate) fn push_implementations(
     out: &mut String,
+    alloc: Global,
     text: &str,
     read: &Parsed,
 ) -> Result<(), AllocError> {
     for item in &read.tree.items {
         if let ItemKind::Impl = item.kind {
-            print_implementation(alloc, out, text, read, item)?;
+            push_implementation(out, alloc, text, read, item)?;
         }
     }
     Ok(())

@@ -1,6 +1,6 @@
-//! Attributes of texts: what each says, with its string, or the words that the items of its list begin with; whether it is
+//! The attributes of a text: what each says, with its string, or the words that the items of its list begin with; whether it is
 //! an inner one, and whether its condition leaves it out.
-use crate::heading::Heading;
+use crate::items::Manner;
 use item_tree::attributes::attribute_kind::{AttributeKind, lexemes_in};
 use item_tree::attributes::attribute_lists::{helper_list, list_items};
 use item_tree::attributes::{
@@ -49,9 +49,9 @@ fn may_be(options: &CfgOptions, text: &[u8], table: &Attributes, kind: Attribute
 }
 
 /// Adds the name that an item of a list begins with, and a word for each helper of a `proc_macro_derive`.
-fn print_list_item(
-    alloc: Global,
+fn push_list_item(
     out: &mut String,
+    alloc: Global,
     text: &[u8],
     lexemes: &[Lexeme],
     item: Range,
@@ -71,9 +71,9 @@ fn print_list_item(
 }
 
 /// Adds what an attribute has behind its name: a string, or a list.
-fn print_input(
-    alloc: Global,
+fn push_input(
     out: &mut String,
+    alloc: Global,
     text: &[u8],
     lexemes: &[Lexeme],
     kind: AttributeKind,
@@ -84,7 +84,7 @@ fn print_input(
         | AttributeKind::Derive(list)
         | AttributeKind::ProcMacroDerive(list) => {
             for item in &list_items(alloc, lexemes, list)? {
-                print_list_item(alloc, out, text, lexemes, *item)?;
+                push_list_item(out, alloc, text, lexemes, *item)?;
             }
             Ok(())
         }
@@ -96,23 +96,24 @@ fn print_input(
     }
 }
 
-fn print_attribute(
-    alloc: Global,
+/// Adds an attribute.
+fn push_attribute(
     out: &mut String,
+    alloc: Global,
     text: &[u8],
     lexemes: &[Lexeme],
     attribute: Attribute,
     holds: bool,
 ) -> Result<(), AllocError> {
     out.push_str(word_for(attribute.kind, holds))?;
-    print_input(alloc, out, text, lexemes, attribute.kind)?;
+    push_input(out, alloc, text, lexemes, attribute.kind)?;
     out.push_str(if attribute.inner { ", inner" } else { "" })
 }
 
 /// Adds a line for each attribute of a table.
-fn print_lines(
-    alloc: Global,
+fn push_lines(
     out: &mut String,
+    alloc: Global,
     options: &CfgOptions,
     text: &[u8],
     lexemes: &[Lexeme],
@@ -121,27 +122,28 @@ fn print_lines(
 ) -> Result<(), AllocError> {
     for attribute in table.attributes() {
         let holds = may_be(options, text, table, attribute.kind);
-        print_attribute(alloc, out, text, lexemes, *attribute, holds)?;
+        push_attribute(out, alloc, text, lexemes, *attribute, holds)?;
         let is_there = is_active(active, attribute.condition);
         out.push_str(if is_there { "\n" } else { ", left out\n" })?;
     }
     Ok(())
 }
 
-pub(crate) fn print_attributes(
-    alloc: Global,
+/// Adds each attribute, and how many errors and conditions there are.
+pub(crate) fn push_attributes(
     out: &mut String,
-    heading: &Heading<'_>,
+    alloc: Global,
+    manner: Manner<'_>,
     text: &str,
 ) -> Result<(), AllocError> {
     let text = text.as_bytes();
-    let lexemes = read_lexemes(alloc, text, heading.edition)?;
+    let lexemes = read_lexemes(alloc, text, manner.edition)?;
     let table = read_attributes(alloc, text, lexemes.as_slice())?;
-    let options = &heading.options;
+    let options = manner.options;
     let active = table.active_conditions(alloc, options, text)?;
-    print_lines(
-        alloc,
+    push_lines(
         out,
+        alloc,
         options,
         text,
         lexemes.as_slice(),

@@ -1,13 +1,13 @@
-//! Syntax errors of texts.
-use crate::parsed::Parsed;
+//! The syntax errors of a text.
+use crate::items::parsed::Parsed;
 use item_tree::lexer::syntax_error::syntax_errors;
 use std::alloc::{AllocError, Global};
 use std::fmt::Write;
 
 /// Adds each error, behind the byte where it stands.
-pub(crate) fn print_errors(
-    alloc: Global,
+pub(crate) fn push_errors(
     out: &mut String,
+    alloc: Global,
     text: &str,
     read: &Parsed,
 ) -> Result<(), AllocError> {

@@ -1,9 +1,12 @@
-//! The associated items of a fixture's crates.
+//! The associated items of crates.
 ghost use Rattle.std.specs.Prelude.{◌≡◌};
 ghost use Rattle.hir_def_map.specs.RawVisibilities.{assoc_def};
 
-use crate::left::Settled;
+use crate::places::source_of;
+use crate::settled::Settled;
+use crate::unresolved::numbered;
 use crate_tables::assoc_items::filling::AssocPlace;
+use dm_base::ids::FileId;
 use dm_base::item_ids::{AssocItemId, ItemContainerId, ModuleDefId};
 use dm_base::visibility::Visibility;
 use dm_maps::world::World;
@@ -72,11 +75,27 @@ fn push_assoc(
     )
 }
 
-/// The associated items of all crates, in lines.
-pub(crate) fn assoc_lines(alloc: Global, settled: &Settled) -> Result<String, AllocError> {
-    let mut out = String::new(alloc);
-    for place in &settled.collected.assocs {
-        push_assoc(&mut out, alloc, settled.world(), *place)?;
+/// Whether a file is one of a crate that is asked about.
+fn is_asked(settled: &Settled, file: FileId) -> bool {
+    let lists = settled.lists();
+    for number in 0..lists.len() {
+        if settled.is_asked(numbered(number)) && source_of(lists, number, file).is_some() {
+            return true;
+        }
     }
-    Ok(out)
+    false
+}
+
+/// Adds the associated items of the crates that are asked about, in lines.
+pub(crate) fn push_assocs(
+    out: &mut String,
+    alloc: Global,
+    settled: &Settled,
+) -> Result<(), AllocError> {
+    for place in &settled.collected.assocs {
+        if is_asked(settled, place.file) {
+            push_assoc(out, alloc, settled.world(), *place)?;
+        }
+    }
+    Ok(())
 }

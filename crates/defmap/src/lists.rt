@@ -1,5 +1,5 @@
-//! The lists of the scopes of a fixture's crates.
-use crate::left::Settled;
+//! What modules hold without a name, and the procedural macros that functions are.
+use crate::settled::Settled;
 use crate_tables::block_lists::numbered_block;
 use crate_tables::crate_table::CrateTable;
 use dm_base::ids::{Crate, ModuleId};
@@ -135,13 +135,15 @@ fn push_crate(
     Ok(())
 }
 
-/// The lists of the scopes of all crates, in lines.
-pub(crate) fn scope_lists(alloc: Global, settled: &Settled) -> Result<String, AllocError> {
-    let mut out = String::new(alloc);
+/// Adds the lists of the scopes of the crates that are asked about, in lines.
+pub(crate) fn push_scope_lists(
+    out: &mut String,
+    alloc: Global,
+    settled: &Settled,
+) -> Result<(), AllocError> {
     let tables = settled.collected.tables.as_slice();
-    for number in 0..tables.len() {
-        let krate = Crate(u32::try_from(number).unwrap_or(u32::MAX));
-        push_crate(&mut out, settled.world(), tables, krate)?;
+    for krate in &settled.asked_crates(alloc)? {
+        push_crate(out, settled.world(), tables, *krate)?;
     }
-    Ok(out)
+    Ok(())
 }

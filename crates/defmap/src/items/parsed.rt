@@ -17,6 +17,7 @@ pub(crate) struct Parsed {
     pub(crate) tree: ItemTree,
 }
 
+/// Reads a text.
 pub(crate) fn read_text(alloc: Global, edition: Edition, text: &str) -> Result<Parsed, AllocError>
     ensures { IfOk result (λ read. ByParent read.tree.items.items) }
 {

@@ -1,6 +1,6 @@
-//! Members of structs, unions and enums: each with its visibility, the first lexeme of its name or type, whether that is a
+//! The members of structs, unions and enums: each with its visibility, the first lexeme of its name or type, whether that is a
 //! name, and the shape of its own fields.
-use crate::parsed::{Parsed, lexeme_text};
+use crate::items::parsed::{Parsed, lexeme_text};
 use item_tree::items::fields::item_fields;
 use item_tree::items::item_kind::ItemKind;
 use item_tree::items::members::{Fields, FieldsShape, Member, MemberKind, members};
@@ -19,7 +19,8 @@ fn kind_of(item: Item, fields: Fields) -> MemberKind {
     }
 }
 
-fn print_member(
+/// Adds a member.
+fn push_member(
     out: &mut String,
     text: &str,
     lexemes: &[Lexeme],
@@ -35,9 +36,10 @@ fn print_member(
     write!(out, "  {visibility:?} {name} {named} {shape:?}\n")
 }
 
-fn print_members_of(
-    alloc: Global,
+/// Adds the shape of an item, and its members.
+fn push_members_of(
     out: &mut String,
+    alloc: Global,
     text: &str,
     read: &Parsed,
     item: Item,
@@ -53,19 +55,20 @@ fn print_members_of(
         fields.range,
         kind_of(item, fields),
     )? {
-        print_member(out, text, lexemes, *member)?;
+        push_member(out, text, lexemes, *member)?;
     }
     Ok(())
 }
 
-pub(crate) fn print_members(
-    alloc: Global,
+/// Adds those of each item.
+pub(crate) fn push_members(
     out: &mut String,
+    alloc: Global,
     text: &str,
     read: &Parsed,
 ) -> Result<(), AllocError> {
     for item in &read.tree.items {
-        print_members_of(alloc, out, text, read, *item)?;
+        push_members_of(out, alloc, text, read, *item)?;
     }
     Ok(())
 }
