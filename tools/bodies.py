@@ -6,7 +6,14 @@ from dataclasses import dataclass, field
 
 from judging import ROOT, read_text
 
+REFUSED = "refused, as a search finds no proof"
+PARTNERED = "refused by a proof by hand that is repaired for a harmless partner"
+BY_HAND = "refused only where a proof by hand no longer fits"
+LET_THROUGH = "let through"
 UNAPPLIED = "cannot be applied"
+NAMES_ONLY = "refused only where a proof names what the mutant removed"
+UNJUDGED = "could not be judged"
+IS_REFUSED = (REFUSED, PARTNERED, BY_HAND)
 
 FUNCTION = re.compile(r"^( *)(?:pub(?:\([^)]*\))? )?(?:final )?(?:const )?(?:unsafe )?fn (\w+)")
 BLOCK = re.compile(r"^(?:pub(?:\([^)]*\))? )?(impl|trait)\b(.*)")
@@ -142,10 +149,17 @@ def files_of(folder):
     return [f"{folder}/{it}" for it in sorted(os.listdir(folder)) if it.endswith(".edit")] if os.path.isdir(folder) else []
 
 
+def folders_of(crate):
+    return [f"{ROOT}/crates/{crate}/{part}" for part in ("must-fail", "wrong-bodies")]
+
+
+def has_bodies(crate):
+    return any(map(files_of, folders_of(crate)))
+
+
 def bodies_of(crate):
     """The mutants of a crate."""
-    folders = (f"{ROOT}/crates/{crate}/{part}" for part in ("must-fail", "wrong-bodies"))
-    return [read_body(crate, path) for folder in folders for path in files_of(folder)]
+    return [read_body(crate, path) for folder in folders_of(crate) for path in files_of(folder)]
 
 
 def partners_of(crate):

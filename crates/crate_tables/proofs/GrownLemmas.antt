@@ -15,7 +15,6 @@ use Rattle.dm_base.specs.declared.ids.Crate.{Crate}
 use Rattle.dm_base.specs.declared.ids.ExternCrateId.{ExternCrateId}
 use Rattle.dm_maps.specs.BuildMaps.{locals_with, with_extern_of}
 use Rattle.dm_def_map.specs.ItemTables.{ItemTables}
-use Rattle.dm_maps.proofs.SetLemmas.{set-tables}
 use Rattle.dm_maps.specs.Known.{KnowsAll}
 
 pub grown-same : (w : World) → IsGrown w w
@@ -74,5 +73,5 @@ pub grown-extern : (w v : World) (k : Crate) (n : Name) (m : ModuleId) (x : Opti
 grown-extern w v k n m x same = subst (IsGrown w) (sym same) (grown-beside w (locals_with w.local_maps k.0 (λ L. with_extern L n m x)))
 
 -- so are tables that belong to no map
-pub grown-tables : (w v : World) (t : ItemTables) → v ≡ record w { item_tables = t } → IsGrown w v
-grown-tables w v t same = subst (IsGrown w) (sym same) (set-tables w t)
+pub grown-tables : ((w : World) (t : ItemTables) → IsGrown w (record w { item_tables = t })) → (w v : World) (t : ItemTables) → v ≡ record w { item_tables = t } → IsGrown w v
+grown-tables keeps w v t same = subst (IsGrown w) (sym same) (keeps w t)

@@ -25,3 +25,4 @@ pub mod AllLists
 pub mod Kept
 pub mod Containers
 pub mod AssocItems
+pub mod Steps

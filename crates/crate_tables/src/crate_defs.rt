@@ -31,9 +31,8 @@ use dm_base::per_ns::PerNs;
 use dm_base::visibility::Visibility;
 use dm_maps::build_fault::BuildFault;
 use dm_maps::builder::WorldBuilder;
-use item_tree::items::item_kind;
-use item_tree::items::Range;
 use item_tree::items::visibility::{RawVisibility, raw_visibility};
+use item_tree::items::{Range, item_kind};
 use std::alloc::Global;
 
 /// The visibility that is written before the item of a number.

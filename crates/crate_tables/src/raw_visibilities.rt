@@ -18,6 +18,7 @@ use dm_base::item_ids::{AdtId, ModuleDefId, VariantId};
 use dm_base::visibility::RawVisibility;
 use dm_maps::build_fault::BuildFault;
 use dm_maps::builder::WorldBuilder;
+use dm_maps::laws::settings_keep_scopes;
 use std::alloc::Global;
 
 /// Sets the visibilities of fields.
@@ -30,6 +31,7 @@ pub(crate) fn set_fields(
     ensures grown { IsGrown builder.old builder.new }
     ensures fault { IfErr result (λ fault. is_shortage fault ≡ true) }
 {
+    settings_keep_scopes();
     builder.set_fields(variant, fields)?;
     Ok(())
 }
@@ -44,6 +46,7 @@ fn set_trait(
     ensures grown { IsGrown builder.old builder.new }
     ensures fault { IfErr result (λ fault. is_shortage fault ≡ true) }
 {
+    settings_keep_scopes();
     builder.set_trait_visibility(id, visibility)?;
     Ok(())
 }

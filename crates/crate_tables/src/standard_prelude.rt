@@ -21,6 +21,7 @@ use dm_base::source::Edition;
 use dm_maps::build_fault::BuildFault;
 use dm_maps::builder::WorldBuilder;
 use dm_maps::crate_setting::CrateSetting;
+use dm_maps::laws::settings_keep_scopes;
 use std::alloc::{AllocError, Global};
 
 /// An attribute of a crate, as its def map has it.
@@ -61,6 +62,7 @@ pub(crate) fn set_all(
     ensures grown { IsGrown builder.old builder.new }
     ensures fault { IfErr result (λ fault. is_shortage fault ≡ true) }
 {
+    settings_keep_scopes();
     builder.set_crate_data(krate, settings)
 }
 
@@ -213,6 +215,7 @@ pub fn set_crate_prelude(
     ensures grown { IsGrown builder.old builder.new }
     ensures fault { AnswersFree (map_fault builder.old (spec.own_map krate)) result }
 {
+    settings_keep_scopes();
     let map = MapId { krate, block: None };
     builder.set_prelude(map, prelude)
 }

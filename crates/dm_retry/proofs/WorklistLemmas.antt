@@ -8,9 +8,11 @@ use Rattle.std.specs.List.{list_any}
 use Rattle.std.proofs.Math.ListN.{length-set}
 use Rattle.std.specs.Option.{option_map_or}
 use Rattle.dm_base.specs.Names.{Name}
-use Rattle.dm_retry.specs.Unresolved.{IsMark, Reading, among, awoken, is_dirty_at, marked_at}
 use Rattle.dm_retry.specs.Index.{Entries, Indexes, Marks, all_marked, waits_for}
 use Rattle.dm_retry.specs.Bits.{has}
+use Rattle.dm_maps.specs.Cut.{among}
+use Rattle.dm_retry.specs.Rounds.{Pending, awoken, marked, marked_at}
+use Rattle.dm_retry.specs.Unresolved.{is_dirty_at}
 
 -- two lists with the same at each place are the same
 pub same_places : {X : Type 0} (xs ys : List X) → ((k : ℕ) → slice_get xs k ≡ slice_get ys k) → xs ≡ ys
@@ -47,103 +49,101 @@ or_joined true true r = refl
 or_joined true false r = refl
 or_joined false d r = refl
 
-module _ {I : Type 0} (r : Reading I) where
-  later : (x : I) (xs : List I) (j : ℕ) (d : Bool) → marked_at r (x ∷ xs) (suc j) d ≡ x ∷ marked_at r xs j d
-  later x xs j d = by (slice_get xs j)
-    where
-      by : (o : Option I) → option_map_or (λ y. x ∷ slice_set xs j (r.marked d y)) o (x ∷ xs) ≡ x ∷ option_map_or (λ y. slice_set xs j (r.marked d y)) o xs
-      by None = refl
-      by (Some y) = refl
+later : (x : Pending) (xs : List Pending) (j : ℕ) (d : Bool) → marked_at (x ∷ xs) (suc j) d ≡ x ∷ marked_at xs j d
+later x xs j d = by (slice_get xs j)
+  where
+    by : (o : Option Pending) → option_map_or (λ y. x ∷ slice_set xs j (marked d y)) o (x ∷ xs) ≡ x ∷ option_map_or (λ y. slice_set xs j (marked d y)) o xs
+    by None = refl
+    by (Some y) = refl
 
-  pub length-marked_at : (xs : List I) (j : ℕ) (d : Bool) → length (marked_at r xs j d) ≡ length xs
-  length-marked_at xs j d = by (slice_get xs j)
-    where
-      by : (o : Option I) → length (option_map_or (λ y. slice_set xs j (r.marked d y)) o xs) ≡ length xs
-      by None = refl
-      by (Some y) = length-set xs j (r.marked d y)
+pub length-marked_at : (xs : List Pending) (j : ℕ) (d : Bool) → length (marked_at xs j d) ≡ length xs
+length-marked_at xs j d = by (slice_get xs j)
+  where
+    by : (o : Option Pending) → length (option_map_or (λ y. slice_set xs j (marked d y)) o xs) ≡ length xs
+    by None = refl
+    by (Some y) = length-set xs j (marked d y)
 
-  pub marked_at-past : (xs : List I) (j : ℕ) (d : Bool) → length xs ≤ j → marked_at r xs j d ≡ xs
-  marked_at-past xs j d h = ap (λ o. option_map_or (λ y. slice_set xs j (r.marked d y)) o xs) (slice_get_past xs j h)
+pub marked_at-past : (xs : List Pending) (j : ℕ) (d : Bool) → length xs ≤ j → marked_at xs j d ≡ xs
+marked_at-past xs j d h = ap (λ o. option_map_or (λ y. slice_set xs j (marked d y)) o xs) (slice_get_past xs j h)
 
-  -- a mark as the code writes it
-  pub set-marked_at : (xs : List I) (j : ℕ) (d : Bool) (x : I) → slice_get xs j ≡ Some x → slice_set xs j (r.marked d x) ≡ marked_at r xs j d
-  set-marked_at xs j d x is = sym (ap (λ o. option_map_or (λ y. slice_set xs j (r.marked d y)) o xs) is)
+-- a mark as the code writes it
+pub set-marked_at : (xs : List Pending) (j : ℕ) (d : Bool) (x : Pending) → slice_get xs j ≡ Some x → slice_set xs j (marked d x) ≡ marked_at xs j d
+set-marked_at xs j d x is = sym (ap (λ o. option_map_or (λ y. slice_set xs j (marked d y)) o xs) is)
 
-  module _ (ok : IsMark r) where
-    -- what stands at a place after a mark
-    pub get-marked_at : (xs : List I) (j k : ℕ) (d : Bool) → slice_get (marked_at r xs j d) k ≡ option_map (λ x. r.marked (if nat_eq k j then d else r.is_dirty x) x) (slice_get xs k)
-    get-marked_at [] j k d = refl
-    get-marked_at (x ∷ xs) zero zero d = refl
-    get-marked_at (x ∷ xs) zero (suc k) d =
-        sym (mapped-same (λ y. r.marked (if nat_eq (suc k) 0 then d else r.is_dirty y) y) (λ y. ap (λ c. r.marked (if c then d else r.is_dirty y) y) (ne_eqb (suc k) 0 (λ e. omega arith)) ∙ ok.own y) (slice_get xs k))
-    get-marked_at (x ∷ xs) (suc j) zero d =
-        ap (λ (l : List I). slice_get l 0) (later x xs j d)
-        ∙ ap Some (sym (ok.own x))
-        ∙ sym (ap (λ c. Some (r.marked (if c then d else r.is_dirty x) x)) (ne_eqb 0 (suc j) (λ e. omega arith)))
-    get-marked_at (x ∷ xs) (suc j) (suc k) d =
-        ap (λ (l : List I). slice_get l (suc k)) (later x xs j d) ∙ get-marked_at xs j k d
-        ∙ ap (λ c. option_map (λ y. r.marked (if c then d else r.is_dirty y) y) (slice_get xs k)) (sym (nat_eq-later k j))
+-- what stands at a place after a mark
+pub get-marked_at : (xs : List Pending) (j k : ℕ) (d : Bool) → slice_get (marked_at xs j d) k ≡ option_map (λ x. marked (if nat_eq k j then d else x.due) x) (slice_get xs k)
+get-marked_at [] j k d = refl
+get-marked_at (x ∷ xs) zero zero d = refl
+get-marked_at (x ∷ xs) zero (suc k) d =
+    sym (mapped-same (λ y. marked (if nat_eq (suc k) 0 then d else y.due) y) (λ y. ap (λ c. marked (if c then d else y.due) y) (ne_eqb (suc k) 0 (λ e. omega arith)) ∙ refl) (slice_get xs k))
+get-marked_at (x ∷ xs) (suc j) zero d =
+    ap (λ (l : List Pending). slice_get l 0) (later x xs j d)
+    ∙ ap Some (sym (refl))
+    ∙ sym (ap (λ c. Some (marked (if c then d else x.due) x)) (ne_eqb 0 (suc j) (λ e. omega arith)))
+get-marked_at (x ∷ xs) (suc j) (suc k) d =
+    ap (λ (l : List Pending). slice_get l (suc k)) (later x xs j d) ∙ get-marked_at xs j k d
+    ∙ ap (λ c. option_map (λ y. marked (if c then d else y.due) y) (slice_get xs k)) (sym (nat_eq-later k j))
 
-    -- and after marks at many places
-    pub get-all_marked : (ks : List ℕ) (xs : List I) (k : ℕ) → slice_get (all_marked r ks xs) k ≡ option_map (λ x. r.marked (r.is_dirty x || list_any (nat_eq k) ks) x) (slice_get xs k)
-    get-all_marked [] xs k = sym (mapped-same (λ x. r.marked (r.is_dirty x || false) x) (λ x. ap (λ d. r.marked d x) (or_false (r.is_dirty x)) ∙ ok.own x) (slice_get xs k))
-    get-all_marked (j ∷ ks) xs k =
-        get-all_marked ks (marked_at r xs j true) k
-        ∙ ap (option_map (λ x. r.marked (r.is_dirty x || list_any (nat_eq k) ks) x)) (get-marked_at xs j k true)
-        ∙ by (slice_get xs k)
-      where
-        by : (o : Option I) → option_map (λ x. r.marked (r.is_dirty x || list_any (nat_eq k) ks) x) (option_map (λ x. r.marked (if nat_eq k j then true else r.is_dirty x) x) o) ≡ option_map (λ x. r.marked (r.is_dirty x || (nat_eq k j || list_any (nat_eq k) ks)) x) o
-        by None = refl
-        by (Some x) =
-            let first = if nat_eq k j then true else r.is_dirty x in
-            ap Some (ap (λ d. r.marked (d || list_any (nat_eq k) ks) (r.marked first x)) (ok.reads first x) ∙ ok.last (first || list_any (nat_eq k) ks) first x
-            ∙ ap (λ d. r.marked d x) (or_joined (nat_eq k j) (r.is_dirty x) (list_any (nat_eq k) ks)))
+-- and after marks at many places
+pub get-all_marked : (ks : List ℕ) (xs : List Pending) (k : ℕ) → slice_get (all_marked ks xs) k ≡ option_map (λ x. marked (x.due || list_any (nat_eq k) ks) x) (slice_get xs k)
+get-all_marked [] xs k = sym (mapped-same (λ x. marked (x.due || false) x) (λ x. ap (λ d. marked d x) (or_false x.due) ∙ refl) (slice_get xs k))
+get-all_marked (j ∷ ks) xs k =
+    get-all_marked ks (marked_at xs j true) k
+    ∙ ap (option_map (λ x. marked (x.due || list_any (nat_eq k) ks) x)) (get-marked_at xs j k true)
+    ∙ by (slice_get xs k)
+  where
+    by : (o : Option Pending) → option_map (λ x. marked (x.due || list_any (nat_eq k) ks) x) (option_map (λ x. marked (if nat_eq k j then true else x.due) x) o) ≡ option_map (λ x. marked (x.due || (nat_eq k j || list_any (nat_eq k) ks)) x) o
+    by None = refl
+    by (Some x) =
+        let first = if nat_eq k j then true else x.due in
+        ap Some (ap (λ d. marked (d || list_any (nat_eq k) ks) (marked first x)) (refl) ∙ refl
+        ∙ ap (λ d. marked d x) (or_joined (nat_eq k j) x.due (list_any (nat_eq k) ks)))
 
-    -- marks at the places under a name wake those that wait for it
-    pub all_marked-awoken : (ks : List ℕ) (xs : List I) (n : Name) → ((k : ℕ) → list_any (nat_eq k) ks ≡ waits_for r xs n k) → all_marked r ks xs ≡ map (awoken r n) xs
-    all_marked-awoken ks xs n h = same_places (all_marked r ks xs) (map (awoken r n) xs) (λ k. get-all_marked ks xs k ∙ by k (slice_get xs k) (h k) ∙ sym (slice_get-map (awoken r n) xs k))
-      where
-        by : (k : ℕ) (o : Option I) → list_any (nat_eq k) ks ≡ option_map_or (λ x. among (r.segments x) n) o false → option_map (λ x. r.marked (r.is_dirty x || list_any (nat_eq k) ks) x) o ≡ option_map (awoken r n) o
-        by k None e = refl
-        by k (Some x) e = ap (λ b. Some (r.marked (r.is_dirty x || b) x)) e
+-- marks at the places under a name wake those that wait for it
+pub all_marked-awoken : (ks : List ℕ) (xs : List Pending) (n : Name) → ((k : ℕ) → list_any (nat_eq k) ks ≡ waits_for xs n k) → all_marked ks xs ≡ map (awoken n) xs
+all_marked-awoken ks xs n h = same_places (all_marked ks xs) (map (awoken n) xs) (λ k. get-all_marked ks xs k ∙ by k (slice_get xs k) (h k) ∙ sym (slice_get-map (awoken n) xs k))
+  where
+    by : (k : ℕ) (o : Option Pending) → list_any (nat_eq k) ks ≡ option_map_or (λ x. among x.path.segments n) o false → option_map (λ x. marked (x.due || list_any (nat_eq k) ks) x) o ≡ option_map (awoken n) o
+    by k None e = refl
+    by k (Some x) e = ap (λ b. Some (marked (x.due || b) x)) e
 
-    -- a mark leaves the paths
-    waits_for-marked_at : (xs : List I) (j : ℕ) (d : Bool) (n : Name) (k : ℕ) → waits_for r (marked_at r xs j d) n k ≡ waits_for r xs n k
-    waits_for-marked_at xs j d n k = ap (λ (o : Option I). option_map_or (λ x. among (r.segments x) n) o false) (get-marked_at xs j k d) ∙ by (slice_get xs k)
-      where
-        by : (o : Option I) → option_map_or (λ x. among (r.segments x) n) (option_map (λ x. r.marked (if nat_eq k j then d else r.is_dirty x) x) o) false ≡ option_map_or (λ x. among (r.segments x) n) o false
-        by None = refl
-        by (Some x) = ap (λ N. among N n) (ok.path (if nat_eq k j then d else r.is_dirty x) x)
+-- a mark leaves the paths
+waits_for-marked_at : (xs : List Pending) (j : ℕ) (d : Bool) (n : Name) (k : ℕ) → waits_for (marked_at xs j d) n k ≡ waits_for xs n k
+waits_for-marked_at xs j d n k = ap (λ (o : Option Pending). option_map_or (λ x. among x.path.segments n) o false) (get-marked_at xs j k d) ∙ by (slice_get xs k)
+  where
+    by : (o : Option Pending) → option_map_or (λ x. among x.path.segments n) (option_map (λ x. marked (if nat_eq k j then d else x.due) x) o) false ≡ option_map_or (λ x. among x.path.segments n) o false
+    by None = refl
+    by (Some x) = ap (λ N. among N n) (refl)
 
-    waits_for-awoken : (xs : List I) (m n : Name) (k : ℕ) → waits_for r (map (awoken r m) xs) n k ≡ waits_for r xs n k
-    waits_for-awoken xs m n k = ap (λ (o : Option I). option_map_or (λ x. among (r.segments x) n) o false) (slice_get-map (awoken r m) xs k) ∙ by (slice_get xs k)
-      where
-        by : (o : Option I) → option_map_or (λ x. among (r.segments x) n) (option_map (awoken r m) o) false ≡ option_map_or (λ x. among (r.segments x) n) o false
-        by None = refl
-        by (Some x) = ap (λ N. among N n) (ok.path (r.is_dirty x || among (r.segments x) m) x)
+waits_for-awoken : (xs : List Pending) (m n : Name) (k : ℕ) → waits_for (map (awoken m) xs) n k ≡ waits_for xs n k
+waits_for-awoken xs m n k = ap (λ (o : Option Pending). option_map_or (λ x. among x.path.segments n) o false) (slice_get-map (awoken m) xs k) ∙ by (slice_get xs k)
+  where
+    by : (o : Option Pending) → option_map_or (λ x. among x.path.segments n) (option_map (awoken m) o) false ≡ option_map_or (λ x. among x.path.segments n) o false
+    by None = refl
+    by (Some x) = ap (λ N. among N n) (refl)
 
-    pub indexes-awoken : (es : Entries) (xs : List I) (m : Name) → Indexes r es xs → Indexes r es (map (awoken r m) xs)
-    indexes-awoken es xs m h = record { places = λ n k. h.places n k ∙ sym (waits_for-awoken xs m n k) }
+pub indexes-awoken : (es : Entries) (xs : List Pending) (m : Name) → Indexes es xs → Indexes es (map (awoken m) xs)
+indexes-awoken es xs m h = record { places = λ n k. h.places n k ∙ sym (waits_for-awoken xs m n k) }
 
-    pub indexes-marked_at : (es : Entries) (xs : List I) (j : ℕ) (d : Bool) → Indexes r es xs → Indexes r es (marked_at r xs j d)
-    indexes-marked_at es xs j d h = record { places = λ n k. h.places n k ∙ sym (waits_for-marked_at xs j d n k) }
+pub indexes-marked_at : (es : Entries) (xs : List Pending) (j : ℕ) (d : Bool) → Indexes es xs → Indexes es (marked_at xs j d)
+indexes-marked_at es xs j d h = record { places = λ n k. h.places n k ∙ sym (waits_for-marked_at xs j d n k) }
 
-    -- which is dirty after a mark
-    is_dirty-marked_at : (xs : List I) (j : ℕ) (d : Bool) → j < length xs → (k : ℕ) → is_dirty_at r (marked_at r xs j d) k ≡ if nat_eq k j then d else is_dirty_at r xs k
-    is_dirty-marked_at xs j d within k = ap (λ (o : Option I). option_map_or r.is_dirty o false) (get-marked_at xs j k d) ∙ by (slice_get xs k) refl (eqb_tells k j)
-      where
-        by : (o : Option I) → slice_get xs k ≡ o → ((nat_eq k j ≡ true) × (k ≡ j)) ⊎ ((nat_eq k j ≡ false) × (k ≢ j))
-            → option_map_or r.is_dirty (option_map (λ x. r.marked (if nat_eq k j then d else r.is_dirty x) x) o) false ≡ if nat_eq k j then d else option_map_or r.is_dirty o false
-        by None is (inl e) = absurd (some_within xs k is (subst (λ i. i < length xs) (sym e.1) within))
-        by None is (inr e) = sym (ap (λ c. if c then d else false) e.0)
-        by (Some x) is t = ok.reads (if nat_eq k j then d else r.is_dirty x) x
+-- which is dirty after a mark
+is_dirty-marked_at : (xs : List Pending) (j : ℕ) (d : Bool) → j < length xs → (k : ℕ) → is_dirty_at (marked_at xs j d) k ≡ if nat_eq k j then d else is_dirty_at xs k
+is_dirty-marked_at xs j d within k = ap (λ (o : Option Pending). option_map_or o.due false) (get-marked_at xs j k d) ∙ by (slice_get xs k) refl (eqb_tells k j)
+  where
+    by : (o : Option Pending) → slice_get xs k ≡ o → ((nat_eq k j ≡ true) × (k ≡ j)) ⊎ ((nat_eq k j ≡ false) × (k ≢ j))
+        → option_map_or (λ (p : Pending). p.due) (option_map (λ x. marked (if nat_eq k j then d else x.due) x) o) false ≡ if nat_eq k j then d else option_map_or o.due false
+    by None is (inl e) = absurd (some_within xs k is (subst (λ i. i < length xs) (sym e.1) within))
+    by None is (inr e) = sym (ap (λ c. if c then d else false) e.0)
+    by (Some x) is t = refl
 
-    -- bits that tell which imports are dirty, after a change of one place's
-    pub marks-marked_at : (ws ws' : List ℕ) (xs : List I) (j : ℕ) (d : Bool) → j < length xs → Marks r ws xs → ((k : ℕ) → has ws' k ≡ if nat_eq k j then d else has ws k) → length ws' ≡ length ws → Marks r ws' (marked_at r xs j d)
-    marks-marked_at ws ws' xs j d within m set len = record {
-      dirty = λ k. set k ∙ ap (λ b. if nat_eq k j then d else b) (m.dirty k) ∙ sym (is_dirty-marked_at xs j d within k);
-      room = λ k h. let r = m.room k (let same = length-marked_at xs j d in omega arith) in omega arith;
-    }
+-- bits that tell which imports are dirty, after a change of one place's
+pub marks-marked_at : (ws ws' : List ℕ) (xs : List Pending) (j : ℕ) (d : Bool) → j < length xs → Marks ws xs → ((k : ℕ) → has ws' k ≡ if nat_eq k j then d else has ws k) → length ws' ≡ length ws → Marks ws' (marked_at xs j d)
+marks-marked_at ws ws' xs j d within m set len = record {
+  dirty = λ k. set k ∙ ap (λ b. if nat_eq k j then d else b) (m.dirty k) ∙ sym (is_dirty-marked_at xs j d within k);
+  room = λ k h. let r = m.room k (let same = length-marked_at xs j d in omega arith) in omega arith;
+}
 
 -- at the end of a loop that puts f of each element in its place it has done so with each
 pub each-done : {X : Type 0} (f : X → X) (n : ℕ) (xs : List X) → length xs ≤ n → map f (take n xs) ++ drop n xs ≡ map f xs

@@ -4,7 +4,9 @@ use Rattle.std.specs.Option.{option_map_or}
 use Rattle.std.specs.List.{list_any}
 use Rattle.dm_base.specs.Names.{Name, find_name}
 use Rattle.dm_retry.specs.Bits.{has}
-use Rattle.dm_retry.specs.Unresolved.{AllDirty, Reading, among, is_dirty_at, marked_at}
+use Rattle.dm_maps.specs.Cut.{among}
+use Rattle.dm_retry.specs.Rounds.{Pending, marked_at}
+use Rattle.dm_retry.specs.Unresolved.{AllDirty, is_dirty_at}
 
 -- the entries of an index
 abbrev pub Entries : Type 0
@@ -18,30 +20,29 @@ places_of es n = option_map_or (λ ks. ks) (find_name n es) []
 abbrev pub has_place : Entries → Name → ℕ → Bool
 has_place es n k = list_any (nat_eq k) (places_of es n)
 
-module _ {I : Type 0} (r : Reading I) where
-  -- whether the import at a place has the name as a segment of its path
-  abbrev pub waits_for : List I → Name → ℕ → Bool
-  waits_for xs n k = option_map_or (λ x. among (r.segments x) n) (slice_get xs k) false
+-- whether the import at a place has the name as a segment of its path
+abbrev pub waits_for : List Pending → Name → ℕ → Bool
+waits_for xs n k = option_map_or (λ x. among x.path.segments n) (slice_get xs k) false
 
-  -- the worklist after the imports at the places became dirty, one after another
-  abbrev pub all_marked : List ℕ → List I → List I
-  all_marked [] xs = xs
-  all_marked (k ∷ ks) xs = all_marked ks (marked_at r xs k true)
+-- the worklist after the imports at the places became dirty, one after another
+abbrev pub all_marked : List ℕ → List Pending → List Pending
+all_marked [] xs = xs
+all_marked (k ∷ ks) xs = all_marked ks (marked_at xs k true)
 
-  -- the bits tell which imports are dirty, and have room for each
-  pub record Marks (words : List ℕ) (xs : List I) : Type 0 where
-    pub dirty : (k : ℕ) → has words k ≡ is_dirty_at r xs k
-    pub room : (k : ℕ) → k < length xs → k / 64 < length words
+-- the bits tell which imports are dirty, and have room for each
+pub record Marks (words : List ℕ) (xs : List Pending) : Type 0 where
+  pub dirty : (k : ℕ) → has words k ≡ is_dirty_at xs k
+  pub room : (k : ℕ) → k < length xs → k / 64 < length words
 
-  -- the index has a place under a name exactly if the import there has the name as a segment
-  pub record Indexes (es : Entries) (xs : List I) : Type 0 where
-    pub places : (n : Name) (k : ℕ) → has_place es n k ≡ waits_for xs n k
+-- the index has a place under a name exactly if the import there has the name as a segment
+pub record Indexes (es : Entries) (xs : List Pending) : Type 0 where
+  pub places : (n : Name) (k : ℕ) → has_place es n k ≡ waits_for xs n k
 
-  pub record IsKept (es : Entries) (words : List ℕ) (xs : List I) : Type 0 where
-    pub indexed : Indexes es xs
-    pub marks : Marks words xs
+pub record IsKept (es : Entries) (words : List ℕ) (xs : List Pending) : Type 0 where
+  pub indexed : Indexes es xs
+  pub marks : Marks words xs
 
-  -- The index and the bits are kept; or there are none yet, and every import is dirty.
-  pub record IsReady (ready : Bool) (es : Entries) (words : List ℕ) (xs : List I) : Type 0 where
-    pub kept : ready ≡ true → IsKept es words xs
-    pub before : ready ≡ false → AllDirty r xs
+-- The index and the bits are kept; or there are none yet, and every import is dirty.
+pub record IsReady (ready : Bool) (es : Entries) (words : List ℕ) (xs : List Pending) : Type 0 where
+  pub kept : ready ≡ true → IsKept es words xs
+  pub before : ready ≡ false → AllDirty xs

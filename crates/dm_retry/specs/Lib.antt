@@ -5,7 +5,6 @@ pub mod Kinds
 pub mod Unnamed
 pub mod Writes
 pub mod Rounds
-pub mod Waiting
 pub mod Known
 pub mod Doubles
 pub mod Listed

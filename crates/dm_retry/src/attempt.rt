@@ -59,7 +59,7 @@ fn given(world: &World, pending: &Pending, items: PerNs) -> Option<PerNs>
 }
 
 /// What an import brings in the current state of the world.
-pub fn to_push(world: &World, pending: &Pending) -> Option<PerNs>
+pub(crate) fn to_push(world: &World, pending: &Pending) -> Option<PerNs>
     requires known { KnowsAll world.now (parts pending.now) }
     ensures value { result ≡ to_push world.now pending.now }
     ensures known { IfSome result
@@ -74,7 +74,7 @@ pub fn to_push(world: &World, pending: &Pending) -> Option<PerNs>
 
 /// Tries an import: pushes what it resolves to, if anything. Answers whether the push changed the scope. Where an
 /// allocation fails, nothing changes.
-pub fn attempt(
+pub(crate) fn attempt(
     world: &mut World,
     globs: &mut PerNsGlobImports,
     pending: &Pending,

@@ -9,7 +9,7 @@ use crate::retry_fault::RetryFault;
 use dm_maps::world::World;
 
 /// Why imports are not taken. Allocates nothing, and moves no import.
-pub fn find_fault(world: &World, pendings: &mut Vec<Pending>) -> Option<RetryFault>
+pub(crate) fn find_fault(world: &World, pendings: &mut Vec<Pending>) -> Option<RetryFault>
     ensures fault { result ≡ fault_of world.now pendings.old.items }
     ensures same { pendings.new.items ≡ pendings.old.items }
 {

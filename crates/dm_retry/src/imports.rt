@@ -16,7 +16,6 @@ use crate::add_fault::AddFault;
 use crate::attempt::{attempt, to_push};
 use crate::pending::Pending;
 use crate::pendings::Pendings;
-use crate::worklist::unresolved::Unresolved;
 use dm_base::ids::ModuleId;
 use dm_base::imports::{ImportId, ImportOrExternCrate};
 use dm_base::name::Name;
@@ -243,7 +242,7 @@ impl Imports {
 fn mark_of(pendings: &[Pending], i: usize) -> Option<bool>
     ensures { result ≡ option_map (λ p. p.due) (slice_get pendings.now i) }
 {
-    pendings.get(i).map(|pending| pending.is_dirty())
+    pendings.get(i).map(|pending| pending.is_due())
 }
 
 /// After a try of the import at place i that wrote, each import whose path has its name as a segment becomes due.

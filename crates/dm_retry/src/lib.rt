@@ -3,15 +3,15 @@
 #![tactic(auto)]
 
 pub mod add_fault;
-pub mod attempt;
-pub mod doubles;
+mod attempt;
+mod doubles;
 pub mod import_kind;
 mod imports;
 pub mod kinds;
 mod listing;
 pub mod meaning;
 pub mod pending;
-pub mod pendings;
+mod pendings;
 mod ranks;
 pub mod retry;
 pub mod retry_fault;
@@ -19,5 +19,5 @@ pub mod round_kind;
 mod rounds;
 mod settle;
 pub mod unnamed;
-pub mod worklist;
+mod worklist;
 mod writes;

@@ -1,15 +1,14 @@
 //! Unresolved imports.
-ghost use Rattle.std.specs.Prelude.{◌≡◌, ◌↔◌, false, IsTrue, refl};
+ghost use Rattle.std.specs.Prelude.{◌≡◌, ◌↔◌, false, IsTrue};
 ghost use Rattle.std.specs.List.{list_any};
 ghost use Rattle.dm_maps.specs.Holding.{vis_holds};
 ghost use Rattle.dm_maps.specs.Known.{KnowsAll};
 ghost use Rattle.dm_retry.specs.Known.{first_double, first_unknown, is_known, is_listed, parts, same_leaf};
 ghost use Rattle.dm_retry.specs.Doubles.{number_of};
-ghost use Rattle.dm_retry.specs.Waiting.{reading};
+ghost use Rattle.dm_retry.specs.Rounds.{marked};
 ghost use Rattle.dm_retry.specs.declared.import_kind.ImportKind.TheVariants as kind;
 
 use crate::import_kind::ImportKind;
-use crate::worklist::unresolved::Unresolved;
 use dm_base::ids::ModuleId;
 use dm_base::imports::{ImportId, ImportOrExternCrate};
 use dm_base::item_ids::ModuleDefId;
@@ -171,26 +170,27 @@ impl Pending {
     }
 }
 
-impl Unresolved for Pending {
-    ghost reading = { reading };
-
-    fn segments(&self) -> &[Name] {
+impl Pending {
+    /// The segments of its path.
+    pub(crate) fn segments(&self) -> &[Name]
+        ensures { result.now ≡ self.now.path.segments }
+    {
         self.path.segments()
     }
 
-    fn bound_name(&self) -> &Name {
-        self.name()
-    }
-
-    fn is_dirty(&self) -> bool {
+    /// Whether it is due.
+    pub(crate) fn is_due(&self) -> bool
+        ensures { result ≡ self.now.due }
+    {
         self.due
     }
 
-    fn set_dirty(&mut self, dirty: bool) {
-        self.due = dirty;
+    /// Says whether it is due.
+    pub(crate) fn set_due(&mut self, due: bool)
+        ensures { self.new ≡ marked due self.old }
+    {
+        self.due = due;
     }
-
-    ghost mark = { record { reads = λ _ _. refl; path = λ _ _. refl; binds = λ _ _. refl; last = λ _ _ _. refl; own = λ _. refl } };
 }
 
 /// Whether what a visibility names is the world's.

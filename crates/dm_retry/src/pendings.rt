@@ -4,7 +4,6 @@ ghost use Rattle.dm_retry.specs.Bits.{IsFirst};
 ghost use Rattle.dm_retry.specs.Unresolved.{is_dirty_at};
 ghost use Rattle.dm_retry.specs.Known.{is_listed};
 ghost use Rattle.dm_retry.specs.Rounds.{awoken, marked, marked_at, name_at};
-ghost use Rattle.dm_retry.specs.Waiting.{reading};
 
 use crate::listing::Listing;
 use crate::pending::Pending;
@@ -15,8 +14,8 @@ use std::alloc::{AllocError, Global};
 use std::marker::Model;
 
 /// A worklist of unresolved imports, and its listing by import. A contract sees the plain list.
-pub struct Pendings {
-    worklist: Worklist<Pending>,
+pub(crate) struct Pendings {
+    worklist: Worklist,
     listing: Listing,
 }
 
@@ -44,7 +43,7 @@ impl Drop for Pendings {
 
 impl Pendings {
     /// These imports, all of them dirty. Allocates nothing.
-    pub fn all_dirty(imports: Vec<Pending>) -> Pendings
+    pub(crate) fn all_dirty(imports: Vec<Pending>) -> Pendings
         ensures { result ≡ map (marked true) imports.items }
     {
         Pendings {
@@ -54,14 +53,14 @@ impl Pendings {
     }
 
     /// The imports.
-    pub fn as_slice(&self) -> &[Pending]
+    pub(crate) fn as_slice(&self) -> &[Pending]
         ensures { result.now ≡ self.now }
     {
         self.worklist.as_slice()
     }
 
     /// The imports, as a list.
-    pub fn into_imports(self) -> Vec<Pending>
+    pub(crate) fn into_imports(self) -> Vec<Pending>
         ensures { result.items ≡ self }
     {
         let Pendings {
@@ -72,8 +71,8 @@ impl Pendings {
     }
 
     /// The first dirty import from place `from` on.
-    pub fn next_dirty(&self, from: usize) -> Option<usize>
-        ensures first { IsFirst (is_dirty_at reading self.now) from result }
+    pub(crate) fn next_dirty(&self, from: usize) -> Option<usize>
+        ensures first { IsFirst (is_dirty_at self.now) from result }
         ensures within { IfSome result (λ k. k < length self.now) }
     {
         self.worklist.next_dirty(from)
@@ -83,7 +82,7 @@ impl Pendings {
     ///
     /// Where an allocation for the index or the bit set fails, nothing changes. Where one for the listing fails, there
     /// is none, and the next call tries again.
-    pub fn take(&mut self, k: usize, alloc: Global) -> Result<(), AllocError>
+    pub(crate) fn take(&mut self, k: usize, alloc: Global) -> Result<(), AllocError>
         ensures ok { OnOk result (self.new ≡ marked_at self.old k false) }
         ensures err { OnErr result (self.new ≡ self.old) }
         ensures put_back { OnErr result (self.new ≡ marked_at self.old k true) }
@@ -94,14 +93,14 @@ impl Pendings {
     }
 
     /// The import at place k becomes dirty. Allocates nothing.
-    pub fn put_back(&mut self, k: usize)
+    pub(crate) fn put_back(&mut self, k: usize)
         ensures { self.new ≡ marked_at self.old k true }
     {
         self.worklist.put_back(k);
     }
 
     /// Each import whose path has the name as a segment becomes dirty. Allocates nothing.
-    pub fn wake(&mut self, name: &Name)
+    pub(crate) fn wake(&mut self, name: &Name)
         ensures { self.new ≡ map (awoken name.now) self.old }
     {
         self.worklist.wake(name);
@@ -109,7 +108,7 @@ impl Pendings {
 
     /// Each import whose path has the name that the import at place k binds as a segment becomes dirty. Allocates
     /// nothing.
-    pub fn wake_by(&mut self, k: usize)
+    pub(crate) fn wake_by(&mut self, k: usize)
         requires { k < length self.old }
         ensures { self.new ≡ map (awoken (name_at self.old k)) self.old }
     {
@@ -117,7 +116,7 @@ impl Pendings {
     }
 
     /// Adds an import at the end, which is dirty. Where an allocation fails, nothing changes, and it comes back.
-    pub fn add(&mut self, pending: Pending) -> Result<(), (AllocError, Pending)>
+    pub(crate) fn add(&mut self, pending: Pending) -> Result<(), (AllocError, Pending)>
         ensures ok { OnOk result (self.new ≡ self.old ++ marked true pending ∷ []) }
         ensures err { OnErr result (self.new ≡ self.old) }
         ensures back { IfErr result (λ e. e.1 ≡ pending) }
@@ -129,7 +128,7 @@ impl Pendings {
     }
 
     /// Whether an import is one of these.
-    pub fn has(&self, import: ImportId) -> bool
+    pub(crate) fn has(&self, import: ImportId) -> bool
         ensures { result ≡ is_listed self.now import }
     {
         self.listing.has(self.worklist.as_slice(), import)

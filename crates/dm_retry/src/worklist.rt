@@ -2,18 +2,18 @@
 ghost use Rattle.std.specs.Prelude.{◌≡◌, ◌<◌, ◌++◌, ◌∷◌, [], List, false, length, map, true, IfErr, IfOk, IfSome, OnErr, OnOk};
 ghost use Rattle.dm_retry.specs.Bits.{IsFirst};
 ghost use Rattle.dm_retry.specs.Index.{IsKept, IsReady, Marks, all_marked};
-ghost use Rattle.dm_retry.specs.Unresolved.{AllDirty, awoken, is_dirty_at, marked_at, name_at};
+ghost use Rattle.dm_retry.specs.Rounds.{Pending, awoken, marked, marked_at, name_at};
+ghost use Rattle.dm_retry.specs.Unresolved.{AllDirty, is_dirty_at};
 
 mod bits;
 mod dirty_set;
 mod grow;
 mod index;
-pub mod unresolved;
 
+use crate::pending::Pending;
 use crate::worklist::dirty_set::DirtySet;
 use crate::worklist::grow::{make_room, push_dirty};
 use crate::worklist::index::{Places, add_names, places_of};
-use crate::worklist::unresolved::Unresolved;
 use dm_base::name::Name;
 use indexmap::IndexMap;
 use std::alloc::{AllocError, Global};
@@ -23,26 +23,27 @@ use std::marker::Model;
 ///
 /// An index maps each name to the places of the imports whose path has it as a segment, and a bit set tells which
 /// imports are dirty. Both are made when the first import is taken: until then every import is dirty.
-pub struct Worklist<I: Unresolved> {
-    imports: Vec<I>,
+pub(crate) struct Worklist {
+    imports: Vec<Pending>,
     index: IndexMap<Name, Places>,
     dirty: DirtySet,
     ready: bool,
 }
 
-impl<I: Unresolved> Model for Worklist<I> {
+impl Model for Worklist {
     ghost use Rattle.std.specs.Prelude.{List};
     ghost use Rattle.dm_retry.specs.Index.{IsReady};
+    ghost use Rattle.dm_retry.specs.Rounds.{Pending};
 
-    ghost Value = { List I };
+    ghost Value = { List Pending };
 
     ghost view = { λ w. w.imports.items };
 
-    ghost invariant = { λ w. IsReady I.reading w.ready w.index.entries w.dirty w.imports.items };
+    ghost invariant = { λ w. IsReady w.ready w.index.entries w.dirty w.imports.items };
 }
 
 /// A hand-written `Drop`, to keep proofs small: what drops one has one call to prove.
-impl<I: Unresolved> Drop for Worklist<I> {
+impl Drop for Worklist {
     fn drop(self) {
         let Worklist {
             imports: _imports,
@@ -53,10 +54,10 @@ impl<I: Unresolved> Drop for Worklist<I> {
     }
 }
 
-impl<I: Unresolved> Worklist<I> {
+impl Worklist {
     /// These imports, all of them dirty. Allocates nothing; `take` uses the allocator of the list.
-    pub fn all_dirty(imports: Vec<I>) -> Worklist<I>
-        ensures { result ≡ map (I.reading.marked true) imports.items }
+    pub(crate) fn all_dirty(imports: Vec<Pending>) -> Worklist
+        ensures { result ≡ map (marked true) imports.items }
     {
         let alloc = *imports.allocator();
         let mut dirty = imports;
@@ -73,8 +74,8 @@ impl<I: Unresolved> Worklist<I> {
     /// the import's path; where it was not, the list alone grows.
     ///
     /// Where an allocation fails, nothing changes, and the import comes back.
-    pub fn add(&mut self, import: I) -> Result<(), (AllocError, I)>
-        ensures ok { OnOk result (self.new ≡ self.old ++ I.reading.marked true import ∷ []) }
+    pub(crate) fn add(&mut self, import: Pending) -> Result<(), (AllocError, Pending)>
+        ensures ok { OnOk result (self.new ≡ self.old ++ marked true import ∷ []) }
         ensures err { OnErr result (self.new ≡ self.old) }
         ensures back { IfErr result (λ e. e.1 ≡ import) }
     {
@@ -94,14 +95,14 @@ impl<I: Unresolved> Worklist<I> {
     }
 
     /// The imports in their current state.
-    pub fn as_slice(&self) -> &[I]
+    pub(crate) fn as_slice(&self) -> &[Pending]
         ensures { result.now ≡ self.now }
     {
         self.imports.as_slice()
     }
 
     /// The imports in their current state, as a list.
-    pub fn into_imports(self) -> Vec<I>
+    pub(crate) fn into_imports(self) -> Vec<Pending>
         ensures { result.items ≡ self }
     {
         let Worklist {
@@ -114,8 +115,8 @@ impl<I: Unresolved> Worklist<I> {
     }
 
     /// The first dirty import from place `from` on.
-    pub fn next_dirty(&self, from: usize) -> Option<usize>
-        ensures first { IsFirst (is_dirty_at I.reading self.now) from result }
+    pub(crate) fn next_dirty(&self, from: usize) -> Option<usize>
+        ensures first { IsFirst (is_dirty_at self.now) from result }
         ensures within { IfSome result (λ k. k < length self.now) }
     {
         if self.ready {
@@ -131,11 +132,11 @@ impl<I: Unresolved> Worklist<I> {
     /// bit set, whole; later calls allocate nothing.
     ///
     /// Where an allocation fails, nothing changes: every import is dirty, this one, too.
-    pub fn take(&mut self, k: usize) -> Result<(), AllocError>
-        ensures ok { OnOk result (self.new ≡ marked_at I.reading self.old k false) }
+    pub(crate) fn take(&mut self, k: usize) -> Result<(), AllocError>
+        ensures ok { OnOk result (self.new ≡ marked_at self.old k false) }
         ensures err { OnErr result (self.new ≡ self.old) }
-        ensures dirty { OnErr result (AllDirty I.reading self.old) }
-        ensures put_back { OnErr result (self.new ≡ marked_at I.reading self.old k true) }
+        ensures dirty { OnErr result (AllDirty self.old) }
+        ensures put_back { OnErr result (self.new ≡ marked_at self.old k true) }
     {
         prepare(
             &self.imports,
@@ -148,8 +149,8 @@ impl<I: Unresolved> Worklist<I> {
     }
 
     /// The import at place k becomes dirty. Allocates nothing.
-    pub fn put_back(&mut self, k: usize)
-        ensures { self.new ≡ marked_at I.reading self.old k true }
+    pub(crate) fn put_back(&mut self, k: usize)
+        ensures { self.new ≡ marked_at self.old k true }
     {
         if self.ready {
             mark(&mut self.imports, &mut self.dirty, k, true);
@@ -157,8 +158,8 @@ impl<I: Unresolved> Worklist<I> {
     }
 
     /// Each import whose path has the name as a segment becomes dirty. Allocates nothing.
-    pub fn wake(&mut self, name: &Name)
-        ensures { self.new ≡ map (awoken I.reading name.now) self.old }
+    pub(crate) fn wake(&mut self, name: &Name)
+        ensures { self.new ≡ map (awoken name.now) self.old }
     {
         if self.ready {
             let places = places_of(&self.index, name);
@@ -168,38 +169,38 @@ impl<I: Unresolved> Worklist<I> {
 
     /// Each import whose path has the name that the import at place k binds as a segment becomes dirty. Allocates
     /// nothing.
-    pub fn wake_by(&mut self, k: usize)
+    pub(crate) fn wake_by(&mut self, k: usize)
         requires { k < length self.old }
-        ensures { self.new ≡ map (awoken I.reading (name_at I.reading self.old k)) self.old }
+        ensures { self.new ≡ map (awoken (name_at self.old k)) self.old }
     {
         if self.ready {
-            let places = places_of(&self.index, self.imports[k].bound_name());
+            let places = places_of(&self.index, self.imports[k].name());
             mark_each(&mut self.imports, &mut self.dirty, places);
         }
     }
 }
 
 /// All of these are dirty.
-fn mark_all<I: Unresolved>(imports: &mut Vec<I>)
-    ensures { imports.new.items ≡ map (I.reading.marked true) imports.old.items }
+fn mark_all(imports: &mut Vec<Pending>)
+    ensures { imports.new.items ≡ map (marked true) imports.old.items }
 {
     mark_all_of(imports.as_mut_slice());
 }
 
 /// All of these are dirty.
-fn mark_all_of<I: Unresolved>(imports: &mut [I])
-    ensures { imports.new ≡ map (I.reading.marked true) imports.old }
+fn mark_all_of(imports: &mut [Pending])
+    ensures { imports.new ≡ map (marked true) imports.old }
 {
     for import in imports.iter_mut() {
-        import.set_dirty(true);
+        import.set_due(true);
     }
 }
 
 /// The imports at the places become dirty.
-fn mark_each<I: Unresolved>(imports: &mut Vec<I>, dirty: &mut DirtySet, places: &[u32])
-    requires { Marks I.reading dirty.old imports.old.items }
-    ensures imports { imports.new.items ≡ all_marked I.reading places.now imports.old.items }
-    ensures marks { Marks I.reading dirty.new imports.new.items }
+fn mark_each(imports: &mut Vec<Pending>, dirty: &mut DirtySet, places: &[u32])
+    requires { Marks dirty.old imports.old.items }
+    ensures imports { imports.new.items ≡ all_marked places.now imports.old.items }
+    ensures marks { Marks dirty.new imports.new.items }
 {
     let mut rest = places;
     'places: while let Some((first, after)) = rest.split_first() {
@@ -209,26 +210,26 @@ fn mark_each<I: Unresolved>(imports: &mut Vec<I>, dirty: &mut DirtySet, places: 
 }
 
 /// Marks the import at place k, if there is one.
-fn mark<I: Unresolved>(imports: &mut Vec<I>, dirty: &mut DirtySet, k: usize, is_dirty: bool)
-    requires { Marks I.reading dirty.old imports.old.items }
-    ensures imports { imports.new.items ≡ marked_at I.reading imports.old.items k is_dirty }
-    ensures marks { Marks I.reading dirty.new imports.new.items }
+fn mark(imports: &mut Vec<Pending>, dirty: &mut DirtySet, k: usize, is_dirty: bool)
+    requires { Marks dirty.old imports.old.items }
+    ensures imports { imports.new.items ≡ marked_at imports.old.items k is_dirty }
+    ensures marks { Marks dirty.new imports.new.items }
 {
     if k < imports.len() {
-        imports[k].set_dirty(is_dirty);
+        imports[k].set_due(is_dirty);
         dirty.set(k, is_dirty);
     }
 }
 
 /// Makes the index and the bit set, where they are not there yet.
-fn prepare<I: Unresolved>(
-    imports: &Vec<I>,
+fn prepare(
+    imports: &Vec<Pending>,
     index: &mut IndexMap<Name, Places>,
     dirty: &mut DirtySet,
     ready: &mut bool,
 ) -> Result<(), AllocError>
-    requires { IsReady I.reading ready.old index.old.entries dirty.old imports.now.items }
-    ensures ready { IsReady I.reading ready.new index.new.entries dirty.new imports.now.items }
+    requires { IsReady ready.old index.old.entries dirty.old imports.now.items }
+    ensures ready { IsReady ready.new index.new.entries dirty.new imports.now.items }
     ensures ok { OnOk result (ready.new ≡ true) }
     ensures err { OnErr result (ready.old ≡ false) }
 {
@@ -242,11 +243,11 @@ fn prepare<I: Unresolved>(
 }
 
 /// The index and the bit set of imports.
-fn built<I: Unresolved>(
+fn built(
     alloc: Global,
-    imports: &[I],
+    imports: &[Pending],
 ) -> Result<(IndexMap<Name, Places>, DirtySet), AllocError>
-    ensures { IfOk result (λ made. IsKept I.reading made.0.entries made.1 imports.now) }
+    ensures { IfOk result (λ made. IsKept made.0.entries made.1 imports.now) }
 {
     let mut index = IndexMap::new(alloc);
     let mut dirty = DirtySet::new(alloc);
@@ -257,21 +258,21 @@ fn built<I: Unresolved>(
 }
 
 /// Adds the import at place k to the index and the bit set of those before it.
-fn index_one<I: Unresolved>(
+fn index_one(
     index: &mut IndexMap<Name, Places>,
     dirty: &mut DirtySet,
     alloc: Global,
-    import: &I,
+    import: &Pending,
     k: usize,
 ) -> Result<(), AllocError>
     ensures { OnOk result
-        ((xs : List I) → k ≡ length xs → IsKept I.reading index.old.entries dirty.old xs
-        → IsKept I.reading index.new.entries dirty.new (xs ++ import.now ∷ [])) }
+        ((xs : List Pending) → k ≡ length xs → IsKept index.old.entries dirty.old xs
+        → IsKept index.new.entries dirty.new (xs ++ import.now ∷ [])) }
 {
     let place = as_place(k)?;
     dirty.cover(place as usize)?;
     add_names(index, alloc, import.segments(), place)?;
-    dirty.set(place as usize, import.is_dirty());
+    dirty.set(place as usize, import.is_due());
     Ok(())
 }
 

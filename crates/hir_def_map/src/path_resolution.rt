@@ -13,18 +13,18 @@ ghost use Rattle.hir_def_map.specs.Paths.{asked, answer, answer_alone, prelude_a
 ghost use Rattle.hir_def_map.specs.Questions.{IsKnownQuestion, IsKnownInCrate};
 ghost use Rattle.hir_def_map.specs.RawVisibilities.{raw_visibility, IsKnownVisibility, IsOfWorld};
 
-pub mod answers;
-pub mod first_segment;
+mod answers;
+mod first_segment;
 mod first_type;
-pub mod layers;
-pub mod overlays;
-pub mod place;
+mod layers;
+mod overlays;
+mod place;
 mod places;
-pub mod question;
+mod question;
 pub mod result;
 mod segments;
 mod single;
-pub mod type_module;
+pub(crate) mod type_module;
 
 use crate::path_resolution::place::Place;
 use crate::path_resolution::places::answer_outwards;

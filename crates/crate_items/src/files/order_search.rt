@@ -38,7 +38,7 @@ impl Model for Search {
 }
 
 /// How many dependencies of each crate are not looked at at first, and one more.
-#[tactic(auto, using(crate::proofs::NumberLemmas::mapped))]
+#[tactic(auto, using(crate::proofs::MappedLists::mapped))]
 fn all_left(alloc: Global, crates: &[CrateData]) -> Result<Vec<usize>, AllocError>
     ensures { IfOk result (λ left. left.items ≡ map (λ r. length r + 1) (rows crates.now)) }
 {
@@ -50,7 +50,7 @@ fn all_left(alloc: Global, crates: &[CrateData]) -> Result<Vec<usize>, AllocErro
 }
 
 /// Adds a crate at the end.
-#[tactic(auto, using(crate::proofs::NumberLemmas::mapped))]
+#[tactic(auto, using(crate::proofs::MappedLists::mapped))]
 fn add(crates: &mut Vec<Crate>, id: Crate) -> Result<(), AllocError>
     ensures { OnOk result (numbers crates.new.items ≡ numbers crates.old.items ++ id.0 ∷ []) }
 {
@@ -59,7 +59,7 @@ fn add(crates: &mut Vec<Crate>, id: Crate) -> Result<(), AllocError>
 }
 
 /// Takes the last crate out.
-#[tactic(auto, using(crate::proofs::NumberLemmas::mapped))]
+#[tactic(auto, using(crate::proofs::MappedLists::mapped))]
 fn drop_last(crates: &mut Vec<Crate>)
     ensures { numbers crates.new.items ≡ take (length (numbers crates.old.items) - 1) (numbers crates.old.items) }
 {
@@ -68,7 +68,7 @@ fn drop_last(crates: &mut Vec<Crate>)
 }
 
 /// The crates from a place on.
-#[tactic(auto, using(crate::proofs::NumberLemmas::mapped))]
+#[tactic(auto, using(crate::proofs::MappedLists::mapped))]
 fn copied_from(alloc: Global, crates: &[Crate], place: usize) -> Result<Vec<Crate>, AllocError>
     requires { place ≤ length (numbers crates.now) }
     ensures { IfOk result (λ copy. numbers copy.items ≡ drop place (numbers crates.now)) }

@@ -19,10 +19,9 @@ use dm_base::name::Name;
 use dm_base::source::Edition;
 use item_tree::items::item_kind::ItemKind;
 use item_tree::items::visibility::{RawVisibility, raw_visibility};
-use item_tree::items::{Item, Range};
+use item_tree::items::{Item, Range, paths};
 use item_tree::lexer::lexeme::{Lexeme, LexemeKind};
 use item_tree::lexer::word::Word;
-use item_tree::items::paths;
 use std::alloc::{AllocError, Global};
 
 /// An item of a module, with what a def map has to know of it.

@@ -17,8 +17,7 @@ use dm_base::visibility::RawVisibility;
 use item_tree::cfg::CfgOptions;
 use item_tree::items::item_kind::ItemKind;
 use item_tree::items::members::{Member, MemberKind, members};
-use item_tree::items::{Item, Range};
-use item_tree::items::visibility;
+use item_tree::items::{Item, Range, visibility};
 use std::alloc::{AllocError, Global};
 
 /// A variant of an enum.

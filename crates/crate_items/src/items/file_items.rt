@@ -11,6 +11,7 @@ use crate::modules::standing::Standing;
 use dm_base::ids::FileId;
 use item_tree::items::Item;
 use item_tree::items::item_kind::ItemKind;
+use item_tree::laws::numbers_between_stand_between;
 use std::alloc::{AllocError, Global};
 
 /// An item of a file.
@@ -186,6 +187,7 @@ pub(crate) fn items_at(items: &[Homed], home: Option<usize>) -> &[Homed]
     requires { IsNonDecreasingBy spec.rank items.now }
     ensures { result.now ≡ filter (spec.stands_in home) items.now }
 {
+    numbers_between_stand_between::<Homed>();
     let rank = rank_of(home);
     let first = count_up_to(items, rank - 1);
     let behind = count_up_to(items, rank);

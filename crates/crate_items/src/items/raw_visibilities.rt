@@ -13,9 +13,8 @@ use dm_base::ids::FileId;
 use dm_base::mod_path::{ModPath, PathKind};
 use dm_base::visibility::{RawVisibility, VisibilityExplicitness};
 use item_tree::attributes::attribute_kind::lexemes_in;
-use item_tree::items::Range;
+use item_tree::items::{Range, visibility};
 use item_tree::lexer::lexeme::Lexeme;
-use item_tree::items::visibility;
 use std::alloc::{AllocError, Global};
 
 /// The path of some lexemes; none where there are none.

@@ -4,10 +4,9 @@ ghost use Rattle.crate_items.specs.Shapes as spec;
 
 use crate::files::source::Source;
 use dm_base::fields_shape::FieldsShape;
-use item_tree::items::Item;
 use item_tree::items::fields::item_fields;
 use item_tree::items::item_kind::ItemKind;
-use item_tree::items::members;
+use item_tree::items::{Item, members};
 use std::alloc::{AllocError, Global};
 
 /// A shape that was read, as def maps know it.

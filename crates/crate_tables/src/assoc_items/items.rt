@@ -21,6 +21,7 @@ use dm_maps::build_fault::BuildFault;
 use dm_maps::builder::WorldBuilder;
 use dm_maps::check::held::HeldId;
 use dm_maps::check::known_ids::KnownIds;
+use dm_maps::laws::settings_keep_scopes;
 use item_tree::items::item_kind;
 use std::alloc::{AllocError, Global};
 
@@ -86,6 +87,7 @@ fn set_assoc(
     ensures grown { IsGrown builder.old builder.new }
     ensures fault { IfErr result (λ fault. is_shortage fault ≡ true) }
 {
+    settings_keep_scopes();
     builder.set_assoc(id, container, visibility)?;
     Ok(())
 }

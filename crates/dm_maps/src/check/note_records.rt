@@ -49,7 +49,7 @@ fn note_records_in<T: KnownIds>(
 }
 
 /// Folds in the keys and values of a scope's records.
-#[tactic(auto, using(crate::proofs::RecordLemmas::records))]
+#[tactic(auto, using(crate::proofs::HeldRecords::records))]
 pub(crate) fn note_records<T: KnownIds>(
     world: &T,
     least: Option<HeldFault>,

@@ -11,7 +11,7 @@ use dm_base::item_ids::ModuleDefId;
 use dm_base::per_ns::{PerNs, TypesItem};
 
 /// What was reached.
-pub fn reached(here: PerNs) -> ResolvePathResult
+pub(crate) fn reached(here: PerNs) -> ResolvePathResult
     ensures { result ≡ reached here }
 {
     ResolvePathResult {
@@ -23,14 +23,14 @@ pub fn reached(here: PerNs) -> ResolvePathResult
 }
 
 /// Nothing, yes.
-pub fn nothing_yes() -> ResolvePathResult
+pub(crate) fn nothing_yes() -> ResolvePathResult
     ensures { result ≡ nothing_yes }
 {
     reached(PerNs::none())
 }
 
 /// Nothing, no.
-pub fn nothing_no() -> ResolvePathResult
+pub(crate) fn nothing_no() -> ResolvePathResult
     ensures { result ≡ nothing_no }
 {
     ResolvePathResult {
@@ -40,7 +40,7 @@ pub fn nothing_no() -> ResolvePathResult
 }
 
 /// The types item alone, at the segment that it leaves unresolved.
-pub fn stopped(item: TypesItem, position: usize) -> ResolvePathResult
+pub(crate) fn stopped(item: TypesItem, position: usize) -> ResolvePathResult
     ensures { result ≡ stopped item position }
 {
     ResolvePathResult {
@@ -50,7 +50,7 @@ pub fn stopped(item: TypesItem, position: usize) -> ResolvePathResult
 }
 
 /// A variant, with the visibility of the enum's binding.
-pub fn variant_answer(
+pub(crate) fn variant_answer(
     item: TypesItem,
     variant: EnumVariantId,
     shape: FieldsShape,
@@ -73,7 +73,7 @@ pub fn variant_answer(
 }
 
 /// The answer of a module that lies in a block, or does not: a block's has status yes.
-pub fn yes_in_block(in_block: bool, answer: ResolvePathResult) -> ResolvePathResult
+pub(crate) fn yes_in_block(in_block: bool, answer: ResolvePathResult) -> ResolvePathResult
     ensures { result ≡ yes_in_block in_block answer }
 {
     if in_block {

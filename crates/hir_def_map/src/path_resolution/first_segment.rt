@@ -48,7 +48,7 @@ fn are_builtins_first(ask: &Ask, own: &PerNs) -> bool
 
 /// The builtin type of a name, which no block's map has.
 #[tactic(auto, unfolding(dm_maps::specs::Readings::read, dm_maps::specs::Readings::setting_of))]
-pub fn builtins_of(world: &World, m: ModuleId, segment: &Name) -> PerNs
+pub(crate) fn builtins_of(world: &World, m: ModuleId, segment: &Name) -> PerNs
     requires { IsKnown (tree_of world.now) m }
     ensures value { (L : LocalMap) →
         result ≡ builtins_of (setting_of world.now) m (read world.now L segment.now) }
@@ -274,7 +274,7 @@ fn plain_layers(
 
 /// Whether the question is answered by the rule of edition 2015, at a place.
 #[tactic(auto, unfolding(dm_maps::specs::Readings::setting_of))]
-pub fn by_2015_rule(world: &World, ask: &Ask, place: Place) -> bool
+pub(crate) fn by_2015_rule(world: &World, ask: &Ask, place: Place) -> bool
     requires { IsKnownPlace (tree_of world.now) place }
     ensures { result ≡ by_2015_rule (setting_of world.now) ask.now place }
 {
@@ -282,7 +282,7 @@ pub fn by_2015_rule(world: &World, ask: &Ask, place: Place) -> bool
 }
 
 /// What edition 2015 selects: the scope of the crate's root, and the extern prelude.
-pub fn layers_by_2015_rule(
+pub(crate) fn layers_by_2015_rule(
     world: &World,
     local: &LocalDefMap,
     place: Place,
@@ -302,7 +302,13 @@ pub fn layers_by_2015_rule(
 
 /// What the layers of a first segment select, which is the last, too.
 #[tactic(auto, unfolding(dm_maps::specs::Readings::read, dm_maps::specs::Readings::setting_of))]
-pub fn layers(world: &World, local: &LocalDefMap, ask: &Ask, place: Place, segment: &Name) -> PerNs
+pub(crate) fn layers(
+    world: &World,
+    local: &LocalDefMap,
+    ask: &Ask,
+    place: Place,
+    segment: &Name,
+) -> PerNs
     requires place_known { IsKnownPlace (tree_of world.now) place }
     requires local_known { KnowsAll world.now (local_holds local.now) }
     ensures value { result ≡ overlay (layers (setting_of world.now) ask.now place
@@ -319,7 +325,7 @@ pub fn layers(world: &World, local: &LocalDefMap, ask: &Ask, place: Place, segme
 }
 
 /// Whether a path that begins with `::` finds nothing, where the rule of edition 2015 does not hold.
-pub fn is_missed(world: &World, ask: &Ask, place: Place, found: &PerNs) -> bool
+pub(crate) fn is_missed(world: &World, ask: &Ask, place: Place, found: &PerNs) -> bool
     requires { IsKnownPlace (tree_of world.now) place }
     ensures { result ≡ missed ask.now (by_2015_rule (setting_of world.now) ask.now place) found.now }
 {

@@ -51,7 +51,7 @@ fn fitting_macro(
 }
 
 /// The items without a macro that does not fit.
-pub fn fitting(world: &World, expected: Option<MacroSubNs>, x: PerNs) -> PerNs
+pub(crate) fn fitting(world: &World, expected: Option<MacroSubNs>, x: PerNs) -> PerNs
     requires { KnowsAll world.now (res_holds x) }
     ensures value { result ≡ fitting (setting_of world.now) expected x }
     ensures known { KnowsAll world.now (res_holds result) }
@@ -83,7 +83,7 @@ fn by_crate(krate: Option<ExternCrateId>) -> Option<ImportOrExternCrate>
 
 /// The module of the extern prelude.
 #[tactic(auto, unfolding(dm_maps::specs::Readings::read))]
-pub fn extern_prelude(world: &World, local: &LocalDefMap, segment: &Name) -> PerNs
+pub(crate) fn extern_prelude(world: &World, local: &LocalDefMap, segment: &Name) -> PerNs
     requires { KnowsAll world.now (local_holds local.now) }
     ensures value { result ≡ extern_prelude (read world.now local.now segment.now) }
     ensures known { KnowsAll world.now (res_holds result) }
@@ -111,7 +111,7 @@ fn macro_use_prelude(world: &World, id: MapId, segment: &Name) -> PerNs
 }
 
 /// The macro of a map's macro_use prelude, by the version of the rules.
-pub fn macro_use_layer(
+pub(crate) fn macro_use_layer(
     world: &World,
     expected: Option<MacroSubNs>,
     id: MapId,
@@ -127,7 +127,7 @@ pub fn macro_use_layer(
 
 /// What the scope of a map's prelude module binds, whatever is expected.
 #[tactic(auto, unfolding(dm_maps::specs::Readings::read, dm_maps::specs::Readings::setting_of))]
-pub fn prelude(world: &World, id: MapId, segment: &Name) -> PerNs
+pub(crate) fn prelude(world: &World, id: MapId, segment: &Name) -> PerNs
     ensures value { (L : LocalMap) →
         result ≡ prelude (setting_of world.now) id (read world.now L segment.now) }
     ensures known { KnowsAll world.now (res_holds result) }
@@ -139,7 +139,7 @@ pub fn prelude(world: &World, id: MapId, segment: &Name) -> PerNs
 }
 
 /// What the scope of a map's prelude module binds, by the version of the rules.
-pub fn prelude_layer(
+pub(crate) fn prelude_layer(
     world: &World,
     expected: Option<MacroSubNs>,
     id: MapId,
@@ -155,7 +155,7 @@ pub fn prelude_layer(
 
 /// The builtin type.
 #[tactic(auto, unfolding(dm_maps::specs::Readings::read))]
-pub fn builtin(world: &World, segment: &Name) -> PerNs
+pub(crate) fn builtin(world: &World, segment: &Name) -> PerNs
     ensures value { (L : LocalMap) → result ≡ builtin (read world.now L segment.now) }
     ensures known { KnowsAll world.now (res_holds result) }
 {
@@ -167,7 +167,7 @@ pub fn builtin(world: &World, segment: &Name) -> PerNs
 
 /// What the scope of the root of a module's crate binds.
 #[tactic(auto, unfolding(dm_maps::specs::Readings::read, dm_maps::specs::Readings::setting_of))]
-pub fn root_scope(world: &World, m: ModuleId, segment: &Name) -> PerNs
+pub(crate) fn root_scope(world: &World, m: ModuleId, segment: &Name) -> PerNs
     requires { IsKnown (tree_of world.now) m }
     ensures value { (L : LocalMap) →
         result ≡ root_scope (setting_of world.now) m (read world.now L segment.now) }
@@ -182,7 +182,12 @@ pub fn root_scope(world: &World, m: ModuleId, segment: &Name) -> PerNs
 /// The last legacy macro of a name in a module, if it fits: in textual scope (`macro_rules!` and `#[macro_use]` before
 /// macros 2.0, where a macro is visible in the text after it) a later macro shadows an earlier one.
 #[tactic(auto, unfolding(dm_maps::specs::Readings::read))]
-pub fn legacy(world: &World, expected: Option<MacroSubNs>, m: ModuleId, segment: &Name) -> PerNs
+pub(crate) fn legacy(
+    world: &World,
+    expected: Option<MacroSubNs>,
+    m: ModuleId,
+    segment: &Name,
+) -> PerNs
     ensures value { (L : LocalMap) →
         result ≡ legacy (setting_of world.now) expected m (read world.now L segment.now) }
     ensures known { KnowsAll world.now (res_holds result) }

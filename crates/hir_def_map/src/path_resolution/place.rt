@@ -10,14 +10,14 @@ use dm_maps::world::World;
 
 /// Where a first segment is looked up: a module, or the preludes of a map, seen from a module.
 #[derive(Clone, Copy)]
-pub enum Place {
+pub(crate) enum Place {
     In(ModuleId),
     Preludes(MapId, ModuleId),
 }
 
 impl Place {
     /// The module from which the place sees.
-    pub fn seen_from(self) -> ModuleId
+    pub(crate) fn seen_from(self) -> ModuleId
         ensures { result ≡ seen_from self }
     {
         match self {
@@ -27,7 +27,7 @@ impl Place {
 
     /// The map whose preludes the place reads.
     #[tactic(auto, unfolding(dm_maps::specs::Readings::setting_of))]
-    pub fn map(self, world: &World) -> MapId
+    pub(crate) fn map(self, world: &World) -> MapId
         requires { IsKnownPlace (tree_of world.now) self }
         ensures { result ≡ map_at (setting_of world.now).tree self }
     {

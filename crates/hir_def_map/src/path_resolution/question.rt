@@ -10,7 +10,7 @@ use dm_maps::modes::{BuiltinShadowMode, MacroSubNs};
 /// The parameters of a path resolution except the segments: the origin, for an import or not, whether builtin types may
 /// shadow modules, what kind of macro is expected, and the kind of its path.
 #[derive(Clone, Copy)]
-pub struct Ask {
+pub(crate) struct Ask {
     pub origin: ModuleId,
     pub mode: ResolveMode,
     pub shadow: BuiltinShadowMode,
@@ -20,7 +20,7 @@ pub struct Ask {
 
 impl Ask {
     /// The question of a path that begins as `kind`.
-    pub fn new(
+    pub(crate) fn new(
         origin: ModuleId,
         mode: ResolveMode,
         shadow: BuiltinShadowMode,

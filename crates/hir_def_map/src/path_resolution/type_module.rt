@@ -8,7 +8,7 @@ use dm_base::per_ns::TypesItem;
 
 /// The module that a definition is, if it is one.
 #[inline(always)]
-pub fn module_in(def: ModuleDefId) -> Option<ModuleId>
+pub(crate) fn module_in(def: ModuleDefId) -> Option<ModuleId>
     ensures { result ≡ module_in def }
 {
     match def {
@@ -18,7 +18,7 @@ pub fn module_in(def: ModuleDefId) -> Option<ModuleId>
 }
 
 /// The module that a type is, if there is one and it is one.
-pub fn type_module(types: Option<TypesItem>) -> Option<ModuleId>
+pub(crate) fn type_module(types: Option<TypesItem>) -> Option<ModuleId>
     ensures { result ≡ type_module types }
 {
     module_in(types?.def)

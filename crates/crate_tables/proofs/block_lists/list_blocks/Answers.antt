@@ -1,6 +1,6 @@
 use Rattle.std.proofs.Common.{◌∙◌, ◌+◌, ◌++◌, List, ap, drop, sym}
 use Rattle.crate_tables.proofs.BlockLemmas.{blocks-append}
-use Rattle.crate_tables.proofs.StepLemmas.{next-of}
+use Rattle.crate_tables.specs.Steps.{next-of}
 use Rattle.crate_tables.specs.BlockLists.{blocks_of, with_blocks_from}
 use Rattle.crate_tables.specs.CrateTables.{Table}
 use Rattle.crate_tables.specs.declared.item_place.BlockPlace.{BlockPlace}

@@ -1,5 +1,5 @@
 use Rattle.std.proofs.Common.{◌∙◌, ◌+◌, ap, arith, drop, get_or, sym}
-use Rattle.crate_tables.proofs.StepLemmas.{next-copied}
+use Rattle.crate_tables.specs.Steps.{next-copied}
 use Rattle.crate_tables.specs.BlockLists.{with_block, with_blocks_from}
 use Rattle.crate_tables.specs.declared.item_place.BlockKind.TheVariants.{TraitImpl}
 use Rattle.crate_tables.specs.declared.item_place.BlockPlace.{BlockPlace}

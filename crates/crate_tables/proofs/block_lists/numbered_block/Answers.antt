@@ -2,7 +2,7 @@ use Rattle.std.proofs.Common.{◌∙◌, ◌+◌, ◌++◌, List, ap, drop, sym}
 use Rattle.std.proofs.lemmas.Option.{slice_get-get_or}
 use Rattle.std.specs.Prelude.{slice_get}
 use Rattle.crate_tables.proofs.BlockLemmas.{get-behind, get-first}
-use Rattle.crate_tables.proofs.StepLemmas.{next-of}
+use Rattle.crate_tables.specs.Steps.{next-of}
 use Rattle.crate_tables.specs.BlockLists.{blocks_of}
 use Rattle.crate_tables.specs.CrateTables.{Table}
 use Rattle.crate_tables.specs.declared.item_place.BlockKind.TheVariants.{TraitImpl}

@@ -1,6 +1,6 @@
 use Rattle.crate_tables.proofs.FillingLemmas.{all-crates, needs-of, next-crate, roots-on}
 use Rattle.crate_tables.proofs.KeptLemmas.{kept-further}
-use Rattle.crate_tables.proofs.StepLemmas.{next-in}
+use Rattle.crate_tables.specs.Steps.{next-in}
 use Rattle.crate_tables.proofs.crate_filling.fill_all.Goals as goal
 
 pub returns-in_err-fill_next-clause-stays : goal.returns-in_err-fill_next-clause-stays

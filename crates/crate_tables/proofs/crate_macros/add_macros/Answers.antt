@@ -1,6 +1,6 @@
 use Rattle.std.proofs.Common.{◌∙◌, ◌+◌, ap, drop, sym}
 use Rattle.crate_tables.proofs.GrownLemmas.{grown-further}
-use Rattle.crate_tables.proofs.StepLemmas.{next-of}
+use Rattle.crate_tables.specs.Steps.{next-of}
 use Rattle.crate_tables.specs.CrateMacros.{with_macros}
 use Rattle.crate_tables.specs.CrateRoots.{root_id}
 use Rattle.dm_maps.specs.declared.check.held.HeldId.TheVariants as held

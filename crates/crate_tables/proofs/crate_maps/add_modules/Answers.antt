@@ -1,6 +1,6 @@
 use Rattle.std.proofs.Common.{◌≡◌, ◌∙◌, ◌+◌, ap, drop, rules, sym}
 use Rattle.crate_tables.proofs.GrownLemmas.{grown-further}
-use Rattle.crate_tables.proofs.StepLemmas.{next-in}
+use Rattle.crate_tables.specs.Steps.{next-in}
 use Rattle.crate_tables.specs.CrateMaps.{with_modules}
 use Rattle.crate_tables.proofs.crate_maps.add_modules.Goals as goal
 

@@ -1,6 +1,6 @@
 use Rattle.std.proofs.Common.{◌≡◌, ◌∙◌, ◌+◌, ap, drop, sym, take}
 use Rattle.crate_tables.proofs.GrownLemmas.{grown-further}
-use Rattle.crate_tables.proofs.StepLemmas.{next-of}
+use Rattle.crate_tables.specs.Steps.{next-of}
 use Rattle.crate_tables.specs.CrateRoots.{with_extern, with_externs_from}
 use Rattle.crate_items.specs.declared.files.dependency.Dependency.{Dependency}
 use Rattle.std.specs.Prelude.{List}

@@ -1,6 +1,7 @@
 use Rattle.std.proofs.Common.{◌∙◌, ◌+◌, ap, drop, length, sym}
 use Rattle.crate_tables.proofs.RootLemmas.{roots-more}
-use Rattle.crate_tables.proofs.StepLemmas.{next-in, one-more}
+use Rattle.crate_tables.specs.Steps.{next-in}
+use Rattle.crate_tables.proofs.StepLemmas.{one-more}
 use Rattle.crate_tables.specs.CrateRoots.{with_roots}
 use Rattle.dm_maps.specs.World.{World}
 use Rattle.crate_tables.proofs.crate_roots.crate_roots.Goals as goal

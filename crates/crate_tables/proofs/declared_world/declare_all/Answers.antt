@@ -3,7 +3,7 @@ use Rattle.dm_maps.specs.Pushes.{push_holds}
 use Rattle.std.proofs.lemmas.List.{take_more}
 use Rattle.crate_tables.proofs.DeclaredLemmas.{shown-more}
 use Rattle.crate_tables.specs.CrateTables.{IsNameOf}
-use Rattle.crate_tables.proofs.StepLemmas.{next-of}
+use Rattle.crate_tables.specs.Steps.{next-of}
 use Rattle.crate_tables.specs.DeclaredWorlds.{AreShown, WithGlobs, with_all_declared, with_declared}
 use Rattle.crate_tables.specs.declared.declared_name.DeclaredName.{DeclaredName}
 use Rattle.crate_tables.proofs.declared_world.declare_all.Goals as goal

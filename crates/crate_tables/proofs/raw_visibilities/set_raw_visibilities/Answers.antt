@@ -1,6 +1,6 @@
 use Rattle.std.proofs.Common.{◌∙◌, ◌+◌, ap, drop, sym}
 use Rattle.crate_tables.proofs.GrownLemmas.{grown-further}
-use Rattle.crate_tables.proofs.StepLemmas.{next-copied}
+use Rattle.crate_tables.specs.Steps.{next-copied}
 use Rattle.crate_tables.specs.RawVisibilities.{with_raw_visibilities}
 use Rattle.dm_base.specs.declared.item_ids.ModuleDefId.TheVariants as def
 use Rattle.crate_tables.proofs.raw_visibilities.set_raw_visibilities.Goals as goal

@@ -1,5 +1,5 @@
 use Rattle.std.proofs.Common.{◌∙◌, ◌+◌, ap, drop, false, sym}
-use Rattle.crate_tables.proofs.StepLemmas.{next-copied}
+use Rattle.crate_tables.specs.Steps.{next-copied}
 use Rattle.crate_tables.proofs.TextualLemmas.{table-stays}
 use Rattle.crate_tables.specs.ScopeLists.{with_scope_lists}
 use Rattle.crate_tables.specs.declared.item_outline.ItemOutline.{ItemOutline}

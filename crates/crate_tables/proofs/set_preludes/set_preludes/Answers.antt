@@ -1,7 +1,7 @@
 use Rattle.std.proofs.Common.{◌≡◌, ◌∙◌, ◌+◌, ap, drop, sym, List}
 use Rattle.crate_items.specs.CrateGraphs.{Data}
 use Rattle.crate_tables.proofs.GrownLemmas.{grown-further}
-use Rattle.crate_tables.proofs.StepLemmas.{next-in}
+use Rattle.crate_tables.specs.Steps.{next-in}
 use Rattle.crate_tables.specs.CrateFillings.{with_prelude_of, with_preludes_from}
 use Rattle.dm_base.specs.declared.ids.Crate.{Crate}
 use Rattle.crate_tables.proofs.set_preludes.set_preludes.Goals as goal

@@ -1,5 +1,5 @@
 use Rattle.std.proofs.Common.{◌∙◌, ◌+◌, ap, drop, sym}
-use Rattle.crate_tables.proofs.StepLemmas.{next-of}
+use Rattle.crate_tables.specs.Steps.{next-of}
 use Rattle.crate_tables.proofs.TextualLemmas.{table-stays}
 use Rattle.crate_tables.specs.TextualMacros.{with_scopes_from}
 use Rattle.crate_tables.proofs.textual_macros.add_textual_macros.Goals as goal

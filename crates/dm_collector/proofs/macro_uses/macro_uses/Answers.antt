@@ -1,6 +1,6 @@
 use Rattle.std.proofs.Common.{◌≡◌, ◌+◌, ◌++◌, ◌∙◌, [], ◌∷◌, List, ap, append_assoc, drop, sym}
 use Rattle.crate_items.specs.CrateGraphs.{Data}
-use Rattle.crate_tables.proofs.StepLemmas.{next-in}
+use Rattle.crate_tables.specs.Steps.{next-in}
 use Rattle.dm_base.specs.declared.ids.Crate.{Crate}
 use Rattle.dm_collector.specs.MacroUses.{macro_uses, uses_of}
 use Rattle.dm_collector.proofs.macro_uses.macro_uses.Goals as goal

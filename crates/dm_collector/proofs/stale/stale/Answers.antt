@@ -2,7 +2,7 @@ use Rattle.std.proofs.Common.{◌∙◌, ◌+◌, ◌++◌, [], ◌∷◌, List,
 use Rattle.std.proofs.lemmas.List.{append-nil, drop_all}
 use Rattle.std.proofs.lemmas.List.Elements.{Contains-get_or}
 use Rattle.std.specs.List.{Contains}
-use Rattle.crate_tables.proofs.StepLemmas.{next-of}
+use Rattle.crate_tables.specs.Steps.{next-of}
 use Rattle.dm_collector.proofs.ReachLemmas.{unknown-passed}
 use Rattle.dm_collector.specs.StaleBindings.{AreStale}
 use Rattle.dm_collector.specs.declared.sources.GlobImport.{GlobImport}

@@ -3,4 +3,4 @@ use Rattle.dm_retry.specs.Index.{IsKept}
 use Rattle.dm_retry.proofs.worklist.built.Given as goal
 
 abbrev pub invariant-loop-k : goal.invariant-loop-k
-invariant-loop-k g l = IsKept g.I.Unresolved.reading l.index.entries l.dirty (take l.k l.imports)
+invariant-loop-k l = IsKept l.index.entries l.dirty (take l.k l.imports)

@@ -3,7 +3,7 @@ use Rattle.std.specs.List.{cons_option}
 use Rattle.crate_tables.proofs.ContainerLemmas.{option-first}
 use Rattle.crate_tables.specs.Containers.{impl_of, impls_from}
 use Rattle.crate_tables.specs.declared.assoc_items.containers.Container.{Container}
-use Rattle.crate_tables.proofs.StepLemmas.{next-copied}
+use Rattle.crate_tables.specs.Steps.{next-copied}
 use Rattle.crate_tables.specs.declared.item_place.BlockKind.TheVariants.{TraitImpl}
 use Rattle.crate_tables.specs.declared.item_place.BlockPlace.{BlockPlace}
 use Rattle.crate_tables.proofs.assoc_items.containers.push_impls.Goals as goal

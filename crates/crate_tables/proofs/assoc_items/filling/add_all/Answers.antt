@@ -2,7 +2,7 @@ use Rattle.std.proofs.Common.{◌≡◌, ◌+◌, ◌∙◌, List, ap, get_or, l
 use Rattle.crate_tables.proofs.FillLemmas.{next-added}
 use Rattle.crate_tables.specs.AssocItems.{Filled}
 use Rattle.crate_tables.proofs.GrownLemmas.{grown-further}
-use Rattle.crate_tables.proofs.StepLemmas.{next-of}
+use Rattle.crate_tables.specs.Steps.{next-of}
 use Rattle.crate_tables.specs.declared.item_place.BlockPlace.{BlockPlace}
 use Rattle.crate_tables.proofs.assoc_items.filling.add_all.Goals as goal
 

@@ -1,6 +1,6 @@
 use Rattle.std.proofs.Common.{◌∙◌, ◌+◌, ap, drop, sym}
 use Rattle.crate_tables.proofs.GrownLemmas.{grown-further}
-use Rattle.crate_tables.proofs.StepLemmas.{next-copied}
+use Rattle.crate_tables.specs.Steps.{next-copied}
 use Rattle.crate_tables.specs.AssocItems.{Filled, with_rows}
 use Rattle.crate_items.specs.declared.items.module_items.ModuleItem.{ModuleItem}
 use Rattle.crate_tables.proofs.assoc_items.items.add_rows.Goals as goal

@@ -1,7 +1,7 @@
 use Rattle.std.proofs.Common.{◌≡◌, ◌&&◌, ℕ, length, not, nat_eq}
 use Rattle.dm_retry.specs.Index.{has_place}
-use Rattle.dm_retry.specs.Unresolved.{among}
 use Rattle.dm_base.specs.Names.{Name}
+use Rattle.dm_maps.specs.Cut.{among}
 use Rattle.dm_retry.proofs.worklist.index.remove_names.Given as goal
 
 abbrev pub invariant-names : goal.invariant-names

@@ -1,8 +1,8 @@
 #!/usr/bin/env python3
 """Generates random worlds with questions, as scripts for `defmap_tool` (docs/SCRIPT.md), over the whole language but `rules`.
 
-usage: tools/worlds.py SEED
-       tools/worlds.py --check [--bin FOLDER] [--count N]
+usage: tools/differential/worlds.py SEED
+       tools/differential/worlds.py --check [--bin FOLDER] [--count N]
 
 prints the script of a seed. The same seed gives the same script.
 
@@ -18,7 +18,7 @@ import sys
 from collections import Counter
 
 sys.dont_write_bytecode = True
-sys.path.append(os.path.dirname(os.path.abspath(__file__)))
+sys.path.append(os.path.dirname(os.path.dirname(os.path.abspath(__file__))))
 from judging import Tally, built
 from scoping import TYPES, World, module_of
 
@@ -404,7 +404,7 @@ def check(program, count):
 
 
 def main():
-    words = argparse.ArgumentParser(usage="tools/worlds.py SEED\n       tools/worlds.py --check [--bin FOLDER] [--count N]")
+    words = argparse.ArgumentParser(usage="tools/differential/worlds.py SEED\n       tools/differential/worlds.py --check [--bin FOLDER] [--count N]")
     words.add_argument("seed", nargs="?")
     words.add_argument("--check", action="store_true")
     words.add_argument("--bin")

@@ -11,7 +11,7 @@ from judging import ROOT
 from real_answers import ATTRIBUTES, BEHIND, INJECTED, TESTS
 
 PAGE = f"{ROOT}/docs/REAL-CRATES.md"
-SHARES = f"{ROOT}/tools/real-crates.shares"
+SHARES = f"{ROOT}/tools/real-crates/shares"
 
 
 @dataclass
@@ -165,7 +165,7 @@ def version():
 
 HEAD = """# Compared with rustc over real crates
 
-`tools/real-crates --page` wrote this page: what it ran, what agrees, and how long each side took. The crates are of
+`tools/real-crates/compare --page` wrote this page: what it ran, what agrees, and how long each side took. The crates are of
 Debian 12: of its packages, with their default features, and of its `rust-src`; it is {version} that they are compared
 with. {crates} crates have {imports} named imports and {globs} globs outside macros and bodies. Of which build the
 program was, and what is proved of it, [PROGRAM.md](PROGRAM.md) tells.
@@ -175,7 +175,7 @@ Each leaf of each `use`, private ones and globs too, is compared in each namespa
 that `defmap tree` or rustc could bind there, or of more than 400 as many at even distances: a probe in a copy of the
 crate imports all of them, and both sides tell what each import means, so that a name that one side does not bind is
 absent on the other. *Unknown* is what leads nowhere and a macro may bring; how much of each crate that may be stands in
-`tools/real-crates.shares`. *By macros* are the imports in modules that a macro brings.
+`tools/real-crates/shares`. *By macros* are the imports in modules that a macro brings.
 """
 
 TIMES = """## Time and memory
