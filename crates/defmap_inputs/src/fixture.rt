@@ -86,11 +86,18 @@ fn whole<'a>(alloc: Global, text: &str) -> Result<Vec<FixtureFile<'a>>, AllocErr
     Ok(files)
 }
 
-/// Lets the first file of a usual path be the root of a crate `main`, if no file is a root.
-fn name_root(files: &mut [FixtureFile<'_>]) {
-    if files.iter().any(|file| file.head.name.is_some()) {
-        return;
+/// Whether a file is the root of a crate.
+fn has_root(files: &[FixtureFile<'_>]) -> bool {
+    for file in files {
+        if file.head.name.is_some() {
+            return true;
+        }
     }
+    false
+}
+
+/// Lets the first file of a usual path be the root of a crate `main`.
+fn name_root(files: &mut [FixtureFile<'_>]) {
     for file in files {
         if matches!(file.head.path, "main.rs" | "lib.rs") {
             file.head.name = Some("main");
@@ -105,7 +112,9 @@ fn files_of<'a>(alloc: Global, text: &'a str) -> Result<Vec<FixtureFile<'a>>, Fa
         return Ok(whole(alloc, text)?);
     }
     let mut files = parted(alloc, text)?;
-    name_root(files.as_mut_slice());
+    if !has_root(files.as_slice()) {
+        name_root(files.as_mut_slice());
+    }
     Ok(files)
 }
 

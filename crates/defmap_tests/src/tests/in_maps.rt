@@ -1,17 +1,19 @@
-//! What is told of the crates of a fixture in their def maps, read back from there; and the files that they lack.
-use crate::left::{Settled, items_of};
-use crate::macro_view::calls_of;
+//! What is told of crates in their def maps, read back from there; and the files that they lack.
+use crate::tests::same;
 use crate_items::files::crate_data::CrateData;
 use crate_items::files::crate_graph::CrateGraph;
-use crate_items::files::file_table::FileTable;
+use crate_items::files::file_table::{AddFileError, FileTable};
+use crate_items::items::declared_item::{DeclaredItem, declared_items};
+use crate_items::items::module_items::module_items;
 use crate_items::modules::CrateModules;
+use crate_tables::crate_filling::Reading;
 use crate_tables::crate_table::CrateTable;
 use crate_tables::item_place::UsePlace;
 use def_diagnostics::declarations::declaration_faults;
 use def_diagnostics::diagnostic::Diagnostic;
 use def_diagnostics::item_modules::MappedCrate;
 use def_diagnostics::lines::lines;
-use def_diagnostics::macro_calls::unresolved_macro_calls;
+use def_diagnostics::macro_calls::{MacroCall, macro_calls, unresolved_macro_calls};
 use def_diagnostics::map_diagnostics::add_diagnostics;
 use def_diagnostics::message::Message;
 use def_diagnostics::missing_files::missing_files;
@@ -22,13 +24,76 @@ use def_diagnostics::told_places::told_place;
 use def_diagnostics::unconfigured::unconfigured;
 use def_diagnostics::unresolved_globs::unresolved_globs;
 use def_diagnostics::unresolved_imports::unresolved_imports;
-use dm_base::ids::Crate;
+use dm_base::ids::{Crate, FileId};
+use dm_base::source::Edition;
+use dm_collector::collect::{Collected, collect};
 use dm_maps::world::World;
 use dm_maps::world::maps_of::{AskWorld, crate_def_map};
 use dm_retry::retry::Retry;
 use dm_scope::diagnostics::{DefDiagnostic, DefDiagnosticKind};
+use item_tree::cfg::CfgOptions;
 use std::alloc::{AllocError, Global};
 use std::fmt::Write;
+use std::test::Fail;
+
+/// How many modules a crate may have, and how many rounds its imports may take.
+const LIMIT: u32 = 8_192;
+
+/// Crates, collected.
+struct Settled {
+    files: FileTable,
+    graph: CrateGraph,
+    collected: Collected,
+}
+
+/// A hand-written `Drop`, to keep proofs small: what drops one has one call to prove.
+impl Drop for Settled {
+    fn drop(self) {
+        let Settled {
+            files: _files,
+            graph: _graph,
+            collected: _collected,
+        } = self;
+    }
+}
+
+impl Settled {
+    fn world(&self) -> &World {
+        self.collected.retry.world()
+    }
+}
+
+/// The items of a crate.
+fn items_of(
+    alloc: Global,
+    krate: &CrateData,
+    list: &CrateModules,
+    files: &FileTable,
+) -> Result<Vec<DeclaredItem>, AllocError> {
+    let rows = module_items(alloc, list)?;
+    declared_items(alloc, krate.edition(), list, files, rows.as_slice())
+}
+
+/// The macro calls of the crate of a number.
+fn calls_of(alloc: Global, settled: &Settled, number: usize) -> Result<Vec<MacroCall>, AllocError> {
+    let collected = &settled.collected;
+    let (Some(krate), Some(list), Some(table)) = (
+        settled.graph.crates().get(number),
+        collected.lists.get(number),
+        collected.tables.get(number),
+    ) else {
+        return Ok(Vec::new(alloc));
+    };
+    let items = items_of(alloc, krate, list, &settled.files)?;
+    macro_calls(
+        alloc,
+        settled.world(),
+        list,
+        &settled.files,
+        table.ids(),
+        items.as_slice(),
+    )
+}
 
 /// Adds more diagnostics.
 fn push_all(found: &mut Vec<Diagnostic>, more: Vec<Diagnostic>) -> Result<(), AllocError> {
@@ -284,7 +349,126 @@ fn lines_of(alloc: Global, settled: &Settled, calls: &[CallPlace]) -> Result<Str
 }
 
 /// The same, once what is told is added to the def maps.
-pub(crate) fn in_maps(alloc: Global, settled: &mut Settled) -> Result<String, AllocError> {
+fn in_maps(alloc: Global, settled: &mut Settled) -> Result<String, AllocError> {
     let calls = placed(alloc, settled)?;
     lines_of(alloc, settled, calls.as_slice())
+}
+
+/// Files of these paths with these texts.
+fn files_of(alloc: Global, texts: &[(&str, &str)]) -> Result<FileTable, AllocError> {
+    let mut files = FileTable::new(alloc);
+    for (path, text) in texts {
+        let path = Vec::from_slice(alloc, path.as_bytes())?;
+        let text = Vec::from_slice(alloc, text.as_bytes())?;
+        match files.add(path, text) {
+            Ok(_) | Err(AddFileError::PathExists) => {}
+            Err(AddFileError::OutOfMemory) => return Err(AllocError),
+        }
+    }
+    Ok(files)
+}
+
+/// So many crates, whose roots are the first files.
+fn graph_of(alloc: Global, count: u32) -> Result<CrateGraph, AllocError> {
+    let mut graph = CrateGraph::new(alloc);
+    for number in 0..count {
+        graph.add_crate(CrateData::new(
+            FileId(number),
+            Edition::Edition2021,
+            CfgOptions::new(alloc),
+            false,
+            Vec::new(alloc),
+        ))?;
+    }
+    Ok(graph)
+}
+
+/// So many crates of these files, collected. None where that fails.
+fn collected_of(
+    alloc: Global,
+    count: u32,
+    texts: &[(&str, &str)],
+) -> Result<Option<Settled>, AllocError> {
+    let files = files_of(alloc, texts)?;
+    let graph = graph_of(alloc, count)?;
+    let reading = Reading {
+        files: &files,
+        limit: LIMIT,
+    };
+    match collect(alloc, &graph, &reading, LIMIT) {
+        Err(_fault) => Ok(None),
+        Ok(collected) => Ok(Some(Settled {
+            files,
+            graph,
+            collected,
+        })),
+    }
+}
+
+/// What the def maps of so many crates of these files have, in lines.
+fn told_in(alloc: Global, count: u32, texts: &[(&str, &str)]) -> Result<String, AllocError> {
+    match collected_of(alloc, count, texts)? {
+        None => String::from_str(alloc, "failed"),
+        Some(mut settled) => in_maps(alloc, &mut settled),
+    }
+}
+
+/// Something of each kind, in two crates.
+const EACH_KIND: [(&'static str, &'static str); 3] = [
+    (
+        "main.rs",
+        "mod a;\nextern crate gone;\nuse b::{X, Y};\nuse none::*;\nmissing! {}\nmod b {\n    use super::Z;\n\
+\u{20}   mod d;\n    #[cfg(no)]\n    fn f() {}\n    lost! {}\n    pub(in crate::a) struct S;\n\
+\u{20}   fn h() {}\n    fn h() {}\n}\ntrait T { #[cfg(no)] fn g(); }\n\
+extern \"C\" { #[cfg(no)] fn i(); }\n#[cfg(no)]\nmod e;\n",
+    ),
+    ("dep.rs", "mod c;\none::two! {}\n"),
+    (
+        "c.rs",
+        "#[cfg(no)]\nstruct S;\n#[path = \"x.rs\"]\nmod g;\nmod h { #[cfg(no)] use a::B; }\n",
+    ),
+];
+
+/// What is told of these: each kind that def maps have comes back to its line; no second declaration, and no visibility.
+const TOLD: &'static str = "main.rs:1:1: module 0: no module at a.rs a/mod.rs\n\
+main.rs:2:1: module 0: no extern crate\n\
+main.rs:3:9: module 0: no import, use tree 1\n\
+main.rs:3:12: module 0: no import, use tree 2\n\
+main.rs:4:5: module 0: no import, use tree 0\n\
+main.rs:5:1: module 0: no macro missing\n\
+main.rs:7:9: module 2: no import, use tree 0\n\
+main.rs:8:5: module 2: no module at b/d.rs b/d/mod.rs\n\
+main.rs:9:5: module 2: condition 11 under options 0\n\
+main.rs:11:5: module 2: no macro lost\n\
+main.rs:17:14: module 0: condition 17 under options 0\n\
+main.rs:18:1: module 0: condition 8 under options 0\n\
+dep.rs:2:1: module 1: no macro one::two\n\
+c.rs:1:1: module 3: condition 0 under options 1\n\
+c.rs:3:1: module 3: no module at x.rs\n\
+c.rs:5:9: module 4: condition 3 under options 1\n\
+to be read: a.rs\nto be read: a/mod.rs\nto be read: b/d.rs\nto be read: b/d/mod.rs\nto be read: x.rs\n";
+
+/// A module of two files, of which none is to be read, and one of a file within itself.
+const TWO_FILES: [(&'static str, &'static str); 3] = [
+    (
+        "main.rs",
+        "mod a;\n#[path = \"main.rs\"]\nmod own;\nfn f() {}\nfn f() {}\n",
+    ),
+    ("a.rs", ""),
+    ("a/mod.rs", ""),
+];
+
+#[test]
+fn what_is_told_comes_back_to_its_lines(rt: HostRuntime) -> Result<(), Fail> {
+    let found = told_in(rt.alloc(), 2, &EACH_KIND)?;
+    same(&rt, &found.as_str(), &TOLD);
+    Ok(())
+}
+
+#[test]
+fn of_two_files_none_is_to_be_read(rt: HostRuntime) -> Result<(), Fail> {
+    let found = told_in(rt.alloc(), 1, &TWO_FILES)?;
+    let wanted = "main.rs:1:1: module 0: no module at a.rs a/mod.rs\n";
+    same(&rt, &found.as_str(), &wanted);
+    Ok(())
 }
