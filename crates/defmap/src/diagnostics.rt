@@ -1,5 +1,6 @@
-//! What is told of the crates that are asked about: of their declarations, and of the imports and macro calls that lead
-//! nowhere; and how much in each crate leads nowhere and may be hidden by a macro.
+//! What is told of the crates that are asked about: of their declarations, and of the imports and
+//! macro calls that lead nowhere; and how much in each crate leads nowhere and may be hidden by a
+//! macro.
 use crate::macro_view::{MacroView, calls_of};
 use crate::settled::Settled;
 use crate::unresolved::{leads_nowhere, numbered};
@@ -155,7 +156,8 @@ impl<'a> Teller<'a> {
         push_messages(&mut self.messages, self.alloc, list, inactive.as_slice())
     }
 
-    /// The macro calls of the crate of a number that lead nowhere, without those that a macro may hide, which are counted.
+    /// The macro calls of the crate of a number that lead nowhere, without those that a macro may
+    /// hide, which are counted.
     fn wrong_calls(&mut self, number: usize) -> Result<Vec<MacroCall>, AllocError> {
         let mut wrong = Vec::new(self.alloc);
         for call in calls_of(self.alloc, self.settled, number)? {

@@ -140,7 +140,8 @@ impl<'s, 'h, 'l, 'f> Listing<'s, 'h, 'l, 'f> {
         Ok(())
     }
 
-    /// Adds the glob by which a crate names its prelude, which is none of the globs that bring names.
+    /// Adds the glob by which a crate names its prelude, which is none of the globs that bring
+    /// names.
     fn add_prelude(&mut self, krate: Crate) -> Result<(), AllocError> {
         if let Some(found) = prelude_use(self.alloc, self.settled, krate)? {
             let leaf = (found.use_, found.glob.tree);
@@ -197,7 +198,8 @@ fn listed(lines: &Lines<'_>, hidden: &Hidden<'_>) -> Result<String, AllocError> 
     Ok(listing.into_text())
 }
 
-/// What each import of the crates that are asked about means, the named ones first, and those that name preludes last.
+/// What each import of the crates that are asked about means, the named ones first, and those that
+/// name preludes last.
 pub(crate) fn imports_text(
     alloc: Global,
     settled: &Settled,

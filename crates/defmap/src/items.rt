@@ -1,4 +1,5 @@
-//! What is read of one file: its tokens, items, members, use trees, attributes, predicates or syntax errors, in lines.
+//! What is read of one file: its tokens, items, members, use trees, attributes, predicates or
+//! syntax errors, in lines.
 ghost use Rattle.item_tree.specs.Children.{ByParent};
 
 mod attributes;

@@ -1,5 +1,5 @@
-//! Resolves the names of a crate of the user's: its modules and what each binds, what a path means, what leads nowhere; and
-//! prints what is read of one file.
+//! Resolves the names of a crate of the user's: its modules and what each binds, what a path means,
+//! what leads nowhere; and prints what is read of one file.
 #![tactic(auto)]
 
 mod answer;

@@ -113,7 +113,8 @@ fn settle_all(
     Err(NotSettled::Unsettled)
 }
 
-/// Settles what was collected, lists the names that are unresolved then, and settles again. Answers with what that took.
+/// Settles what was collected, lists the names that are unresolved then, and settles again. Answers
+/// with what that took.
 fn settle_whole(alloc: Global, collected: &mut Collected) -> Result<Effort, NotSettled> {
     let mut effort = Effort {
         rounds: 0,

@@ -119,7 +119,8 @@ impl Unresolved {
         }
     }
 
-    /// Adds the named imports of the crates that are asked about, and counts the unknown ones of all crates.
+    /// Adds the named imports of the crates that are asked about, and counts the unknown ones of
+    /// all crates.
     fn add_named(&mut self, hidden: &Hidden<'_>) -> Result<(), AllocError> {
         let settled = hidden.settled();
         let retry = &settled.collected.retry;
@@ -175,7 +176,8 @@ impl Unresolved {
         Ok(())
     }
 
-    /// Adds the macro calls of these crates that lead nowhere, and counts the unknown ones of all crates.
+    /// Adds the macro calls of these crates that lead nowhere, and counts the unknown ones of all
+    /// crates.
     fn add_calls(&mut self, hidden: &Hidden<'_>, homes: &[MacroHome]) -> Result<(), AllocError> {
         let settled = hidden.settled();
         for call in homes {

@@ -225,7 +225,8 @@ fn given_externs<'a>(
     extern_words(alloc, words.as_slice())
 }
 
-/// What the words of a subcommand say. Fails where one says nothing that it may say, and where memory runs out.
+/// What the words of a subcommand say. Fails where one says nothing that it may say, and where
+/// memory runs out.
 pub fn read_arguments<'a>(
     alloc: Global,
     name: &str,

@@ -53,7 +53,8 @@ const OPTIONS: [ValueOption; 7] = [
     ValueOption {
         id: "build",
         shown: "FILE",
-        help: "What `cargo check --message-format json` prints, beside --metadata: the options that build scripts set",
+        help: "What `cargo check --message-format json` prints, beside --metadata: \
+the options that build scripts set",
         action: ArgAction::Set,
     },
     ValueOption {
@@ -68,7 +69,9 @@ const OPTIONS: [ValueOption; 7] = [
 const FIXTURE: ValueOption = ValueOption {
     id: "fixture",
     shown: "FILE",
-    help: "Crates in one text, - for standard input: before each file a line //- /PATH, and behind the path of a root crate:NAME and, as needed, deps:A,NAME=B extern-prelude:A edition:2021 cfg:A,B=C proc-macro; edition 2021 where nothing is said",
+    help: "Crates in one text, - for standard input: before each file a line //- /PATH, \
+and behind the path of a root crate:NAME and, as needed, deps:A,NAME=B extern-prelude:A \
+edition:2021 cfg:A,B=C proc-macro; edition 2021 where nothing is said",
     action: ArgAction::Set,
 };
 
@@ -112,7 +115,8 @@ const FLAGS: [FlagOption; 3] = [
     },
     FlagOption {
         id: "lists",
-        help: "Prints what modules hold without a name, procedural macros and associated items, too",
+        help: "Prints what modules hold without a name, procedural macros, and \
+associated items, too",
     },
 ];
 
@@ -170,7 +174,8 @@ fn fixture<'a>(alloc: Global) -> Result<Arg<'a>, AllocError> {
     value(alloc, &FIXTURE).conflicts_with_all(&NOT_BESIDE_FIXTURE)
 }
 
-/// A command with one more argument, unless that failed. What is held at an exit costs its proof: this has one.
+/// A command with one more argument, unless that failed. What is held at an exit costs its proof:
+/// this has one.
 fn with_arg<'a>(
     command: Command<'a>,
     arg: Result<Arg<'a>, AllocError>,
@@ -243,7 +248,8 @@ fn items_command<'a>(alloc: Global) -> Result<Command<'a>, AllocError> {
     with_tables(alloc, command)
 }
 
-/// A command with one more subcommand, unless that failed. What is held at an exit costs its proof: this has one.
+/// A command with one more subcommand, unless that failed. What is held at an exit costs its proof:
+/// this has one.
 fn with_subcommand<'a>(
     command: Command<'a>,
     subcommand: Result<Command<'a>, AllocError>,

@@ -91,9 +91,9 @@ fn in_graph(
     })
 }
 
-/// Reads all that the command line names. Fails where the root of the crate that is asked about is not read, or a
-/// fixture, where a word of the command line or a file says nothing that it may say, and where memory runs out. What else
-/// is not read is complained of.
+/// Reads all that the command line names. Fails where the root of the crate that is asked about is
+/// not read, or a fixture, where a word of the command line or a file says nothing that it may say,
+/// and where memory runs out. What else is not read is complained of.
 pub fn read_crates<R: Files + Input + AllocGlobal>(
     rt: &R,
     given: &Arguments<'_>,

@@ -1,8 +1,9 @@
 //! Fixtures: crates with all their files in one text, in rust-analyzer's own form.
 //!
-//! A line `//- /PATH WORD..` begins a file, whose text is the lines up to the next such line. `crate:NAME` makes the file
-//! the root of a crate, and what further words say of that stands at `Head`. Where no line has `crate:`, the first file
-//! `/main.rs` or `/lib.rs` is the root of a crate `main`; where no line begins a file, the text is that file.
+//! A line `//- /PATH WORD..` begins a file, whose text is the lines up to the next such line.
+//! `crate:NAME` makes the file the root of a crate, and what further words say of that stands at
+//! `Head`. Where no line has `crate:`, the first file `/main.rs` or `/lib.rs` is the root of a
+//! crate `main`; where no line begins a file, the text is that file.
 mod fault;
 mod head;
 mod plans;
@@ -36,7 +37,8 @@ impl<'a> Drop for FixtureFile<'a> {
     }
 }
 
-/// Adds a line: it begins a file, or belongs to the last one. Before the first it may only be blank.
+/// Adds a line: it begins a file, or belongs to the last one. Before the first it may only be
+/// blank.
 fn add_line<'a>(
     files: &mut Vec<FixtureFile<'a>>,
     alloc: Global,
@@ -182,8 +184,8 @@ fn parsed<'a>(alloc: Global, text: &'a str) -> Result<Inputs, Fault<'a>> {
     inputs_of(alloc, files.as_slice())
 }
 
-/// Reads a fixture. Fails where it is not read, where a line of it says nothing that it may say, and where memory runs
-/// out.
+/// Reads a fixture. Fails where it is not read, where a line of it says nothing that it may say,
+/// and where memory runs out.
 pub(crate) fn read_fixture<R: Files + Input + AllocGlobal>(
     rt: &R,
     path: &str,

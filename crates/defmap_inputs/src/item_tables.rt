@@ -19,7 +19,8 @@ pub enum ItemTable {
     Uses,
     /// Each attribute, and how many errors and conditions there are.
     Attributes,
-    /// Of each item how many attributes it has, and whether they leave it there; the same of the inner ones in its body.
+    /// Of each item how many attributes it has, and whether they leave it there; the same of the
+    /// inner ones in its body.
     ItemAttributes,
     /// Each line, and whether it holds as a predicate.
     Predicates,
@@ -73,7 +74,8 @@ pub(crate) const TABLES: [TableWord; 10] = [
     },
     TableWord {
         id: "item-attributes",
-        help: "Of each item how many attributes it has, and whether they leave it there; the same of its inner ones",
+        help: "Of each item how many attributes it has, and whether they leave it there; \
+the same of its inner ones",
         table: ItemTable::ItemAttributes,
     },
     TableWord {

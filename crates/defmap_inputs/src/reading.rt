@@ -87,8 +87,8 @@ pub(crate) fn needed_text<R: Files + AllocGlobal>(rt: &R, path: &str) -> Result<
     needed(rt.alloc(), path, file_text(rt, path))
 }
 
-/// The text of a file that has to be there; `-` is the standard input. Fails where it is not read, and where memory runs
-/// out.
+/// The text of a file that has to be there; `-` is the standard input. Fails where it is not read,
+/// and where memory runs out.
 pub fn given_text<R: Files + Input + AllocGlobal>(rt: &R, path: &str) -> Result<String, Failure> {
     let read = if path == "-" {
         input_text(rt)

@@ -1,5 +1,5 @@
-//! The attributes of a text: what each says, with its string, or the words that the items of its list begin with; whether it is
-//! an inner one, and whether its condition leaves it out.
+//! The attributes of a text: what each says, with its string, or the words that the items of its
+//! list begin with; whether it is an inner one, and whether its condition leaves it out.
 use crate::items::Manner;
 use item_tree::attributes::attribute_kind::{AttributeKind, lexemes_in};
 use item_tree::attributes::attribute_lists::{helper_list, list_items};
@@ -48,7 +48,8 @@ fn may_be(options: &CfgOptions, text: &[u8], table: &Attributes, kind: Attribute
     }
 }
 
-/// Adds the name that an item of a list begins with, and a word for each helper of a `proc_macro_derive`.
+/// Adds the name that an item of a list begins with, and a word for each helper of a
+/// `proc_macro_derive`.
 fn push_list_item(
     out: &mut String,
     alloc: Global,

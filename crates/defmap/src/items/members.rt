@@ -1,5 +1,5 @@
-//! The members of structs, unions and enums: each with its visibility, the first lexeme of its name or type, whether that is a
-//! name, and the shape of its own fields.
+//! The members of structs, unions and enums: each with its visibility, the first lexeme of its name
+//! or type, whether that is a name, and the shape of its own fields.
 use crate::items::parsed::{Parsed, lexeme_text};
 use item_tree::items::fields::item_fields;
 use item_tree::items::item_kind::ItemKind;

@@ -1,4 +1,5 @@
-//! The use trees of the `use` items of a text: each with the number of the list that it stands in, its text, and what it imports.
+//! The use trees of the `use` items of a text: each with the number of the list that it stands in,
+//! its text, and what it imports.
 use crate::items::parsed::{Parsed, lexeme_text, text_in};
 use item_tree::ids::use_tree_range;
 use item_tree::items::imports::{import_kind, import_path};

@@ -5,7 +5,8 @@ use dm_base::mod_path::PathKind;
 use std::alloc::{AllocError, Global};
 use std::test::Fail;
 
-/// Whether the world of a text is settled, and in which namespaces its root binds `S`. None where it is not collected.
+/// Whether the world of a text is settled, and in which namespaces its root binds `S`. None where
+/// it is not collected.
 fn told(alloc: Global, text: &str) -> Result<Option<(bool, bool, bool, bool)>, AllocError> {
     let path = super::path(alloc, PathKind::Plain, &["S"])?;
     let text = Vec::from_slice(alloc, text.as_bytes())?;

@@ -417,8 +417,8 @@ fn told_in(alloc: Global, count: u32, texts: &[(&str, &str)]) -> Result<String, 
 const EACH_KIND: [(&'static str, &'static str); 3] = [
     (
         "main.rs",
-        "mod a;\nextern crate gone;\nuse b::{X, Y};\nuse none::*;\nmissing! {}\nmod b {\n    use super::Z;\n\
-\u{20}   mod d;\n    #[cfg(no)]\n    fn f() {}\n    lost! {}\n    pub(in crate::a) struct S;\n\
+        "mod a;\nextern crate gone;\nuse b::{X, Y};\nuse none::*;\nmissing! {}\nmod b {\n\
+\u{20}   use super::Z;\n    mod d;\n    #[cfg(no)]\n    fn f() {}\n    lost! {}\n    pub(in crate::a) struct S;\n\
 \u{20}   fn h() {}\n    fn h() {}\n}\ntrait T { #[cfg(no)] fn g(); }\n\
 extern \"C\" { #[cfg(no)] fn i(); }\n#[cfg(no)]\nmod e;\n",
     ),
@@ -429,7 +429,8 @@ extern \"C\" { #[cfg(no)] fn i(); }\n#[cfg(no)]\nmod e;\n",
     ),
 ];
 
-/// What is told of these: each kind that def maps have comes back to its line; no second declaration, and no visibility.
+/// What is told of these: each kind that def maps have comes back to its line; no second
+/// declaration, and no visibility.
 const TOLD: &'static str = "main.rs:1:1: module 0: no module at a.rs a/mod.rs\n\
 main.rs:2:1: module 0: no extern crate\n\
 main.rs:3:9: module 0: no import, use tree 1\n\
@@ -446,7 +447,8 @@ dep.rs:2:1: module 1: no macro one::two\n\
 c.rs:1:1: module 3: condition 0 under options 1\n\
 c.rs:3:1: module 3: no module at x.rs\n\
 c.rs:5:9: module 4: condition 3 under options 1\n\
-to be read: a.rs\nto be read: a/mod.rs\nto be read: b/d.rs\nto be read: b/d/mod.rs\nto be read: x.rs\n";
+to be read: a.rs\nto be read: a/mod.rs\n\
+to be read: b/d.rs\nto be read: b/d/mod.rs\nto be read: x.rs\n";
 
 /// A module of two files, of which none is to be read, and one of a file within itself.
 const TWO_FILES: [(&'static str, &'static str); 3] = [
