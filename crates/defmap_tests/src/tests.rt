@@ -16,7 +16,9 @@ macro_rules! again {
     };
 }
 
+mod answers;
 mod base;
+mod in_maps;
 mod rounds;
 mod scopes;
 mod worlds;
