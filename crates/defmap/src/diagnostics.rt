@@ -74,17 +74,18 @@ impl<'a> Teller<'a> {
         use_: UseId,
         idx: UseTreeIdx,
     ) -> Result<(), AllocError> {
-        let Some(place) = self.settled.use_place(use_).copied() else {
+        let settled = self.settled;
+        let Some(place) = settled.use_place(use_).copied() else {
             return Ok(());
         };
-        if !self.settled.is_asked(numbered(place.krate)) {
+        if !settled.is_asked(numbered(place.krate)) {
             return Ok(());
         }
         if is_hidden {
             self.count_unknown(place.krate);
             return Ok(());
         }
-        let Some(list) = self.settled.lists().get(place.krate) else {
+        let Some(list) = settled.lists().get(place.krate) else {
             return Ok(());
         };
         let diagnostic = Diagnostic {
@@ -185,7 +186,8 @@ impl<'a> Teller<'a> {
         number: usize,
         list: &CrateModules,
     ) -> Result<(), AllocError> {
-        if let Some(items) = self.settled.items().get(number) {
+        let settled = self.settled;
+        if let Some(items) = settled.items().get(number) {
             self.add_faults(graph, number, list, items.as_slice())?;
             self.add_inactive(list, items.as_slice())?;
         }
@@ -194,8 +196,9 @@ impl<'a> Teller<'a> {
 
     /// Adds what is told of the crates, import by import and call by call.
     fn add_crates(&mut self, graph: &CrateGraph) -> Result<(), AllocError> {
-        for (number, list) in self.settled.lists().iter().enumerate() {
-            if self.settled.is_asked(numbered(number)) {
+        let settled = self.settled;
+        for (number, list) in settled.lists().iter().enumerate() {
+            if settled.is_asked(numbered(number)) {
                 self.add_crate(graph, number, list)?;
             }
         }

@@ -171,7 +171,11 @@ fn unless_fixture<'a>(word: Arg<'a>) -> Result<Arg<'a>, AllocError> {
 
 /// The option of a fixture.
 fn fixture<'a>(alloc: Global) -> Result<Arg<'a>, AllocError> {
-    value(alloc, &FIXTURE).conflicts_with_all(&NOT_BESIDE_FIXTURE)
+    let mut word = value(alloc, &FIXTURE);
+    for other in &NOT_BESIDE_FIXTURE {
+        word = word.conflicts_with(*other)?;
+    }
+    Ok(word)
 }
 
 /// A command with one more argument, unless that failed. What is held at an exit costs its proof:
