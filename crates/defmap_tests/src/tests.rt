@@ -19,6 +19,7 @@ macro_rules! again {
 mod answers;
 mod base;
 mod in_maps;
+mod listings;
 mod rounds;
 mod scopes;
 mod worlds;
