@@ -1,0 +1,156 @@
+"""Compares what rustc and `defmap` say of a graph of crates, and makes small what differs."""
+import random
+from dataclasses import dataclass, field
+
+from asking import ask_both, ask_rustc, write_files
+from crate_model import Module, Use, item_lists, numbers_of, reordered, without
+import copy
+import tempfile
+
+# In how many orders rustc is asked again where something differs: reversed, then shuffled.
+ORDERS = 4
+UNKNOWN = "unknown to defmap"
+
+
+@dataclass
+class Outcome:
+    """How the answers about a graph compare."""
+
+    graph: object
+    theirs: object
+    ours: object
+    compared: int = 0
+    reasons: dict = field(default_factory=dict)
+    differing: dict = field(default_factory=dict)  # by key: what rustc says, and what defmap says
+    moved: dict = field(default_factory=dict)  # what differs too, but rustc itself answers otherwise in another order
+
+    @property
+    def word(self):
+        if self.ours.fault:
+            return self.ours.fault if self.ours.fault == "hung" else "failed"
+        if self.theirs.codes:
+            return "refused"
+        return "differ" if self.differing else "order-dependent" if self.moved else "equal"
+
+
+def compared(theirs, ours):
+    """The keys that are compared, why others are not, and what differs."""
+    reasons, differing, count = {}, {}, 0
+    for key, meant in theirs.meant.items():
+        reason = theirs.left_out.get(key)
+        if not reason and key in ours.unknown:
+            reason = UNKNOWN
+        if reason:
+            reasons[reason] = reasons.get(reason, 0) + 1
+            continue
+        count += 1
+        mine = ours.meant.get(key)
+        if mine is None or mine != meant:
+            differing[key] = (meant, mine)
+        elif isinstance(key, tuple) and key[0] == key[1]:
+            bound = ours.bound.get(key[1:], set())
+            if bound != set(meant):
+                differing[key] = (meant, {it: ("bound", "by tree") for it in bound})
+    return count, reasons, differing
+
+
+def outcome_of(program, graph):
+    """Compares a graph; where something differs, rustc is asked again with the items in other orders."""
+    theirs, ours = ask_both(program, graph)
+    outcome = Outcome(graph, theirs, ours)
+    if theirs.codes or ours.fault:
+        return outcome
+    outcome.compared, outcome.reasons, outcome.differing = compared(theirs, ours)
+    for number in range(ORDERS if outcome.differing else 0):
+        if outcome.differing:
+            ask_in_order(outcome, number)
+    return outcome
+
+
+def ask_in_order(outcome, number):
+    """Moves what rustc answers otherwise in another order from what differs."""
+    shuffle = random.Random(number).shuffle if number else list.reverse
+    with tempfile.TemporaryDirectory(prefix="random-crates-") as folder:
+        again = ask_rustc(reordered(outcome.graph, shuffle), folder)
+    for key, (meant, _) in list(outcome.differing.items()):
+        if again.codes or key in again.left_out or again.meant.get(key) != meant:
+            outcome.moved[key] = outcome.differing.pop(key)
+
+
+def repaired(graph, theirs):
+    """A graph without what rustc refuses, as far as that is known."""
+    leaves = {leaf.number for items in item_lists(graph) for item in items if isinstance(item, Use)
+              for leaf in item.tree.leaves()}
+    numbers = set(theirs.refused)
+    return without(graph, numbers & leaves or numbers)
+
+
+def accepted(graph, rounds):
+    """A graph without what rustc refuses, where that comes out in so many rounds; and the codes at first."""
+    codes = []
+    for number in range(rounds + 1):
+        with tempfile.TemporaryDirectory(prefix="random-crates-") as folder:
+            theirs = ask_rustc(graph, folder)
+        codes = codes or theirs.codes
+        if not theirs.codes or not theirs.refused or number == rounds:
+            break
+        graph = repaired(graph, theirs)
+    return graph, codes
+
+
+def smaller(graph):
+    """Graphs that are smaller by one step: without some items, then without one, then with simpler ones."""
+    numbers = numbers_of(graph)
+    size = len(numbers) // 2
+    while size:
+        for begin in range(0, len(numbers), size):
+            yield without(graph, set(numbers[begin: begin + size]))
+        size //= 2
+    for place, items in enumerate(item_lists(graph)):
+        for number, item in enumerate(items):
+            if item.visibility not in ("", "pub"):
+                yield changed(graph, place, number, lambda it: setattr(it, "visibility", "pub"))
+            if isinstance(item, Module) and item.file:
+                yield changed(graph, place, number, lambda it: setattr(it, "file", ""))
+
+
+def changed(graph, place, number, change):
+    graph = copy.deepcopy(graph)
+    change(item_lists(graph)[place][number])
+    return graph
+
+
+def shrunk(program, outcome, steps):
+    """An outcome with as little as possible that still differs, or does not end."""
+    word = outcome.word
+    while steps > 0:
+        for graph in smaller(outcome.graph):
+            steps -= 1
+            one = outcome_of(program, graph)
+            if one.word == word:
+                outcome = one
+                break
+            if steps <= 0:
+                break
+        else:
+            break
+    return outcome
+
+
+def shown_key(key, places):
+    if isinstance(key, tuple):
+        viewer, module, name = key
+        return f"{module}::{name}" + (f" from {viewer}" if viewer != module else "")
+    return "import at " + ":".join(map(str, places.get(key, ("?",))))
+
+
+def shown_meant(meant):
+    if meant is None:
+        return "not listed"
+    return ", ".join(f"{it} {' '.join(meant[it])}" for it in sorted(meant)) or "nothing"
+
+
+def shown_differing(differing, places):
+    """The lines that tell what differs."""
+    return [f"{shown_key(key, places)}: rustc: {shown_meant(theirs)}; defmap: {shown_meant(ours)}"
+            for key, (theirs, ours) in sorted(differing.items(), key=lambda it: str(it[0]))]
