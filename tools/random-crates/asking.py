@@ -12,6 +12,8 @@ from real_scopes import trees
 
 SECONDS = 10
 NAMES = 24
+# What random crates name of the standard library; rustc has its own.
+LIBRARY = f"{os.path.dirname(os.path.abspath(__file__))}/library"
 # The lints by which rustc warns that what a name means may change.
 ABOUT_MEANING = {"ambiguous_glob_imports", "ambiguous_import_visibilities", "ambiguous_panic_imports",
                  "ambiguous_glob_imported_traits", "pub_use_of_private_extern_crate",
@@ -26,6 +28,7 @@ class Theirs:
     """What rustc says of a graph."""
 
     codes: list = field(default_factory=list)  # why it is refused
+    texts: list = field(default_factory=list)  # of the errors
     refused: dict = field(default_factory=dict)  # the codes of the errors by the numbers of items and leaves
     meant: dict = field(default_factory=dict)  # by key: of each namespace the kind and the path
     left_out: dict = field(default_factory=dict)  # by key: why it is not compared
@@ -102,14 +105,16 @@ def by_items(writer, errors):
 
 
 def refused(writer, errors):
-    return Theirs(sorted({it.code for it in errors}), by_items(writer, errors))
+    texts = [f"{it.places}: {it.text}" for it in errors]
+    return Theirs(sorted({it.code for it in errors}), texts, by_items(writer, errors))
 
 
-def of_keys(writer, answers):
+def of_keys(graph, writer, answers):
+    """What rustc says by keys; None of what a `cfg` takes away."""
     lost = [key for key, place in writer.places.items() if place not in answers.meant]
-    if lost:
+    if lost and not graph.cfgs:
         raise Wrong(f"rustc prints no meaning of {lost[:5]}")
-    return {key: answers.meant[place] for key, place in writer.places.items()}
+    return {key: answers.meant.get(place) for key, place in writer.places.items()}
 
 
 def ask_rustc(graph, folder):
@@ -129,10 +134,10 @@ def ask_rustc(graph, folder):
     probed = written(graph.main, probes_of(graph))
     write_files(folder, probed.files)
     again = rustc_answers.answers(graph, folder)
-    theirs = Theirs(meant=of_keys(probed, again))
+    theirs = Theirs(meant=of_keys(graph, probed, again))
     theirs.lints = {it.code for it in answers.warnings + again.warnings} & ABOUT_MEANING
     leave_out(theirs, probed, again)
-    for key, meant in of_keys(bare, answers).items():
+    for key, meant in of_keys(graph, bare, answers).items():
         if theirs.meant[key] != meant:
             theirs.left_out[key] = CHANGED
     return theirs
@@ -159,7 +164,7 @@ def in_probe(probed, place):
 
 def options_of(graph):
     """The options of `defmap` for a graph."""
-    words = ["--edition", graph.main.edition]
+    words = ["--edition", graph.main.edition] + ["--sysroot", LIBRARY] * (graph.kind == "rules")
     for cfg in graph.cfgs:
         words += ["--cfg", cfg]
     for crate in graph.crates[:-1]:

@@ -45,10 +45,10 @@ def compared(theirs, ours):
             continue
         count += 1
         mine = ours.meant.get(key)
-        if mine is None or mine != meant:
+        if mine != meant:
             differing[key] = (meant, mine)
-        elif isinstance(key, tuple) and key[0] == key[1]:
-            bound = ours.bound.get(key[1:], set())
+        elif meant is not None and isinstance(key, tuple) and key[0] == key[1]:
+            bound = ours.bound.get(key[1:], set()) if ours.bound else set(meant)
             if bound != set(meant):
                 differing[key] = (meant, {it: ("bound", "by tree") for it in bound})
     return count, reasons, differing
@@ -85,17 +85,13 @@ def repaired(graph, theirs):
     return without(graph, numbers & leaves or numbers)
 
 
-def accepted(graph, rounds):
-    """A graph without what rustc refuses, where that comes out in so many rounds; and the codes at first."""
-    codes = []
-    for number in range(rounds + 1):
-        with tempfile.TemporaryDirectory(prefix="random-crates-") as folder:
-            theirs = ask_rustc(graph, folder)
-        codes = codes or theirs.codes
-        if not theirs.codes or not theirs.refused or number == rounds:
-            break
-        graph = repaired(graph, theirs)
-    return graph, codes
+def outcomes_of(program, graph, rounds):
+    """How a graph compares. Where rustc refuses it, what it refuses is taken away, in so many rounds, until it accepts the
+    rest: each graph is compared, the last one last. `defmap` has to end on each."""
+    found = [outcome_of(program, graph)]
+    while len(found) <= rounds and found[-1].word == "refused" and found[-1].theirs.refused:
+        found.append(outcome_of(program, repaired(found[-1].graph, found[-1].theirs)))
+    return found
 
 
 def smaller(graph):

@@ -104,6 +104,10 @@ class Probe:
     asked: list  # of paths, each with keys and names
 
 
+def folder_of(file):
+    return file.rpartition("/")[0] + "/" if "/" in file else ""
+
+
 class Writer:
     """Writes a crate, and notes where its leaves and the imports of probes begin, and in which row which item stands."""
 
@@ -130,7 +134,7 @@ class Writer:
             self.tree(file, one)
         self.add(file, "}")
 
-    def item(self, file, folder, indent, path, item):
+    def item(self, file, folders, indent, path, item):
         self.add(file, "".join(f"{indent}{it}\n" for it in item.attributes))
         self.add(file, indent + (f"{item.visibility} " if item.visibility else ""))
         self.rows[self.here(file)[:2]] = item.number
@@ -139,32 +143,32 @@ class Writer:
             self.tree(file, item.tree)
             self.add(file, ";\n")
         elif isinstance(item, Module):
-            self.module(file, folder, indent, path + (item.name,), item)
+            self.module(file, folders, indent, path + (item.name,), item)
         else:
             self.add(file, f"{item.before} {item.name}{item.behind}\n")
 
-    def module(self, file, folder, indent, path, module):
+    def module(self, file, folders, indent, path, module):
+        """Writes a module. `folders` are those that a file of a name and one of a path are looked for in."""
         self.add(file, f"mod {module.name}")
         name = module.name.replace("r#", "")
         if not module.file:
             self.add(file, " {\n")
-            self.items(file, f"{folder}{name}/", indent + "    ", path, module.items)
+            self.items(file, (f"{folders[0]}{name}/",) * 2, indent + "    ", path, module.items)
             self.add(file, indent + "}\n")
             return
         self.add(file, ";\n")
         if module.file.startswith("path:"):
-            own = file.rpartition("/")[0] + "/" if "/" in file else ""
-            inner = own + module.file[len("path:"):]
+            inner = folders[1] + module.file[len("path:"):]
         else:
-            inner = folder + (f"{name}.rs" if module.file == "name" else f"{name}/mod.rs")
-        is_owner = module.file != "name"
-        below = inner.rpartition("/")[0] + "/" if "/" in inner else ""
+            inner = folders[0] + (f"{name}.rs" if module.file == "name" else f"{name}/mod.rs")
+        beside = folder_of(inner)
         self.add(inner, "")
-        self.items(inner, below if is_owner else f"{folder}{name}/", "", path, module.items)
+        own = f"{folders[0]}{name}/" if module.file == "name" else beside
+        self.items(inner, (own, beside), "", path, module.items)
 
-    def items(self, file, folder, indent, path, items):
+    def items(self, file, folders, indent, path, items):
         for item in items:
-            self.item(file, folder, indent, path, item)
+            self.item(file, folders, indent, path, item)
         for probe in self.probes.get(path, []):
             self.probe(file, indent, probe)
 
@@ -182,7 +186,7 @@ class Writer:
     def crate(self, crate):
         root = crate.root
         self.add(root, "".join(f"{it}\n" for it in crate.attributes))
-        self.items(root, root.rpartition("/")[0] + "/" if "/" in root else "", "", (), crate.items)
+        self.items(root, (folder_of(root),) * 2, "", (), crate.items)
 
 
 def written(crate, probes=None):

@@ -1,6 +1,6 @@
 """Random crates that are dense in imports: few names in three namespaces, globs, re-exports, rings, ladders, enums."""
 from crate_model import Crate, Graph, Item, Module, Tree, Use
-from guessed_names import Guess, least
+from guessed_names import Guess, least, sees
 
 MODULES = ["a", "b", "c", "d", "e", "g", "h"]
 NAMES = ["X", "Y", "f", "m", "E"]
@@ -8,18 +8,18 @@ NAMES = ["X", "Y", "f", "m", "E"]
 SHAPES = [
     (4, "struct", ";", ("type", "value")),
     (2, "struct", " {}", ("type",)),
-    (2, "struct", "(pub u8);", ("type", "value")),
-    (2, "struct", "(u8);", ("type", "value")),
-    (1, "struct", "(pub(crate) u8);", ("type", "value")),
-    (1, "struct", "(pub u8, pub(super) u8);", ("type", "value")),
+    (2, "struct", "(pub ());", ("type", "value")),
+    (2, "struct", "(());", ("type", "value")),
+    (1, "struct", "(pub(crate) ());", ("type", "value")),
+    (1, "struct", "(pub (), pub(super) ());", ("type", "value")),
     (4, "fn", "() {}", ("value",)),
-    (1, "const", ": u8 = 0;", ("value",)),
-    (1, "static", ": u8 = 0;", ("value",)),
+    (1, "const", ": () = ();", ("value",)),
+    (1, "static", ": () = ();", ("value",)),
     (1, "trait", " {}", ("type",)),
-    (1, "type", " = u8;", ("type",)),
-    (1, "union", " { x: u8 }", ("type",)),
+    (1, "type", " = ();", ("type",)),
+    (1, "union", " { x: () }", ("type",)),
 ]
-VARIANTS = [("", ("type", "value")), ("(u8)", ("type", "value")), (" { x: u8 }", ("type",))]
+VARIANTS = [("", ("type", "value")), ("(())", ("type", "value")), (" { x: () }", ("type",))]
 VISIBILITIES = ["pub"] * 14 + ["", "", "pub(crate)", "pub(crate)", "pub(super)", "pub(in)"]
 
 
@@ -75,7 +75,7 @@ class Maker:
             return
         words, shown_to = self.visibility(module)
         self.place(module, Item(self.number(), words, before, name, behind))
-        fields = {"(u8);": module, "(pub(crate) u8);": (), "(pub u8, pub(super) u8);": module[:-1]}
+        fields = {"(());": module, "(pub(crate) ());": (), "(pub (), pub(super) ());": module[:-1]}
         self.guess.declare(module, spaces, name, shown_to)
         if behind in fields:
             self.guess.declare(module, ("value",), name, least(shown_to, fields[behind]))
@@ -108,13 +108,25 @@ class Maker:
                 make(module, self.random.choice(self.names))
         self.guess.settle()
 
+    def reaches(self, home, target):
+        """Whether a module sees another one and all around it, as far as they are declared."""
+        table = self.guess.declared
+        steps = [table.get(target[:it], {}).get(("type", target[it])) for it in range(len(target))]
+        return all(it is None or sees(home, it[1]) for it in steps)
+
+    def source(self, home):
+        """A module or an enum that another module may import from."""
+        others = [it for it in self.modules(True) if it != home or self.chance(0.05)]
+        seen = [it for it in others if self.reaches(home, it)]
+        return self.random.choice(seen if seen and not self.chance(0.05) else others)
+
     def aliases(self, home):
         """Ways to modules by names that other modules bind: the module that binds it, the name, the module."""
         known = self.guess.modules
         for module, table in self.guess.bound.items():
             for (space, name), found in table.items():
-                for one in found if space == "type" else ():
-                    if one in known and one != module + (name,):
+                for one, its in found.items() if space == "type" and name != "_" else ():
+                    if one in known and one != module + (name,) and sees(home, its):
                         yield module, name, one
 
     def path_to(self, home, target, depth=0):
@@ -138,8 +150,9 @@ class Maker:
     def add_glob(self, home=None, source=None, words=None):
         """Adds a glob. In the root few are of the root itself."""
         home = self.random.choice(self.modules()) if home is None else home
-        others = [it for it in self.modules(True) if it != home]
-        source = self.random.choice(others) if source is None else source
+        source = self.source(home) if source is None else source
+        if source == home:
+            return
         words, shown_to = self.visibility(home, words)
         self.add_use(home, words, Tree(self.path_to(home, source), self.number(), is_glob=True))
         self.guess.imports.append((home, shown_to, source, None, None))
@@ -164,8 +177,7 @@ class Maker:
     def add_named(self, home=None, source=None, name=None, bound=None):
         """Adds an import of a name, under that or another one."""
         home = self.random.choice(self.modules()) if home is None else home
-        others = [it for it in self.modules(True) if it != home or self.chance(0.1)]
-        source = self.random.choice(others) if source is None else source
+        source = self.source(home) if source is None else source
         name = name or self.wanted(home, source)
         if name is None:
             return
@@ -212,11 +224,11 @@ class Maker:
                         other.tree = joined
                         items[:] = [it for it in items if it is not one]
 
-    def add_imports(self):
+    def add_imports(self, most=14):
         for _ in range(self.random.choice([0, 1, 1, 2])):
             self.random.choice([self.add_ladder, self.add_ring])()
             self.guess.settle()
-        for number in range(self.random.randint(3, 14)):
+        for number in range(self.random.randint(3, most)):
             self.random.choice([self.add_named, self.add_named, self.add_glob])()
             if number % 2:
                 self.guess.settle()

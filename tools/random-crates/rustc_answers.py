@@ -9,6 +9,8 @@ from judging import Wrong
 from rustc_tree import definition
 
 SECONDS = 120
+# It does so over some crates that it would refuse.
+PANICS = "rustc panics"
 BLOCK = re.compile(r"^DefId\(", re.M)
 SPAN = re.compile(r"span: (.+?):(\d+):(\d+): \d+:\d+ \(#(\d+)\)")
 SPACES = (("type", "type_ns"), ("value", "value_ns"), ("macro", "macro_ns"))
@@ -73,10 +75,12 @@ def leaves_of(printed):
 
 def told_of(printed):
     """The errors and the warnings in the lines that rustc printed."""
-    errors, warnings = [], []
-    for line in printed.splitlines():
+    errors, warnings, lines = [], [], printed.splitlines()
+    if any("panicked at" in it for it in lines):
+        errors.append(Told(PANICS, [], " ".join(it for it in lines if "panicked at" in it)))
+    for line in lines:
         if not line.startswith("{"):
-            raise Wrong(f"rustc says: {printed[:600]}")
+            continue
         one = json.loads(line)
         code = (one.get("code") or {}).get("code")
         places = [(os.path.normpath(it["file_name"]), it["line_start"], it["column_start"])
