@@ -1,4 +1,5 @@
-"""Asks rustc and `defmap` about a graph of crates: what each leaf means, and what modules bind, by probes."""
+"""Asks rustc and `defmap` about a graph of crates: what each leaf means, and what modules bind, by
+probes."""
 import os
 import subprocess
 import tempfile
@@ -15,9 +16,9 @@ NAMES = 24
 # What random crates name of the standard library; rustc has its own.
 LIBRARY = f"{os.path.dirname(os.path.abspath(__file__))}/library"
 # The lints by which rustc warns that what a name means may change.
-ABOUT_MEANING = {"ambiguous_glob_imports", "ambiguous_import_visibilities", "ambiguous_panic_imports",
-                 "ambiguous_glob_imported_traits", "pub_use_of_private_extern_crate",
-                 "macro_expanded_macro_exports_accessed_by_absolute_paths", "out_of_scope_macro_calls"}
+ABOUT_MEANING = {"ambiguous_glob_imports", "ambiguous_import_visibilities",
+                 "ambiguous_panic_imports", "ambiguous_glob_imported_traits",
+                 "pub_use_of_private_extern_crate"}
 AMBIGUOUS = "ambiguous by rustc (E0659 at a probe)"
 WARNED = "rustc warns that it is ambiguous"
 CHANGED = "rustc's answer changes with probes"
@@ -29,7 +30,7 @@ class Theirs:
 
     codes: list = field(default_factory=list)  # why it is refused
     texts: list = field(default_factory=list)  # of the errors
-    refused: dict = field(default_factory=dict)  # the codes of the errors by the numbers of items and leaves
+    refused: dict = field(default_factory=dict)  # codes by items and leaves
     meant: dict = field(default_factory=dict)  # by key: of each namespace the kind and the path
     left_out: dict = field(default_factory=dict)  # by key: why it is not compared
     lints: set = field(default_factory=set)
@@ -74,7 +75,8 @@ def path_words(path):
 
 
 def probes_of(graph):
-    """What is asked: of each module all names, from within it and from the modules around it; and of other crates."""
+    """What is asked: of each module all names, from within it and from the modules around it; and
+    of other crates."""
     names, probes = names_in(graph), {}
     modules = [path for path, _ in modules_of(graph.main)]
     for number, viewer in enumerate(modules):
@@ -82,7 +84,8 @@ def probes_of(graph):
         for path in modules:
             if path[: len(viewer)] == viewer:
                 words = "super" if path == viewer else path_words(path)
-                asked.append((words, [((path_words(viewer), path_words(path), it), it) for it in names]))
+                key = path_words(viewer), path_words(path)
+                asked.append((words, [((*key, it), it) for it in names]))
         probes[viewer] = [Probe(f"__probe{number}", asked)]
     for crate in graph.crates[:-1]:
         for path, _ in modules_of(crate):
@@ -118,8 +121,8 @@ def of_keys(graph, writer, answers):
 
 
 def ask_rustc(graph, folder):
-    """What rustc says, of a folder for the files. Where it accepts the crates, it is asked again with probes, whose errors
-    tell what is absent."""
+    """What rustc says, of a folder for the files. Where it accepts the crates, it is asked again
+    with probes, whose errors tell what is absent."""
     for crate in graph.crates[:-1]:
         writer = written(crate)
         write_files(folder, writer.files)
@@ -158,8 +161,10 @@ def leave_out(theirs, probed, answers):
 
 
 def in_probe(probed, place):
-    """Whether a place is in the row of a probe's import: the errors of some are told within the path."""
-    return any(isinstance(key, tuple) and its[:2] == place[:2] for key, its in probed.places.items())
+    """Whether a place is in the row of a probe's import: the errors of some are told within the
+    path."""
+    probes = {its[:2] for key, its in probed.places.items() if isinstance(key, tuple)}
+    return place[:2] in probes
 
 
 def options_of(graph):
@@ -176,7 +181,8 @@ def run(program, folder, command, options, root):
     """What `defmap` prints; and what is wrong where it does not end, or fails."""
     words = [program, command, root, *options]
     try:
-        ran = subprocess.run(words, cwd=folder, capture_output=True, text=True, timeout=SECONDS, check=False)
+        ran = subprocess.run(words, cwd=folder, capture_output=True, text=True, timeout=SECONDS,
+                             check=False)
     except subprocess.TimeoutExpired:
         return "", "hung"
     if ran.returncode not in (0, 1, 3):
@@ -222,7 +228,8 @@ def ask_defmap(program, folder, options, root, keys):
 
 
 def ask_both(program, graph):
-    """What both say of a graph. Where rustc refuses it, `defmap` is asked of the crates without probes."""
+    """What both say of a graph. Where rustc refuses it, `defmap` is asked of the crates without
+    probes."""
     with tempfile.TemporaryDirectory(prefix="random-crates-") as folder:
         theirs = ask_rustc(graph, folder)
         probes = None if theirs.codes else probes_of(graph)

@@ -1,11 +1,10 @@
 """Compares what rustc and `defmap` say of a graph of crates, and makes small what differs."""
 import random
+import tempfile
 from dataclasses import dataclass, field
 
-from asking import ask_both, ask_rustc, write_files
-from crate_model import Module, Use, item_lists, numbers_of, reordered, without
-import copy
-import tempfile
+from asking import ask_both, ask_rustc
+from crate_model import Use, item_lists, reordered, without
 
 # In how many orders rustc is asked again where something differs: reversed, then shuffled.
 ORDERS = 4
@@ -22,7 +21,7 @@ class Outcome:
     compared: int = 0
     reasons: dict = field(default_factory=dict)
     differing: dict = field(default_factory=dict)  # by key: what rustc says, and what defmap says
-    moved: dict = field(default_factory=dict)  # what differs too, but rustc itself answers otherwise in another order
+    moved: dict = field(default_factory=dict)  # where rustc answers by order
 
     @property
     def word(self):
@@ -48,14 +47,15 @@ def compared(theirs, ours):
         if mine != meant:
             differing[key] = (meant, mine)
         elif meant is not None and isinstance(key, tuple) and key[0] == key[1]:
-            bound = ours.bound.get(key[1:], set()) if ours.bound else set(meant)
+            bound = ours.bound.get(key[1:], set())
             if bound != set(meant):
                 differing[key] = (meant, {it: ("bound", "by tree") for it in bound})
     return count, reasons, differing
 
 
 def outcome_of(program, graph):
-    """Compares a graph; where something differs, rustc is asked again with the items in other orders."""
+    """Compares a graph; where something differs, rustc is asked again with the items in other
+    orders."""
     theirs, ours = ask_both(program, graph)
     outcome = Outcome(graph, theirs, ours)
     if theirs.codes or ours.fault:
@@ -86,51 +86,13 @@ def repaired(graph, theirs):
 
 
 def outcomes_of(program, graph, rounds):
-    """How a graph compares. Where rustc refuses it, what it refuses is taken away, in so many rounds, until it accepts the
-    rest: each graph is compared, the last one last. `defmap` has to end on each."""
+    """How a graph compares. Where rustc refuses it, what it refuses is taken away, in so many
+    rounds, until it accepts the rest: each graph is compared, the last one last. `defmap` has to
+    end on each."""
     found = [outcome_of(program, graph)]
     while len(found) <= rounds and found[-1].word == "refused" and found[-1].theirs.refused:
         found.append(outcome_of(program, repaired(found[-1].graph, found[-1].theirs)))
     return found
-
-
-def smaller(graph):
-    """Graphs that are smaller by one step: without some items, then without one, then with simpler ones."""
-    numbers = numbers_of(graph)
-    size = len(numbers) // 2
-    while size:
-        for begin in range(0, len(numbers), size):
-            yield without(graph, set(numbers[begin: begin + size]))
-        size //= 2
-    for place, items in enumerate(item_lists(graph)):
-        for number, item in enumerate(items):
-            if item.visibility not in ("", "pub"):
-                yield changed(graph, place, number, lambda it: setattr(it, "visibility", "pub"))
-            if isinstance(item, Module) and item.file:
-                yield changed(graph, place, number, lambda it: setattr(it, "file", ""))
-
-
-def changed(graph, place, number, change):
-    graph = copy.deepcopy(graph)
-    change(item_lists(graph)[place][number])
-    return graph
-
-
-def shrunk(program, outcome, steps):
-    """An outcome with as little as possible that still differs, or does not end."""
-    word = outcome.word
-    while steps > 0:
-        for graph in smaller(outcome.graph):
-            steps -= 1
-            one = outcome_of(program, graph)
-            if one.word == word:
-                outcome = one
-                break
-            if steps <= 0:
-                break
-        else:
-            break
-    return outcome
 
 
 def shown_key(key, places):

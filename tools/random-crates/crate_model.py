@@ -1,7 +1,8 @@
 """A graph of small crates: its modules, items and imports, and the files that it is written to.
 
-Each item and each leaf of a `use` has a number, which it keeps where the crates are changed: so what a leaf means can be
-compared after its item was moved, and where it stands is known by the number.
+Each item and each leaf of a `use` has a number, which it keeps where the crates are changed: so
+what a leaf means can be compared after its item was moved, and where it stands is known by the
+number.
 """
 import copy
 from dataclasses import dataclass, field
@@ -9,7 +10,8 @@ from dataclasses import dataclass, field
 
 @dataclass
 class Tree:
-    """A tree of a `use`: segments, then a name, a star or a list. Where it is no list, it is a leaf."""
+    """A tree of a `use`: segments, then a name, a star or a list. Where it is no list, it is a
+    leaf."""
 
     segments: list
     number: int = 0
@@ -23,7 +25,8 @@ class Tree:
 
 @dataclass
 class Item:
-    """An item: its name and the words around it. One that is fixed keeps its place when others are moved."""
+    """An item: its name and the words around it. One that is fixed keeps its place when others are
+    moved."""
 
     number: int
     visibility: str
@@ -98,7 +101,8 @@ def item_lists(graph):
 
 @dataclass
 class Probe:
-    """A module that asks for names: of each module whose path it has, in a line, some names, each of a key."""
+    """A module that asks for names: of each module whose path it has, in a line, some names, each
+    of a key."""
 
     name: str
     asked: list  # of paths, each with keys and names
@@ -109,7 +113,8 @@ def folder_of(file):
 
 
 class Writer:
-    """Writes a crate, and notes where its leaves and the imports of probes begin, and in which row which item stands."""
+    """Writes a crate, and notes where its leaves and the imports of probes begin, and in which row
+    which item stands."""
 
     def __init__(self, probes):
         self.files, self.places, self.rows, self.probes = {}, {}, {}, probes
@@ -148,7 +153,8 @@ class Writer:
             self.add(file, f"{item.before} {item.name}{item.behind}\n")
 
     def module(self, file, folders, indent, path, module):
-        """Writes a module. `folders` are those that a file of a name and one of a path are looked for in."""
+        """Writes a module. `folders` are those that a file of a name and one of a path are looked
+        for in."""
         self.add(file, f"mod {module.name}")
         name = module.name.replace("r#", "")
         if not module.file:
@@ -228,8 +234,8 @@ def numbers_of(graph):
 
 
 def reordered(graph, shuffle):
-    """A copy of a graph whose lists of items are in another order. What is fixed keeps its place, and no item is moved over
-    it: so each stands behind the same textual macros."""
+    """A copy of a graph whose lists of items are in another order. What is fixed keeps its place,
+    and no item is moved over it: so each stands behind the same textual macros."""
     graph = copy.deepcopy(graph)
     for items in item_lists(graph):
         begin = 0

@@ -1,7 +1,8 @@
-"""What modules of a crate that is being made bind, roughly: so that most of the imports that are made lead somewhere.
+"""What modules of a crate that is being made bind, roughly: so that most of the imports that are
+made lead somewhere.
 
-It is no answer that is compared. Modules are named by their paths, visibilities by the path of the module that they show
-something to, `None` for all.
+It is no answer that is compared. Modules are named by their paths, visibilities by the path of the
+module that they show something to, `None` for all.
 """
 ROUNDS = 6
 
@@ -18,7 +19,8 @@ def least(one, other):
 
 
 class Guess:
-    """What modules and enums bind: for each name and namespace, the definitions and to whom they are shown."""
+    """What modules and enums bind: for each name and namespace, the definitions and to whom they
+    are shown."""
 
     def __init__(self):
         self.declared = {}  # by module: by namespace and name, a definition and a visibility
@@ -44,7 +46,8 @@ class Guess:
         return named
 
     def settle(self):
-        """Looks anew what all imports bring, some times: so what comes through long chains may be missed."""
+        """Looks anew what all imports bring, some times: so what comes through long chains may be
+        missed."""
         bound = self.first()
         for _ in range(ROUNDS):
             new = self.first()

@@ -1,4 +1,5 @@
-"""Random crates that are dense in imports: few names in three namespaces, globs, re-exports, rings, ladders, enums."""
+"""Random crates that are dense in imports: few names in three namespaces, globs, re-exports, rings,
+ladders, enums."""
 from crate_model import Crate, Graph, Item, Module, Tree, Use
 from guessed_names import Guess, least, sees
 
@@ -92,7 +93,8 @@ class Maker:
             behind, spaces = self.random.choice(VARIANTS)
             variants.append(variant + behind)
             self.guess.declare(path, spaces, variant, shown_to)
-        self.place(module, Item(self.number(), words, "enum", name, f" {{ {', '.join(variants)} }}"))
+        behind = f" {{ {', '.join(variants)} }}"
+        self.place(module, Item(self.number(), words, "enum", name, behind))
 
     def modules(self, enums=False):
         return [it for it, is_enum in self.guess.modules.items() if enums or not is_enum]
@@ -121,7 +123,8 @@ class Maker:
         return self.random.choice(seen if seen and not self.chance(0.05) else others)
 
     def aliases(self, home):
-        """Ways to modules by names that other modules bind: the module that binds it, the name, the module."""
+        """Ways to modules by names that other modules bind: the module that binds it, the name, the
+        module."""
         known = self.guess.modules
         for module, table in self.guess.bound.items():
             for (space, name), found in table.items():
@@ -194,22 +197,30 @@ class Maker:
         self.add_use(home, words, tree)
         self.guess.imports.append((home, shown_to, source, name, as_name))
 
+    def some_modules(self, fewest, most):
+        modules = self.modules()
+        count = min(len(modules), self.random.randint(fewest, most))
+        return self.random.sample(modules, count)
+
     def add_ladder(self):
-        """Modules that each have a glob of the one before, and an import that shadows a name of it."""
-        modules = self.random.sample(self.modules(), min(len(self.modules()), self.random.randint(3, 5)))
+        """Modules that each have a glob of the one before, and an import that shadows a name of
+        it."""
+        modules = self.some_modules(3, 5)
         for before, module in zip(modules, modules[1:]):
             self.add_glob(module, before, "pub")
             self.guess.settle()
             self.add_named(module, None, None, self.random.choice(self.names))
 
     def add_ring(self):
-        """Modules that each have a glob of the next, or an import of it by name, and the last of the first."""
-        modules = self.random.sample(self.modules(), min(len(self.modules()), self.random.randint(2, 4)))
+        """Modules that each have a glob of the next, or an import of it by name, and the last of
+        the first."""
+        modules = self.some_modules(2, 4)
         for module, other in zip(modules, modules[1:] + modules[:1]):
             if module == other:
                 continue
             if self.chance(0.7):
-                self.add_glob(module, other, self.random.choice(["pub", "pub", "pub", "", "pub(crate)"]))
+                words = self.random.choice(["pub", "pub", "pub", "", "pub(crate)"])
+                self.add_glob(module, other, words)
             elif other:
                 self.add_named(module, other[:-1], other[-1], self.random.choice(MODULES))
 
@@ -218,7 +229,8 @@ class Maker:
         for items in self.lists.values():
             uses = [it for it in items if isinstance(it, Use) and it.tree.inner is None]
             for one, other in zip(uses, uses[1:]):
-                if one.visibility == other.visibility and self.chance(0.3) and one.tree.inner is None:
+                is_plain = one.visibility == other.visibility and one.tree.inner is None
+                if is_plain and self.chance(0.3):
                     joined = in_list(one.tree, other.tree)
                     if joined:
                         other.tree = joined
@@ -235,7 +247,8 @@ class Maker:
 
 
 def in_list(one, other):
-    """Two leaves in a list behind what their paths have in common; `self` for one that ends there."""
+    """Two leaves in a list behind what their paths have in common; `self` for one that ends
+    there."""
     same = 0
     limit = min(len(it.segments) - (not it.is_glob) for it in (one, other))
     while same < limit and one.segments[same] == other.segments[same]:

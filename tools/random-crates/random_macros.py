@@ -1,4 +1,5 @@
-"""Random crates dense in imports that have macros by `macro_rules!` too: textual ones by their place, and exported ones."""
+"""Random crates dense in imports that have macros by `macro_rules!` too: textual ones by their
+place, and exported ones."""
 from crate_model import Graph, Item, Module, Tree, Use
 from random_imports import Maker
 
@@ -10,10 +11,12 @@ class MacroMaker(Maker):
     """Makes a crate with macros. What textual scope goes by is fixed."""
 
     def macro(self, name, attributes):
-        return Item(self.number(), "", "macro_rules!", name, " { () => {} }", attributes, is_fixed=True)
+        number = self.number()
+        return Item(number, "", "macro_rules!", name, " { () => {} }", attributes, is_fixed=True)
 
     def add_macro(self, module, name):
-        """Adds a macro, and imports of it: mostly behind it, from its module or one that begins there."""
+        """Adds a macro, and imports of it: mostly behind it, from its module or one that begins
+        there."""
         exported = self.chance(0.25)
         item = self.macro(name, ["#[macro_export]"] if exported else [])
         self.place(module, item)
@@ -31,9 +34,11 @@ class MacroMaker(Maker):
         others = self.lists[home]
         first = items.index(item) + 1 if home == module and not self.chance(0.12) else 0
         bound = self.random.choice(self.names) if self.chance(0.4) else item.name
-        if self.guess.spaces_of(home, bound) | self.guess.spaces_of(home, item.name) and not self.chance(0.05):
+        taken = self.guess.spaces_of(home, bound) | self.guess.spaces_of(home, item.name)
+        if taken and not self.chance(0.05):
             return
-        words, shown_to = self.visibility(home, self.random.choice(["", "pub(crate)", "pub(crate)", "pub(super)"]))
+        words = self.random.choice(["", "pub(crate)", "pub(crate)", "pub(super)"])
+        words, shown_to = self.visibility(home, words)
         if exported and self.chance(0.5):
             words, shown_to = self.visibility(home, "pub")
         tree = Tree([item.name], self.number(), bound if bound != item.name else "")
@@ -44,7 +49,8 @@ class MacroMaker(Maker):
     def add_macros(self):
         for module in self.modules():
             for _ in range(self.random.choice([0, 0, 1, 1, 2])):
-                self.add_macro(module, self.random.choice(self.names if self.chance(0.3) else MACROS))
+                names = self.names if self.chance(0.3) else MACROS
+                self.add_macro(module, self.random.choice(names))
         for items in self.lists.values():
             for item in items:
                 if isinstance(item, Module) and self.chance(0.35):

@@ -1,5 +1,6 @@
-"""Random graphs of crates for the rules around modules: editions, extern preludes, `extern crate`, standard preludes, builtin
-types, raw names, `cfg`, files and paths of modules, attributes of crates.
+"""Random graphs of crates for the rules around modules: editions, extern preludes, `extern crate`,
+standard preludes, builtin types, raw names, `cfg`, files and paths of modules, attributes of
+crates.
 """
 from crate_model import Graph, Item, Module, Tree, Use
 from random_imports import MODULES, NAMES
@@ -9,10 +10,12 @@ EDITIONS = ["2015", "2018", "2018", "2021", "2021", "2024"]
 # Names that stand around modules, so that those of modules meet them.
 AROUND = ["core", "std", "alloc", "Option", "Some", "u8", "str", "Vec", "Clone", "k", "l"]
 RAW = ["r#match", "r#type", "r#try"]
-STANDARD = ["core::option::Option", "std::option::Option", "core::option::Option::Some", "std::vec::Vec", "core::fmt",
-            "std::fmt", "core::clone::Clone", "std::vec", "core::fmt::Error", "std", "core", "Option", "Some", "Vec",
-            "Clone", "u8", "str", "println", "alloc::vec::Vec", "Option::Some"]
+STANDARD = ["core::option::Option", "std::option::Option", "core::option::Option::Some",
+            "std::vec::Vec", "core::fmt", "std::fmt", "core::clone::Clone", "std::vec",
+            "core::fmt::Error", "std", "core", "Option", "Some", "Vec", "Clone", "u8", "str",
+            "println", "alloc::vec::Vec", "Option::Some"]
 STANDARD_GLOBS = ["core::option::Option", "std::prelude::v1", "core::fmt"]
+HOLDING = ["#[cfg(on)]", "#[cfg(all(on, not(off)))]"]
 ATTRIBUTES = ["#![no_implicit_prelude]", "#![no_std]"]
 
 
@@ -33,15 +36,16 @@ class RulesMaker(MacroMaker):
         for path in other.modules(True):
             its = (f"::{other.crate.name}",) + path
             self.guess.add_module(its, other.guess.modules[path])
+            hidden = (f"::{other.crate.name}", "?")
             for slot, found in other.guess.bound.get(path, {}).items():
                 one, shown_to = next(iter(found.items()))
-                self.guess.declared[its][slot] = (one, None if shown_to is None else (f"::{other.crate.name}", "?"))
+                self.guess.declared[its][slot] = (one, None if shown_to is None else hidden)
 
     def modules(self, enums=False):
-        own = [it for it in super().modules(enums) if not it[:1] or not it[0].startswith("::")]
-        if not enums:
-            return own
-        return own + [it for it in super().modules(True) if it[:1] and it[0].startswith("::") and self.chance(0.6)]
+        found = super().modules(enums)
+        foreign = [it for it in found if it[:1] and it[0].startswith("::")]
+        own = [it for it in found if it not in foreign]
+        return own + [it for it in foreign if self.chance(0.6)] if enums else own
 
     def path_to(self, home, target, depth=0):
         if not target[:1] or not target[0].startswith("::"):
@@ -55,10 +59,12 @@ class RulesMaker(MacroMaker):
         """The segments of a path as the edition wants it: those of 2015 begin at the root."""
         if self.crate.edition != "2015" or segments[0] in ("crate", "self", "super", ""):
             return segments
-        return [*home, *segments] if home and segments[0] not in [it.crate.name for it in self.others] else segments
+        is_foreign = segments[0] in [it.crate.name for it in self.others]
+        return segments if is_foreign else [*home, *segments]
 
     def add_use(self, home, words, tree):
-        tree.segments = self.in_edition(home, tree.segments) if not self.chance(0.05) else tree.segments
+        if not self.chance(0.05):
+            tree.segments = self.in_edition(home, tree.segments)
         super().add_use(home, words, tree)
 
     def add_extern_crate(self, home, other):
@@ -68,7 +74,8 @@ class RulesMaker(MacroMaker):
         words, shown_to = self.visibility(home, self.random.choice(["", "", "pub", "pub(crate)"]))
         behind = ";" if name == other.crate.name else f" as {name};"
         attributes = ["#[macro_use]"] if not home and self.chance(0.4) else []
-        item = Item(self.number(), words, "extern crate", other.crate.name, behind, attributes, bool(attributes))
+        item = Item(self.number(), words, "extern crate", other.crate.name, behind, attributes)
+        item.is_fixed = bool(attributes)
         self.place(home, item)
         self.guess.declare(home, ("type",), name, shown_to, (f"::{other.crate.name}",))
 
@@ -96,7 +103,7 @@ class RulesMaker(MacroMaker):
             items = self.lists[module]
             for item in items:
                 if self.chance(0.06):
-                    item.attributes.insert(0, self.random.choice(["#[cfg(on)]", "#[cfg(all(on, not(off)))]"]))
+                    item.attributes.insert(0, self.random.choice(HOLDING))
             if self.chance(0.2):
                 away = self.random.choice(["#[cfg(off)]", "#[cfg(not(on))]"])
                 name = self.random.choice(self.names)
@@ -107,7 +114,8 @@ class RulesMaker(MacroMaker):
         for path, items in self.lists.items():
             for item in items:
                 if isinstance(item, Module) and self.chance(0.3):
-                    item.file = self.random.choice(["name", "name", "mod", f"path:p{item.number}.rs"])
+                    own = f"path:p{item.number}.rs"
+                    item.file = self.random.choice(["name", "name", "mod", own])
                     if item.file.startswith("path:"):
                         item.attributes.append(f'#[path = "{item.file[5:]}"]')
 
@@ -115,7 +123,8 @@ class RulesMaker(MacroMaker):
         self.fill()
         for other in self.others:
             if self.crate.edition == "2015" or self.chance(0.3):
-                self.add_extern_crate(() if self.chance(0.8) else self.random.choice(self.modules()), other)
+                home = () if self.chance(0.8) else self.random.choice(self.modules())
+                self.add_extern_crate(home, other)
         if self.chance(0.4):
             self.add_macros()
         self.guess.settle()

@@ -1,8 +1,10 @@
-"""Crates with what rustc answers, in a file, so that `defmap` can be compared with it where there is no rustc.
+"""Crates with what rustc answers, in a file, so that `defmap` can be compared with it where there
+is no rustc.
 
-Each begins with a line `crate` that has its kind and its seed. Behind it stand its files, each behind a line `//-` with its
-path, that of a root with what the crate is; then a line `answers`, and one for each import that means something in some
-namespace, by where it begins. One with `?` is not compared. All other imports mean nothing.
+Each begins with a line `crate` that has its kind and its seed. Behind it stand its files, each
+behind a line `//-` with its path, that of a root with what the crate is; then a line `answers`, and
+one for each import that means something in some namespace, by where it begins. One with `?` is not
+compared. All other imports mean nothing.
 """
 import tempfile
 from dataclasses import dataclass, field
@@ -37,8 +39,8 @@ def text_of(outcome):
     for crate in reversed(graph.crates):
         writer = written(crate, probes_of(graph) if crate is graph.main else None)
         for path in sorted(writer.files, key=lambda it: it != crate.root):
-            lines.append(f"//- /{path}" + (f" {head_of(graph, crate)}" if path == crate.root else ""))
-            lines.append(writer.files[path].rstrip("\n"))
+            head = f" {head_of(graph, crate)}" if path == crate.root else ""
+            lines += [f"//- /{path}{head}", writer.files[path].rstrip("\n")]
         places = writer.places if crate is graph.main else places
     lines.append("answers")
     for key, place in sorted(places.items(), key=lambda it: it[1]):

@@ -1,4 +1,5 @@
-"""What rustc says of a crate: what each leaf of each `use` means in each namespace, and what it refuses or warns of."""
+"""What rustc says of a crate: what each leaf of each `use` means in each namespace, and what it
+refuses or warns of."""
 import json
 import os
 import re
@@ -46,7 +47,8 @@ def meant_in(text):
 
 
 def leaf_of(block):
-    """Where a leaf begins, and what it means; None of what is no leaf, or is not written in the crate."""
+    """Where a leaf begins, and what it means; None of what is no leaf, or is not written in the
+    crate."""
     at, segments = block.find("res: PerNS {"), block.find("segments: [")
     span = SPAN.search(block[:at])
     if at < 0 or segments < at or not span or span[4] != "0":
