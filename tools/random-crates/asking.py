@@ -64,6 +64,8 @@ def names_in(graph):
 
 
 def item_names(item):
+    if item.before == "extern crate":
+        return {item.name, item.behind.strip(" ;").rpartition(" ")[2]}
     if not isinstance(item, Use):
         variants = item.behind.strip(" {}").split(", ") if item.before == "enum" else []
         return {item.name} | {it.split("(")[0].split(" ")[0] for it in variants}

@@ -22,6 +22,7 @@ class Outcome:
     reasons: dict = field(default_factory=dict)
     differing: dict = field(default_factory=dict)  # by key: what rustc says, and what defmap says
     moved: dict = field(default_factory=dict)  # where rustc answers by order
+    unstable: set = field(default_factory=set)  # the keys of all that rustc answers by order
 
     @property
     def word(self):
@@ -69,12 +70,23 @@ def outcome_of(program, graph):
 
 def ask_in_order(outcome, number):
     """Moves what rustc answers otherwise in another order from what differs."""
+    for key in by_order(outcome, number) & set(outcome.differing):
+        outcome.moved[key] = outcome.differing.pop(key)
+
+
+def by_order(outcome, number):
+    """The keys of what rustc answers otherwise in an order of the items."""
     shuffle = random.Random(number).shuffle if number else list.reverse
     with tempfile.TemporaryDirectory(prefix="random-crates-") as folder:
         again = ask_rustc(reordered(outcome.graph, shuffle), folder)
-    for key, (meant, _) in list(outcome.differing.items()):
-        if again.codes or key in again.left_out or again.meant.get(key) != meant:
-            outcome.moved[key] = outcome.differing.pop(key)
+    return {key for key, meant in outcome.theirs.meant.items()
+            if again.codes or key in again.left_out or again.meant.get(key) != meant}
+
+
+def note_unstable(outcome):
+    """Notes all that rustc answers otherwise in some orders."""
+    if outcome.word in ("equal", "differ"):
+        outcome.unstable = set().union(*(by_order(outcome, it) for it in range(ORDERS)))
 
 
 def repaired(graph, theirs):

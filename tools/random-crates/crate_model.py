@@ -46,6 +46,7 @@ class Module(Item):
 
     items: list = field(default_factory=list)
     file: str = ""
+    begins: list = field(default_factory=list)  # its inner attributes
 
     def inner(self):
         return self.items
@@ -158,7 +159,7 @@ class Writer:
         self.add(file, f"mod {module.name}")
         name = module.name.replace("r#", "")
         if not module.file:
-            self.add(file, " {\n")
+            self.add(file, " {\n" + "".join(f"{indent}    {it}\n" for it in module.begins))
             self.items(file, (f"{folders[0]}{name}/",) * 2, indent + "    ", path, module.items)
             self.add(file, indent + "}\n")
             return
@@ -168,7 +169,7 @@ class Writer:
         else:
             inner = folders[0] + (f"{name}.rs" if module.file == "name" else f"{name}/mod.rs")
         beside = folder_of(inner)
-        self.add(inner, "")
+        self.add(inner, "".join(f"{it}\n" for it in module.begins))
         own = f"{folders[0]}{name}/" if module.file == "name" else beside
         self.items(inner, (own, beside), "", path, module.items)
 

@@ -31,6 +31,7 @@ class Maker:
         self.random, self.crate = random, Crate(name, edition)
         self.lists, self.guess, self.last = {(): self.crate.items}, Guess(), 0
         self.names = random.sample(NAMES, random.randint(2, 4))
+        self.module_names = MODULES
 
     def number(self):
         self.last += 1
@@ -101,7 +102,7 @@ class Maker:
 
     def fill(self):
         """Makes modules, and what they declare."""
-        for name in self.random.sample(MODULES, self.random.randint(2, 6)):
+        for name in self.random.sample(self.module_names, self.random.randint(2, 6)):
             outer = self.random.choice(self.modules()) if self.chance(0.35) else ()
             self.add_module(outer, name)
         for module in self.modules():
@@ -194,6 +195,8 @@ class Maker:
         tree.rename = as_name if as_name != name else ""
         if "type" in spaces and self.chance(0.03):
             tree.rename = as_name = "_"
+        elif "type" in spaces and self.chance(0.06):
+            tree = self.of_type_alone(tree)
         self.add_use(home, words, tree)
         self.guess.imports.append((home, shown_to, source, name, as_name))
 
@@ -201,6 +204,11 @@ class Maker:
         modules = self.modules()
         count = min(len(modules), self.random.randint(fewest, most))
         return self.random.sample(modules, count)
+
+    def of_type_alone(self, leaf):
+        """The leaf as `self` in a list, which imports no value and no macro."""
+        inner = Tree(["self"], leaf.number, leaf.rename)
+        return Tree(leaf.segments, self.number(), inner=[inner])
 
     def add_ladder(self):
         """Modules that each have a glob of the one before, and an import that shadows a name of

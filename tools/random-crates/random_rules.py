@@ -4,7 +4,7 @@ crates.
 """
 from crate_model import Graph, Item, Module, Tree, Use
 from random_imports import MODULES, NAMES
-from random_macros import MacroMaker
+from random_macros import MACROS, MacroMaker
 
 EDITIONS = ["2015", "2018", "2018", "2021", "2021", "2024"]
 # Names that stand around modules, so that those of modules meet them.
@@ -15,6 +15,7 @@ STANDARD = ["core::option::Option", "std::option::Option", "core::option::Option
             "core::fmt::Error", "std", "core", "Option", "Some", "Vec", "Clone", "u8", "str",
             "println", "alloc::vec::Vec", "Option::Some"]
 STANDARD_GLOBS = ["core::option::Option", "std::prelude::v1", "core::fmt"]
+BEGINNINGS = ["#![no_implicit_prelude]", "#![macro_use]"]
 HOLDING = ["#[cfg(on)]", "#[cfg(all(on, not(off)))]"]
 ATTRIBUTES = ["#![no_implicit_prelude]", "#![no_std]"]
 
@@ -26,6 +27,7 @@ class RulesMaker(MacroMaker):
         super().__init__(random, name, edition)
         self.names = random.sample(NAMES, 2) + random.sample(AROUND, random.randint(0, 2))
         self.names += random.sample(RAW, 1) if self.chance(0.2) else []
+        self.module_names = MODULES + random.sample(AROUND[:9], random.randint(0, 2))
         self.others, self.last = others, 1000 * len(others)
         for other in others:
             self.know(other)
@@ -73,7 +75,8 @@ class RulesMaker(MacroMaker):
             return
         words, shown_to = self.visibility(home, self.random.choice(["", "", "pub", "pub(crate)"]))
         behind = ";" if name == other.crate.name else f" as {name};"
-        attributes = ["#[macro_use]"] if not home and self.chance(0.4) else []
+        words_of_macros = ["#[macro_use]", "#[macro_use]", "#[macro_use(m)]"]
+        attributes = [self.random.choice(words_of_macros)] if not home and self.chance(0.4) else []
         item = Item(self.number(), words, "extern crate", other.crate.name, behind, attributes)
         item.is_fixed = bool(attributes)
         self.place(home, item)
@@ -86,6 +89,8 @@ class RulesMaker(MacroMaker):
         if self.crate.edition == "2015" and not self.chance(0.1):
             known = [it for it in known if it.startswith("std")]
         segments = self.random.choice(known).split("::")
+        if not is_glob and self.chance(0.15):
+            segments = [self.random.choice(MACROS)]
         bound = self.random.choice(self.names + ["B"])
         if not is_glob and self.guess.spaces_of(home, bound):
             return
@@ -96,6 +101,37 @@ class RulesMaker(MacroMaker):
         self.place(home, Use(self.number(), words, "use", "", "", tree=tree))
         if not is_glob:
             self.guess.declare(home, ("type",), bound, shown_to, tuple(segments))
+
+    def add_odd(self):
+        """Adds an import of a module by `self`, `super` or `crate` alone, or the crate by a name."""
+        home, name = self.random.choice(self.modules()), self.random.choice(self.names + ["B"])
+        if "type" in self.guess.spaces_of(home, name):
+            return
+        words, shown_to = self.visibility(home, self.random.choice(["", "pub", "pub(crate)"]))
+        kind = self.random.choice(["self", "super", "crate", "list", "item"])
+        leaf = Tree(["self"], self.number(), name)
+        if kind == "item":
+            its = Item(self.number(), words, "extern crate", "self", f" as {name};")
+        else:
+            tree = Tree([] if kind == "list" else [kind], self.number(), inner=[leaf])
+            if kind == "crate" and self.chance(0.5):
+                tree = Tree(["crate"], leaf.number, name)
+            its = Use(self.number(), words, "use", "", "", tree=tree)
+        self.place(home, its)
+        target = home if kind in ("self", "list") else home[:-1] if kind == "super" else ()
+        self.guess.declare(home, ("type",), name, shown_to, target)
+
+    def add_attributes(self):
+        """Adds attributes that turn what names mean."""
+        for items in self.lists.values():
+            for item in items:
+                if item.before == "struct" and self.chance(0.1):
+                    item.attributes.append("#[non_exhaustive]")
+                elif item.before == "fn" and self.chance(0.05):
+                    item.attributes.append("#[test]")
+                elif isinstance(item, Module) and self.chance(0.06):
+                    item.begins.append(self.random.choice(BEGINNINGS))
+                    item.is_fixed = True
 
     def add_cfgs(self):
         """Adds `cfg`s that hold to what is there, and items with `cfg`s that do not."""
@@ -129,9 +165,11 @@ class RulesMaker(MacroMaker):
             self.add_macros()
         self.guess.settle()
         for _ in range(self.random.randint(0, 3)):
-            self.add_standard()
+            self.random.choice([self.add_standard, self.add_standard, self.add_odd])()
+        self.guess.settle()
         self.add_imports(8)
         self.nest()
+        self.add_attributes()
         self.add_cfgs()
         self.add_files()
         if self.chance(0.12):

@@ -4,7 +4,7 @@ is no rustc.
 Each begins with a line `crate` that has its kind and its seed. Behind it stand its files, each
 behind a line `//-` with its path, that of a root with what the crate is; then a line `answers`, and
 one for each import that means something in some namespace, by where it begins. One with `?` is not
-compared. All other imports mean nothing.
+compared: it is ambiguous, or rustc answers by the order of items. All other imports mean nothing.
 """
 import tempfile
 from dataclasses import dataclass, field
@@ -45,7 +45,7 @@ def text_of(outcome):
     lines.append("answers")
     for key, place in sorted(places.items(), key=lambda it: it[1]):
         meant = outcome.theirs.meant[key]
-        if key in outcome.theirs.left_out or key in outcome.moved:
+        if key in outcome.theirs.left_out or key in outcome.unstable:
             lines.append(f"{':'.join(map(str, place))}: ?")
         elif meant:
             lines.append(f"{':'.join(map(str, place))}: {shown_meant(meant)}")

@@ -55,6 +55,8 @@ def item_changes(item):
     if isinstance(item, Module) and item.file:
         others = [it for it in item.attributes if not it.startswith("#[path")]
         yield {"file": "", "attributes": others}
+    if isinstance(item, Module) and item.begins:
+        yield {"begins": []}
     for number in range(len(item.attributes)):
         if not item.attributes[number].startswith("#[path"):
             yield {"attributes": item.attributes[:number] + item.attributes[number + 1:]}
