@@ -30,7 +30,9 @@ class Outcome:
             return self.ours.fault if self.ours.fault == "hung" else "failed"
         if self.theirs.codes:
             return "refused"
-        return "differ" if self.differing else "order-dependent" if self.moved else "equal"
+        if self.differing:
+            return "warned" if "ambiguous_glob_imports" in self.theirs.lints else "differ"
+        return "order-dependent" if self.moved else "equal"
 
 
 def compared(theirs, ours):
