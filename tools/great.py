@@ -35,10 +35,10 @@ class Crate:
         return " ".join(words)
 
     def text(self):
-        parts = [f"//- {self.root} {self.head()}", *self.files[self.root]]
+        parts = [f"//- /{self.root} {self.head()}", *self.files[self.root]]
         for file, lines in self.files.items():
             if file != self.root:
-                parts += [f"//- {file}", *lines]
+                parts += [f"//- /{file}", *lines]
         return parts
 
     def dump(self):
@@ -234,15 +234,15 @@ def platforms(size):
 GRAPHS = {graph.__name__: graph for graph in (tree_of_files, facade, workspace, rings, platforms)}
 
 
-def fixture(name, crates):
-    lines = [f"=== {name}"]
+def fixture(crates):
+    lines = []
     for crate in crates:
         lines += crate.text()
     return "\n".join(lines) + "\n"
 
 
-def expected(name, crates):
-    lines = [f"=== {name}"]
+def expected(crates):
+    lines = []
     for crate in crates:
         lines += crate.dump()
     return "\n".join(lines) + "\n"

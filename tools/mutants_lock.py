@@ -1,20 +1,22 @@
 """mutants.lock: the text of each crate on which every one of its mutants was refused.
 
-A text is known by a checksum of the crate's src/, specs/ and proofs/, of its mutants and of their harmless partners. Layout
-and comments that are lines of their own do not count: what is proved of a text, and refused of it, does not rest on them.
+A text is known by a checksum of the crate's src/, specs/ and proofs/, of its mutants and of their
+harmless partners. Layout and comments that are lines of their own do not count: what is proved of a
+text, and refused of it, does not rest on them.
 """
 import contextlib
 import fcntl
 import hashlib
 import os
 import re
-import tempfile
 from collections import Counter
 
-import judging
-from judging import read_text
+from judging import ROOT, read_text
 
-# The crates of the layer itself: what lands of these has all its mutants refused, on that very text.
+LOCK = f"{ROOT}/mutants.lock"
+CODE = ("src", "specs", "proofs")
+
+# The crates of the layer itself: what lands of these has all its mutants refused, on that text.
 LAYER = ("dm_base", "dm_scope", "dm_def_map", "dm_maps", "hir_def_map", "dm_retry")
 
 TOOL = "tools/wrong-bodies"
@@ -28,16 +30,17 @@ TOOL_FILES = (
 )
 
 HEAD = """\
-# On which text of each crate all its mutants were refused: tools/wrong-bodies writes this, and tools/wrong-bodies --apply
-# fails where a crate of the layer is another text now. A line is a crate, the checksum of its src/, specs/, proofs/, mutants
-# and harmless partners, layout and comments aside, and how many mutants were refused in which way. It is written when each
-# mutant of the crate was tried, and refused. The line of the tool itself is that of the text on which --check-itself passed.
+# On which text of each crate all its mutants were refused: tools/wrong-bodies writes this, and
+# tools/wrong-bodies --apply fails where a crate of the layer is another text now. A line is a crate,
+# the checksum of its src/, specs/, proofs/, mutants and harmless partners, layout and comments aside,
+# and how many mutants were refused in which way. It is written when each mutant of the crate was
+# tried, and refused. The line of the tool itself is of the text on which --check-itself passed.
 # Empty lines stand between, so that two branches which change a line each can be merged.
 """
 LINE = re.compile(r"^(\S+) (sha256:[0-9a-f]{64}) (.*)$", re.M)
 
-# What of a .rt file is kept as it is (strings and characters), and what counts as one space (layout, comments in lines of
-# their own).
+# What of a .rt file is kept as it is (strings and characters), and what counts as one space
+# (layout, comments in lines of their own).
 RUST_TEXT = re.compile(
     r'(?P<kept>\br(?P<hashes>\#*)".*?"(?P=hashes)|"(?:\\.|[^"\\])*"|\'(?:\\.[^\']*|[^\'\\])\')'
     r"|\A//[^\n]*|(?:\s*\n[ \t]*//[^\n]*)+\s*|\s+",
@@ -52,8 +55,8 @@ def plain_rust(text):
 
 
 def plain_antt(text):
-    """The text without empty lines, comments that are lines of their own, and spaces that end a line. Indentation stays: it
-    has a meaning."""
+    """The text without empty lines, comments that are lines of their own, and spaces that end a
+    line. Indentation stays: it has a meaning."""
     lines = (it.rstrip() for it in text.split("\n"))
     return "\n".join(it for it in lines if it and not ANTT_COMMENT.match(it))
 
@@ -87,32 +90,28 @@ def sum_of(texts):
 
 
 def code_sum(crate, root=None):
-    """The checksum of a crate's code, definitions and proofs, in this repository or in another folder."""
-    root = root or judging.ROOT
-    return sum_of(it for part in ("src", "specs", "proofs") for it in texts_of(root, f"crates/{crate}/{part}"))
+    """The checksum of a crate's code, definitions and proofs, here or in a copy of the repository."""
+    root = root or ROOT
+    return sum_of(it for part in CODE for it in texts_of(root, f"crates/{crate}/{part}"))
 
 
 def crate_sum(crate):
     """The checksum of all on which it depends whether the crate's mutants are refused."""
-    parts = [f"crates/{crate}/{part}" for part in ("src", "specs", "proofs", "must-fail", "wrong-bodies")]
+    parts = [f"crates/{crate}/{part}" for part in (*CODE, "must-fail", "wrong-bodies")]
     parts.append(f"tools/harmless-bodies/{crate}")
-    return sum_of(it for part in parts for it in texts_of(judging.ROOT, part))
+    return sum_of(it for part in parts for it in texts_of(ROOT, part))
 
 
 def tool_sum():
     """The checksum of the tool itself, as it is to the letter."""
-    folder = f"{judging.ROOT}/tools"
+    folder = f"{ROOT}/tools"
     return sum_of((it, read_text(f"{folder}/{it}")) for it in TOOL_FILES)
-
-
-def path_of_lock():
-    return f"{judging.ROOT}/mutants.lock"
 
 
 def entries():
     """What the lock says: by name, the checksum and what is told of it."""
-    path = path_of_lock()
-    return {it[1]: (it[2], it[3]) for it in LINE.finditer(read_text(path))} if os.path.isfile(path) else {}
+    text = read_text(LOCK) if os.path.isfile(LOCK) else ""
+    return {it[1]: (it[2], it[3]) for it in LINE.finditer(text)}
 
 
 def is_as_locked(name, present):
@@ -121,8 +120,9 @@ def is_as_locked(name, present):
 
 @contextlib.contextmanager
 def changing():
-    """Gives the entries to be changed, and writes them, whole or not at all; another process that writes them waits."""
-    folder = os.open(judging.ROOT, os.O_RDONLY)
+    """Gives the entries to be changed, and writes them, whole or not at all. Another process that
+    writes them waits."""
+    folder = os.open(ROOT, os.O_RDONLY)
     try:
         fcntl.flock(folder, fcntl.LOCK_EX)
         before = entries()
@@ -130,10 +130,9 @@ def changing():
         yield its
         if its != before:
             lines = [f"{name} {total} {told}\n" for name, (total, told) in sorted(its.items())]
-            with tempfile.NamedTemporaryFile("w", dir=judging.ROOT, prefix=".mutants.lock-", delete=False, encoding="utf-8") as it:
+            with open(f"{LOCK}.new", "w", encoding="utf-8") as it:
                 it.write("\n".join([HEAD, *lines]))
-            os.chmod(it.name, 0o644)
-            os.replace(it.name, path_of_lock())
+            os.replace(it.name, LOCK)
     finally:
         os.close(folder)
 
@@ -153,5 +152,5 @@ def strike(name):
 def told_of(bodies, kinds):
     """How many mutants were refused in which way, each by a word for the way."""
     counts = Counter(it.verdict for it in bodies if not it.is_harmless)
-    ways = ", ".join(f"{counts[verdict]} {word}" for verdict, word in kinds.items() if counts[verdict])
-    return f"{sum(counts.values())} mutants: {ways}"
+    ways = (f"{counts[verdict]} {word}" for verdict, word in kinds.items() if counts[verdict])
+    return f"{sum(counts.values())} mutants: {', '.join(ways)}"

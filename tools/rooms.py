@@ -1,4 +1,4 @@
-"""A room: a copy of the repository, in which one crate is checked with some of its mutants applied; and what a check says."""
+"""A room, in which one crate is checked with some of its mutants applied, and what a check says."""
 import os
 import re
 import shutil
@@ -36,8 +36,8 @@ def linked(source, copy):
 
 def crates_below(crate):
     """The crates of the repository that a crate uses, those that they use among them."""
-    uses = dict(it.split("#")[0].split(":", 1) for it in read_text(f"{ROOT}/crates.txt").split("\n") if ":" in it.split("#")[0])
-    uses = {name.split()[0]: its.split() for name, its in uses.items()}
+    lines = (it.split("#")[0].partition(":") for it in read_text(f"{ROOT}/crates.txt").split("\n"))
+    uses = {name.split()[0]: its.split() for name, colon, its in lines if colon}
     found, left = set(), [crate]
     while left:
         more = [it for it in uses.get(left.pop(), []) if it in uses and it not in found]
@@ -64,7 +64,8 @@ class Room:
         for it in crates_below(crate):
             source = f"{kept}/crates/{it}/out/rlib"
             if os.path.isdir(source):
-                shutil.copytree(source, f"{folder}/crates/{it}/out/rlib", symlinks=True, copy_function=linked)
+                copy = f"{folder}/crates/{it}/out/rlib"
+                shutil.copytree(source, copy, symlinks=True, copy_function=linked)
 
         self.standing = None
         self.kept = f"{kept}/crates/{crate}/out/incremental"
@@ -121,10 +122,11 @@ class Room:
         return Said(self.crate, ran.stdout.split("\n"))
 
     def names_of(self, bodies):
-        """The functions that these mutants change, as a check is asked for them; none where it has to look at all."""
+        """The functions that these mutants change, as a check is asked for them; none if it is for all."""
         if not self.standing or not all(it.functions for it in bodies):
             return []
-        names = {it for body in bodies for function in body.functions for it in self.standing.matching(self.crate, function)}
+        functions = {function for body in bodies for function in body.functions}
+        names = {it for function in functions for it in self.standing.matching(self.crate, function)}
         return sorted(it.removeprefix(f"{self.crate}::") for it in names if CLOSURE not in it)
 
 

@@ -1,4 +1,4 @@
-"""What `tools/wrong-bodies --check-itself` tries: the tool, on a small crate of its own, in a repository made for that."""
+"""What `tools/wrong-bodies --check-itself` tries: the tool, on a small crate that is made for it."""
 import os
 import re
 import shutil
@@ -77,7 +77,8 @@ FILES = {
     LIB: CODE,
     f"{CRATE}/specs/Lib.antt": "pub mod Copied\n",
     COPIED: SPECS,
-    **{f"{CRATE}/proofs/{it}/Answers.antt": PROOF.replace("FUNCTION", it) for it in ("echo", "again")},
+    f"{CRATE}/proofs/echo/Answers.antt": PROOF.replace("FUNCTION", "echo"),
+    f"{CRATE}/proofs/again/Answers.antt": PROOF.replace("FUNCTION", "again"),
     f"{MUTANTS}/least_takes_the_greater.edit": edit("if a < b", "if b < a"),
     f"{MUTANTS}/echo_gives_zero.edit": edit("    x", "    0"),
     f"{MUTANTS}/again_gives_zero.edit": edit("    y", "    0"),
@@ -92,7 +93,7 @@ FILES = {
 
 
 class Repository:
-    """A repository in a folder of its own, with a copy of the tool, for which its one crate is the layer."""
+    """A repository in a folder of its own, with a copy of the tool. Its one crate is the layer."""
 
     def __init__(self, folder):
         self.folder = folder
@@ -103,7 +104,8 @@ class Repository:
         for path, text in FILES.items():
             self.write(path, text)
         lock = "tools/mutants_lock.py"
-        text, changes = re.subn(r"^LAYER = \(.*\)$", f'LAYER = ("{NAME}",)', self.read(lock), flags=re.M)
+        layer = f'LAYER = ("{NAME}",)'
+        text, changes = re.subn(r"^LAYER = \(.*\)$", layer, self.read(lock), flags=re.M)
         self.write(lock, text)
         if changes != 1:
             raise Wrong(f"{lock} has no line LAYER")
@@ -118,7 +120,7 @@ class Repository:
             it.write(text)
 
     def run(self, *words, status, says):
-        """Runs the tool there, which has to end with this status and to print each of these lines."""
+        """Runs the tool there. It has to end with this status and to print each of these lines."""
         ran = subprocess.run(
             [f"{self.folder}/tools/wrong-bodies", *words],
             stdin=subprocess.DEVNULL,
@@ -128,7 +130,8 @@ class Repository:
         )
         missing = [it for it in says if it not in ran.stdout.split("\n")]
         if missing or ran.returncode != status:
-            raise Wrong(f"status {ran.returncode}; it lacks {missing} in:\n{ran.stdout}{ran.stderr}")
+            said = f"status {ran.returncode}, without {missing}"
+            raise Wrong(f"{said}:\n{ran.stdout}{ran.stderr}")
         return "as it has to"
 
     def locked(self):
@@ -139,7 +142,7 @@ class Repository:
 
 
 def judge_harmless(it):
-    """One that turns nothing is let through, though another hid it at first; and nothing is locked."""
+    """One that turns nothing is let through, though another hid it at first. Nothing is locked."""
     it.run(
         "--jobs",
         "2",
@@ -158,7 +161,8 @@ def judge_refused(it):
     """The others are refused, each in its way, and that is locked."""
     os.remove(f"{it.folder}/{HARMLESS}")
     it.run(NAME, status=0, says=[f"2 harmless mutants: 2 {LET_THROUGH}"])
-    wanted = "3 mutants: 1 by a search, 1 by a proof by hand that has a partner, 1 by a proof by hand alone"
+    by_hand = "1 by a proof by hand that has a partner, 1 by a proof by hand alone"
+    wanted = f"3 mutants: 1 by a search, {by_hand}"
     if it.locked() != wanted:
         raise Wrong(f"what is locked is '{it.locked()}', and not '{wanted}'")
     return it.locked()

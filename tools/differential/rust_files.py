@@ -28,7 +28,7 @@ def files_below(folders, left_out, only=""):
             below.sort()
             for path in (f"{top}/{it}" for it in sorted(names) if it.endswith(".rs")):
                 if only not in path:
-                    left_out[f"without {only} in the path"] += 1
+                    left_out[f"without '{only}' in the path"] += 1
                     continue
                 with open(path, "rb") as file:
                     content = file.read()

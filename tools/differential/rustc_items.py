@@ -1,4 +1,7 @@
-"""The items of a Rust file as rustc parses them (`-Zunpretty=ast-tree`), of the file alone."""
+"""The items of a Rust file as rustc parses them (`-Zunpretty=ast-tree`), of the file alone.
+
+An item begins with its first outer attribute, as `defmap items` has it: comments are none.
+"""
 import os
 import re
 import subprocess
@@ -32,8 +35,8 @@ OF_RUSTC = {theirs: name for name, _, theirs in KINDS if theirs}
 
 # What rustc prints: each value of the tree of the syntax stands in lines of its own, and what is in
 # it is indented by four more. An `Item` whose own line is indented by N has its span and visibility
-# at N + 4, the parts of its kind at N + 8 or N + 12, and the items in it at N + 16, where no other
-# line is `Item {`.
+# at N + 4, its attributes and the parts of its kind at N + 8 or N + 12, and the items in it at
+# N + 16, where no other line is `Item {`.
 SPAN = re.compile(rb":(\d+):(\d+): (\d+):(\d+) \(#\d+\),$")
 TYPE = re.compile(rb"kind: (\w+)")
 NAME = re.compile(rb"((?:r#)?\w+|\{\{root\}\})#\d+,$")
@@ -88,10 +91,28 @@ def read_items(lines, first, behind, depth, level, found):
         at = place(lines, opening, end, behind)
 
 
+def span_of(line):
+    return tuple(map(int, SPAN.search(line).groups()))
+
+
+def attribute_span(lines, first, behind, depth):
+    """Where the first outer attribute stands that is no comment; nothing, where none does."""
+    opening, lead = b" " * (depth + 8) + b"Attribute {", b" " * (depth + 12)
+    at = place(lines, opening, first, behind)
+    while at < behind:
+        end = place(lines, opening, at + 1, behind)
+        if lead + b"kind: Normal(" in lines[at:end] and lead + b"style: Outer," in lines[at:end]:
+            return span_of(next(it for it in lines[at:end] if it.startswith(lead + b"span: ")))
+        at = end
+    return None
+
+
 def read_item(lines, first, behind, depth, level, found):
     lead = b" " * (depth + 4)
     span_at = next(at for at in range(first, behind) if lines[at].startswith(lead + b"span: "))
-    span = tuple(map(int, SPAN.search(lines[span_at]).groups()))
+    span = span_of(lines[span_at])
+    attribute = attribute_span(lines, first, span_at, depth)
+    span = (*(attribute or span)[:2], *span[2:])
     kind_at = next(at for at in range(span_at, behind) if lines[at].startswith(lead + b"kind: "))
     theirs = TYPE.search(lines[kind_at]).group(1).decode()
     kind = OF_RUSTC[theirs]

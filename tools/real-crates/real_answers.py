@@ -9,6 +9,9 @@ TESTS = "tests"
 INJECTED = "injected crates"
 BEHIND = "unknown names behind globs"
 ATTRIBUTES = "attributes of imports"
+# What is forgiven of a leaf that else means the same.
+CONSTRUCTORS = "constructors that fields hide"
+PROCEDURAL = "procedural macros by their crates alone"
 
 
 @dataclass
@@ -42,6 +45,9 @@ class Outcome:
     brought: int = 0
     reasons: dict = field(default_factory=dict)
     differing: list = field(default_factory=list)
+
+    def count(self, reason):
+        self.reasons[reason] = self.reasons.get(reason, 0) + 1
 
 
 def meant_by(part, own):
@@ -133,19 +139,28 @@ def compare(leaves, ours, known, is_brought=lambda where, leaf: False):
     return outcome
 
 
+def count_forgiven(outcome, ours, seen, theirs):
+    """Counts what a leaf was forgiven: `seen` is what we say, without the constructors that fields hide."""
+    if ours != seen:
+        outcome.count(CONSTRUCTORS)
+    if seen != theirs:
+        outcome.count(PROCEDURAL)
+
+
 def compare_leaf(outcome, where, leaf, one, known):
     """Compares a leaf that is known."""
     outcome.compared += 1
-    theirs = by_crates(leaf.meant, known.procedural)
-    meant = by_crates(without_constructors(one.meant, leaf.meant), known.procedural) if one else set()
+    seen = without_constructors(one.meant, leaf.meant) if one else set()
+    theirs, meant = (by_crates(it, known.procedural) for it in (leaf.meant, seen))
     if one is not None and meant == theirs:
+        count_forgiven(outcome, one.meant, seen, leaf.meant)
         return
     if one is not None and one.has_more and is_part(meant, theirs):
         outcome.partly += 1
         return
     reason = reason_for(where, theirs, meant, known) or reason_by_module(leaf.home, known)
     if reason:
-        outcome.reasons[reason] = outcome.reasons.get(reason, 0) + 1
+        outcome.count(reason)
         return
     more, less = (sorted(f"{it.namespace} {it.kind} {it.path}" for it in them)
                   for them in (theirs - meant, meant - theirs))

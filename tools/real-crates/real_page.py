@@ -8,7 +8,7 @@ from dataclasses import asdict, dataclass, field
 
 from cargo_builds import PASSES, RUSTC, read_text
 from judging import ROOT
-from real_answers import ATTRIBUTES, BEHIND, INJECTED, TESTS
+from real_answers import ATTRIBUTES, BEHIND, CONSTRUCTORS, INJECTED, PROCEDURAL, TESTS
 
 PAGE = f"{ROOT}/docs/REAL-CRATES.md"
 SHARES = f"{ROOT}/tools/real-crates/shares"
@@ -144,7 +144,7 @@ def time_table(rows):
 
 def limits(rows):
     """What cannot be right without expansion, or is another thing by decision, with the number of places."""
-    reasons = (TESTS, INJECTED, BEHIND, ATTRIBUTES)
+    reasons = (TESTS, INJECTED, BEHIND, ATTRIBUTES, CONSTRUCTORS, PROCEDURAL)
     places = {reason: sum(it.reasons.get(reason, 0) for it in rows) for reason in reasons}
     unknown, brought = sum(it.unknown for it in rows), sum(it.brought for it in rows)
     names, partly = sum(it.unknown_names for it in rows), sum(it.partly + it.partly_names for it in rows)
@@ -156,7 +156,9 @@ def limits(rows):
         ["functions that an attribute as `#[test]` takes away, which are bound", places[TESTS]],
         ["names that a glob brings of an import that is unknown: told as absent", places[BEHIND]],
         ["names that a macro by attribute brings or takes, of a module where one stands at a `use` or an `extern` block", places[ATTRIBUTES]],
-        ["names of the standard library that rustc binds in roots of edition 2015: absent", places[INJECTED]]])
+        ["names of the standard library that rustc binds in roots of edition 2015: absent", places[INJECTED]],
+        ["constructors that rustc lets those see alone who see the fields: bound, and not compared", places[CONSTRUCTORS]],
+        ["procedural macros, of which the crates alone are compared, not the names", places[PROCEDURAL]]])
 
 
 def version():

@@ -1,17 +1,22 @@
 //! The answer to what is asked.
 use crate::imports::imports_text;
+use crate::items::{Manner, items_text};
 use crate::places::Lines;
 use crate::resolve::{meaning_text, module_at};
 use crate::settled::Settled;
 use crate::settling::{SettledInputs, settle_crates};
 use crate::stats::{Stopwatch, push_counts};
-use crate::tree::tree_text;
+use crate::trees::trees_text;
 use crate::unresolved::{Told, UnknownCount, find_unresolved, nothing, push_messages};
 use crate::written_path::written_path;
-use defmap_inputs::arguments::{Arguments, Wish};
+use defmap_inputs::arguments::{Arguments, Question, TreeForm, Wish};
 use defmap_inputs::complaints::Complaints;
 use defmap_inputs::crates_read::read_crates;
 use defmap_inputs::failure::{Failure, Status};
+use defmap_inputs::item_options::item_options;
+use defmap_inputs::item_tables::ItemTable;
+use defmap_inputs::reading::given_text;
+use dm_base::edition::Edition;
 use dm_base::ids::ModuleId;
 use dm_base::mod_path::ModPath;
 use std::alloc::{AllocError, Global};
@@ -34,6 +39,15 @@ impl Drop for Answer {
             told: _told,
             status: _status,
         } = self;
+    }
+}
+
+/// The status where all was told that was read, or not all was.
+fn read_status(is_whole: bool) -> Status {
+    if is_whole {
+        Status::Fine
+    } else {
+        Status::Unreadable
     }
 }
 
@@ -97,6 +111,11 @@ fn messages_text(
     Ok(out)
 }
 
+/// Whether all crates are given that there are, those of the standard library too.
+fn has_all(given: &Arguments<'_>) -> bool {
+    given.sysroot.is_some() || given.fixture.is_some()
+}
+
 /// The answer to `unresolved`.
 fn unresolved_answer(
     alloc: Global,
@@ -104,7 +123,7 @@ fn unresolved_answer(
     given: &Arguments<'_>,
     complaints: &Complaints,
 ) -> Result<Answer, AllocError> {
-    let mut found = find_unresolved(alloc, settled, given.sysroot.is_some())?;
+    let mut found = find_unresolved(alloc, settled, has_all(given))?;
     let out = messages_text(alloc, settled, &mut found.told)?;
     let told = unknown_told(alloc, settled, found.unknown.as_slice(), complaints)?;
     let status = if !complaints.lines().is_empty() {
@@ -124,7 +143,7 @@ fn missing_told(
     complaints: &Complaints,
 ) -> Result<(String, bool), AllocError> {
     let mut missing = nothing(alloc, 0)?;
-    missing.add_modules(alloc, settled.lists())?;
+    missing.add_modules(alloc, settled)?;
     let is_whole = missing.told.is_empty() && complaints.lines().is_empty();
     let mut told = ended(alloc, complaints)?;
     let modules = messages_text(alloc, settled, &mut missing.told)?;
@@ -132,21 +151,35 @@ fn missing_told(
     Ok((told, is_whole))
 }
 
+/// The answer to `tree`, where diagnostics tell what modules lack.
+fn diagnosed_answer(
+    alloc: Global,
+    out: String,
+    complaints: &Complaints,
+) -> Result<Answer, AllocError> {
+    Ok(Answer {
+        out,
+        told: ended(alloc, complaints)?,
+        status: read_status(complaints.lines().is_empty()),
+    })
+}
+
 /// The answer to `tree`.
 fn tree_answer(
     alloc: Global,
-    settled: &Settled,
-    complaints: &Complaints,
+    made: &SettledInputs,
+    given: &Arguments<'_>,
+    form: TreeForm,
 ) -> Result<Answer, AllocError> {
-    let (told, is_whole) = missing_told(alloc, settled, complaints)?;
+    let out = trees_text(alloc, made, form, given.fixture.is_some())?;
+    if form.has_diagnostics {
+        return diagnosed_answer(alloc, out, &made.complaints);
+    }
+    let (told, is_whole) = missing_told(alloc, &made.settled, &made.complaints)?;
     Ok(Answer {
-        out: tree_text(alloc, settled)?,
+        out,
         told,
-        status: if is_whole {
-            Status::Fine
-        } else {
-            Status::Unreadable
-        },
+        status: read_status(is_whole),
     })
 }
 
@@ -200,28 +233,25 @@ fn imports_answer(
     complaints: &Complaints,
 ) -> Result<Answer, AllocError> {
     Ok(Answer {
-        out: imports_text(alloc, settled, given.sysroot.is_some())?,
+        out: imports_text(alloc, settled, has_all(given))?,
         told: ended(alloc, complaints)?,
-        status: if complaints.lines().is_empty() {
-            Status::Fine
-        } else {
-            Status::Unreadable
-        },
+        status: read_status(complaints.lines().is_empty()),
     })
 }
 
-/// The answer to a wish.
-fn wished(
+/// The answer to a question.
+fn answered(
     alloc: Global,
-    settled: &Settled,
+    made: &SettledInputs,
     given: &Arguments<'_>,
-    complaints: &Complaints,
+    question: Question<'_>,
 ) -> Result<Answer, Failure> {
-    match given.wish {
-        Wish::Tree => Ok(tree_answer(alloc, settled, complaints)?),
-        Wish::Unresolved => Ok(unresolved_answer(alloc, settled, given, complaints)?),
-        Wish::Imports => Ok(imports_answer(alloc, settled, given, complaints)?),
-        Wish::Resolve { path, home } => resolve_answer(alloc, settled, path, home, complaints),
+    let (settled, complaints) = (&made.settled, &made.complaints);
+    match question {
+        Question::Tree(form) => Ok(tree_answer(alloc, made, given, form)?),
+        Question::Unresolved => Ok(unresolved_answer(alloc, settled, given, complaints)?),
+        Question::Imports => Ok(imports_answer(alloc, settled, given, complaints)?),
+        Question::Resolve { path, home } => resolve_answer(alloc, settled, path, home, complaints),
     }
 }
 
@@ -230,10 +260,11 @@ fn answer_by<R: AllocGlobal + Clock>(
     rt: &R,
     given: &Arguments<'_>,
     made: &SettledInputs,
+    question: Question<'_>,
     watch: &mut Stopwatch,
 ) -> Result<Answer, Failure> {
     let alloc = rt.alloc();
-    let mut answered = wished(alloc, &made.settled, given, &made.complaints)?;
+    let mut answered = answered(alloc, made, given, question)?;
     watch.end(rt, "answering")?;
     if given.has_stats {
         push_counts(&mut answered.told, &made.settled, made.effort)?;
@@ -242,15 +273,48 @@ fn answer_by<R: AllocGlobal + Clock>(
     Ok(answered)
 }
 
-/// Reads what the command line names, and answers what it asks.
-pub(crate) fn give_answer<R: Files + Input + AllocGlobal + Clock>(
+/// Reads the crates that the command line names, and answers what it asks of them.
+fn crates_answer<R: Files + Input + AllocGlobal + Clock>(
     rt: &R,
     given: &Arguments<'_>,
+    question: Question<'_>,
 ) -> Result<Answer, Failure> {
     let mut watch = Stopwatch::start(rt);
     let crates = read_crates(rt, given)?;
     watch.end(rt, "reading")?;
     let made = settle_crates(rt.alloc(), crates, given.limit)?;
     watch.end(rt, "settling")?;
-    answer_by(rt, given, &made, &mut watch)
+    answer_by(rt, given, &made, question, &mut watch)
+}
+
+/// The table of the file that the command line names.
+fn items_answer<R: Files + Input + AllocGlobal>(
+    rt: &R,
+    given: &Arguments<'_>,
+    table: ItemTable,
+) -> Result<Answer, Failure> {
+    let alloc = rt.alloc();
+    let options = item_options(alloc, given)?;
+    let edition = given.edition.unwrap_or(Edition::Edition2021);
+    let text = given_text(rt, given.root)?;
+    let manner = Manner {
+        edition,
+        options: &options,
+    };
+    Ok(Answer {
+        out: items_text(alloc, manner, table, text.as_str())?,
+        told: String::new(alloc),
+        status: Status::Fine,
+    })
+}
+
+/// Reads what the command line names, and answers what it asks.
+pub(crate) fn give_answer<R: Files + Input + AllocGlobal + Clock>(
+    rt: &R,
+    given: &Arguments<'_>,
+) -> Result<Answer, Failure> {
+    match given.wish {
+        Wish::OfCrates(question) => crates_answer(rt, given, question),
+        Wish::OfItems(table) => items_answer(rt, given, table),
+    }
 }

@@ -1,4 +1,4 @@
-//! What each import of a crate means.
+//! What each import of some crates means.
 use crate::definitions::definition_text;
 use crate::hidden::Hidden;
 use crate::macro_homes::macro_homes;
@@ -9,7 +9,7 @@ use crate::places::{Lines, use_spot};
 use crate::prelude_use::prelude_use;
 use crate::settled::Settled;
 use crate::shown::is_own;
-use dm_base::ids::{ModuleId, UseId, UseTreeIdx};
+use dm_base::ids::{Crate, ModuleId, UseId, UseTreeIdx};
 use dm_base::mod_path::ModPath;
 use dm_base::per_ns::{Namespace, PerNs};
 use dm_retry::import_kind::ImportKind;
@@ -106,7 +106,7 @@ impl<'s, 'h, 'l, 'f> Listing<'s, 'h, 'l, 'f> {
     fn add_all(&mut self) -> Result<(), AllocError> {
         self.add_named()?;
         self.add_globs()?;
-        self.add_prelude()
+        self.add_preludes()
     }
 
     fn add_named(&mut self) -> Result<(), AllocError> {
@@ -117,7 +117,7 @@ impl<'s, 'h, 'l, 'f> Listing<'s, 'h, 'l, 'f> {
                 continue;
             };
             let home = pending.origin();
-            if !is_own(settled.world(), home) {
+            if !is_own(settled, home) {
                 continue;
             }
             let reservation = if self.hidden.notes.cause_of_named(place).is_some() {
@@ -140,11 +140,20 @@ impl<'s, 'h, 'l, 'f> Listing<'s, 'h, 'l, 'f> {
         Ok(())
     }
 
-    /// Adds the glob that names the prelude, which is none of the globs that bring names.
-    fn add_prelude(&mut self) -> Result<(), AllocError> {
-        if let Some(found) = prelude_use(self.alloc, self.settled)? {
+    /// Adds the glob by which a crate names its prelude, which is none of the globs that bring
+    /// names.
+    fn add_prelude(&mut self, krate: Crate) -> Result<(), AllocError> {
+        if let Some(found) = prelude_use(self.alloc, self.settled, krate)? {
             let leaf = (found.use_, found.glob.tree);
             self.add(found.home, &found.glob.path, leaf, None, "")?;
+        }
+        Ok(())
+    }
+
+    /// Adds those of all crates that are asked about.
+    fn add_preludes(&mut self) -> Result<(), AllocError> {
+        for krate in &self.settled.asked_crates(self.alloc)? {
+            self.add_prelude(*krate)?;
         }
         Ok(())
     }
@@ -164,7 +173,7 @@ impl<'s, 'h, 'l, 'f> Listing<'s, 'h, 'l, 'f> {
     fn add_globs(&mut self) -> Result<(), AllocError> {
         let settled = self.settled;
         for (place, glob) in settled.collected.globs.iter().enumerate() {
-            if is_own(settled.world(), glob.into) {
+            if is_own(settled, glob.into) {
                 let leaf = (glob.import.use_, glob.import.idx);
                 let is_unknown = self.hidden.notes.cause_of_glob(place).is_some();
                 let reservation = if is_unknown { "; unknown" } else { "" };
@@ -175,7 +184,7 @@ impl<'s, 'h, 'l, 'f> Listing<'s, 'h, 'l, 'f> {
     }
 }
 
-/// What each import of the crate means, where it is known what is hidden.
+/// What each import of the crates means, where it is known what is hidden.
 fn listed(lines: &Lines<'_>, hidden: &Hidden<'_>) -> Result<String, AllocError> {
     let mut listing = Listing {
         alloc: hidden.alloc(),
@@ -189,7 +198,8 @@ fn listed(lines: &Lines<'_>, hidden: &Hidden<'_>) -> Result<String, AllocError> 
     Ok(listing.into_text())
 }
 
-/// What each import of the crate that is asked about means, the named ones first, and the one that names its prelude last.
+/// What each import of the crates that are asked about means, the named ones first, and those that
+/// name preludes last.
 pub(crate) fn imports_text(
     alloc: Global,
     settled: &Settled,

@@ -1,14 +1,20 @@
-//! Resolves the names of a crate of the user's: its modules and what each binds, what a path means, what leads nowhere.
+//! Resolves the names of a crate of the user's: its modules and what each binds, what a path means,
+//! what leads nowhere; and prints what is read of one file.
 #![tactic(auto)]
 
 mod answer;
+mod assocs;
 mod definitions;
+mod diagnostics;
 mod hidden;
 mod imports;
 mod item_places;
+mod items;
+mod lists;
 mod macro_calls;
 mod macro_exports;
 mod macro_homes;
+mod macro_view;
 mod meanings;
 mod notes;
 mod offsets;
@@ -23,11 +29,13 @@ mod shown;
 mod stats;
 mod steps;
 mod tree;
+mod trees;
 mod unresolved;
 mod written_path;
 
 use crate::answer::give_answer;
-use defmap_inputs::arguments::{command_line, read_arguments};
+use defmap_inputs::arguments::read_arguments;
+use defmap_inputs::command_line::command_line;
 use defmap_inputs::failure::{Failure, Status};
 use std::process::ExitCode;
 

@@ -1,4 +1,4 @@
-//! The glob by which the crate that is asked about names its prelude (`#[prelude_import]`).
+//! The glob by which a crate names its prelude (`#[prelude_import]`).
 use crate::item_places::ItemPlace;
 use crate::settled::Settled;
 use crate_items::files::file_table::FileTable;
@@ -29,12 +29,12 @@ impl Drop for PreludeUse {
     }
 }
 
-/// The root of the crate, and the use that names its prelude.
-fn naming_use(world: &World) -> Option<(ModuleId, UseId)> {
-    if !world.has_crate(Crate(0)) {
+/// The root of a crate, and the use that names its prelude.
+fn naming_use(world: &World, krate: Crate) -> Option<(ModuleId, UseId)> {
+    if !world.has_crate(krate) {
         return None;
     }
-    let map = crate_def_map(world, Crate(0));
+    let map = crate_def_map(world, krate);
     let (_prelude, use_) = map.prelude()?;
     Some((map.root_module_id(), use_?))
 }
@@ -64,19 +64,20 @@ fn glob_of(
     Ok(None)
 }
 
-/// The use that names the prelude of the crate, if one does.
+/// The use that names the prelude of a crate, if one does.
 pub(crate) fn prelude_use(
     alloc: Global,
     settled: &Settled,
+    krate: Crate,
 ) -> Result<Option<PreludeUse>, AllocError> {
-    let Some((home, use_)) = naming_use(settled.world()) else {
+    let Some((home, use_)) = naming_use(settled.world(), krate) else {
         return Ok(None);
     };
     let Some(place) = settled.use_place(use_) else {
         return Ok(None);
     };
     let item = item_at(settled.items(), *place);
-    let (Some(list), Some(item)) = (settled.lists().first(), item) else {
+    let (Some(list), Some(item)) = (settled.lists().get(krate.0 as usize), item) else {
         return Ok(None);
     };
     match glob_of(alloc, list, &settled.files, item)? {

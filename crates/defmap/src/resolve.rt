@@ -8,7 +8,7 @@ use crate::shown::{module_data, module_path, visibility_text};
 use crate::steps::{glob_of, import_of, steps_of};
 use crate::written_path::{prefix_of, written_path};
 use defmap_inputs::failure::{Failure, Status};
-use dm_base::ids::{Crate, ModuleId};
+use dm_base::ids::ModuleId;
 use dm_base::imports::ImportOrExternCrate;
 use dm_base::item_ids::ModuleDefId;
 use dm_base::mod_path::{ModPath, PathKind};
@@ -78,13 +78,18 @@ fn no_child<T>(
     Err(Failure::Told(Status::Absent, told))
 }
 
+/// The root of the crate that is asked about.
+fn root_asked(settled: &Settled) -> Option<ModuleId> {
+    settled.world().root_of(settled.asked?)
+}
+
 /// The module of a path from the root of the crate on.
 pub(crate) fn module_at(alloc: Global, settled: &Settled, text: &str) -> Result<ModuleId, Failure> {
     let world = settled.world();
     let Some(path) = written_path(alloc, text)? else {
         return no_module(alloc, text, Status::Misused, "give it as crate::a::b");
     };
-    let Some(root) = world.root_of(Crate(0)) else {
+    let Some(root) = root_asked(settled) else {
         return no_module(alloc, text, Status::Absent, "the crate has none");
     };
     match inwards(world, root, path.segments()) {

@@ -30,6 +30,8 @@ pub(crate) struct Settled {
     pub(crate) names: Vec<String>,
     /// Whether each crate is one of procedural macros.
     procedural: Vec<bool>,
+    /// The crate that is asked about; none where all are.
+    pub(crate) asked: Option<Crate>,
 }
 
 /// A hand-written `Drop`, to keep proofs small: what drops one has one call to prove.
@@ -42,6 +44,7 @@ impl Drop for Settled {
             collected: _collected,
             names: _names,
             procedural: _procedural,
+            asked: _asked,
         } = self;
     }
 }
@@ -110,7 +113,8 @@ fn settle_all(
     Err(NotSettled::Unsettled)
 }
 
-/// Settles what was collected, lists the names that are unresolved then, and settles again. Answers with what that took.
+/// Settles what was collected, lists the names that are unresolved then, and settles again. Answers
+/// with what that took.
 fn settle_whole(alloc: Global, collected: &mut Collected) -> Result<Effort, NotSettled> {
     let mut effort = Effort {
         rounds: 0,
@@ -185,6 +189,7 @@ impl Settled {
         files: FileTable,
         names: Vec<String>,
         collected: Collected,
+        asked: Option<Crate>,
     ) -> Result<Settled, AllocError> {
         let ItemLists {
             items,
@@ -198,6 +203,7 @@ impl Settled {
             collected,
             names,
             procedural,
+            asked,
         })
     }
 
@@ -222,6 +228,26 @@ impl Settled {
     /// Whether a crate is one of procedural macros.
     pub(crate) fn is_procedural(&self, krate: usize) -> bool {
         self.procedural.get(krate).copied().unwrap_or(false)
+    }
+
+    /// Whether a crate is asked about.
+    pub(crate) fn is_asked(&self, krate: Crate) -> bool {
+        match self.asked {
+            None => true,
+            Some(asked) => asked == krate,
+        }
+    }
+
+    /// The crates that are asked about, in their order.
+    pub(crate) fn asked_crates(&self, alloc: Global) -> Result<Vec<Crate>, AllocError> {
+        let mut asked = Vec::new(alloc);
+        for number in 0..self.names.len() {
+            let krate = Crate(u32::try_from(number).unwrap_or(u32::MAX));
+            if self.is_asked(krate) {
+                asked.push(krate)?;
+            }
+        }
+        Ok(asked)
     }
 
     pub(crate) fn name_of(&self, krate: Crate) -> &str {

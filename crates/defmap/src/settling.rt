@@ -7,12 +7,14 @@ use crate_tables::crate_filling::Reading;
 use defmap_inputs::complaints::Complaints;
 use defmap_inputs::crates_read::CratesRead;
 use defmap_inputs::failure::{Failure, Status};
+use dm_base::ids::Crate;
 use dm_collector::collect::Collected;
 use std::alloc::{AllocError, Global};
 
 /// The settled crates, and what could not be read of them.
 pub(crate) struct SettledInputs {
     pub(crate) settled: Settled,
+    pub(crate) graph: CrateGraph,
     pub(crate) effort: Effort,
     pub(crate) complaints: Complaints,
 }
@@ -22,6 +24,7 @@ impl Drop for SettledInputs {
     fn drop(self) {
         let SettledInputs {
             settled: _settled,
+            graph: _graph,
             effort: _effort,
             complaints: _complaints,
         } = self;
@@ -79,6 +82,7 @@ fn settle_graph(
     graph: &CrateGraph,
     files: FileTable,
     names: Vec<String>,
+    asked: Option<Crate>,
     limit: u32,
 ) -> Result<(Settled, Effort), Failure> {
     let reading = Reading {
@@ -86,7 +90,7 @@ fn settle_graph(
         limit,
     };
     let (collected, effort) = collected_of(alloc, graph, &reading, names.as_slice())?;
-    let settled = Settled::of_graph(alloc, graph, files, names, collected)?;
+    let settled = Settled::of_graph(alloc, graph, files, names, collected, asked)?;
     Ok((settled, effort))
 }
 
@@ -101,10 +105,12 @@ pub(crate) fn settle_crates(
         files,
         names,
         complaints,
+        asked,
     } = crates;
-    let (settled, effort) = settle_graph(alloc, &graph, files, names, limit)?;
+    let (settled, effort) = settle_graph(alloc, &graph, files, names, asked, limit)?;
     Ok(SettledInputs {
         settled,
+        graph,
         effort,
         complaints,
     })

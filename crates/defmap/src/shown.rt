@@ -46,23 +46,24 @@ pub(crate) fn outwards(
     Ok(around)
 }
 
-/// The crate of a module, as it is written: the crate that is asked about is `crate`.
-fn crate_word(settled: &Settled, m: ModuleId) -> &str {
+/// The crate of a module, as it is written in a crate: this is `crate` there.
+fn crate_word(settled: &Settled, own: Option<Crate>, m: ModuleId) -> &str {
     match settled.world().module_krate(m) {
         None => "?",
-        Some(krate) if krate == Crate(0) => "crate",
+        Some(krate) if own == Some(krate) => "crate",
         Some(krate) => settled.name_of(krate),
     }
 }
 
-/// The path of a module, from its crate on.
-pub(crate) fn module_path(
+/// The path of a module, from its crate on, as it is written in a crate.
+fn path_in(
     alloc: Global,
     settled: &Settled,
+    own: Option<Crate>,
     m: ModuleId,
 ) -> Result<String, AllocError> {
     let world = settled.world();
-    let mut path = String::from_str(alloc, crate_word(settled, m))?;
+    let mut path = String::from_str(alloc, crate_word(settled, own, m))?;
     let around = outwards(alloc, world, m)?;
     let mut parent = None;
     for child in around.iter().rev() {
@@ -81,9 +82,21 @@ pub(crate) fn module_path(
     Ok(path)
 }
 
-/// Whether a module is of the crate that is asked about.
-pub(crate) fn is_own(world: &World, m: ModuleId) -> bool {
-    world.module_krate(m) == Some(Crate(0))
+/// The path of a module, from its crate on, as it is written in the crate that is asked about.
+pub(crate) fn module_path(
+    alloc: Global,
+    settled: &Settled,
+    m: ModuleId,
+) -> Result<String, AllocError> {
+    path_in(alloc, settled, settled.asked, m)
+}
+
+/// Whether a module is of a crate that is asked about.
+pub(crate) fn is_own(settled: &Settled, m: ModuleId) -> bool {
+    match settled.world().module_krate(m) {
+        None => false,
+        Some(krate) => settled.is_asked(krate),
+    }
 }
 
 /// Whether a module is the root of its crate.
@@ -111,7 +124,8 @@ pub(crate) fn visibility_text(
             if m == home {
                 return String::from_str(alloc, "pub(self)");
             }
-            let path = module_path(alloc, settled, m)?;
+            let own = settled.world().module_krate(home);
+            let path = path_in(alloc, settled, own, m)?;
             format!(in alloc; "pub(in {path})")
         }
     }

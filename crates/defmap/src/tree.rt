@@ -174,9 +174,13 @@ fn begun(alloc: Global, root: ModuleId) -> Result<Vec<Branch>, AllocError> {
     Ok(left)
 }
 
-/// The modules of the crate that is asked about, each with what it binds.
-pub(crate) fn tree_text(alloc: Global, settled: &Settled) -> Result<String, AllocError> {
-    let Some(root) = settled.world().root_of(Crate(0)) else {
+/// The modules of a crate, each with what it binds.
+pub(crate) fn tree_text(
+    alloc: Global,
+    settled: &Settled,
+    krate: Crate,
+) -> Result<String, AllocError> {
+    let Some(root) = settled.world().root_of(krate) else {
         return Ok(String::new(alloc));
     };
     let lines = Lines::new(alloc, &settled.files)?;

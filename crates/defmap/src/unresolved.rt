@@ -1,4 +1,4 @@
-//! What leads nowhere in a crate.
+//! What leads nowhere in some crates.
 use crate::hidden::Hidden;
 use crate::macro_calls::{CallEnd, end_of, item_of};
 use crate::macro_homes::{MacroHome, macro_homes};
@@ -9,7 +9,7 @@ use crate::settled::Settled;
 use crate::shown::is_own;
 use crate_items::modules::CrateModules;
 use crate_items::modules::declared_module::ModuleFault;
-use dm_base::ids::{ModuleId, UseId, UseTreeIdx};
+use dm_base::ids::{Crate, ModuleId, UseId, UseTreeIdx};
 use dm_base::item_in_ns::ItemModules;
 use dm_base::mod_path::ModPath;
 use dm_collector::sources::GlobImport;
@@ -81,8 +81,13 @@ fn module_message(alloc: Global, fault: &ModuleFault) -> Result<String, AllocErr
     Ok(paths)
 }
 
+/// The crate of a number.
+pub(crate) fn numbered(number: usize) -> Crate {
+    Crate(u32::try_from(number).unwrap_or(u32::MAX))
+}
+
 /// Whether the path of a glob means no module and no enum.
-fn leads_nowhere(world: &World, glob: &GlobImport) -> bool {
+pub(crate) fn leads_nowhere(world: &World, glob: &GlobImport) -> bool {
     glob.is_known(world) && glob.resolved(world).is_none()
 }
 
@@ -114,7 +119,8 @@ impl Unresolved {
         }
     }
 
-    /// Adds the named imports of the crate, and counts the unknown ones of all crates.
+    /// Adds the named imports of the crates that are asked about, and counts the unknown ones of
+    /// all crates.
     fn add_named(&mut self, hidden: &Hidden<'_>) -> Result<(), AllocError> {
         let settled = hidden.settled();
         let retry = &settled.collected.retry;
@@ -124,7 +130,7 @@ impl Unresolved {
             };
             if let Some(cause) = hidden.notes.cause_of_named(place) {
                 self.count(settled.world(), pending.origin(), cause);
-            } else if is_own(settled.world(), pending.origin()) {
+            } else if is_own(settled, pending.origin()) {
                 let import = pending.import();
                 let leaf = (import.use_, import.idx);
                 self.add_import(hidden.alloc(), settled, pending.path(), leaf)?;
@@ -133,7 +139,7 @@ impl Unresolved {
         Ok(())
     }
 
-    /// Adds the globs of the crate, and counts the unknown ones of all crates.
+    /// Adds the globs of these crates, and counts the unknown ones of all crates.
     fn add_globs(&mut self, hidden: &Hidden<'_>) -> Result<(), AllocError> {
         let settled = hidden.settled();
         let world = settled.world();
@@ -143,7 +149,7 @@ impl Unresolved {
             }
             if let Some(cause) = hidden.notes.cause_of_glob(place) {
                 self.count(world, glob.into, cause);
-            } else if is_own(world, glob.into) {
+            } else if is_own(settled, glob.into) {
                 let leaf = (glob.import.use_, glob.import.idx);
                 self.add_import(hidden.alloc(), settled, &glob.path, leaf)?;
             }
@@ -170,7 +176,8 @@ impl Unresolved {
         Ok(())
     }
 
-    /// Adds the macro calls of the crate that lead nowhere, and counts the unknown ones of all crates.
+    /// Adds the macro calls of these crates that lead nowhere, and counts the unknown ones of all
+    /// crates.
     fn add_calls(&mut self, hidden: &Hidden<'_>, homes: &[MacroHome]) -> Result<(), AllocError> {
         let settled = hidden.settled();
         for call in homes {
@@ -182,7 +189,7 @@ impl Unresolved {
                     }
                 }
                 CallEnd::Nowhere(path) => {
-                    if call.krate == 0 {
+                    if settled.is_asked(numbered(call.krate)) {
                         self.add_call(hidden.alloc(), settled, *call, path)?;
                     }
                 }
@@ -199,27 +206,41 @@ impl Unresolved {
         hidden: &Hidden<'_>,
         homes: &[MacroHome],
     ) -> Result<(), AllocError> {
-        self.add_modules(alloc, settled.lists())?;
+        self.add_modules(alloc, settled)?;
         self.add_named(hidden)?;
         self.add_globs(hidden)?;
         self.add_calls(hidden, homes)
     }
 
-    /// Adds the modules of the crate that have no file.
-    pub(crate) fn add_modules(
+    /// Adds the modules of the crate of a number that have no file.
+    fn add_modules_of(
         &mut self,
         alloc: Global,
         lists: &[CrateModules],
+        number: usize,
+        list: &CrateModules,
     ) -> Result<(), AllocError> {
-        let Some(list) = lists.first() else {
-            return Ok(());
-        };
         for fault in list.faults() {
             let declaration = fault.declaration();
             self.told.push(Told {
-                spot: item_spot(lists, 0, declaration.file, declaration.item),
+                spot: item_spot(lists, number, declaration.file, declaration.item),
                 message: module_message(alloc, fault)?,
             })?;
+        }
+        Ok(())
+    }
+
+    /// Adds the modules of the crates that are asked about which have no file.
+    pub(crate) fn add_modules(
+        &mut self,
+        alloc: Global,
+        settled: &Settled,
+    ) -> Result<(), AllocError> {
+        let lists = settled.lists();
+        for (number, list) in lists.iter().enumerate() {
+            if settled.is_asked(numbered(number)) {
+                self.add_modules_of(alloc, lists, number, list)?;
+            }
         }
         Ok(())
     }
@@ -241,7 +262,7 @@ pub(crate) fn nothing(alloc: Global, crates: usize) -> Result<Unresolved, AllocE
     })
 }
 
-/// What leads nowhere in the crate that is asked about, where it is known what is hidden.
+/// What leads nowhere in the crates that are asked about, where it is known what is hidden.
 fn unresolved_in(
     alloc: Global,
     settled: &Settled,
@@ -253,7 +274,7 @@ fn unresolved_in(
     Ok(found)
 }
 
-/// What leads nowhere in the crate that is asked about.
+/// What leads nowhere in the crates that are asked about.
 pub(crate) fn find_unresolved(
     alloc: Global,
     settled: &Settled,

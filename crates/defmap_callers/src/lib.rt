@@ -14,4 +14,5 @@ pub mod program;
 pub mod rounds;
 pub mod scopes;
 pub mod stays;
+pub mod text_to_answer;
 pub mod tree;

@@ -1,20 +1,38 @@
-//! The words of the command line.
+//! What the words of the command line say.
 use crate::failure::{Failure, Status};
-use clap::{Arg, ArgAction, ArgMatches, Command};
+use crate::item_tables::{ItemTable, TABLES};
+use clap::ArgMatches;
 use dm_base::source::Edition;
 use std::alloc::{AllocError, Global};
 
-/// What is asked.
+/// How the modules of a crate are shown, and what else.
 #[derive(Clone, Copy)]
-pub enum Wish<'a> {
-    /// The modules of the crate, with what each binds.
-    Tree,
+pub struct TreeForm {
+    /// Whether the def map's own dump is shown.
+    pub is_dump: bool,
+    pub has_diagnostics: bool,
+    pub has_lists: bool,
+}
+
+/// What is asked of crates.
+#[derive(Clone, Copy)]
+pub enum Question<'a> {
+    /// The modules, with what each binds.
+    Tree(TreeForm),
     /// What a path means in a module.
     Resolve { path: &'a str, home: &'a str },
     /// What leads nowhere.
     Unresolved,
     /// What each import means.
     Imports,
+}
+
+/// What is asked.
+#[derive(Clone, Copy)]
+pub enum Wish<'a> {
+    OfCrates(Question<'a>),
+    /// A table of one file.
+    OfItems(ItemTable),
 }
 
 /// A crate that the crate knows by a name.
@@ -28,9 +46,11 @@ pub(crate) struct ExternWord<'a> {
 /// The words of the command line, read.
 pub struct Arguments<'a> {
     pub wish: Wish<'a>,
-    /// The file of the crate's root; `-` is the standard input.
+    /// The file of the crate's root, or that of the table; `-` is the standard input.
     pub root: &'a str,
-    pub(crate) edition: Option<Edition>,
+    /// The file of a fixture, in place of a root; `-` is the standard input.
+    pub fixture: Option<&'a str>,
+    pub edition: Option<Edition>,
     /// Options, each as a line of `rustc --print cfg`.
     pub(crate) cfgs: Vec<&'a str>,
     pub(crate) cfg_file: Option<&'a str>,
@@ -50,6 +70,7 @@ impl<'a> Drop for Arguments<'a> {
         let Arguments {
             wish: _wish,
             root: _root,
+            fixture: _fixture,
             edition: _edition,
             cfgs: _cfgs,
             cfg_file: _cfg_file,
@@ -65,159 +86,6 @@ impl<'a> Drop for Arguments<'a> {
 
 /// How many modules a crate may have where nothing else is said.
 const LIMIT: u32 = 65_536;
-
-/// An option that takes a value: its name, what the value is called, and what it says.
-struct ValueOption {
-    id: &'static str,
-    shown: &'static str,
-    help: &'static str,
-    action: ArgAction,
-}
-
-/// Those of every subcommand, in the order in which help lists them.
-const OPTIONS: [ValueOption; 8] = [
-    ValueOption {
-        id: "edition",
-        shown: "EDITION",
-        help: "2015, 2018, 2021 or 2024; 2021 where nothing is said",
-        action: ArgAction::Set,
-    },
-    ValueOption {
-        id: "cfg",
-        shown: "NAME[=\"VALUE\"]",
-        help: "One more option that the crate is compiled with",
-        action: ArgAction::Append,
-    },
-    ValueOption {
-        id: "cfg-file",
-        shown: "FILE",
-        help: "What `rustc --print cfg` prints, in place of a table for Linux on x86-64",
-        action: ArgAction::Set,
-    },
-    ValueOption {
-        id: "extern",
-        shown: "NAME[@EDITION]=ROOT.rs",
-        help: "A crate that the crate knows, which itself knows those given before it",
-        action: ArgAction::Append,
-    },
-    ValueOption {
-        id: "sysroot",
-        shown: "DIR",
-        help: "The folder with the folders of core, alloc and std",
-        action: ArgAction::Set,
-    },
-    ValueOption {
-        id: "metadata",
-        shown: "FILE",
-        help: "What `cargo metadata --format-version 1` prints",
-        action: ArgAction::Set,
-    },
-    ValueOption {
-        id: "build",
-        shown: "FILE",
-        help: "What `cargo check --message-format json` prints, beside --metadata: the options that build scripts set",
-        action: ArgAction::Set,
-    },
-    ValueOption {
-        id: "limit",
-        shown: "NUMBER",
-        help: "How many modules a crate may have; 65536 where nothing is said",
-        action: ArgAction::Set,
-    },
-];
-
-/// The option of `resolve` alone.
-const HOME: ValueOption = ValueOption {
-    id: "in",
-    shown: "MODULE",
-    help: "The module that the path stands in; crate where nothing is said",
-    action: ArgAction::Set,
-};
-
-/// What the subcommands say of themselves.
-const TREE: &'static str =
-    "Prints the modules of a crate, with what each binds, who sees it and by which import it came";
-
-const UNRESOLVED: &'static str =
-    "Prints what leads nowhere, as FILE:LINE:COLUMN: message; status 1 if anything does";
-
-const IMPORTS: &'static str =
-    "Prints what each import of a crate means, as FILE:LINE:COLUMN: PATH; ...";
-
-fn value<'a>(alloc: Global, option: &'static ValueOption) -> Arg<'a> {
-    Arg::new(alloc, option.id)
-        .long(option.id)
-        .value_name(option.shown)
-        .help(option.help)
-        .action(option.action)
-}
-
-fn position<'a>(alloc: Global, id: &'a str, shown: &'a str, help: &'a str) -> Arg<'a> {
-    Arg::new(alloc, id)
-        .value_name(shown)
-        .help(help)
-        .required(true)
-        .action(ArgAction::Set)
-}
-
-/// A subcommand that takes the file of a root.
-fn rooted<'a>(alloc: Global, name: &'a str, about: &'a str) -> Result<Command<'a>, AllocError> {
-    let help = "The file of the crate's root; - reads one file from standard input";
-    Command::new(alloc, name)
-        .about(about)
-        .arg(position(alloc, "root", "ROOT.rs", help))
-}
-
-/// A command with the options that each subcommand has.
-fn with_options<'a>(alloc: Global, command: Command<'a>) -> Result<Command<'a>, AllocError> {
-    let mut command = command;
-    for option in &OPTIONS {
-        command = command.arg(value(alloc, option))?;
-    }
-    let stats = Arg::new(alloc, "stats")
-        .long("stats")
-        .help("Tells on standard error what was read, and how long each stage took")
-        .action(ArgAction::SetTrue);
-    command.arg(stats)
-}
-
-/// A subcommand that takes nothing else.
-fn plain_command<'a>(
-    alloc: Global,
-    name: &'a str,
-    about: &'a str,
-) -> Result<Command<'a>, AllocError> {
-    with_options(alloc, rooted(alloc, name, about)?)
-}
-
-fn resolve_command<'a>(alloc: Global) -> Result<Command<'a>, AllocError> {
-    let about = "Prints what a path means in each namespace, and through which imports it goes";
-    let command = rooted(alloc, "resolve", about)?
-        .arg(position(alloc, "path", "PATH", "The path, as a::b::C"))?
-        .arg(value(alloc, &HOME))?;
-    with_options(alloc, command)
-}
-
-/// A command with one more subcommand, unless that failed. What is held at an exit costs its proof: this has one.
-fn with_subcommand<'a>(
-    command: Command<'a>,
-    subcommand: Result<Command<'a>, AllocError>,
-) -> Result<Command<'a>, AllocError> {
-    command.subcommand(subcommand?)
-}
-
-/// The command line of the program. Fails where memory runs out.
-pub fn command_line<'a>(alloc: Global) -> Result<Command<'a>, AllocError> {
-    let bare = Command::new(alloc, "defmap")
-        .about("Resolves the names of a crate, without expanding macros")
-        .version("0.1.0")
-        .subcommand_required(true)
-        .arg_required_else_help(true);
-    let command = with_subcommand(bare, plain_command(alloc, "tree", TREE))?;
-    let command = with_subcommand(command, resolve_command(alloc))?;
-    let command = with_subcommand(command, plain_command(alloc, "unresolved", UNRESOLVED))?;
-    with_subcommand(command, plain_command(alloc, "imports", IMPORTS))
-}
 
 /// The edition of a word.
 pub(crate) fn edition_of(word: &str) -> Option<Edition> {
@@ -291,16 +159,45 @@ fn all_of<'a>(alloc: Global, given: &ArgMatches<'a>, id: &str) -> Result<Vec<&'a
     }
 }
 
+fn tree_form(given: &ArgMatches<'_>) -> TreeForm {
+    TreeForm {
+        is_dump: given.get_flag("dump"),
+        has_diagnostics: given.get_flag("diagnostics"),
+        has_lists: given.get_flag("lists"),
+    }
+}
+
+/// The table that is given, or that of the items.
+fn table_of(given: &ArgMatches<'_>) -> ItemTable {
+    for word in &TABLES {
+        if given.get_flag(word.id) {
+            return word.table;
+        }
+    }
+    ItemTable::Items
+}
+
+/// The path that is asked about: behind a fixture it is the first word.
+fn path_of<'a>(given: &ArgMatches<'a>) -> &'a str {
+    let id = if given.contains_id("fixture") {
+        "root"
+    } else {
+        "path"
+    };
+    given.get_str(id).unwrap_or("")
+}
+
 fn wish_of<'a>(name: &str, given: &ArgMatches<'a>) -> Wish<'a> {
-    match name {
-        "resolve" => Wish::Resolve {
-            path: given.get_str("path").unwrap_or(""),
+    Wish::OfCrates(match name {
+        "items" => return Wish::OfItems(table_of(given)),
+        "resolve" => Question::Resolve {
+            path: path_of(given),
             home: given.get_str("in").unwrap_or("crate"),
         },
-        "unresolved" => Wish::Unresolved,
-        "imports" => Wish::Imports,
-        _ => Wish::Tree,
-    }
+        "unresolved" => Question::Unresolved,
+        "imports" => Question::Imports,
+        _ => Question::Tree(tree_form(given)),
+    })
 }
 
 /// The edition that is given, if one is.
@@ -328,7 +225,8 @@ fn given_externs<'a>(
     extern_words(alloc, words.as_slice())
 }
 
-/// What the words of a subcommand say. Fails where one says nothing that it may say, and where memory runs out.
+/// What the words of a subcommand say. Fails where one says nothing that it may say, and where
+/// memory runs out.
 pub fn read_arguments<'a>(
     alloc: Global,
     name: &str,
@@ -340,6 +238,7 @@ pub fn read_arguments<'a>(
     Ok(Arguments {
         wish: wish_of(name, given),
         root: given.get_str("root").unwrap_or(""),
+        fixture: given.get_str("fixture"),
         edition,
         cfgs: all_of(alloc, given, "cfg")?,
         cfg_file: given.get_str("cfg-file"),

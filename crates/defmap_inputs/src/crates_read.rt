@@ -1,12 +1,14 @@
 //! The crates that a command line names, with what was read of them.
-use crate::arguments::Arguments;
+use crate::arguments::{Arguments, Question, Wish};
 use crate::complaints::Complaints;
 use crate::failure::Failure;
+use crate::fixture::read_fixture;
 use crate::graph::ordered_graph;
 use crate::inputs::{Inputs, read_inputs};
 use crate::plan::CratePlan;
 use crate_items::files::crate_graph::CrateGraph;
 use crate_items::files::file_table::FileTable;
+use dm_base::ids::Crate;
 use std::alloc::{AllocError, Global};
 use std::rt::Files;
 
@@ -19,6 +21,8 @@ pub struct CratesRead {
     pub names: Vec<String>,
     /// What could not be read.
     pub complaints: Complaints,
+    /// The crate that is asked about; none where all are.
+    pub asked: Option<Crate>,
 }
 
 /// The names of the crates of a graph.
@@ -36,8 +40,33 @@ fn names_of(
     Ok(names)
 }
 
-/// The graph of what was read, with the files and the names.
-fn in_graph(alloc: Global, inputs: Inputs) -> Result<CratesRead, AllocError> {
+/// The crate of a fixture in which a path is resolved: the one named `main`, or the last.
+fn main_or_last(names: &[String]) -> Crate {
+    let mut found = Crate(0);
+    for (number, name) in names.iter().enumerate() {
+        found = Crate(u32::try_from(number).unwrap_or(u32::MAX));
+        if name.as_str() == "main" {
+            return found;
+        }
+    }
+    found
+}
+
+/// The crate that is asked about; none where all are.
+fn asked_of(given: &Arguments<'_>, names: &[String]) -> Option<Crate> {
+    match (given.fixture, given.wish) {
+        (None, _) => Some(Crate(0)),
+        (Some(_path), Wish::OfCrates(Question::Resolve { .. })) => Some(main_or_last(names)),
+        (Some(_path), _) => None,
+    }
+}
+
+/// The graph of what was read, with the files and the names, and which crate is asked about.
+fn in_graph(
+    alloc: Global,
+    inputs: Inputs,
+    given: &Arguments<'_>,
+) -> Result<CratesRead, AllocError> {
     let Inputs {
         cfgs,
         mut plans,
@@ -56,18 +85,22 @@ fn in_graph(alloc: Global, inputs: Inputs) -> Result<CratesRead, AllocError> {
     Ok(CratesRead {
         graph: made.into_graph(),
         files,
+        asked: asked_of(given, names.as_slice()),
         names,
         complaints,
     })
 }
 
-/// Reads all that the command line names. Fails where the root of the crate that is asked about is not read, where a
-/// word of the command line or a file says nothing that it may say, and where memory runs out. What else is not read is
-/// complained of.
+/// Reads all that the command line names. Fails where the root of the crate that is asked about is
+/// not read, or a fixture, where a word of the command line or a file says nothing that it may say,
+/// and where memory runs out. What else is not read is complained of.
 pub fn read_crates<R: Files + Input + AllocGlobal>(
     rt: &R,
     given: &Arguments<'_>,
 ) -> Result<CratesRead, Failure> {
-    let inputs = read_inputs(rt, given)?;
-    Ok(in_graph(rt.alloc(), inputs)?)
+    let inputs = match given.fixture {
+        None => read_inputs(rt, given)?,
+        Some(path) => read_fixture(rt, path)?,
+    };
+    Ok(in_graph(rt.alloc(), inputs, given)?)
 }

@@ -7,14 +7,11 @@ use crate::failure::{Failure, Status};
 use crate::loader::{Loader, Manner};
 use crate::metadata::planned_by;
 use crate::plan::CratePlan;
-use crate::reading::{FileText, input_text, needed_text, unread_line};
+use crate::reading::{FileText, INPUT, input_text, needed_text, unread_line};
 use crate::sysroot::add_sysroot;
 use dm_base::ids::FileId;
 use std::alloc::{AllocError, Global};
 use std::rt::Files;
-
-/// The path that the standard input is shown under.
-const INPUT: &'static str = "<stdin>";
 
 /// Crates whose files were read.
 #[derive(Drop)]

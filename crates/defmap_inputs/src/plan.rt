@@ -83,6 +83,16 @@ impl CratePlan {
         write!(self.cfgs, "feature=\"{feature}\"\n")
     }
 
+    /// Whether a dependency has a name.
+    pub(crate) fn has_dependency(&self, name: &str) -> bool {
+        for one in &self.dependencies {
+            if one.name.as_str() == name {
+                return true;
+            }
+        }
+        false
+    }
+
     /// Adds a dependency, unless there is one of this name.
     pub(crate) fn depend(
         &mut self,
@@ -91,10 +101,8 @@ impl CratePlan {
         krate: usize,
         prelude: bool,
     ) -> Result<(), AllocError> {
-        for one in &self.dependencies {
-            if one.name.as_str() == name {
-                return Ok(());
-            }
+        if self.has_dependency(name) {
+            return Ok(());
         }
         self.dependencies.push(DependencyPlan {
             name: String::from_str(alloc, name)?,

@@ -4,6 +4,9 @@ use std::alloc::{AllocError, Global};
 use std::io::{self, ErrorKind, Read};
 use std::rt::Files;
 
+/// The path that the standard input is shown under.
+pub(crate) const INPUT: &'static str = "<stdin>";
+
 /// What reading a file gave.
 #[derive(Drop)]
 pub(crate) enum FileText {
@@ -62,10 +65,14 @@ pub(crate) fn unread_line(alloc: Global, path: &str, reason: &str) -> Result<Str
     format!(in alloc; "{path}: {reason}")
 }
 
-/// The text of a file that has to be there.
-pub(crate) fn needed_text<R: Files + AllocGlobal>(rt: &R, path: &str) -> Result<String, Failure> {
-    let alloc = rt.alloc();
-    let reason = match file_text(rt, path) {
+/// The path that a file of the command line is shown under.
+pub(crate) fn shown_path(path: &str) -> &str {
+    if path == "-" { INPUT } else { path }
+}
+
+/// The text of what was read under a path, which has to be there.
+fn needed(alloc: Global, path: &str, read: FileText) -> Result<String, Failure> {
+    let reason = match read {
         FileText::Text(bytes) => {
             return Ok(String::from_utf8(bytes).unwrap_or(String::new(alloc)));
         }
@@ -73,4 +80,20 @@ pub(crate) fn needed_text<R: Files + AllocGlobal>(rt: &R, path: &str) -> Result<
         FileText::Unreadable(reason) => reason,
     };
     Err(Failure::Told(Status::Unreadable, unread_line(alloc, path, reason)?))
+}
+
+/// The text of a file that has to be there.
+pub(crate) fn needed_text<R: Files + AllocGlobal>(rt: &R, path: &str) -> Result<String, Failure> {
+    needed(rt.alloc(), path, file_text(rt, path))
+}
+
+/// The text of a file that has to be there; `-` is the standard input. Fails where it is not read,
+/// and where memory runs out.
+pub fn given_text<R: Files + Input + AllocGlobal>(rt: &R, path: &str) -> Result<String, Failure> {
+    let read = if path == "-" {
+        input_text(rt)
+    } else {
+        file_text(rt, path)
+    };
+    needed(rt.alloc(), shown_path(path), read)
 }

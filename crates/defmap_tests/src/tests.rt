@@ -16,7 +16,10 @@ macro_rules! again {
     };
 }
 
+mod answers;
 mod base;
+mod in_maps;
+mod listings;
 mod rounds;
 mod scopes;
 mod worlds;

@@ -64,11 +64,11 @@ pub all-first : (xs : List Pending) (from : ℕ) → AllDirty xs → from < leng
 all-first xs from all within = (omega arith, by (slice_get_cases xs from).1, λ k low high. absurd (omega arith))
   where
     by : ((x : Pending) × (from < length xs) × (slice_get xs from ≡ Some x) × (get_or xs from x ≡ x)) ⊎ ((length xs ≤ from) × (slice_get xs from ≡ None)) → is_dirty_at xs from ≡ true
-    by (inl h) = ap (λ (o : Option Pending). option_map_or o.due false) h.2 ∙ all from h.0 h.2
+    by (inl h) = ap (λ (o : Option Pending). option_map_or (λ (p : Pending). p.due) o false) h.2 ∙ all from h.0 h.2
     by (inr h) = absurd (omega (arith, h.0))
 
 pub none-first : (xs : List Pending) (from : ℕ) → length xs ≤ from → IsFirst (is_dirty_at xs) from None
-none-first xs from past k low = ap (λ (o : Option Pending). option_map_or o.due false) (slice_get_past xs k (omega arith))
+none-first xs from past k low = ap (λ (o : Option Pending). option_map_or (λ (p : Pending). p.due) o false) (slice_get_past xs k (omega arith))
 
 -- a place that is dirty is one of the list
 pub dirty-within : (xs : List Pending) (k : ℕ) → is_dirty_at xs k ≡ true → k < length xs
@@ -76,7 +76,7 @@ dirty-within xs k is = by (slice_get_cases xs k).1
   where
     by : ((x : Pending) × (k < length xs) × (slice_get xs k ≡ Some x) × (get_or xs k x ≡ x)) ⊎ ((length xs ≤ k) × (slice_get xs k ≡ None)) → k < length xs
     by (inl h) = h.1
-    by (inr h) = absurd (true≢false (sym is ∙ ap (λ (o : Option Pending). option_map_or o.due false) h.1))
+    by (inr h) = absurd (true≢false (sym is ∙ ap (λ (o : Option Pending). option_map_or (λ (p : Pending). p.due) o false) h.1))
 
 -- they stay so, whatever name is bound
 pub all-awoken : (xs : List Pending) (n : Name) → AllDirty xs → map (awoken n) xs ≡ xs
@@ -99,7 +99,7 @@ all-marked xs k x is = by (slice_get xs k) (sym (slice_get-map (marked true) xs 
   where
     by : (o : Option Pending) → option_map (marked true) o ≡ Some x → x.due ≡ true
     by None h = cc
-    by (Some y) h = let same : marked true y ≡ x = cc in sym (ap same.due) ∙ refl
+    by (Some y) h = let same : marked true y ≡ x = cc in sym (ap (λ (p : Pending). p.due) same) ∙ refl
 
 -- ---- What is kept after a mark, and after those at the places under a name
 

@@ -130,10 +130,10 @@ indexes-marked_at es xs j d h = record { places = λ n k. h.places n k ∙ sym (
 
 -- which is dirty after a mark
 is_dirty-marked_at : (xs : List Pending) (j : ℕ) (d : Bool) → j < length xs → (k : ℕ) → is_dirty_at (marked_at xs j d) k ≡ if nat_eq k j then d else is_dirty_at xs k
-is_dirty-marked_at xs j d within k = ap (λ (o : Option Pending). option_map_or o.due false) (get-marked_at xs j k d) ∙ by (slice_get xs k) refl (eqb_tells k j)
+is_dirty-marked_at xs j d within k = ap (λ (o : Option Pending). option_map_or (λ (p : Pending). p.due) o false) (get-marked_at xs j k d) ∙ by (slice_get xs k) refl (eqb_tells k j)
   where
     by : (o : Option Pending) → slice_get xs k ≡ o → ((nat_eq k j ≡ true) × (k ≡ j)) ⊎ ((nat_eq k j ≡ false) × (k ≢ j))
-        → option_map_or (λ (p : Pending). p.due) (option_map (λ x. marked (if nat_eq k j then d else x.due) x) o) false ≡ if nat_eq k j then d else option_map_or o.due false
+        → option_map_or (λ (p : Pending). p.due) (option_map (λ x. marked (if nat_eq k j then d else x.due) x) o) false ≡ if nat_eq k j then d else option_map_or (λ (p : Pending). p.due) o false
     by None is (inl e) = absurd (some_within xs k is (subst (λ i. i < length xs) (sym e.1) within))
     by None is (inr e) = sym (ap (λ c. if c then d else false) e.0)
     by (Some x) is t = refl

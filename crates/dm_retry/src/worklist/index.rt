@@ -3,7 +3,7 @@ ghost use Rattle.std.specs.Prelude.{◌≡◌, ℕ, ◌&&◌, ◌||◌, false, f
 ghost use Rattle.dm_base.specs.Names.{Name, same_name};
 ghost use Rattle.indexmap.specs.IndexMap.{get};
 ghost use Rattle.dm_retry.specs.Index.{has_place, places_of};
-ghost use Rattle.dm_retry.specs.Unresolved.{among};
+ghost use Rattle.dm_maps.specs.Cut.{among};
 
 use dm_base::name::Name;
 use indexmap::IndexMap;

@@ -15,9 +15,9 @@ returns-clause-ok c =
     let room : k / 64 < length c.cover.new.self = c.in_ok-cover.ensures.ok in
     let grown : length c.args.dirty.now ≤ length c.cover.new.self = c.cover.ensures.len in
     let same : length c.insert.new.self ≡ length c.cover.new.self = c.insert.ensures.len in
-    let marks : (j : ℕ) → (if nat_eq j k then true else has c.cover.new.self j) ≡ (if nat_eq j k then (λ (p : Pending). p.due) (marked true x) else has c.args.dirty.now j) =
-    λ j i. if nat_eq j k then sym (refl) i else c.cover.ensures.has j i in
+    let marks : (j : ℕ) → (if nat_eq j k then true else has c.cover.new.self j) ≡ (if nat_eq j k then true else has c.args.dirty.now j) =
+    λ j i. if nat_eq j k then true else c.cover.ensures.has j i in
     kept-push es c.add_path.new.index.entries c.args.dirty.now c.insert.new.self c.args.imports.now (marked true x) k c.in_ok-place.ensures c.requires
-    (λ n j. c.in_ok-add_path.ensures.ok n j ∙ ap (λ (names : List Name). has_place es n j || (among names n && nat_eq j k)) (c.segments.ensures ∙ sym (refl)))
+    (λ n j. c.in_ok-add_path.ensures.ok n j ∙ ap (λ (names : List Name). has_place es n j || (among names n && nat_eq j k)) c.segments.ensures)
     (λ j. c.insert.ensures.has j ∙ marks j)
     (omega arith) (omega arith)
