@@ -56,6 +56,19 @@ def compared(theirs, ours):
     return count, reasons, differing
 
 
+def ways_of(outcome):
+    """In what ways an outcome differs: the namespace, and what is meant by rustc and by `defmap`."""
+    ways = set()
+    for theirs, ours in outcome.differing.values():
+        for space in set(theirs or ()) | set(ours or ()):
+            one, other = (it.get(space) if it else it for it in (theirs, ours))
+            if one != other:
+                kinds = tuple(it[0] if it else "nothing" for it in (one, other))
+                same = " of another path" if kinds[0] == kinds[1] else ""
+                ways.add(f"{space}: {kinds[0]} by rustc, {kinds[1]}{same} by defmap")
+    return ways
+
+
 def outcome_of(program, graph):
     """Compares a graph; where something differs, rustc is asked again with the items in other
     orders."""

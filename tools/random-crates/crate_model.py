@@ -224,6 +224,17 @@ def without(graph, numbers):
     return graph
 
 
+def without_constructors(graph):
+    """A graph in which each constructor is seen where its type is, and each variant has one."""
+    for items in item_lists(graph):
+        for item in items:
+            if item.before == "struct" and "(" in item.behind:
+                item.behind = "(pub ());"
+            elif item.before == "enum":
+                item.behind = item.behind.replace(" { x: () }", "")
+    return graph
+
+
 def numbers_of(graph):
     """The numbers of the items and leaves of a graph, those of modules before those within them."""
     found = []

@@ -60,8 +60,11 @@ def leaf_of(block):
     parts = re.split(r"(value_ns|type_ns|macro_ns): ", text)
     texts = dict(zip(parts[1::2], parts[2::2]))
     meant = {word: meant_in(texts[space]) for word, space in SPACES}
-    place = (os.path.normpath(span[1]), int(span[2]), int(span[3]))
-    return place, {word: it for word, it in meant.items() if it}
+    meant = {word: it for word, it in meant.items() if it}
+    if last[1] == "Glob":
+        # Of an enum it stands at the namespace of values.
+        meant = {"type": it for it in meant.values()}
+    return (os.path.normpath(span[1]), int(span[2]), int(span[3])), meant
 
 
 def leaves_of(printed):
