@@ -22,6 +22,7 @@ ABOUT_MEANING = {"ambiguous_glob_imports", "ambiguous_import_visibilities",
 AMBIGUOUS = "ambiguous by rustc (E0659 at a probe)"
 WARNED = "rustc warns that it is ambiguous"
 CHANGED = "rustc's answer changes with probes"
+UNDETERMINED = "rustc cannot determine a probe"
 
 
 @dataclass
@@ -160,6 +161,20 @@ def leave_out(theirs, probed, answers):
     for told in answers.warnings:
         if told.code in ABOUT_MEANING:
             theirs.left_out.update({keys[it]: WARNED for it in told.places if it in keys})
+    for key in undetermined(theirs, probed, answers):
+        theirs.left_out[key] = UNDETERMINED
+
+
+def undetermined(theirs, probed, answers):
+    """The probes that mean nothing without an error: rustc tells of those that it cannot determine
+    only where nothing else is wrong. An error before the names of a row is that of all of them."""
+    places = {place for told in answers.errors for place in told.places}
+    first = {}
+    for place in probed.places.values():
+        first[place[:2]] = min(place[2], first.get(place[:2], place[2]))
+    rows = {place[:2] for place in places if place[2] < first.get(place[:2], 0)}
+    return [key for key, place in probed.places.items() if theirs.meant[key] == {}
+            and isinstance(key, tuple) and place not in places and place[:2] not in rows]
 
 
 def in_probe(probed, place):
@@ -169,11 +184,12 @@ def in_probe(probed, place):
     return place[:2] in probes
 
 
-def options_of(graph):
-    """The options of `defmap` for a graph."""
+def options_of(graph, folder):
+    """The options of `defmap` for a graph. The `cfg`s are those of all its crates."""
     words = ["--edition", graph.main.edition] + ["--sysroot", LIBRARY] * (graph.kind == "rules")
-    for cfg in graph.cfgs:
-        words += ["--cfg", cfg]
+    if graph.cfgs:
+        write_files(folder, {"cfgs": "".join(f"{it}\n" for it in graph.cfgs)})
+        words += ["--cfg-file", "cfgs"]
     for crate in graph.crates[:-1]:
         words += ["--extern", f"{crate.name}@{crate.edition}={crate.root}"]
     return words
@@ -239,5 +255,6 @@ def ask_both(program, graph):
             writer = written(crate, probes if crate is graph.main else None)
             write_files(folder, writer.files)
         keys = {place: key for key, place in writer.places.items()}
-        ours = ask_defmap(program, folder, options_of(graph), graph.main.root, keys)
+        options = options_of(graph, folder)
+        ours = ask_defmap(program, folder, options, graph.main.root, keys)
         return theirs, ours

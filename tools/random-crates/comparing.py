@@ -50,7 +50,7 @@ def compared(theirs, ours):
         if mine != meant:
             differing[key] = (meant, mine)
         elif meant is not None and isinstance(key, tuple) and key[0] == key[1]:
-            bound = ours.bound.get(key[1:], set())
+            bound = ours.bound.get(tuple(it.replace("r#", "") for it in key[1:]), set())
             if bound != set(meant):
                 differing[key] = (meant, {it: ("bound", "by tree") for it in bound})
     return count, reasons, differing

@@ -95,7 +95,8 @@ def differing(program, one):
     """What `defmap` says otherwise than what was recorded, a line for each."""
     with tempfile.TemporaryDirectory(prefix="random-crates-") as folder:
         write_files(folder, one.files)
-        ours = ask_defmap(program, folder, options_of(one.graph), one.graph.main.root, None)
+        options = options_of(one.graph, folder)
+        ours = ask_defmap(program, folder, options, one.graph.main.root, None)
     if ours.fault:
         return [ours.fault]
     lines = []

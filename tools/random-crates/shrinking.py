@@ -40,11 +40,14 @@ class Shrinker:
 
     def make_plain(self):
         """Makes items, crates and editions plainer; gives whether any were."""
-        found = False
-        for change in list(plainer(self.outcome.graph)):
+        found, number, changes = False, 0, list(plainer(self.outcome.graph))
+        while number < len(changes) and self.steps > 0:
             graph = copy.deepcopy(self.outcome.graph)
-            change(graph)
-            found |= self.tries(graph)
+            changes[number](graph)
+            if self.tries(graph):
+                found, changes = True, list(plainer(graph))
+            else:
+                number += 1
         return found
 
 

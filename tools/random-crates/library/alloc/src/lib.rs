@@ -8,5 +8,5 @@ mod macros {
     }
 }
 pub mod vec {
-    pub struct Vec;
+    pub struct Vec {}
 }
