@@ -224,8 +224,13 @@ def without(graph, numbers):
     return graph
 
 
-def without_constructors(graph):
-    """A graph in which each constructor is seen where its type is, and each variant has one."""
+def plain(graph):
+    """A graph in which each constructor is seen where its type is, each variant has one, and the
+    modules of crates that others use are public."""
+    for crate in graph.crates[:-1]:
+        for _, items in modules_of(crate):
+            for item in items:
+                item.visibility = "pub" if isinstance(item, Module) else item.visibility
     for items in item_lists(graph):
         for item in items:
             if item.before == "struct" and "(" in item.behind:
