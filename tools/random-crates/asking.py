@@ -225,7 +225,7 @@ def read_imports(printed, ours, keys, own):
             if part in ("unknown", "more unknown"):
                 ours.unknown.add(key)
             elif len(words) == 3 and words[1] == "builtin":
-                meant[words[0]] = ("builtin", words[2])
+                meant[words[0]] = ("builtin", words[2].rpartition(" ")[2])
             elif len(words) == 3 and words[0] in ("type", "value", "macro"):
                 one = meant_by(part, own)
                 meant[one.namespace] = (one.kind, one.path)

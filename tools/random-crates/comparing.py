@@ -57,7 +57,7 @@ def compared(theirs, ours):
 
 
 def ways_of(outcome):
-    """In what ways an outcome differs: the namespace, and what is meant by rustc and by `defmap`."""
+    """In what ways an outcome differs: the namespace, what rustc says and what `defmap` says."""
     ways = set()
     for theirs, ours in outcome.differing.values():
         for space in set(theirs or ()) | set(ours or ()):

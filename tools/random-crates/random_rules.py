@@ -103,7 +103,7 @@ class RulesMaker(MacroMaker):
             self.guess.declare(home, ("type",), bound, shown_to, tuple(segments))
 
     def add_odd(self):
-        """Adds an import of a module by `self`, `super` or `crate` alone, or the crate by a name."""
+        """Adds an import of a module by `self`, `super` or `crate` alone, or the crate by name."""
         home, name = self.random.choice(self.modules()), self.random.choice(self.names + ["B"])
         if "type" in self.guess.spaces_of(home, name):
             return
