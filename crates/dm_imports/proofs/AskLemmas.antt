@@ -1,0 +1,46 @@
+-- Who may ask.
+use Rattle.std.proofs.Common.{◌≡◌, cond, subst, sym, true, false, Bool, Option, None, Some}
+use Rattle.std.specs.Option.{option_map}
+use Rattle.std.specs.Prelude.{IsTrue}
+use Rattle.dm_base.specs.declared.ids.ModuleId.{ModuleId}
+use Rattle.dm_base.specs.declared.per_ns.Namespace.{Namespace}
+use Rattle.dm_base.specs.Names.{Name}
+use Rattle.dm_base.specs.Tree.{IsKnown}
+use Rattle.dm_base.specs.Visibility.{NamesKnown}
+use Rattle.dm_maps.specs.declared.check.held.HeldId.TheVariants as held
+use Rattle.dm_maps.specs.Known.{knows}
+use Rattle.dm_maps.specs.Trees.{tree_of}
+use Rattle.dm_maps.specs.World.{World}
+use Rattle.dm_imports.specs.declared.glob_import.GlobImport.{GlobImport}
+use Rattle.dm_imports.specs.declared.joined.Joined.{Joined}
+use Rattle.dm_imports.specs.declared.meaning.Meaning.{Meaning}
+use Rattle.dm_imports.specs.declared.named_import.NamedImport.{NamedImport}
+use Rattle.dm_imports.specs.Brought.{AreAllNamed, IsBrought}
+use Rattle.dm_imports.specs.Meanings.{AreNamed, IsNamed, joined}
+use Rattle.dm_imports.specs.Paths.{AreEnumsNamed, Asking, DefMaps, MayAsk}
+use Rattle.dm_imports.specs.Rules.{all_offers, brought, glob_asks, import_asks}
+use Rattle.dm_imports.specs.Slots.{Slots, slot_at}
+
+pub module-known : (w : World) (m : ModuleId) → IsTrue (knows w (held.Module m)) → IsKnown (tree_of w) m
+unfolding tree_of
+module-known w m h = h
+
+pub glob-may : (d : DefMaps) (g : GlobImport) (a : Asking) → a ≡ glob_asks g → IsKnown (tree_of d.world) g.into → AreEnumsNamed d → MayAsk d a
+glob-may d g a is home enums = subst (MayAsk d) (sym is) (record { home = home; enums = enums; below = λ m n s x e. cc })
+
+joined-named : (w : World) (j : Joined) → AreNamed w j → NamesKnown (tree_of w) (joined j).vis
+joined-named w j h = by j.is_ambiguous
+  where
+    by : (b : Bool) → NamesKnown (tree_of w) (cond b j.least j.most)
+    by true = h.least
+    by false = h.most
+
+pub brought-named : (d : DefMaps) (b : Slots Joined) → IsBrought d b → AreAllNamed d.world b → (m : ModuleId) (n : Name) (s : Namespace) → IsNamed d.world (brought d m n s)
+brought-named d b are all m n s x e = by (all_offers d d.globs m n s) (are m n s) e
+  where
+    by : (o : Option Joined) → slot_at b m n s ≡ o → option_map joined o ≡ Some x → NamesKnown (tree_of d.world) x.vis
+    by None h e = cc
+    by (Some j) h e = let same : joined j ≡ x = cc in subst (λ (y : Meaning). NamesKnown (tree_of d.world) y.vis) same (joined-named d.world j (all m n s j h))
+
+pub import-may : (d : DefMaps) (i : NamedImport) (a : Asking) (b : Slots Joined) → a ≡ import_asks d i → IsBrought d b → AreAllNamed d.world b → IsKnown (tree_of d.world) i.home → AreEnumsNamed d → MayAsk d a
+import-may d i a b is are all home enums = subst (MayAsk d) (sym is) (record { home = home; enums = enums; below = brought-named d b are all })

@@ -1,0 +1,11 @@
+mod TableLemmas
+mod SlotLemmas
+mod NamedLemmas
+mod ListLemmas
+mod JoinLemmas
+mod UnboundLemmas
+mod AgreeLemmas
+mod MeaningLemmas
+mod CrateLemmas
+mod AskLemmas
+mod OutcomeLemmas

@@ -1,0 +1,33 @@
+use Rattle.std.proofs.Common.{◌+◌, Bor, List, drop, subst, sym}
+use Rattle.std.proofs.lemmas.List.{drop_all}
+use Rattle.dm_base.specs.Names.{Name}
+use Rattle.dm_scope.specs.Sorted.{seen}
+use Rattle.dm_imports.specs.Brought.{HasOffers}
+use Rattle.dm_imports.specs.Tables.{of_tables}
+use Rattle.dm_imports.proofs.JoinLemmas.{offers-none, offers-then}
+use Rattle.dm_imports.proofs.ListLemmas.{next-of}
+use Rattle.dm_imports.proofs.rules.all_offers.add_names.Goals as goal
+
+pub loop-name-preserved : goal.loop-name-preserved
+loop-name-preserved c =
+    let d = of_tables c.args.maps.now in
+    let g = c.args.glob.now in
+    let ns = c.args.names.now in
+    let i = c.loop-name.name-index in
+    let n = c.name-item.result in
+    record {
+      offers = λ new rest.
+          let here = offers-then d g c.args.source n.now (seen (drop (i + 1) ns)) c.loop-name.all c.add_name.new.all new c.in_ok-add_name.ensures.joined rest in
+          c.loop-name.invariant.offers new
+          (subst (λ (xs : List (Bor Name)). HasOffers d g c.args.source (seen xs) c.loop-name.all new) (sym (next-of ns i n c.loop-name-test.true c.name-item.is)) here);
+      named = c.in_ok-add_name.ensures.named;
+    }
+
+pub returns-clause-joined : goal.returns-clause-joined
+returns-clause-joined c =
+    let d = of_tables c.args.maps.now in
+    let g = c.args.glob.now in
+    let ns = c.args.names.now in
+    c.loop-name.invariant.offers c.loop-name.all
+    (subst (λ (xs : List (Bor Name)). HasOffers d g c.args.source (seen xs) c.loop-name.all c.loop-name.all) (sym (drop_all c.loop-name.name-index ns c.loop-name-test.false))
+    (offers-none d g c.args.source c.loop-name.all))

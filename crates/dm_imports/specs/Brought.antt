@@ -1,0 +1,30 @@
+-- Tables of what globs bring, while they are made.
+use Rattle.std.specs.Prelude.{◌≡◌, ◌&&◌, List, cond}
+use Rattle.std.specs.List.{list_any}
+use Rattle.std.specs.Option.{ForSome}
+use Rattle.dm_base.specs.declared.ids.ModuleId.{ModuleId}
+use Rattle.dm_base.specs.declared.per_ns.Namespace.{Namespace}
+use Rattle.dm_base.specs.Names.{Name, same_name}
+use Rattle.dm_base.specs.Tree.{same_module}
+use Rattle.dm_maps.specs.World.{World}
+use Rattle.dm_imports.specs.declared.container.Container.{Container}
+use Rattle.dm_imports.specs.declared.glob_import.GlobImport.{GlobImport}
+use Rattle.dm_imports.specs.declared.joined.Joined.{Joined}
+use Rattle.dm_imports.specs.Meanings.{AreNamed}
+use Rattle.dm_imports.specs.Paths.{DefMaps}
+use Rattle.dm_imports.specs.Rules.{all_offers, join, offer_from}
+use Rattle.dm_imports.specs.Slots.{Slots, slot_at}
+
+-- all that a table has is named
+abbrev pub AreAllNamed : World → Slots Joined → Type 0
+AreAllNamed w b = (k : ModuleId) (x : Name) (t : Namespace) → ForSome (slot_at b k x t) (AreNamed w)
+
+-- a table has what a glob offers of a source under some names joined to what another has
+abbrev pub HasOffers : DefMaps → GlobImport → Container → List Name → Slots Joined → Slots Joined → Type 0
+HasOffers d g c ns old new =
+    (k : ModuleId) (x : Name) (t : Namespace) →
+    slot_at new k x t ≡ cond (same_module g.into k && list_any (same_name x) ns) (join d.world g.into (slot_at old k x t) (offer_from d g c x t)) (slot_at old k x t)
+
+-- a table has what globs bring together
+abbrev pub IsBrought : DefMaps → Slots Joined → Type 0
+IsBrought d b = (k : ModuleId) (x : Name) (t : Namespace) → slot_at b k x t ≡ all_offers d d.globs k x t

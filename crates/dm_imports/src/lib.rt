@@ -1,0 +1,15 @@
+//! What imports and globs bind in def maps: the rules, and whether def maps are what the rules give of them.
+#![tactic(auto)]
+
+pub mod asking;
+pub mod container;
+pub mod def_maps;
+pub mod glob_import;
+pub mod joined;
+pub mod marks;
+pub mod meaning;
+mod name_table;
+pub mod named_import;
+pub mod paths;
+pub mod rules;
+pub mod slots;

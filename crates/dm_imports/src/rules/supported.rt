@@ -1,0 +1,279 @@
+//! Whether each slot of def maps has what the rules give of them.
+ghost use Rattle.std.specs.Prelude.{◌≡◌, ◌↔◌, All, IfOk, IsTrue};
+ghost use Rattle.std.specs.Option.{option_map};
+ghost use Rattle.dm_base.specs.PerNs.{keep};
+ghost use Rattle.dm_base.specs.Tree.{IsKnown};
+ghost use Rattle.dm_base.specs.Visibility.{NamesKnown};
+ghost use Rattle.dm_maps.specs.Trees.{tree_of};
+ghost use Rattle.dm_scope.specs.Sorted.{seen};
+ghost use Rattle.dm_imports.specs.Brought.{IsBrought};
+ghost use Rattle.dm_imports.specs.Paths as paths;
+ghost use Rattle.dm_imports.specs.Paths.{AreEnumsNamed};
+ghost use Rattle.dm_imports.specs.Rules as spec;
+ghost use Rattle.dm_imports.specs.Rules.{AreMapsKnown, IsSupported, SupportedIn};
+ghost use Rattle.dm_imports.specs.Supporting.{Agrees, AgreesIn, AllAgree, AreGiven, GlobAgrees, given_by};
+ghost use Rattle.dm_imports.specs.Meanings.{joined};
+ghost use Rattle.dm_imports.specs.Slots.{slot_at};
+ghost use Rattle.dm_imports.specs.Tables.{of_tables};
+
+use crate::def_maps::DefMaps;
+use crate::glob_import::GlobImport;
+use crate::joined::{Joined, together};
+use crate::meaning::{Meaning, Source};
+use crate::named_import::NamedImport;
+use crate::paths::shown::at;
+use crate::rules::all_imports::all_imports;
+use crate::rules::all_offers::all_offers;
+use crate::rules::offers::source_of;
+use crate::rules::source_names::{module_names, source_names};
+use crate::slots::Slots;
+use dm_base::ids::ModuleId;
+use dm_base::name::Name;
+use dm_base::per_ns::Namespace;
+use dm_scope::scope_tables::ScopeTables;
+use std::alloc::{AllocError, Global};
+use std::marker::Model;
+
+/// What imports and globs bring.
+struct Given {
+    imports: Slots<Meaning>,
+    globs: Slots<Joined>,
+}
+
+/// Hand-written `Drop`, to keep proofs small: dropping one is then a single call.
+impl Drop for Given {
+    fn drop(self) {
+        let Given {
+            imports: _imports,
+            globs: _globs,
+        } = self;
+    }
+}
+
+impl Model for Given {
+    ghost use Rattle.dm_imports.specs.Supporting.{GivenTables};
+
+    ghost Value = { GivenTables };
+
+    ghost view = { λ g. record { imports = g.imports; globs = g.globs } };
+}
+
+/// What is declared.
+fn declared(found: Option<Meaning>) -> Option<Meaning>
+    ensures { result ≡ keep spec.is_declared found }
+{
+    let found = found?;
+    if matches!(found.source, Source::Declaration) {
+        Some(found)
+    } else {
+        None
+    }
+}
+
+/// What globs bring to a slot.
+fn brought(globs: &Slots<Joined>, m: ModuleId, name: &Name, namespace: Namespace) -> Option<Meaning>
+    ensures { result ≡ option_map joined (slot_at globs.now m name.now namespace) }
+{
+    let all = globs.get(m, name, namespace)?;
+    Some(together(all))
+}
+
+/// What the rules give a slot, which has `bound`.
+fn given_at(
+    given: &Given,
+    m: ModuleId,
+    name: &Name,
+    namespace: Namespace,
+    bound: Option<Meaning>,
+) -> Option<Meaning>
+    ensures { result ≡ given_by given.now m name.now namespace bound }
+{
+    let own = declared(bound);
+    if own.is_some() {
+        return own;
+    }
+    let named = given.imports.get(m, name, namespace);
+    if named.is_some() {
+        return named;
+    }
+    brought(&given.globs, m, name, namespace)
+}
+
+/// Whether two meanings are one.
+fn same_meaning(one: Option<Meaning>, two: Option<Meaning>) -> bool
+    ensures { IsTrue result ↔ (one ≡ two) }
+{
+    one == two
+}
+
+/// Whether a slot has what the rules give.
+fn agrees_in(
+    maps: &DefMaps<'_>,
+    given: &Given,
+    m: ModuleId,
+    name: &Name,
+    namespace: Namespace,
+) -> bool
+    requires { AreGiven (of_tables maps.now) given.now }
+    ensures { IsTrue result ↔ (paths.at (of_tables maps.now) m name.now namespace
+        ≡ spec.given (of_tables maps.now) m name.now namespace) }
+{
+    let bound = at(maps, m, name, namespace);
+    let by_rules = given_at(given, m, name, namespace, bound);
+    same_meaning(bound, by_rules)
+}
+
+/// Whether a name of a module has what the rules give, in each namespace.
+fn agrees(maps: &DefMaps<'_>, given: &Given, m: ModuleId, name: &Name) -> bool
+    requires { AreGiven (of_tables maps.now) given.now }
+    ensures { IsTrue result ↔ Agrees (of_tables maps.now) m name.now }
+{
+    if !agrees_in(maps, given, m, name, Namespace::Types) {
+        return false;
+    }
+    if !agrees_in(maps, given, m, name, Namespace::Values) {
+        return false;
+    }
+    agrees_in(maps, given, m, name, Namespace::Macros)
+}
+
+/// Whether some names of a module do.
+fn all_agree(maps: &DefMaps<'_>, given: &Given, m: ModuleId, names: &[&Name]) -> bool
+    requires { AreGiven (of_tables maps.now) given.now }
+    ensures { IsTrue result ↔ All (λ n. Agrees (of_tables maps.now) m n.now) names.now }
+{
+    for name in names {
+        if !agrees(maps, given, m, *name) {
+            return false;
+        }
+    }
+    true
+}
+
+/// Whether all names that a module binds do.
+fn module_agrees(
+    alloc: Global,
+    maps: &DefMaps<'_>,
+    given: &Given,
+    m: ModuleId,
+) -> Result<bool, AllocError>
+    requires { AreGiven (of_tables maps.now) given.now }
+    ensures yes { IfOk result (λ yes. IsTrue yes → AgreesIn (of_tables maps.now) m) }
+    ensures no { IfOk result (λ yes. SupportedIn (of_tables maps.now) m → IsTrue yes) }
+{
+    let names = module_names(alloc, maps.world, m)?;
+    Ok(all_agree(maps, given, m, names.as_slice()))
+}
+
+/// Whether the names of all modules do.
+fn modules_agree(alloc: Global, maps: &DefMaps<'_>, given: &Given) -> Result<bool, AllocError>
+    requires { AreGiven (of_tables maps.now) given.now }
+    ensures yes { IfOk result (λ yes. IsTrue yes → AllAgree (of_tables maps.now)) }
+    ensures no { IfOk result (λ yes. IsSupported (of_tables maps.now) → IsTrue yes) }
+{
+    for number in 0..u32::MAX {
+        let m = ModuleId(number);
+        if maps.world.scope_of(m).is_none() {
+            return Ok(true);
+        }
+        if !module_agrees(alloc, maps, given, m)? {
+            return Ok(false);
+        }
+    }
+    Ok(true)
+}
+
+/// Whether the slots of some imports do.
+fn imports_agree(maps: &DefMaps<'_>, given: &Given, imports: &[NamedImport]) -> bool
+    requires { AreGiven (of_tables maps.now) given.now }
+    ensures { IsTrue result ↔ All (λ i. Agrees (of_tables maps.now) i.home i.name) imports.now }
+{
+    for import in imports {
+        if !agrees(maps, given, import.home, &import.name) {
+            return false;
+        }
+    }
+    true
+}
+
+/// Whether all names of what a glob brings do.
+fn glob_agrees(
+    alloc: Global,
+    maps: &DefMaps<'_>,
+    given: &Given,
+    glob: &GlobImport,
+) -> Result<bool, AllocError>
+    requires given { AreGiven (of_tables maps.now) given.now }
+    requires enums { AreEnumsNamed (of_tables maps.now) }
+    requires into { spec.IsModule (of_tables maps.now) glob.now.into }
+    ensures yes { IfOk result (λ yes. IsTrue yes → GlobAgrees (of_tables maps.now) glob.now) }
+    ensures no { IfOk result (λ yes. SupportedIn (of_tables maps.now) glob.now.into → IsTrue yes) }
+{
+    match source_of(maps, glob) {
+        None => Ok(true),
+        Some(source) => {
+            let names = source_names(alloc, maps.world, source)?;
+            Ok(all_agree(maps, given, glob.into, names.as_slice()))
+        }
+    }
+}
+
+/// Whether those of what some globs bring do.
+fn globs_agree(
+    alloc: Global,
+    maps: &DefMaps<'_>,
+    given: &Given,
+    globs: &[GlobImport],
+) -> Result<bool, AllocError>
+    requires given { AreGiven (of_tables maps.now) given.now }
+    requires enums { AreEnumsNamed (of_tables maps.now) }
+    requires globs { All (spec.IsGlobKnown (of_tables maps.now)) globs.now }
+    ensures yes { IfOk result (λ yes. IsTrue yes → All (GlobAgrees (of_tables maps.now)) globs.now) }
+    ensures no { IfOk result (λ yes. IsSupported (of_tables maps.now) → IsTrue yes) }
+{
+    for glob in globs {
+        if !glob_agrees(alloc, maps, given, glob)? {
+            return Ok(false);
+        }
+    }
+    Ok(true)
+}
+
+/// What imports and globs bring.
+fn all_given(alloc: Global, maps: &DefMaps<'_>) -> Result<Given, AllocError>
+    requires { AreMapsKnown (of_tables maps.now) }
+    ensures { IfOk result (AreGiven (of_tables maps.now)) }
+{
+    let globs = all_offers(alloc, maps)?;
+    let imports = all_imports(alloc, maps, &globs)?;
+    Ok(Given { imports, globs })
+}
+
+/// Whether the names that are bound, and all that could be, have what the rules give.
+fn agree(alloc: Global, maps: &DefMaps<'_>, given: &Given) -> Result<bool, AllocError>
+    requires given { AreGiven (of_tables maps.now) given.now }
+    requires known { AreMapsKnown (of_tables maps.now) }
+    ensures { IfOk result (λ yes. IsTrue yes ↔ IsSupported (of_tables maps.now)) }
+{
+    if !imports_agree(maps, given, maps.imports) {
+        return Ok(false);
+    }
+    if !modules_agree(alloc, maps, given)? {
+        return Ok(false);
+    }
+    let globs = globs_agree(alloc, maps, given, maps.globs)?;
+    Ok(globs)
+}
+
+/// Whether each slot of def maps has what the rules give of these def maps themselves.
+///
+/// # Errors
+///
+/// Fails only where memory runs out.
+pub fn is_supported(alloc: Global, maps: &DefMaps<'_>) -> Result<bool, AllocError>
+    requires { AreMapsKnown (of_tables maps.now) }
+    ensures { IfOk result (λ yes. IsTrue yes ↔ IsSupported (of_tables maps.now)) }
+{
+    let given = all_given(alloc, maps)?;
+    agree(alloc, maps, &given)
+}
