@@ -5,3 +5,5 @@ pub mod Rules
 pub mod Tables
 pub mod Brought
 pub mod Supporting
+pub mod Written
+pub mod Rows
