@@ -1,9 +1,12 @@
 -- Who may ask.
-use Rattle.std.proofs.Common.{◌≡◌, cond, subst, sym, true, false, Bool, Option, None, Some}
+use Rattle.std.proofs.Common.{◌≡◌, refl, cond, subst, sym, true, false, Bool, Option, None, Some}
 use Rattle.std.specs.Option.{option_map}
 use Rattle.std.specs.Prelude.{IsTrue}
 use Rattle.dm_base.specs.declared.ids.ModuleId.{ModuleId}
 use Rattle.dm_base.specs.declared.per_ns.Namespace.{Namespace}
+use Rattle.dm_base.specs.declared.visibility.Visibility.{Visibility}
+use Rattle.dm_base.specs.declared.visibility.Visibility.TheVariants.{Module, PubCrate, Public}
+use Rattle.dm_base.specs.declared.visibility.VisibilityExplicitness.{VisibilityExplicitness}
 use Rattle.dm_base.specs.Names.{Name}
 use Rattle.dm_base.specs.Tree.{IsKnown}
 use Rattle.dm_base.specs.Visibility.{NamesKnown}
@@ -18,8 +21,9 @@ use Rattle.dm_imports.specs.declared.named_import.NamedImport.{NamedImport}
 use Rattle.dm_imports.specs.Brought.{AreAllNamed, IsBrought}
 use Rattle.dm_imports.specs.Meanings.{AreNamed, IsNamed, joined}
 use Rattle.dm_imports.specs.Paths.{AreEnumsNamed, Asking, DefMaps, MayAsk}
-use Rattle.dm_imports.specs.Rules.{all_offers, brought, glob_asks, import_asks}
+use Rattle.dm_imports.specs.Rules.{AreImportsKnown, AreMapsKnown, all_offers, brought, glob_asks, import_asks}
 use Rattle.dm_imports.specs.Slots.{Slots, slot_at}
+use Rattle.dm_imports.specs.Tables.{MapTables, named_or_public, of_tables, vis_in}
 
 pub module-known : (w : World) (m : ModuleId) → IsTrue (knows w (held.Module m)) → IsKnown (tree_of w) m
 unfolding tree_of
@@ -44,3 +48,19 @@ brought-named d b are all m n s x e = by (all_offers d d.globs m n s) (are m n s
 
 pub import-may : (d : DefMaps) (i : NamedImport) (a : Asking) (b : Slots Joined) → a ≡ import_asks d i → IsBrought d b → AreAllNamed d.world b → IsKnown (tree_of d.world) i.home → AreEnumsNamed d → MayAsk d a
 import-may d i a b is are all home enums = subst (MayAsk d) (sym is) (record { home = home; enums = enums; below = brought-named d b are all })
+
+-- each visibility of an enum names a module of the world's, or none
+pub enums-named : (t : MapTables) → AreEnumsNamed (of_tables t)
+enums-named t e = by (vis_in t.enums e)
+  where
+    to : (m : ModuleId) (x : VisibilityExplicitness) (b : Bool) → (tree_of t.world).has m ≡ b → NamesKnown (tree_of t.world) (cond b (Module m x) Public)
+    to m x true h = h
+    to m x false h = tt
+
+    by : (v : Visibility) → NamesKnown (tree_of t.world) (named_or_public (tree_of t.world) v)
+    by (Module m x) = to m x ((tree_of t.world).has m) refl
+    by (PubCrate k) = tt
+    by Public = tt
+
+pub maps-known : (t : MapTables) → AreImportsKnown (of_tables t) → AreMapsKnown (of_tables t)
+maps-known t h = record { enums = enums-named t; imports = h.imports; globs = h.globs }

@@ -151,7 +151,12 @@ IsImportKnown d i = IsModule d i.home × NamesKnown (tree_of d.world) i.vis
 abbrev pub IsGlobKnown : DefMaps → GlobImport → Type 0
 IsGlobKnown d g = IsModule d g.into × NamesKnown (tree_of d.world) g.vis
 
--- the visibilities that imports, globs and enums have name modules of the world's, and so do the modules they stand in
+-- imports and globs stand in modules of the world's, and so are those that their visibilities name
+pub record AreImportsKnown (d : DefMaps) : Type 0 where
+  pub imports : All (IsImportKnown d) d.imports
+  pub globs : All (IsGlobKnown d) d.globs
+
+-- so are those that the visibilities of enums name
 pub record AreMapsKnown (d : DefMaps) : Type 0 where
   pub enums : AreEnumsNamed d
   pub imports : All (IsImportKnown d) d.imports

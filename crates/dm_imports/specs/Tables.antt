@@ -1,5 +1,5 @@
 -- Def maps and who asks, as calls have them: what is a set or a function there is a table here.
-use Rattle.std.specs.Prelude.{◌||◌, Bool, List, Option, None, Some, is_none, is_some, if◌then◌else◌}
+use Rattle.std.specs.Prelude.{◌||◌, Bool, true, List, Option, None, Some, is_none, is_some, if◌then◌else◌}
 use Rattle.std.specs.Map.{lookup}
 use Rattle.std.specs.Option.{option_and_then, option_map, option_map_or}
 use Rattle.dm_base.specs.declared.ids.EnumId.{EnumId}
@@ -7,9 +7,11 @@ use Rattle.dm_base.specs.declared.ids.ModuleId.{ModuleId}
 use Rattle.dm_base.specs.declared.imports.ImportId.{ImportId}
 use Rattle.dm_base.specs.declared.per_ns.Namespace.{Namespace}
 use Rattle.dm_base.specs.declared.visibility.Visibility.{Visibility}
-use Rattle.dm_base.specs.declared.visibility.Visibility.TheVariants.{Public}
+use Rattle.dm_base.specs.declared.visibility.Visibility.TheVariants.{Module, PubCrate, Public}
 use Rattle.dm_base.specs.Names.{Name}
+use Rattle.dm_base.specs.Tree.{Tree}
 use Rattle.dm_def_map.specs.Variants.{same_enum}
+use Rattle.dm_maps.specs.Trees.{tree_of}
 use Rattle.dm_maps.specs.World.{World}
 use Rattle.dm_imports.specs.declared.glob_import.GlobImport.{GlobImport}
 use Rattle.dm_imports.specs.declared.joined.Joined.{Joined}
@@ -37,12 +39,21 @@ pub record MapTables : Type 0 where
 abbrev pub vis_in : List (EnumId × Visibility) → EnumId → Visibility
 vis_in es e = option_map_or (λ v. v) (lookup (same_enum e) es) Public
 
+-- a visibility of a module that is not the world's counts as public
+abbrev pub is_named : Tree → Visibility → Bool
+is_named t (Module m x) = t.has m
+is_named t (PubCrate k) = true
+is_named t Public = true
+
+abbrev pub named_or_public : Tree → Visibility → Visibility
+named_or_public t v = if is_named t v then v else Public
+
 abbrev pub of_tables : MapTables → DefMaps
 of_tables t = record {
   world = t.world;
   imports = t.imports;
   globs = t.globs;
-  enum_vis = vis_in t.enums;
+  enum_vis = λ e. named_or_public (tree_of t.world) (vis_in t.enums e);
   is_ambiguous = has_mark t.ambiguous;
 }
 

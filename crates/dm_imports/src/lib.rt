@@ -6,6 +6,7 @@ pub mod container;
 pub mod def_maps;
 pub mod glob_import;
 pub mod joined;
+mod known;
 pub mod marks;
 pub mod meaning;
 mod name_table;

@@ -11,6 +11,7 @@ ghost use Rattle.dm_imports.specs.Tables.{asks, of_tables};
 use crate::asking::Asking;
 use crate::container::Container;
 use crate::def_maps::DefMaps;
+use crate::known::is_named;
 use crate::meaning::{Meaning, Source};
 use crate::paths::shown::shown;
 use dm_base::fields_shape::FieldsShape;
@@ -75,15 +76,19 @@ fn variant_in(
     }
 }
 
-/// Who sees an enum.
-pub(crate) fn enum_vis(maps: &DefMaps<'_>, e: EnumId) -> Visibility
-    requires { AreEnumsNamed (of_tables maps.now) }
+/// Who sees an enum. A visibility of a module that is not the world's counts as public.
+fn enum_vis(maps: &DefMaps<'_>, e: EnumId) -> Visibility
     ensures value { result ≡ (of_tables maps.now).enum_vis e }
     ensures named { NamesKnown (tree_of maps.now.world) result }
 {
-    match maps.enums.get(&e) {
+    let vis = match maps.enums.get(&e) {
         None => Visibility::Public,
         Some(vis) => *vis,
+    };
+    if is_named(maps.world, vis) {
+        vis
+    } else {
+        Visibility::Public
     }
 }
 

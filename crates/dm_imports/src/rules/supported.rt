@@ -10,7 +10,7 @@ ghost use Rattle.dm_imports.specs.Brought.{IsBrought};
 ghost use Rattle.dm_imports.specs.Paths as paths;
 ghost use Rattle.dm_imports.specs.Paths.{AreEnumsNamed};
 ghost use Rattle.dm_imports.specs.Rules as spec;
-ghost use Rattle.dm_imports.specs.Rules.{AreMapsKnown, IsSupported, SupportedIn};
+ghost use Rattle.dm_imports.specs.Rules.{AreImportsKnown, AreMapsKnown, IsSupported, SupportedIn};
 ghost use Rattle.dm_imports.specs.Supporting.{Agrees, AgreesIn, AllAgree, AreGiven, GlobAgrees, given_by};
 ghost use Rattle.dm_imports.specs.Meanings.{joined};
 ghost use Rattle.dm_imports.specs.Slots.{slot_at};
@@ -267,11 +267,14 @@ fn agree(alloc: Global, maps: &DefMaps<'_>, given: &Given) -> Result<bool, Alloc
 
 /// Whether each slot of def maps has what the rules give of these def maps themselves.
 ///
+/// Imports and globs have to stand in modules of the world's, and so have those to be that their visibilities name:
+/// `DefMaps::are_imports_known` tests it.
+///
 /// # Errors
 ///
 /// Fails only where memory runs out.
 pub fn is_supported(alloc: Global, maps: &DefMaps<'_>) -> Result<bool, AllocError>
-    requires { AreMapsKnown (of_tables maps.now) }
+    requires { AreImportsKnown (of_tables maps.now) }
     ensures { IfOk result (λ yes. IsTrue yes ↔ IsSupported (of_tables maps.now)) }
 {
     let given = all_given(alloc, maps)?;
