@@ -14,3 +14,5 @@ pub mod named_import;
 pub mod paths;
 pub mod rules;
 pub mod slots;
+#[cfg(test)]
+mod tests;

@@ -1,0 +1,195 @@
+//! `is_supported` on a crate with the modules `generic` and `unix`, each with a function `open`, and `sys`, in which
+//! `pub use crate::generic::*; pub use crate::unix::open;` stand.
+use crate::def_maps::DefMaps;
+use crate::glob_import::GlobImport;
+use crate::marks::Marks;
+use crate::named_import::{ImportKind, NamedImport};
+use crate::rules::supported::is_supported;
+use crate::slots::Slots;
+use dm_base::ids::{FileAstId, FileId, FunctionId, MacroCallId, ModuleId, UseId, UseTreeIdx};
+use dm_base::imports::{GlobId, ImportId, ImportOrExternCrate, ImportOrGlob};
+use dm_base::item_ids::{ItemKind, ModuleDefId};
+use dm_base::mod_path::{ModPath, PathKind};
+use dm_base::name::Name;
+use dm_base::per_ns::PerNs;
+use dm_base::source::{Edition, EditionedFileId, HirFileId, TreeId};
+use dm_base::visibility::Visibility;
+use dm_maps::builder::WorldBuilder;
+use dm_maps::module_origin::ModuleOrigin;
+use dm_maps::world::World;
+use dm_scope::glob_imports::PerNsGlobImports;
+use indexmap::IndexMap;
+use std::alloc::{AllocError, Global};
+
+const ROOT: ModuleId = ModuleId(0);
+
+const SYS: ModuleId = ModuleId(3);
+
+/// The modules in the root, each with its name there.
+const CHILDREN: [(ModuleId, &'static str); 3] = [
+    (ModuleId(1), "generic"),
+    (ModuleId(2), "unix"),
+    (SYS, "sys"),
+];
+
+/// In a macro expansion, so that no module needs a file.
+const EXPANDED: ModuleOrigin = ModuleOrigin::Inline {
+    definition_tree_id: TreeId {
+        file: HirFileId::Macro(MacroCallId(0)),
+        block: None,
+    },
+    definition: FileAstId(0),
+};
+
+const GLOB: GlobId = GlobId {
+    use_: UseId(0),
+    idx: UseTreeIdx(0),
+};
+
+const IMPORT: ImportId = ImportId {
+    use_: UseId(1),
+    idx: UseTreeIdx(0),
+};
+
+/// The functions, and the two uses.
+fn tables(alloc: Global) -> Option<WorldBuilder> {
+    let mut builder = WorldBuilder::new(alloc);
+    let file = EditionedFileId {
+        file: FileId(0),
+        edition: Edition::Edition2021,
+    };
+    builder.add_crate(Edition::Edition2021, file).ok()?;
+    for (_m, name) in CHILDREN {
+        let name = Name::new(alloc, name).ok()?;
+        builder
+            .add_module(ROOT, name, EXPANDED, Visibility::Public)
+            .ok()?;
+    }
+    builder.add_item(ItemKind::Function, ModuleId(1)).ok()?;
+    builder.add_item(ItemKind::Function, ModuleId(2)).ok()?;
+    builder.add_use(SYS).ok()?;
+    builder.add_use(SYS).ok()?;
+    Some(builder)
+}
+
+/// Binds a name in a module.
+fn bind(
+    world: &mut World,
+    globs: &mut PerNsGlobImports,
+    m: ModuleId,
+    name: Name,
+    items: PerNs,
+    import: Option<ImportOrExternCrate>,
+) -> Option<bool> {
+    if !world.knows_res(m, &items, import) {
+        return None;
+    }
+    world.push_res(globs, (m, name), items, import).ok()
+}
+
+/// What `open` is bound to: one of the functions, by an import.
+fn open(function: u32, import: Option<ImportOrGlob>) -> PerNs {
+    let def = ModuleDefId::FunctionId(FunctionId(function));
+    PerNs::values(def, Visibility::Public, import)
+}
+
+/// The world, with what is declared.
+fn declared(alloc: Global, globs: &mut PerNsGlobImports) -> Option<World> {
+    let mut world = tables(alloc)?.check().ok()?;
+    for (m, name) in CHILDREN {
+        let name = Name::new(alloc, name).ok()?;
+        let items = PerNs::types(ModuleDefId::ModuleId(m), Visibility::Public, None);
+        bind(&mut world, globs, ROOT, name, items, None)?;
+    }
+    let name = Name::new(alloc, "open").ok()?;
+    bind(&mut world, globs, ModuleId(1), name, open(0, None), None)?;
+    let name = Name::new(alloc, "open").ok()?;
+    bind(&mut world, globs, ModuleId(2), name, open(1, None), None)?;
+    Some(world)
+}
+
+/// A path of one or two segments behind `crate`.
+fn path(alloc: Global, first: &str, second: Option<&str>) -> Result<ModPath, AllocError> {
+    let mut segments = Vec::new(alloc);
+    segments.push(Name::new(alloc, first)?)?;
+    if let Some(name) = second {
+        segments.push(Name::new(alloc, name)?)?;
+    }
+    Ok(ModPath::from_segments(PathKind::Crate, segments))
+}
+
+/// `pub use crate::unix::open;`
+fn import(alloc: Global) -> Result<NamedImport, AllocError> {
+    Ok(NamedImport {
+        home: SYS,
+        name: Name::new(alloc, "open")?,
+        path: path(alloc, "unix", Some("open"))?,
+        vis: Visibility::Public,
+        kind: ImportKind::All,
+        import: IMPORT,
+        textual: None,
+    })
+}
+
+/// `pub use crate::generic::*;`
+fn glob(alloc: Global) -> Result<GlobImport, AllocError> {
+    Ok(GlobImport {
+        into: SYS,
+        path: path(alloc, "generic", None)?,
+        vis: Visibility::Public,
+        import: GLOB,
+    })
+}
+
+/// Whether the def maps are supported in which `sys::open` is bound so.
+fn supports(
+    alloc: Global,
+    function: u32,
+    import_: Option<ImportOrGlob>,
+    by: ImportOrExternCrate,
+) -> Option<bool> {
+    let mut flags = PerNsGlobImports::new(alloc);
+    let mut world = declared(alloc, &mut flags)?;
+    let name = Name::new(alloc, "open").ok()?;
+    let items = open(function, import_);
+    bind(&mut world, &mut flags, SYS, name, items, Some(by))?;
+    let imports = vec![in alloc; import(alloc).ok()?].ok()?;
+    let globs = vec![in alloc; glob(alloc).ok()?].ok()?;
+    let enums = IndexMap::new(alloc);
+    let none = Slots::new(alloc);
+    let ambiguous = Marks {
+        table: &none,
+        is_all_but: false,
+    };
+    let maps = DefMaps {
+        world: &world,
+        imports: imports.as_slice(),
+        globs: globs.as_slice(),
+        enums: &enums,
+        ambiguous,
+    };
+    if !maps.are_imports_known() {
+        return None;
+    }
+    is_supported(alloc, &maps).ok()
+}
+
+#[test]
+fn an_import_by_name_goes_before_a_glob(rt: HostRuntime) -> Result<(), AllocError> {
+    let alloc = rt.alloc();
+    let right = supports(
+        alloc,
+        1,
+        Some(ImportOrGlob::Import(IMPORT)),
+        ImportOrExternCrate::Import(IMPORT),
+    );
+    assert!(rt; right == Some(true));
+    let wrong = supports(
+        alloc,
+        0,
+        Some(ImportOrGlob::Glob(GLOB)),
+        ImportOrExternCrate::Glob(GLOB),
+    );
+    assert!(rt; wrong == Some(false));
+    Ok(())
+}
