@@ -13,9 +13,12 @@ use Rattle.dm_retry.specs.Rounds.{Pending, State, unresolved}
 abbrev pub is_of : UseId → UsePlace → Bool
 is_of use_ p = p.use_.0 == use_.0
 
+abbrev pub told_in : UseTreeIdx → UsePlace → Diagnostic
+told_in tree p = record { file = p.file; place = UseTree p.item tree; kind = kind.UnresolvedImport }
+
 abbrev pub told_at : UseTreeIdx → Option UsePlace → List Diagnostic
 told_at tree None = []
-told_at tree (Some p) = record { file = p.file; place = UseTree p.item tree; kind = kind.UnresolvedImport } ∷ []
+told_at tree (Some p) = told_in tree p ∷ []
 
 -- a use tree that leads nowhere is told of where it is written, if the use is one of these
 abbrev pub unresolved_import : List UsePlace → UseId → UseTreeIdx → List Diagnostic

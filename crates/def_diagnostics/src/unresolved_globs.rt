@@ -1,66 +1,83 @@
 //! What is told of globs that lead nowhere.
-ghost use Rattle.std.specs.Prelude.{◌≡◌, ◌++◌, IfOk, IsTrue, OnOk};
+ghost use Rattle.std.specs.Prelude.{◌≡◌};
 ghost use Rattle.def_diagnostics.specs.UnresolvedGlobs as spec;
-ghost use Rattle.std.specs.List.{list_all};
-ghost use Rattle.dm_collector.specs.Globs.{glob_holds};
-ghost use Rattle.dm_maps.specs.Known.{knows, KnowsAll};
+ghost use Rattle.def_diagnostics.specs.UnresolvedImports.{is_of, told_in};
+ghost use Rattle.std.specs.List.{find};
+ghost use Rattle.std.specs.Option.{option_map};
 
-use crate::diagnostic::Diagnostic;
-use crate::unresolved_imports::push_import;
+use crate::diagnostic::{Diagnostic, DiagnosticKind, Place};
+use crate::macro_meaning::{knows_module, knows_path};
+use crate::unresolved_imports::place_of;
 use crate_tables::item_place::UsePlace;
-use dm_collector::sources::GlobImport;
+use dm_base::ids::ModuleId;
+use dm_base::imports::GlobId;
+use dm_base::item_ids::{AdtId, ModuleDefId};
+use dm_base::mod_path::ModPath;
 use dm_maps::world::World;
-use std::alloc::{AllocError, Global};
+use dm_retry::meaning::path_meaning;
+use hir_def_map::result::ResolvePathResult;
 
-/// Whether all that a glob names is the world's.
-fn knows_all(world: &World, glob: &GlobImport) -> bool
-    ensures exact { result ≡ list_all (knows world.now) (glob_holds glob.now) }
-    ensures known { IsTrue result → KnowsAll world.now (glob_holds glob.now) }
+/// Whether a definition has names that a glob brings.
+fn is_source(def: ModuleDefId) -> bool
+    ensures { result ≡ spec.is_source def }
 {
-    glob.is_known(world)
+    match def {
+        ModuleDefId::ModuleId(_) => true,
+        ModuleDefId::AdtId(AdtId::EnumId(_)) => true,
+        _ => false,
+    }
 }
 
-/// Whether the path of a glob means neither a module nor an enum.
-fn leads_nowhere(world: &World, glob: &GlobImport) -> bool
-    ensures { result ≡ spec.leads_nowhere world.now glob.now }
+/// Whether an answer is such a definition, where no segment is left.
+fn means_source(answer: &ResolvePathResult) -> bool
+    ensures { result ≡ spec.means_source answer.now }
 {
-    knows_all(world, glob) && glob.resolved(world).is_none()
+    if answer.segment_index.is_some() {
+        return false;
+    }
+    match answer.resolved_def.types {
+        None => false,
+        Some(item) => is_source(item.def),
+    }
 }
 
-/// Adds what is told of a glob, if it leads nowhere.
-fn push_glob(
-    found: &mut Vec<Diagnostic>,
-    world: &World,
-    uses: &[UsePlace],
-    glob: &GlobImport,
-) -> Result<(), AllocError>
-    ensures { OnOk result
-        (found.new.items ≡ found.old.items ++ spec.of_glob world.now uses.now glob.now) }
+/// Whether the path of a glob in a module means neither a module nor an enum.
+fn leads_nowhere(world: &World, into: ModuleId, path: &ModPath) -> bool
+    ensures { result ≡ spec.leads_nowhere world.now into path.now }
 {
-    if leads_nowhere(world, glob) {
-        push_import(found, uses, glob.import.use_, glob.import.idx)
+    if knows_module(world, into) && knows_path(world, path) {
+        !means_source(&path_meaning(world, into, path))
     } else {
-        Ok(())
+        false
     }
 }
 
-/// What is told of those of some globs that lead neither to a module nor to an enum, of those that are written in some
-/// uses: in their order, at their use trees. One that names what the world does not have is not told of.
-///
-/// # Errors
-///
-/// Fails only where memory runs out.
-pub fn unresolved_globs(
-    alloc: Global,
+/// What is told of a glob at its use tree, if its use is one of these.
+fn told_of(uses: &[UsePlace], import: GlobId) -> Option<Diagnostic>
+    ensures { result ≡ option_map (told_in import.idx) (find (is_of import.use_) uses.now) }
+{
+    let place = place_of(uses, import.use_)?;
+    Some(Diagnostic {
+        file: place.file,
+        place: Place::UseTree(place.item, import.idx),
+        kind: DiagnosticKind::UnresolvedImport,
+    })
+}
+
+/// What is told of a glob of a path in a module, if it leads neither to a module nor to an enum and is written in one of
+/// some uses: at its use tree. One that names what the world does not have is not told of. Does not allocate.
+pub fn unresolved_glob(
     world: &World,
     uses: &[UsePlace],
-    globs: &[GlobImport],
-) -> Result<Vec<Diagnostic>, AllocError>
-    ensures { IfOk result (λ found. found.items ≡ spec.unresolved_globs world.now uses.now globs.now) }
+    into: ModuleId,
+    path: &ModPath,
+    import: GlobId,
+) -> Option<Diagnostic>
+    ensures { result ≡ spec.unresolved_glob world.now uses.now into path.now import }
 {
-    let mut found = Vec::new(alloc);
-    for glob in globs {
-        push_glob(&mut found, world, uses, glob)?;
+    if leads_nowhere(world, into, path) {
+        told_of(uses, import)
+    } else {
+        None
     }
-    Ok(found)
 }

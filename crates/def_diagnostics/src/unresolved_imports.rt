@@ -10,7 +10,7 @@ use dm_retry::retry::Retry;
 use std::alloc::{AllocError, Global};
 
 /// Where a use is written.
-fn place_of(uses: &[UsePlace], use_: UseId) -> Option<&UsePlace>
+pub(crate) fn place_of(uses: &[UsePlace], use_: UseId) -> Option<&UsePlace>
     ensures { option_copied result ≡ find (spec.is_of use_) uses.now }
 {
     uses.iter().find(|place| place.use_.0 == use_.0)

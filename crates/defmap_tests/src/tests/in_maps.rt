@@ -22,7 +22,7 @@ use def_diagnostics::texts::path_text;
 use def_diagnostics::told_in_maps::CallPlace;
 use def_diagnostics::told_places::told_place;
 use def_diagnostics::unconfigured::unconfigured;
-use def_diagnostics::unresolved_globs::unresolved_globs;
+use def_diagnostics::unresolved_globs::unresolved_glob;
 use def_diagnostics::unresolved_imports::unresolved_imports;
 use dm_base::ids::{Crate, FileId};
 use dm_base::source::Edition;
@@ -143,11 +143,13 @@ fn add_unresolved(
 ) -> Result<(), AllocError> {
     let collected = &settled.collected;
     push_all(found, unresolved_imports(alloc, &collected.retry, uses)?)?;
-    let globs = collected.globs.as_slice();
-    push_all(
-        found,
-        unresolved_globs(alloc, settled.world(), uses, globs)?,
-    )
+    for glob in &collected.globs {
+        let told = unresolved_glob(settled.world(), uses, glob.into, &glob.path, glob.import);
+        if let Some(diagnostic) = told {
+            found.push(diagnostic)?;
+        }
+    }
+    Ok(())
 }
 
 /// Adds what is told of the crate of a number.
