@@ -2,7 +2,7 @@
 use Rattle.std.proofs.Common.{◌≡◌, ◌∙◌, ap, cond, refl, subst, sym, true, false, Bool, List, [], ◌∷◌, Option, None, Some, ◌&&◌}
 use Rattle.std.proofs.lemmas.Bool.{and_parts}
 use Rattle.std.proofs.lemmas.List.Elements.{All-contains}
-use Rattle.std.specs.List.{All, Contains, list_any}
+use Rattle.std.specs.List.{All, Contains, cons_option, list_any}
 use Rattle.std.specs.Option.{option_and_then, option_map, option_map_or, option_or}
 use Rattle.std.specs.Prelude.{fold}
 use Rattle.dm_base.specs.declared.ids.ModuleId.{ModuleId}
@@ -18,7 +18,7 @@ use Rattle.dm_imports.specs.declared.glob_import.GlobImport.{GlobImport}
 use Rattle.dm_imports.specs.declared.named_import.NamedImport.{NamedImport}
 use Rattle.dm_imports.specs.Meanings.{joined}
 use Rattle.dm_imports.specs.Paths.{DefMaps}
-use Rattle.dm_imports.specs.Rules.{IsSupported, all_imports, all_offers, glob_asks, import_brings, import_to, is_declared, join, offer_from, offer_to, offered, source_of}
+use Rattle.dm_imports.specs.Rules.{IsSupported, all_imports, all_offers, glob_asks, import_brings, import_to, is_declared, join_all, offer_from, offer_to, offered, offers_to, source_of}
 use Rattle.dm_imports.specs.Slots.{same_place}
 use Rattle.dm_imports.specs.Supporting.{Agrees, AllAgree, GlobAgrees, names_brought, source_names}
 use Rattle.dm_imports.proofs.ListLemmas.{name-absent, name-listed, none-of, some-of}
@@ -58,7 +58,7 @@ module _ (d : DefMaps) (m : ModuleId) (n : Name) where
   no-offers s [] h = refl
   no-offers s (g ∷ gs) h =
       let p = none-of brings-it g gs h in
-      ap (λ o. fold (λ j g. join d.world m j (offer_to d m n s g)) (join d.world m None o) gs) (no-offer s g p.0) ∙ no-offers s gs p.1
+      ap (λ o. join_all d.world m (cons_option o (offers_to d gs m n s))) (no-offer s g p.0) ∙ no-offers s gs p.1
 
   -- a name that nothing could bind has what the rules give
   agrees-unbound : (Contains (names_of (scope_of d.world m)) n → ⊥) → list_any imports-it d.imports ≡ false → list_any brings-it d.globs ≡ false → Agrees d m n

@@ -1,60 +1,98 @@
--- Offers that are joined, each once.
+-- Offers of globs, joined one by one and as a list.
 use Rattle.std.proofs.Common.{◌≡◌, ◌∙◌, ap, cond, refl, subst, sym, true, false, not, Bool, Option, None, Some, List, [], ◌∷◌, ◌&&◌, ◌||◌}
 use Rattle.std.specs.Cmp.Lexicographic.{nat_list_eq_equiv}
-use Rattle.std.specs.List.{Contains, list_any}
+use Rattle.std.specs.List.{Contains, cons_option, filter_map, list_any}
+use Rattle.std.proofs.Math.Bool.{or-false, or_assoc, or_self}
+use Rattle.std.specs.Prelude.{fold}
 use Rattle.std.specs.Option.{option_and_then, option_map}
+use Rattle.dm_base.specs.contracts.item_ids.ModuleDefIdEq.TheImpl.Laws as def_laws
 use Rattle.dm_base.specs.declared.ids.ModuleId.{ModuleId}
 use Rattle.dm_base.specs.declared.per_ns.Namespace.{Namespace}
 use Rattle.dm_base.specs.IdLaws.{same_module-true}
 use Rattle.dm_base.specs.Names.{Name, same_name}
-use Rattle.dm_base.specs.Sameness.{same_def}
 use Rattle.dm_base.specs.Tree.{same_module}
 use Rattle.dm_maps.specs.World.{World}
-use Rattle.dm_imports.specs.contracts.meaning.SourceEq.TheImpl.Laws.{laws-law}
 use Rattle.dm_imports.specs.declared.container.Container.{Container}
 use Rattle.dm_imports.specs.declared.glob_import.GlobImport.{GlobImport}
 use Rattle.dm_imports.specs.declared.joined.Joined.{Joined}
 use Rattle.dm_imports.specs.declared.meaning.Meaning.{Meaning}
-use Rattle.dm_imports.specs.Brought.{AreAllNamed, HasOffers}
+use Rattle.dm_imports.specs.Brought.{AreAllNamed, HasOffers, alone, both, join}
 use Rattle.dm_imports.specs.Meanings.{AreNamed}
 use Rattle.dm_imports.specs.Paths.{DefMaps}
-use Rattle.dm_imports.specs.Rules.{alone, both, glob_asks, join, least, most, offer_from, offer_to, offered, same_source, source_of}
+use Rattle.dm_imports.specs.Rules.{conflicts, glob_asks, join_all, least, least_of, most, most_of, offer_from, offer_to, offered, source_of}
 use Rattle.dm_imports.specs.Slots.{Slots, same_place, same_slot, slot_at}
 use Rattle.dm_imports.specs.Supporting.{source_names}
+use Rattle.dm_imports.proofs.AgainLemmas.{least-again, least-same, most-again, most-same}
 use Rattle.dm_imports.proofs.ListLemmas.{name-absent}
 use Rattle.dm_imports.proofs.SlotLemmas.{name-same}
 use Rattle.dm_imports.proofs.UnboundLemmas.{member-unbound}
 
-pub join-none : (w : World) (m : ModuleId) (j : Option Joined) (o : Option Meaning) → join w m j o ≡ None → j ≡ None
-join-none w m j None e = e
-join-none w m None (Some x) e = cc
-join-none w m (Some j) (Some x) e = cc
+or-again : (a b : Bool) → (a || b || b) ≡ (a || b)
+or-again a b = or_assoc a b b ∙ ap (λ c. a || c) (or_self b)
+
+-- an offer has no other definition than itself
+conflicts-self : (x : Meaning) → conflicts x x ≡ x.is_ambiguous
+conflicts-self x = ap (λ b. x.is_ambiguous || not b) (def_laws.laws-law.refl x.def) ∙ or-false x.is_ambiguous
 
 module _ (w : World) (m : ModuleId) (x : Meaning) where
-  abbrev more : Joined → Joined
-  more j = record {
-    first = j.first;
-    last = x.source;
-    most = most w m j.most x.vis;
-    least = least w m j.least x.vis;
-    is_ambiguous = j.is_ambiguous || x.is_ambiguous || not (same_def j.first.def x.def);
+  alone-twice : both w m (alone x) x ≡ alone x
+  alone-twice = λ i. record {
+    first = x;
+    most = most-same w m x.vis i;
+    least = least-same w m x.vis i;
+    is_ambiguous = (ap (λ b. x.is_ambiguous || b) (conflicts-self x) ∙ or_self x.is_ambiguous) i;
   }
 
-  both-again : (j : Joined) → same_source j.last x.source ≡ true → both w m j x ≡ j
-  both-again j e = ap (λ b. cond b j (more j)) e
-
   both-twice : (j : Joined) → both w m (both w m j x) x ≡ both w m j x
-  both-twice j = by (same_source j.last x.source) refl
-    where
-      by : (b : Bool) → same_source j.last x.source ≡ b → both w m (both w m j x) x ≡ both w m j x
-      by true e = ap (λ k. both w m k x) (both-again j e)
-      by false e = let new : both w m j x ≡ more j = ap (λ b. cond b j (more j)) e in ap (λ k. both w m k x) new ∙ both-again (more j) (laws-law.refl x.source) ∙ sym new
+  both-twice j = λ i. record {
+    first = j.first;
+    most = most-again w m j.most x.vis i;
+    least = least-again w m j.least x.vis i;
+    is_ambiguous = or-again j.is_ambiguous (conflicts j.first x) i;
+  }
 
--- an offer that is joined once more changes nothing
+-- An offer that is joined once more changes nothing. So it does not matter whether a source lists a name twice.
 pub join-twice : (w : World) (m : ModuleId) (j : Option Joined) (o : Option Meaning) → join w m (join w m j o) o ≡ join w m j o
 join-twice w m j None = refl
-join-twice w m None (Some x) = ap Some (both-again w m x (alone x) (laws-law.refl x.source))
+join-twice w m None (Some x) = ap Some (alone-twice w m x)
 join-twice w m (Some j) (Some x) = ap Some (both-twice w m x j)
+
+-- Offers that are joined one by one are joined as a list.
+module _ (w : World) (m : ModuleId) (offer : GlobImport → Option Meaning) where
+  -- some offers, and others behind them
+  abbrev more : Joined → List Meaning → Joined
+  more j xs = record {
+    first = j.first;
+    most = most_of w m j.most xs;
+    least = least_of w m j.least xs;
+    is_ambiguous = j.is_ambiguous || list_any (conflicts j.first) xs;
+  }
+
+  joins-more : (j : Joined) (gs : List GlobImport) → fold (λ k g. join w m k (offer g)) (Some j) gs ≡ Some (more j (filter_map offer gs))
+  joins-more j [] = λ i. Some (record { first = j.first; most = j.most; least = j.least; is_ambiguous = sym (or-false j.is_ambiguous) i })
+  joins-more j (g ∷ gs) = by (offer g) (joins-more j gs) (λ x. joins-more (both w m j x) gs)
+    where
+      by : (o : Option Meaning) → fold (λ k g. join w m k (offer g)) (Some j) gs ≡ Some (more j (filter_map offer gs))
+          → ((x : Meaning) → fold (λ k g. join w m k (offer g)) (Some (both w m j x)) gs ≡ Some (more (both w m j x) (filter_map offer gs)))
+          → fold (λ k g. join w m k (offer g)) (join w m (Some j) o) gs ≡ Some (more j (cons_option o (filter_map offer gs)))
+      by None same one = same
+      by (Some x) same one =
+          let xs = filter_map offer gs in
+          one x ∙ (λ i. Some (record {
+            first = j.first;
+            most = most_of w m (most w m j.most x.vis) xs;
+            least = least_of w m (least w m j.least x.vis) xs;
+            is_ambiguous = or_assoc j.is_ambiguous (conflicts j.first x) (list_any (conflicts j.first) xs) i;
+          }))
+
+  pub joins-all : (gs : List GlobImport) → fold (λ k g. join w m k (offer g)) None gs ≡ join_all w m (filter_map offer gs)
+  joins-all [] = refl
+  joins-all (g ∷ gs) = by (offer g) (joins-all gs)
+    where
+      by : (o : Option Meaning) → fold (λ k g. join w m k (offer g)) None gs ≡ join_all w m (filter_map offer gs)
+          → fold (λ k g. join w m k (offer g)) (join w m None o) gs ≡ join_all w m (cons_option o (filter_map offer gs))
+      by None rest = rest
+      by (Some x) rest = joins-more (alone x) gs
 
 module _ (d : DefMaps) (g : GlobImport) (c : Container) where
   abbrev joins : Option Joined → Name → Namespace → Option Joined

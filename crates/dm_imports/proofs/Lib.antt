@@ -2,6 +2,7 @@ mod TableLemmas
 mod SlotLemmas
 mod NamedLemmas
 mod ListLemmas
+mod AgainLemmas
 mod JoinLemmas
 mod UnboundLemmas
 mod AgreeLemmas
@@ -9,3 +10,4 @@ mod MeaningLemmas
 mod CrateLemmas
 mod AskLemmas
 mod OutcomeLemmas
+mod BoundLemmas

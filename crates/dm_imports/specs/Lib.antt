@@ -6,4 +6,5 @@ pub mod Tables
 pub mod Brought
 pub mod Supporting
 pub mod Written
+pub mod Bound
 pub mod Rows

@@ -1,6 +1,6 @@
 -- Worked rows: what the rules give of small def maps, as equations that compute. What rustc 1.95 makes of each text was
 -- asked of it.
-use Rattle.std.specs.Prelude.{◌≡◌, true, false, List, [], ◌∷◌, Some, None, codes, refl}
+use Rattle.std.specs.Prelude.{◌≡◌, true, false, [], ◌∷◌, Some, None, codes, refl}
 use Rattle.dm_base.specs.declared.imports.ImportOrExternCrate.TheVariants as wide
 use Rattle.dm_base.specs.declared.imports.ImportOrGlob.TheVariants as narrow
 use Rattle.dm_base.specs.declared.per_ns.Namespace.TheVariants.{Types, Values}
@@ -8,7 +8,7 @@ use Rattle.dm_base.specs.declared.visibility.Visibility.TheVariants.{Public}
 use Rattle.dm_maps.specs.ItemHomes.{homes_of}
 use Rattle.dm_maps.specs.Trees.{tree_of}
 use Rattle.dm_imports.specs.declared.meaning.Source.TheVariants as source
-use Rattle.dm_imports.specs.Paths.{DefMaps, at}
+use Rattle.dm_imports.specs.Paths.{DefMaps}
 use Rattle.dm_imports.specs.Rules.{given}
 use Rattle.dm_imports.specs.Written.{a_function, a_module, a_struct, a_type, a_value, glob, import, leaf, meant, number, star, types_and_values, within, world_of}
 

@@ -1,6 +1,7 @@
 -- What the rules give of def maps: a slot has what its module declares, else what an import by name brings, else what
 -- globs bring.
-use Rattle.std.specs.Prelude.{◌≡◌, ◌<◌, ◌||◌, All, IsTrue, Bool, true, false, not, List, Option, Some, None, fold, if◌then◌else◌}
+use Rattle.std.specs.Prelude.{◌≡◌, ◌<◌, ◌||◌, All, IsTrue, Bool, true, false, not, List, [], ◌∷◌, Option, Some, None, fold, if◌then◌else◌}
+use Rattle.std.specs.List.{filter_map, list_any}
 use Rattle.std.specs.Option.{option_and_then, option_map, option_map_or, option_or}
 use Rattle.dm_base.specs.declared.ids.ModuleId.{ModuleId}
 use Rattle.dm_base.specs.declared.per_ns.Namespace.{Namespace}
@@ -20,9 +21,7 @@ use Rattle.dm_imports.specs.declared.container.Container.TheVariants as containe
 use Rattle.dm_imports.specs.declared.glob_import.GlobImport.{GlobImport}
 use Rattle.dm_imports.specs.declared.joined.Joined.{Joined}
 use Rattle.dm_imports.specs.declared.meaning.Meaning.{Meaning}
-use Rattle.dm_imports.specs.declared.meaning.Source.{Source}
 use Rattle.dm_imports.specs.declared.meaning.Source.TheVariants as source
-use Rattle.dm_imports.specs.contracts.meaning.SourcePartialEq.TheImpl as source_eq
 use Rattle.dm_imports.specs.declared.named_import.ImportKind.{ImportKind}
 use Rattle.dm_imports.specs.declared.named_import.ImportKind.TheVariants as kind
 use Rattle.dm_imports.specs.declared.named_import.NamedImport.{NamedImport}
@@ -61,36 +60,40 @@ offer_from d g c n s = option_map (offered d g) (member d (glob_asks g) c n s)
 abbrev pub offer : DefMaps → GlobImport → Name → Namespace → Option Meaning
 offer d g n s = option_and_then (λ c. offer_from d g c n s) (source_of d g)
 
-abbrev pub same_source : Source → Source → Bool
-same_source = source_eq.ghosts.eq
-
--- One offer joined to others, in a module. That of one glob counts once.
-abbrev pub alone : Meaning → Joined
-alone x = record { first = x; last = x.source; most = x.vis; least = x.vis; is_ambiguous = x.is_ambiguous }
-
-abbrev pub both : World → ModuleId → Joined → Meaning → Joined
-both w m j x =
-    if same_source j.last x.source then j
-    else record {
-      first = j.first;
-      last = x.source;
-      most = most w m j.most x.vis;
-      least = least w m j.least x.vis;
-      is_ambiguous = j.is_ambiguous || x.is_ambiguous || not (same_def j.first.def x.def);
-    }
-
-abbrev pub join : World → ModuleId → Option Joined → Option Meaning → Option Joined
-join w m j None = j
-join w m None (Some x) = Some (alone x)
-join w m (Some j) (Some x) = Some (both w m j x)
-
 -- the offer of a glob to a module, if it is one of the module
 abbrev pub offer_to : DefMaps → ModuleId → Name → Namespace → GlobImport → Option Meaning
 offer_to d m n s g = if same_module g.into m then offer d g n s else None
 
--- the offers of all globs of a module, joined in the order of the globs
+-- what the globs of a module offer, in the order of the globs
+abbrev pub offers_to : DefMaps → List GlobImport → ModuleId → Name → Namespace → List Meaning
+offers_to d gs m n s = filter_map (offer_to d m n s) gs
+
+-- the most permissive of a visibility and those of offers, in a module
+abbrev pub most_of : World → ModuleId → Visibility → List Meaning → Visibility
+most_of w m v xs = fold (λ u x. most w m u x.vis) v xs
+
+-- the least permissive of them
+abbrev pub least_of : World → ModuleId → Visibility → List Meaning → Visibility
+least_of w m v xs = fold (λ u x. least w m u x.vis) v xs
+
+-- an offer conflicts with the first where it is ambiguous, or has another definition
+abbrev pub conflicts : Meaning → Meaning → Bool
+conflicts first x = x.is_ambiguous || not (same_def first.def x.def)
+
+-- Offers, joined: the first, the most and the least permissive of all visibilities, and whether they are ambiguous
+-- together, as they are where the first is or another conflicts with it. No offers bring nothing.
+abbrev pub join_all : World → ModuleId → List Meaning → Option Joined
+join_all w m [] = None
+join_all w m (x ∷ xs) = Some (record {
+  first = x;
+  most = most_of w m x.vis xs;
+  least = least_of w m x.vis xs;
+  is_ambiguous = x.is_ambiguous || list_any (conflicts x) xs;
+})
+
+-- the offers of all globs of a module, joined
 abbrev pub all_offers : DefMaps → List GlobImport → ModuleId → Name → Namespace → Option Joined
-all_offers d gs m n s = fold (λ j g. join d.world m j (offer_to d m n s g)) None gs
+all_offers d gs m n s = join_all d.world m (offers_to d gs m n s)
 
 -- what globs bring
 abbrev pub brought : DefMaps → ModuleId → Name → Namespace → Option Meaning

@@ -6,9 +6,7 @@ use Rattle.dm_base.specs.declared.ids.ModuleId.{ModuleId}
 use Rattle.dm_base.specs.declared.imports.GlobId.{GlobId}
 use Rattle.dm_base.specs.declared.imports.ImportId.{ImportId}
 use Rattle.dm_base.specs.declared.imports.ImportOrExternCrate.{ImportOrExternCrate}
-use Rattle.dm_base.specs.declared.imports.ImportOrExternCrate.TheVariants as wide
 use Rattle.dm_base.specs.declared.imports.ImportOrGlob.{ImportOrGlob}
-use Rattle.dm_base.specs.declared.imports.ImportOrGlob.TheVariants as narrow
 use Rattle.dm_base.specs.declared.item_ids.AdtId.TheVariants as adt
 use Rattle.dm_base.specs.declared.item_ids.ModuleDefId.{ModuleDefId}
 use Rattle.dm_base.specs.declared.item_ids.ModuleDefId.TheVariants as def

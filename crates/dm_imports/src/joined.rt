@@ -2,15 +2,13 @@
 ghost use Rattle.std.specs.Prelude.{◌≡◌};
 ghost use Rattle.dm_imports.specs.Meanings as spec;
 
-use crate::meaning::{Meaning, Source};
+use crate::meaning::Meaning;
 use dm_base::visibility::Visibility;
 
 /// What some globs bring to a slot: the first of it, and the most and the least permissive of all visibilities.
 #[derive(Clone, Copy, PartialEq, Eq, Debug)]
 pub struct Joined {
     pub first: Meaning,
-    /// By what the last of it came.
-    pub last: Source,
     pub most: Visibility,
     pub least: Visibility,
     /// Whether there are two definitions, or one is ambiguous.

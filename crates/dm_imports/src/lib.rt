@@ -2,9 +2,11 @@
 #![tactic(auto)]
 
 pub mod asking;
+pub mod bind;
 pub mod container;
 pub mod def_maps;
 pub mod glob_import;
+pub mod importing;
 pub mod joined;
 mod known;
 pub mod marks;
@@ -13,6 +15,7 @@ mod name_table;
 pub mod named_import;
 pub mod paths;
 pub mod rules;
+mod search;
 pub mod slots;
 #[cfg(test)]
 mod tests;

@@ -3,7 +3,7 @@
 mod all_imports;
 mod all_offers;
 mod join;
-mod offers;
-mod source_names;
+pub(crate) mod offers;
+pub(crate) mod source_names;
 pub mod supported;
-mod visibilities;
+pub(crate) mod visibilities;

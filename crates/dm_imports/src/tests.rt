@@ -1,12 +1,16 @@
 //! `is_supported` on a crate with the modules `generic` and `unix`, each with a function `open`, and `sys`, in which
 //! `pub use crate::generic::*; pub use crate::unix::open;` stand.
+use crate::bind::bind_crate;
 use crate::def_maps::DefMaps;
 use crate::glob_import::GlobImport;
+use crate::importing::Importing;
 use crate::marks::Marks;
 use crate::named_import::{ImportKind, NamedImport};
 use crate::rules::supported::is_supported;
 use crate::slots::Slots;
-use dm_base::ids::{FileAstId, FileId, FunctionId, MacroCallId, ModuleId, UseId, UseTreeIdx};
+use dm_base::ids::{
+    Crate, FileAstId, FileId, FunctionId, MacroCallId, ModuleId, UseId, UseTreeIdx,
+};
 use dm_base::imports::{GlobId, ImportId, ImportOrExternCrate, ImportOrGlob};
 use dm_base::item_ids::{ItemKind, ModuleDefId};
 use dm_base::mod_path::{ModPath, PathKind};
@@ -141,6 +145,46 @@ fn glob(alloc: Global) -> Result<GlobImport, AllocError> {
     })
 }
 
+/// What `sys::open` is bound to by the uses, and whether the def maps are supported then.
+fn bound(alloc: Global) -> Option<(PerNs, bool)> {
+    let mut flags = PerNsGlobImports::new(alloc);
+    let mut world = declared(alloc, &mut flags)?;
+    let imports = vec![in alloc; import(alloc).ok()?].ok()?;
+    let globs = vec![in alloc; glob(alloc).ok()?].ok()?;
+    let enums = IndexMap::new(alloc);
+    let given = Importing {
+        imports: imports.as_slice(),
+        globs: globs.as_slice(),
+        enums: &enums,
+    };
+    let mut ambiguous = Slots::new(alloc);
+    bind_crate(
+        &mut world,
+        &mut flags,
+        &mut ambiguous,
+        alloc,
+        &given,
+        Crate(0),
+    )
+    .ok()?;
+    let maps = DefMaps {
+        world: &world,
+        imports: imports.as_slice(),
+        globs: globs.as_slice(),
+        enums: &enums,
+        ambiguous: Marks {
+            table: &ambiguous,
+            is_all_but: false,
+        },
+    };
+    if !maps.are_imports_known() {
+        return None;
+    }
+    let is_right = is_supported(alloc, &maps).ok()?;
+    let name = Name::new(alloc, "open").ok()?;
+    Some((world.bound_in(SYS, &name), is_right))
+}
+
 /// Whether the def maps are supported in which `sys::open` is bound so.
 fn supports(
     alloc: Global,
@@ -191,5 +235,12 @@ fn an_import_by_name_goes_before_a_glob(rt: HostRuntime) -> Result<(), AllocErro
         ImportOrExternCrate::Glob(GLOB),
     );
     assert!(rt; wrong == Some(false));
+    Ok(())
+}
+
+#[test]
+fn bind_crate_binds_what_the_rules_give(rt: HostRuntime) -> Result<(), AllocError> {
+    let by = Some(ImportOrGlob::Import(IMPORT));
+    assert!(rt; bound(rt.alloc()) == Some((open(1, by), true)));
     Ok(())
 }

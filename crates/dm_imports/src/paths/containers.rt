@@ -54,7 +54,7 @@ pub(crate) fn led(meaning: Option<Meaning>) -> Option<Container>
 }
 
 /// A variant in a namespace.
-fn variant_in(
+pub(crate) fn variant_in(
     namespace: Namespace,
     shape: FieldsShape,
     def: ModuleDefId,

@@ -44,7 +44,7 @@ fn add_offer(
     requires all { brought.AreAllNamed world.now all.old }
     requires offer { IsNamed world.now offer }
     ensures joined { OnOk result ((k : ModuleId) (x : Name) (t : Namespace) → slot_at all.new k x t
-        ≡ cond (same_slot m name.now namespace k x t) (spec.join world.now m (slot_at all.old k x t) offer)
+        ≡ cond (same_slot m name.now namespace k x t) (brought.join world.now m (slot_at all.old k x t) offer)
         (slot_at all.old k x t)) }
     ensures named { OnOk result (brought.AreAllNamed world.now all.new) }
 {
@@ -69,7 +69,7 @@ fn add_name(
     requires all { brought.AreAllNamed maps.now.world all.old }
     ensures joined { OnOk result ((k : ModuleId) (x : Name) (t : Namespace) → slot_at all.new k x t
         ≡ cond (same_place glob.now.into name.now k x)
-        (spec.join maps.now.world glob.now.into (slot_at all.old k x t)
+        (brought.join maps.now.world glob.now.into (slot_at all.old k x t)
         (spec.offer_from (of_tables maps.now) glob.now source name.now t))
         (slot_at all.old k x t)) }
     ensures named { OnOk result (brought.AreAllNamed maps.now.world all.new) }
@@ -83,7 +83,7 @@ fn add_name(
     Ok(())
 }
 
-/// The same under some names.
+/// The same under some names. Were one of them there twice, its offer would be joined twice, which changes nothing.
 fn add_names(
     all: &mut Slots<Joined>,
     maps: &DefMaps<'_>,
@@ -116,7 +116,7 @@ fn add_glob(
     requires enums { AreEnumsNamed (of_tables maps.now) }
     requires all { brought.AreAllNamed maps.now.world all.old }
     ensures joined { OnOk result ((k : ModuleId) (x : Name) (t : Namespace) → slot_at all.new k x t
-        ≡ spec.join maps.now.world k (slot_at all.old k x t) (spec.offer_to (of_tables maps.now) k x t glob.now)) }
+        ≡ brought.join maps.now.world k (slot_at all.old k x t) (spec.offer_to (of_tables maps.now) k x t glob.now)) }
     ensures named { OnOk result (brought.AreAllNamed maps.now.world all.new) }
 {
     match source_of(maps, glob) {
@@ -140,7 +140,7 @@ fn add_globs(
     requires globs { All (spec.IsGlobKnown (of_tables maps.now)) globs.now }
     requires all { brought.AreAllNamed maps.now.world all.old }
     ensures joined { OnOk result ((k : ModuleId) (x : Name) (t : Namespace) → slot_at all.new k x t
-        ≡ fold (λ j g. spec.join maps.now.world k j (spec.offer_to (of_tables maps.now) k x t g))
+        ≡ fold (λ j g. brought.join maps.now.world k j (spec.offer_to (of_tables maps.now) k x t g))
         (slot_at all.old k x t) globs.now) }
     ensures named { OnOk result (brought.AreAllNamed maps.now.world all.new) }
 {

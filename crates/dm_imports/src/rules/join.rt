@@ -4,8 +4,9 @@ ghost use Rattle.std.specs.Option.{ForSome};
 ghost use Rattle.dm_base.specs.Tree.{IsKnown};
 ghost use Rattle.dm_base.specs.Visibility.{NamesKnown};
 ghost use Rattle.dm_maps.specs.Trees.{tree_of};
+ghost use Rattle.dm_imports.specs.Brought as spec;
 ghost use Rattle.dm_imports.specs.Meanings.{AreNamed, IsNamed};
-ghost use Rattle.dm_imports.specs.Rules as spec;
+ghost use Rattle.dm_imports.specs.Rules.{conflicts};
 
 use crate::joined::Joined;
 use crate::meaning::Meaning;
@@ -19,11 +20,17 @@ fn alone(offer: Meaning) -> Joined
 {
     Joined {
         first: offer,
-        last: offer.source,
         most: offer.vis,
         least: offer.vis,
         is_ambiguous: offer.is_ambiguous,
     }
+}
+
+/// Whether an offer conflicts with the first: whether it is ambiguous, or has another definition.
+fn conflicts_with(first: Meaning, offer: Meaning) -> bool
+    ensures { result ≡ conflicts first offer }
+{
+    offer.is_ambiguous || first.def != offer.def
 }
 
 /// Some offers and one more.
@@ -34,15 +41,11 @@ fn both(world: &World, m: ModuleId, all: Joined, offer: Meaning) -> Joined
     ensures value { result ≡ spec.both world.now m all offer }
     ensures named { AreNamed world.now result }
 {
-    if all.last == offer.source {
-        return all;
-    }
     Joined {
         first: all.first,
-        last: offer.source,
         most: most(world, m, all.most, offer.vis),
         least: least(world, m, all.least, offer.vis),
-        is_ambiguous: all.is_ambiguous || offer.is_ambiguous || all.first.def != offer.def,
+        is_ambiguous: all.is_ambiguous || conflicts_with(all.first, offer),
     }
 }
 

@@ -21,7 +21,7 @@ use dm_base::name::Name;
 use dm_base::per_ns::Namespace;
 
 /// Whether a container is another than a module.
-fn is_other(m: ModuleId, container: Container) -> bool
+pub(crate) fn is_other(m: ModuleId, container: Container) -> bool
     ensures { result ≡ spec.is_other m container }
 {
     match container {

@@ -4,7 +4,8 @@ use Rattle.std.proofs.lemmas.List.Elements.{All-get_or}
 use Rattle.std.specs.Prelude.{fold}
 use Rattle.dm_imports.specs.declared.glob_import.GlobImport.{GlobImport}
 use Rattle.dm_imports.specs.declared.joined.Joined.{Joined}
-use Rattle.dm_imports.specs.Rules.{IsGlobKnown, join, offer_to}
+use Rattle.dm_imports.specs.Brought.{join}
+use Rattle.dm_imports.specs.Rules.{IsGlobKnown, offer_to}
 use Rattle.dm_imports.specs.Slots.{slot_at}
 use Rattle.dm_imports.specs.Tables.{of_tables}
 use Rattle.dm_imports.proofs.AskLemmas.{module-known}

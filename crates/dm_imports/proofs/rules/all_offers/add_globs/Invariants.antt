@@ -3,8 +3,8 @@ use Rattle.std.specs.Prelude.{fold}
 use Rattle.dm_base.specs.declared.ids.ModuleId.{ModuleId}
 use Rattle.dm_base.specs.declared.per_ns.Namespace.{Namespace}
 use Rattle.dm_base.specs.Names.{Name}
-use Rattle.dm_imports.specs.Brought.{AreAllNamed}
-use Rattle.dm_imports.specs.Rules.{join, offer_to}
+use Rattle.dm_imports.specs.Brought.{AreAllNamed, join}
+use Rattle.dm_imports.specs.Rules.{offer_to}
 use Rattle.dm_imports.specs.Slots.{slot_at}
 use Rattle.dm_imports.specs.Tables.{of_tables}
 use Rattle.dm_imports.proofs.rules.all_offers.add_globs.Given as goal

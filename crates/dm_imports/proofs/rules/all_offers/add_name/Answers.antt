@@ -6,8 +6,8 @@ use Rattle.dm_base.specs.Names.{Name}
 use Rattle.dm_maps.specs.World.{World}
 use Rattle.dm_imports.specs.declared.joined.Joined.{Joined}
 use Rattle.dm_imports.specs.declared.meaning.Meaning.{Meaning}
-use Rattle.dm_imports.specs.Brought.{AreAllNamed}
-use Rattle.dm_imports.specs.Rules.{join, offer_from}
+use Rattle.dm_imports.specs.Brought.{AreAllNamed, join}
+use Rattle.dm_imports.specs.Rules.{offer_from}
 use Rattle.dm_imports.specs.Slots.{Slots, same_slot, slot_at}
 use Rattle.dm_imports.specs.Tables.{MapTables, of_tables}
 use Rattle.dm_imports.proofs.SlotLemmas.{Written, three-slots}

@@ -1,5 +1,5 @@
 use Rattle.std.proofs.Common.{◌∙◌, ap, sym}
-use Rattle.dm_imports.specs.Rules.{join}
+use Rattle.dm_imports.specs.Brought.{join}
 use Rattle.dm_imports.proofs.JoinLemmas.{named-written}
 use Rattle.dm_imports.proofs.OutcomeLemmas.{on-ok-then}
 use Rattle.dm_imports.proofs.SlotLemmas.{slot-written}

@@ -2,9 +2,11 @@ use Rattle.std.proofs.Common.{◌∙◌, ap, Option, None}
 use Rattle.std.specs.Prelude.{fold}
 use Rattle.dm_imports.specs.declared.glob_import.GlobImport.{GlobImport}
 use Rattle.dm_imports.specs.declared.joined.Joined.{Joined}
-use Rattle.dm_imports.specs.Rules.{join, offer_to}
+use Rattle.dm_imports.specs.Brought.{join}
+use Rattle.dm_imports.specs.Rules.{offer_to}
 use Rattle.dm_imports.specs.Slots.{Slots, slot_at}
 use Rattle.dm_imports.specs.Tables.{MapTables, of_tables}
+use Rattle.dm_imports.proofs.JoinLemmas.{joins-all}
 use Rattle.dm_imports.proofs.SlotLemmas.{nothing-at}
 use Rattle.dm_imports.proofs.rules.all_offers.all_offers.Goals as goal
 
@@ -15,3 +17,4 @@ returns-clause-value c k x t =
     c.in_ok-add_globs.ensures.joined k x t
     ∙ ap (λ y. fold f y c.maps.inside.globs.now) (ap (λ (s : Slots Joined). slot_at s k x t) c.new-all.ensures ∙ nothing-at k x t)
     ∙ ap (λ (m : MapTables). fold f None m.globs) c.maps.view_is
+    ∙ joins-all d.world k (offer_to d k x t) c.args.maps.now.globs
