@@ -10,6 +10,7 @@ from crate_model import Probe, Use, modules_of, written
 from judging import Wrong
 from real_answers import meant_by
 from real_scopes import trees
+from rustc_answers import without_numbers
 
 SECONDS = 10
 NAMES = 24
@@ -21,8 +22,14 @@ ABOUT_MEANING = {"ambiguous_glob_imports", "ambiguous_import_visibilities",
                  "pub_use_of_private_extern_crate"}
 AMBIGUOUS = "ambiguous by rustc (E0659 at a probe)"
 WARNED = "rustc warns that it is ambiguous"
+# It is refused by default, but not where lints are capped.
+PRIVATE_CRATE = "rustc shows a private extern crate, with the lint pub_use_of_private_extern_crate"
 CHANGED = "rustc's answer changes with probes"
 UNDETERMINED = "rustc cannot determine a probe"
+
+
+class Panicked(Wrong):
+    """rustc panics, where it should tell what names mean."""
 
 
 @dataclass
@@ -117,6 +124,8 @@ def refused(writer, errors):
 
 def of_keys(graph, writer, answers):
     """What rustc says by keys; None of what a `cfg` takes away."""
+    if any(it.code == rustc_answers.PANICS for it in answers.errors):
+        raise Panicked(f"{rustc_answers.PANICS} over {graph.main.name}")
     lost = [key for key, place in writer.places.items() if place not in answers.meant]
     if lost and not graph.cfgs:
         raise Wrong(f"rustc prints no meaning of {lost[:5]}")
@@ -124,25 +133,34 @@ def of_keys(graph, writer, answers):
 
 
 def ask_rustc(graph, folder):
-    """What rustc says, of a folder for the files. Where it accepts the crates, it is asked again
-    with probes, whose errors tell what is absent."""
+    """What rustc says of a graph, of a folder for the files; macros of one name in a module are not
+    told apart."""
     for crate in graph.crates[:-1]:
         writer = written(crate)
         write_files(folder, writer.files)
         errors = rustc_answers.build(graph, crate, folder)
         if errors:
             return refused(writer, errors)
+    theirs = ask_of_last(graph, folder, probes_of(graph))
+    theirs.meant = {key: without_numbers(meant) for key, meant in theirs.meant.items()}
+    return theirs
+
+
+def ask_of_last(graph, folder, probes):
+    """What rustc says of the last crate of a graph, where those before it are built. Where it
+    accepts it, it is asked again with probes, whose errors tell what is absent."""
     bare = written(graph.main)
     write_files(folder, bare.files)
     answers = rustc_answers.answers(graph, folder)
     if answers.errors:
         return refused(bare, answers.errors)
-    probed = written(graph.main, probes_of(graph))
+    probed = written(graph.main, probes)
     write_files(folder, probed.files)
     again = rustc_answers.answers(graph, folder)
     theirs = Theirs(meant=of_keys(graph, probed, again))
     theirs.lints = {it.code for it in answers.warnings + again.warnings} & ABOUT_MEANING
     leave_out(theirs, probed, again)
+    note_private(theirs, bare, answers)
     for key, meant in of_keys(graph, bare, answers).items():
         if theirs.meant[key] != meant:
             theirs.left_out[key] = CHANGED
@@ -163,6 +181,13 @@ def leave_out(theirs, probed, answers):
             theirs.left_out.update({keys[it]: WARNED for it in told.places if it in keys})
     for key in undetermined(theirs, probed, answers):
         theirs.left_out[key] = UNDETERMINED
+
+
+def note_private(theirs, bare, answers):
+    """Notes the imports that show a private extern crate. It is the only warning that has the code
+    of an error, and rustc tells of it only where there is no error."""
+    places = {place for told in answers.warnings for place in told.places if told.code == "E0365"}
+    theirs.left_out.update({key: PRIVATE_CRATE for key, it in bare.places.items() if it in places})
 
 
 def undetermined(theirs, probed, answers):

@@ -141,7 +141,9 @@ class Writer:
         self.add(file, "}")
 
     def item(self, file, folders, indent, path, item):
-        self.add(file, "".join(f"{indent}{it}\n" for it in item.attributes))
+        for one in item.attributes:
+            self.rows[self.here(file)[:2]] = item.number
+            self.add(file, f"{indent}{one}\n")
         self.add(file, indent + (f"{item.visibility} " if item.visibility else ""))
         self.rows[self.here(file)[:2]] = item.number
         if isinstance(item, Use):

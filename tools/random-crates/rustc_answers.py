@@ -16,6 +16,8 @@ BLOCK = re.compile(r"^DefId\(", re.M)
 SPAN = re.compile(r"span: (.+?):(\d+):(\d+): \d+:\d+ \(#(\d+)\)")
 SPACES = (("type", "type_ns"), ("value", "value_ns"), ("macro", "macro_ns"))
 BUILTIN = re.compile(r"PrimTy\( (?:\w+\( )?(\w+)")
+# The number of a macro among those of its name in its module; the first one has none.
+MACRO_NUMBER = re.compile(r"Macro\(.*?DefId\([^)]*?\w(#\d+)\)")
 QUIET = ["--cap-lints", "warn", "-A", "unused", "-A", "nonstandard_style", "-A", "dead_code"]
 
 
@@ -38,12 +40,17 @@ class Answers:
 
 
 def meant_in(text):
-    """What a `res` of a namespace tells: a kind and a path."""
+    """What a `res` of a namespace tells: a kind and a path, that of a macro with its number."""
     builtin = BUILTIN.search(text)
     if builtin:
         return "builtin", builtin[1].lower()
-    found = definition(text)
-    return (found.kind, found.path) if found else None
+    found, number = definition(text), MACRO_NUMBER.search(text)
+    return (found.kind, found.path + (number[1] if number else "")) if found else None
+
+
+def without_numbers(meant):
+    """What is meant, where macros of one name in a module are not told apart."""
+    return meant and {space: (kind, path.split("#")[0]) for space, (kind, path) in meant.items()}
 
 
 def leaf_of(block):
