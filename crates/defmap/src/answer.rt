@@ -267,7 +267,7 @@ fn answer_by<R: AllocGlobal + Clock>(
     let mut answered = answered(alloc, made, given, question)?;
     watch.end(rt, "answering")?;
     if given.has_stats {
-        push_counts(&mut answered.told, &made.settled, made.effort)?;
+        push_counts(&mut answered.told, &made.settled)?;
         watch.push_lines(&mut answered.told)?;
     }
     Ok(answered)

@@ -17,7 +17,8 @@ use dm_base::item_ids::ModuleDefId;
 use dm_base::item_in_ns::ItemModules;
 use dm_base::mod_path::{ModPath, PathKind};
 use dm_base::name::Name;
-use dm_collector::sources::{GlobImport, GlobSource};
+use dm_collector::sources::{GlobSource, is_known, resolved};
+use dm_imports::glob_import::GlobImport;
 use dm_maps::world::World;
 use indexmap::IndexSet;
 use std::alloc::{AllocError, Global};
@@ -236,10 +237,10 @@ impl<'a> Hidden<'a> {
     /// whether there is something new.
     fn find_glob(&mut self, place: usize, glob: &GlobImport) -> Result<bool, AllocError> {
         let world = self.settled.world();
-        if !glob.is_known(world) {
+        if !is_known(world, glob) {
             return Ok(false);
         }
-        let (has_new, cause) = match glob.resolved(world) {
+        let (has_new, cause) = match resolved(world, glob) {
             None => (false, self.cause_of(glob.into, &glob.path)?),
             Some(found) => match found.from {
                 GlobSource::Module(m) => (self.notes.bring(m, glob.into)?, self.notes.cause_in(m)),

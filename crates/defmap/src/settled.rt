@@ -1,6 +1,5 @@
 //! The crates that are asked about, collected and settled.
 use crate::item_places::{ItemPlace, all_items, use_places};
-use crate::stats::Effort;
 use crate_items::files::crate_graph::CrateGraph;
 use crate_items::files::file_table::FileTable;
 use crate_items::items::declared_item::DeclaredItem;
@@ -9,16 +8,10 @@ use crate_tables::crate_filling::Reading;
 use dm_base::ids::{Crate, UseId};
 use dm_collector::collect::{Collected, collect};
 use dm_collector::collect_fault::CollectFault;
-use dm_collector::glob_fault::GlobFault;
-use dm_collector::settle::settle;
 use dm_collector::unresolved_names::list_unresolved;
 use dm_maps::world::World;
-use dm_retry::retry::Retry;
 use indexmap::IndexMap;
 use std::alloc::{AllocError, Global};
-
-/// How many turns imports and globs may take at most.
-const TURNS: u32 = 1_000_000;
 
 /// Crates, settled, with what tells where their items stand.
 pub(crate) struct Settled {
@@ -53,8 +46,6 @@ impl Drop for Settled {
 #[derive(Clone, Copy)]
 pub(crate) enum NotSettled {
     TooManyModules(Crate),
-    /// The turns were not enough.
-    Unsettled,
     /// What the crates declare does not fit together, which does not come up.
     Unfit,
     OutOfMemory,
@@ -78,66 +69,18 @@ fn of_fault(fault: CollectFault) -> NotSettled {
     }
 }
 
-impl Effort {
-    /// Tries imports until none changes anything.
-    fn spend(&mut self, retry: &mut Retry) -> Result<(), AllocError> {
-        for _round in 0..TURNS {
-            let is_changed = retry.round_changed()?;
-            self.rounds = self.rounds.saturating_add(1);
-            self.tries = self.tries.saturating_add(retry.last_tries());
-            if !is_changed {
-                return Ok(());
-            }
-        }
-        Ok(())
-    }
-}
-
-/// Settles what was collected.
-fn settle_all(
-    alloc: Global,
-    collected: &mut Collected,
-    effort: &mut Effort,
-) -> Result<(), NotSettled> {
-    for _turn in 0..TURNS {
-        effort.spend(&mut collected.retry)?;
-        let globs = collected.globs.as_slice();
-        let uses = collected.uses.as_slice();
-        match settle(&mut collected.retry, globs, uses, 1, alloc) {
-            Ok(true) => return Ok(()),
-            Ok(false) => {}
-            Err(GlobFault::Unknown) => return Err(NotSettled::Unfit),
-            Err(GlobFault::OutOfMemory) => return Err(NotSettled::OutOfMemory),
-        }
-    }
-    Err(NotSettled::Unsettled)
-}
-
-/// Settles what was collected, lists the names that are unresolved then, and settles again. Answers
-/// with what that took.
-fn settle_whole(alloc: Global, collected: &mut Collected) -> Result<Effort, NotSettled> {
-    let mut effort = Effort {
-        rounds: 0,
-        tries: 0,
-    };
-    settle_all(alloc, collected, &mut effort)?;
-    list_unresolved(alloc, &mut collected.retry)?;
-    settle_all(alloc, collected, &mut effort)?;
-    Ok(effort)
-}
-
-/// The world of a graph, and what it took to settle it.
+/// The world of a graph. Names of imports that lead nowhere are listed in their modules.
 pub(crate) fn world_of(
     alloc: Global,
     graph: &CrateGraph,
     reading: &Reading<'_>,
-) -> Result<(Collected, Effort), NotSettled> {
-    let mut collected = match collect(alloc, graph, reading, 0) {
+) -> Result<Collected, NotSettled> {
+    let mut collected = match collect(alloc, graph, reading) {
         Ok(collected) => collected,
         Err(fault) => return Err(of_fault(fault)),
     };
-    let effort = settle_whole(alloc, &mut collected)?;
-    Ok((collected, effort))
+    list_unresolved(alloc, &mut collected.retry)?;
+    Ok(collected)
 }
 
 /// Whether each of the first crates of a graph is one of procedural macros.

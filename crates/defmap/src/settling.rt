@@ -1,6 +1,5 @@
 //! From what was read to the settled world of the crates.
 use crate::settled::{NotSettled, Settled, world_of};
-use crate::stats::Effort;
 use crate_items::files::crate_graph::CrateGraph;
 use crate_items::files::file_table::FileTable;
 use crate_tables::crate_filling::Reading;
@@ -15,7 +14,6 @@ use std::alloc::{AllocError, Global};
 pub(crate) struct SettledInputs {
     pub(crate) settled: Settled,
     pub(crate) graph: CrateGraph,
-    pub(crate) effort: Effort,
     pub(crate) complaints: Complaints,
 }
 
@@ -25,7 +23,6 @@ impl Drop for SettledInputs {
         let SettledInputs {
             settled: _settled,
             graph: _graph,
-            effort: _effort,
             complaints: _complaints,
         } = self;
     }
@@ -49,10 +46,6 @@ fn line_of(
                 "the crate {name} has more than {limit} modules: give a greater --limit"
             )
         }
-        NotSettled::Unsettled => String::from_str(
-            alloc,
-            "imports and globs do not come to an end: please report this crate",
-        ),
         NotSettled::Unfit => String::from_str(
             alloc,
             "what the crates declare does not fit together: please report this crate",
@@ -66,7 +59,7 @@ fn collected_of(
     graph: &CrateGraph,
     reading: &Reading<'_>,
     names: &[String],
-) -> Result<(Collected, Effort), Failure> {
+) -> Result<Collected, Failure> {
     match world_of(alloc, graph, reading) {
         Ok(settled) => Ok(settled),
         Err(why) => {
@@ -84,14 +77,14 @@ fn settle_graph(
     names: Vec<String>,
     asked: Option<Crate>,
     limit: u32,
-) -> Result<(Settled, Effort), Failure> {
+) -> Result<Settled, Failure> {
     let reading = Reading {
         files: &files,
         limit,
     };
-    let (collected, effort) = collected_of(alloc, graph, &reading, names.as_slice())?;
+    let collected = collected_of(alloc, graph, &reading, names.as_slice())?;
     let settled = Settled::of_graph(alloc, graph, files, names, collected, asked)?;
-    Ok((settled, effort))
+    Ok(settled)
 }
 
 /// Collects the crates that were read, and settles them.
@@ -107,11 +100,10 @@ pub(crate) fn settle_crates(
         complaints,
         asked,
     } = crates;
-    let (settled, effort) = settle_graph(alloc, &graph, files, names, asked, limit)?;
+    let settled = settle_graph(alloc, &graph, files, names, asked, limit)?;
     Ok(SettledInputs {
         settled,
         graph,
-        effort,
         complaints,
     })
 }

@@ -8,13 +8,6 @@ use std::fmt::Write;
 use std::rt::Clock;
 use std::time::{Duration, Instant};
 
-/// The rounds of imports, and how often imports were tried in them.
-#[derive(Clone, Copy)]
-pub(crate) struct Effort {
-    pub(crate) rounds: usize,
-    pub(crate) tries: usize,
-}
-
 /// A stage, and how long it took.
 #[derive(Clone, Copy)]
 struct Stage {
@@ -107,20 +100,20 @@ fn module_count(lists: &[CrateModules]) -> usize {
 }
 
 /// Adds lines with what was read and done.
-pub(crate) fn push_counts(
-    out: &mut String,
-    settled: &Settled,
-    effort: Effort,
-) -> Result<(), AllocError> {
+pub(crate) fn push_counts(out: &mut String, settled: &Settled) -> Result<(), AllocError> {
     let crates = settled.names.len();
     let files = settled.files.len();
     let lines = line_count(&settled.files);
     let modules = module_count(settled.lists());
     let imports = settled.collected.retry.len();
     let globs = settled.collected.globs.len();
-    let Effort { rounds, tries } = effort;
+    let supported = if settled.collected.is_supported {
+        "yes"
+    } else {
+        "no"
+    };
     write!(
         out,
-        "crates: {crates}\nfiles: {files}\nlines: {lines}\nmodules: {modules}\nimports: {imports}\nglobs: {globs}\nrounds: {rounds}\ntries: {tries}\n"
+        "crates: {crates}\nfiles: {files}\nlines: {lines}\nmodules: {modules}\nimports: {imports}\nglobs: {globs}\nsupported: {supported}\n"
     )
 }

@@ -4,7 +4,8 @@ use crate::settled::Settled;
 use dm_base::imports::{GlobId, ImportId, ImportOrExternCrate};
 use dm_base::name::Name;
 use dm_base::per_ns::Namespace;
-use dm_collector::sources::{GlobImport, GlobSource};
+use dm_collector::sources::{GlobSource, is_known, resolved};
+use dm_imports::glob_import::GlobImport;
 use dm_maps::world::World;
 use dm_retry::pending::Pending;
 use dm_retry::retry::Retry;
@@ -48,10 +49,10 @@ fn through_glob(
     name: &Name,
     namespace: Namespace,
 ) -> Option<Meant> {
-    if !glob.is_known(world) {
+    if !is_known(world, glob) {
         return None;
     }
-    match glob.resolved(world)?.from {
+    match resolved(world, glob)?.from {
         GlobSource::Module(m) => meant_in(world.bound_in(m, name), namespace),
         GlobSource::Enum(_enum) => None,
     }

@@ -12,7 +12,8 @@ use crate_items::modules::declared_module::ModuleFault;
 use dm_base::ids::{Crate, ModuleId, UseId, UseTreeIdx};
 use dm_base::item_in_ns::ItemModules;
 use dm_base::mod_path::ModPath;
-use dm_collector::sources::GlobImport;
+use dm_collector::sources::{is_known, resolved};
+use dm_imports::glob_import::GlobImport;
 use dm_maps::world::World;
 use std::alloc::{AllocError, Global};
 use std::fmt::Write;
@@ -88,7 +89,7 @@ pub(crate) fn numbered(number: usize) -> Crate {
 
 /// Whether the path of a glob means no module and no enum.
 pub(crate) fn leads_nowhere(world: &World, glob: &GlobImport) -> bool {
-    glob.is_known(world) && glob.resolved(world).is_none()
+    is_known(world, glob) && resolved(world, glob).is_none()
 }
 
 impl Unresolved {

@@ -1,14 +1,14 @@
 //! From a text to a settled world, and from there to an answer.
-ghost use Rattle.std.specs.Prelude.{◌≡◌, true, All, IfOk, IsTrue, Some, slice_get};
+ghost use Rattle.std.specs.Prelude.{◌≡◌, ◌↔◌, false, IfOk, IsTrue, Some, slice_get};
 ghost use Rattle.dm_maps.specs.Holding.{path_holds, res_holds};
 ghost use Rattle.dm_maps.specs.declared.check.held.HeldId.TheVariants as held;
-ghost use Rattle.dm_collector.specs.Globs.{IsFilledBySource};
+ghost use Rattle.dm_collector.specs.Collecting.{AreRight};
+ghost use Rattle.dm_imports.specs.Tables.{of_tables};
 ghost use Rattle.dm_def_map.specs.Maps.{LocalMap, Map};
 ghost use Rattle.dm_def_map.specs.declared.modules.modes.BuiltinShadowMode.TheVariants.{Module};
 ghost use Rattle.dm_base.specs.declared.ids.Crate.{Crate};
 ghost use Rattle.dm_maps.specs.Known.{knows, KnowsAll};
 ghost use Rattle.dm_maps.specs.World.{crate_map};
-ghost use Rattle.dm_retry.specs.Settling.{IsFixedPoint};
 ghost use Rattle.hir_def_map.specs.Paths.{answer, asked};
 ghost use Rattle.hir_def_map.specs.declared.path_resolution.result.ResolveMode.TheVariants.{Other};
 
@@ -36,11 +36,15 @@ fn one_crate(alloc: Global, root: FileId) -> Result<CrateGraph, AllocError> {
     Ok(graph)
 }
 
-/// A crate of one text, settled.
+/// A crate of one text, collected. It tells exactly whether its names are what the rules of imports give.
 pub fn world_of(alloc: Global, text: Vec<u8>) -> Result<Collected, CollectFault>
-    ensures fixed { IfOk result (λ made. made.is_settled ≡ true → IsFixedPoint made.retry.state) }
-    ensures filled { IfOk result (λ made. made.is_settled ≡ true
-        → All (IsFilledBySource made.retry.state.world) made.globs.items) }
+    ensures { IfOk result (λ made. IsTrue made.is_supported ↔ AreRight (of_tables (record {
+      world = made.retry.state.world;
+      imports = made.imports.items;
+      globs = made.globs.items;
+      enums = made.enums.entries;
+      ambiguous = record { table = made.ambiguous; is_all_but = false };
+    }))) }
 {
     let mut files = FileTable::new(alloc);
     let path = Vec::from_slice(alloc, b"src/lib.rs")?;
@@ -50,7 +54,7 @@ pub fn world_of(alloc: Global, text: Vec<u8>) -> Result<Collected, CollectFault>
     let graph = one_crate(alloc, root)?;
     let limit = 8_192;
     let files = &files;
-    collect(alloc, &graph, &Reading { files, limit }, limit)
+    collect(alloc, &graph, &Reading { files, limit })
 }
 
 /// What a path means in the root of the first crate; nothing where it begins with `$crate` of one that is not there.

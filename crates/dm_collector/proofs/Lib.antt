@@ -3,7 +3,6 @@ pub mod ListLemmas
 pub mod ReachLemmas
 pub mod IdleLemmas
 pub mod TableLemmas
-pub mod OrderLemmas
 pub mod MacroLemmas
 pub mod ListedLemmas
 pub mod FaultLemmas

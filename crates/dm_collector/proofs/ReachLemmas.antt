@@ -9,7 +9,7 @@ use Rattle.dm_collector.specs.MacroUses.{Uses}
 use Rattle.dm_collector.specs.Steps.{IsCutOff, IsLeftBy, IsOf, IsReached, Resolve, Step, after_step, made, writes, writes_of}
 use Rattle.dm_collector.specs.declared.glob_fault.GlobFault.{GlobFault}
 use Rattle.dm_collector.specs.declared.glob_fault.GlobFault.TheVariants as fault
-use Rattle.dm_collector.specs.declared.sources.GlobImport.{GlobImport}
+use Rattle.dm_imports.specs.declared.glob_import.GlobImport.{GlobImport}
 
 made-append : (xs ys : List Step) (s : State) → made (xs ++ ys) s ≡ made ys (made xs s)
 made-append [] ys s = refl

@@ -1,4 +1,4 @@
--- Globs: what one brings into its module, and when it brings nothing more.
+-- Globs: what the path of one means.
 use Rattle.std.specs.Prelude.{◌≡◌, true, List, [], ◌∷◌, ◌++◌, IfSome, Option, Some, None, Contains, is_none, map, if◌then◌else◌}
 use Rattle.std.specs.Option.{option_and_then, option_map, option_map_or}
 use Rattle.dm_base.specs.Names.{Name, find_name}
@@ -25,7 +25,7 @@ use Rattle.dm_retry.specs.Kinds.{re_exported}
 use Rattle.dm_retry.specs.Rounds.{path_meaning}
 use Rattle.hir_def_map.specs.declared.path_resolution.result.ResolvePathResult.{ResolvePathResult}
 use Rattle.dm_collector.specs.declared.globs.Glob.{Glob}
-use Rattle.dm_collector.specs.declared.sources.GlobImport.{GlobImport}
+use Rattle.dm_imports.specs.declared.glob_import.GlobImport.{GlobImport}
 use Rattle.dm_collector.specs.declared.sources.GlobSource.{GlobSource}
 use Rattle.dm_collector.specs.declared.sources.GlobSource.TheVariants as source
 
@@ -57,46 +57,3 @@ HasUnknown w gs = (g : GlobImport) × Contains gs g × ¬ (KnowsAll w (glob_hold
 abbrev pub source_names : World → GlobSource → List Name
 source_names w (source.Module m) = names_of (scope_of w m)
 source_names w (source.Enum e) = option_map_or (map (λ v. v.0)) (variants_if_known w e) []
-
--- ---- What a glob brings
-
--- a variant, as a type and as a value
-abbrev pub variant_items : Visibility → EnumVariantId → PerNs
-variant_items vis v = record {
-  types = Some (record { def = def.EnumVariantId v; vis = vis; import = None });
-  values = Some (record { def = def.EnumVariantId v; vis = vis; import = None });
-  macros = None;
-}
-
--- what a source shows module m under a name: the items that m sees in a module, each as m re-exports them with a
--- visibility; the variant of an enum, with that visibility
-abbrev pub shown_to : World → ModuleId → Visibility → Name → GlobSource → PerNs
-shown_to w m vis n (source.Module from) = re_exported (tree_of w) m vis (seen_by (λ v. sees (tree_of w) v m) (bound_in (scope_of w from) n))
-shown_to w m vis n (source.Enum e) = option_map_or (λ v. variant_items vis v.0) (find_name n (variants_of w e)) nothing
-
-abbrev pub shown : World → Glob → Name → PerNs
-shown w g n = shown_to w g.into g.vis n g.from
-
--- an item, where nothing is bound
-abbrev pub if_vacant : {B X : Type 0} → Option B → Option X → Option X
-if_vacant bound x = if is_none bound then x else None
-
--- some items, in those namespaces alone where nothing is bound: a glob shadows nothing
-abbrev pub vacant : PerNs → PerNs → PerNs
-vacant bound x = record {
-  types = if_vacant bound.types x.types;
-  values = if_vacant bound.values x.values;
-  macros = if_vacant bound.macros x.macros;
-}
-
--- what a glob has yet to bind under a name
-abbrev pub missing : World → Glob → Name → PerNs
-missing w g n = vacant (bound_in (scope_of w g.into) n) (shown w g n)
-
--- A glob is filled: under no name of its source it has anything yet to bind.
-abbrev pub IsFilled : World → Glob → Type 0
-IsFilled w g = (n : Name) → Contains (source_names w g.from) n → is_empty (missing w g n) ≡ true
-
--- Where its path means a source, it is filled from that.
-abbrev pub IsFilledBySource : World → GlobImport → Type 0
-IsFilledBySource w g = IfSome (resolved w g) (IsFilled w)

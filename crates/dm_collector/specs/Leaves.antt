@@ -1,7 +1,7 @@
 -- The leaves of uses, as imports that are resolved and as globs.
 use Rattle.std.specs.Prelude.{Bool, true, false, List, [], ◌∷◌, Option, None, Some, codes, if◌then◌else◌}
 use Rattle.crate_tables.specs.declared.use_leaf.UseLeaf.{UseLeaf}
-use Rattle.dm_collector.specs.declared.sources.GlobImport.{GlobImport}
+use Rattle.dm_imports.specs.declared.glob_import.GlobImport.{GlobImport}
 use Rattle.dm_base.specs.Names.{Name}
 use Rattle.dm_retry.specs.Rounds.{Pending}
 use Rattle.dm_retry.specs.declared.import_kind.ImportKind.{ImportKind as Retried}

@@ -1,6 +1,6 @@
 -- Globs under `#[prelude_import]`: they name the prelude of their crate, and bring no names.
 use Rattle.std.specs.Prelude.{◌==◌, Bool, false, List, [], ◌∷◌, Option, None, Some, if◌then◌else◌}
-use Rattle.dm_collector.specs.declared.sources.GlobImport.{GlobImport}
+use Rattle.dm_imports.specs.declared.glob_import.GlobImport.{GlobImport}
 use Rattle.dm_def_map.specs.Maps.{Map}
 use Rattle.dm_base.specs.declared.ids.ModuleId.{ModuleId}
 use Rattle.dm_base.specs.declared.ids.UseId.{UseId}

@@ -14,7 +14,7 @@ use Rattle.dm_maps.specs.World.{World, scope_of}
 use Rattle.dm_retry.specs.Unnamed.{is_new_trait}
 use Rattle.dm_collector.specs.Globs.{resolved}
 use Rattle.dm_collector.specs.declared.globs.Glob.{Glob}
-use Rattle.dm_collector.specs.declared.sources.GlobImport.{GlobImport}
+use Rattle.dm_imports.specs.declared.glob_import.GlobImport.{GlobImport}
 use Rattle.dm_collector.specs.declared.sources.GlobSource.{GlobSource}
 use Rattle.dm_collector.specs.declared.sources.GlobSource.TheVariants as source
 

@@ -1,34 +1,36 @@
-//! Crates, collected into a world: their modules and items, with imports and globs settled to a fixed point.
-ghost use Rattle.std.specs.Prelude.{◌≡◌, ℕ, [], false, true, All, IfErr, IfOk, List, OnOk, Some, map};
+//! Crates, collected into a world: their modules and items declared, and imports and globs bound as the rules say.
+ghost use Rattle.std.specs.Prelude.{◌≡◌, ◌↔◌, ℕ, [], false, true, All, IfErr, IfOk, IsTrue, List, OnOk, map};
 ghost use Rattle.std.specs.List.{flat_map};
+ghost use Rattle.std.specs.Map.{lookup};
 ghost use Rattle.crate_tables.specs.AssocItems.{AreAllAdded};
 ghost use Rattle.crate_items.specs.CrateGraphs.{Graph, IsOrder, rows};
 ghost use Rattle.crate_tables.specs.CrateFillings.{AreFilled, IsKnownTable, Reading as Given};
 ghost use Rattle.crate_tables.specs.CrateTables.{IsNameOf, Table, emptied};
 ghost use Rattle.crate_tables.specs.DeclaredWorlds.{AreShown, BindNothing, with_all_declared};
-ghost use Rattle.dm_collector.specs.CollectFaults.{imports_of, IsFault, IsNotBegun, IsNotSettled};
+ghost use Rattle.dm_base.specs.declared.ids.EnumId.{EnumId as Id};
+ghost use Rattle.dm_collector.specs.CollectFaults.{IsFault, IsNotDeclared, IsNotImported};
+ghost use Rattle.dm_collector.specs.Binding.{AreCratesBound};
 ghost use Rattle.dm_collector.specs.Collecting as spec;
-ghost use Rattle.dm_collector.specs.Globs.{IsFilledBySource};
+ghost use Rattle.dm_collector.specs.Enums.{enum_vis};
 ghost use Rattle.dm_collector.specs.Leaves.{globs_of, pendings_of};
 ghost use Rattle.dm_collector.specs.MacroPreludes.{HasMacros};
 ghost use Rattle.dm_collector.specs.MacroUses.{macro_uses};
+ghost use Rattle.dm_collector.specs.NamedImports.{named_of};
 ghost use Rattle.dm_collector.specs.PreludeGlobs.{unless_named};
-ghost use Rattle.dm_collector.specs.Steps.{IsReached};
 ghost use Rattle.dm_collector.specs.UnnamedTraits.{HasBroughtBySource};
-ghost use Rattle.dm_collector.specs.Widening.{IsWideBySource};
 ghost use Rattle.dm_collector.specs.declared.collect_fault.CollectFault.TheVariants as faults;
-ghost use Rattle.dm_retry.specs.Known.{fault_of};
-ghost use Rattle.dm_retry.specs.Rounds.{marked};
-ghost use Rattle.dm_retry.specs.declared.retry_fault.RetryFault.{RetryFault};
-ghost use Rattle.dm_retry.specs.Settling.{IsFixedPoint};
+ghost use Rattle.dm_def_map.specs.Variants.{same_enum};
+ghost use Rattle.dm_imports.specs.Tables.{of_tables};
 ghost use Rattle.dm_scope.specs.Flags.{no_globs};
 
-use crate::collect_fault::{CollectFault, of_builder, of_declared, of_filling, of_glob, of_order};
+use crate::bind_crates::bind_crates;
+use crate::collect_fault::{CollectFault, of_builder, of_declared, of_filling, of_order};
+use crate::enums::enum_visibilities;
 use crate::leaves::split;
 use crate::macro_uses::{MacroUses, macro_uses};
+use crate::named_imports::named_imports;
 use crate::prelude_globs::bringing_names;
-use crate::settle::settle;
-use crate::sources::GlobImport;
+use crate::unnamed_imports::{settle_traits, waiting};
 use crate_items::files::crate_graph::CrateGraph;
 use crate_items::modules::CrateModules;
 use crate_tables::assoc_items::filling::{AssocPlace, add_assoc_items};
@@ -38,22 +40,41 @@ use crate_tables::declared_name::DeclaredName;
 use crate_tables::declared_world::declared_world;
 use crate_tables::extern_crates::ExternCrateRow;
 use crate_tables::table_parts::table_parts;
+use dm_base::ids::{Crate, EnumId};
+use dm_base::visibility::Visibility;
+use dm_imports::def_maps::DefMaps;
+use dm_imports::glob_import::GlobImport;
+use dm_imports::importing::Importing;
+use dm_imports::marks::Marks;
+use dm_imports::named_import::NamedImport;
+use dm_imports::rules::supported::is_supported;
+use dm_imports::slots::Slots;
 use dm_maps::builder::WorldBuilder;
 use dm_maps::world::World;
 use dm_retry::pending::Pending;
 use dm_retry::retry::Retry;
 use dm_scope::glob_imports::PerNsGlobImports;
+use indexmap::IndexMap;
 use std::alloc::Global;
 
 /// Crates, collected. The crates of the graph have their numbers in the world, too.
 pub struct Collected {
-    /// The world, its glob table and its unresolved imports.
+    /// The world, its glob table, and all imports, which wait.
     pub retry: Retry,
+    /// The imports that bind names, as the rules of imports take them.
+    pub imports: Vec<NamedImport>,
     /// The globs of all crates.
     pub globs: Vec<GlobImport>,
+    /// Who sees each enum.
+    pub enums: IndexMap<EnumId, Visibility>,
+    /// The slots that are ambiguous.
+    pub ambiguous: Slots<bool>,
     /// The roots that each crate has macros from.
     pub uses: Vec<MacroUses>,
-    /// Whether the world is a fixed point.
+    /// Whether the def maps are what the rules of imports give of them. Where they are not, what some names mean goes by
+    /// the order of imports.
+    pub is_supported: bool,
+    /// Whether all unnamed traits and all macros of `macro_use` preludes came.
     pub is_settled: bool,
     /// The modules that each crate declares, with what was read of their files.
     pub lists: Vec<CrateModules>,
@@ -71,8 +92,12 @@ impl Drop for Collected {
     fn drop(self) {
         let Collected {
             retry: _retry,
+            imports: _imports,
             globs: _globs,
+            enums: _enums,
+            ambiguous: _ambiguous,
             uses: _uses,
+            is_supported: _is_supported,
             is_settled: _is_settled,
             lists: _lists,
             tables: _tables,
@@ -82,75 +107,58 @@ impl Drop for Collected {
     }
 }
 
-/// A state in which nothing is imported yet, with the globs, and the tables without names and imports.
+/// A state in which nothing is imported yet, with what is imported, and the tables without names and imports.
 #[derive(Drop)]
 struct Beginning {
     retry: Retry,
+    pendings: Vec<Pending>,
+    imports: Vec<NamedImport>,
     globs: Vec<GlobImport>,
+    enums: IndexMap<EnumId, Visibility>,
     rest: Vec<CrateTable>,
 }
 
-/// The same, with what stays known of crates.
+/// The same, with what stays known of crates; the tables stand in `beginning`.
 #[derive(Drop)]
 struct BegunCrates {
-    retry: Retry,
-    globs: Vec<GlobImport>,
+    beginning: Beginning,
     uses: Vec<MacroUses>,
     lists: Vec<CrateModules>,
-    tables: Vec<CrateTable>,
     externs: Vec<ExternCrateRow>,
     assocs: Vec<AssocPlace>,
 }
 
-/// The same, settled.
-#[derive(Drop)]
-struct SettledState {
-    retry: Retry,
-    globs: Vec<GlobImport>,
-    uses: Vec<MacroUses>,
-    is_settled: bool,
-}
-
-/// Imports of a world in which names are declared, all of them due.
-fn waiting(
-    world: World,
-    flags: PerNsGlobImports,
-    names: &[DeclaredName],
-    pendings: Vec<Pending>,
-) -> Result<Retry, CollectFault>
-    requires { AreShown world flags names.now }
+/// A world in which no import waits.
+fn unimported(alloc: Global, world: World, flags: PerNsGlobImports) -> Result<Retry, CollectFault>
     ensures world { IfOk result (λ retry. retry.state.world ≡ world) }
     ensures globs { IfOk result (λ retry. retry.state.globs ≡ flags) }
-    ensures declared { IfOk result (λ retry. AreShown retry.state.world retry.state.globs names.now) }
-    ensures pending { IfOk result (λ retry. retry.state.pending ≡ map (marked true) pendings.items) }
-    ensures fault { IfErr result (λ fault. (fault ≡ faults.Unknown)
-        × ((why : RetryFault) × (fault_of world pendings.items ≡ Some why))) }
+    ensures none { IfOk result (λ retry. retry.state.pending ≡ []) }
+    ensures memory { IfErr result (λ fault. fault ≡ faults.OutOfMemory) }
 {
-    let _names = names;
-    match Retry::new(world, flags, pendings) {
+    match Retry::new(world, flags, Vec::new(alloc)) {
         Ok(retry) => Ok(retry),
-        Err((_fault, _world, _flags, _pendings)) => Err(CollectFault::Unknown),
+        // No import waits, so that none is unknown: this does not come up.
+        Err((_fault, _world, _flags, _none)) => Err(CollectFault::OutOfMemory),
     }
 }
 
-/// The world of some tables, with names declared, and with imports waiting.
+/// The world of some tables, with names declared.
 fn declared(
     alloc: Global,
     tables: WorldBuilder,
     names: &[DeclaredName],
-    pendings: Vec<Pending>,
 ) -> Result<Retry, CollectFault>
     requires known { All (IsNameOf tables) names.now }
     requires empty { BindNothing tables }
     ensures world { IfOk result (λ retry. (record { world = retry.state.world; globs = retry.state.globs }) ≡
         with_all_declared (record { world = tables; globs = no_globs }) names.now) }
     ensures declared { IfOk result (λ retry. AreShown retry.state.world retry.state.globs names.now) }
-    ensures pending { IfOk result (λ retry. retry.state.pending ≡ map (marked true) pendings.items) }
-    ensures fault { IfErr result (IsNotBegun tables names.now pendings.items) }
+    ensures none { IfOk result (λ retry. retry.state.pending ≡ []) }
+    ensures fault { IfErr result (IsNotDeclared tables) }
 {
     match declared_world(alloc, tables, names) {
         Err(fault) => Err(of_declared(fault)),
-        Ok((world, flags)) => waiting(world, flags, names, pendings),
+        Ok((world, flags)) => unimported(alloc, world, flags),
     }
 }
 
@@ -166,22 +174,31 @@ fn begun(
         with_all_declared (record { world = builder; globs = no_globs }) (spec.names_of tables.items)) }
     ensures declared { IfOk result (λ begun. AreShown begun.retry.state.world begun.retry.state.globs
         (spec.names_of tables.items)) }
-    ensures pending { IfOk result (λ begun. begun.retry.state.pending ≡
-        map (marked true) (flat_map pendings_of (flat_map (λ (t : Table). t.leaves) tables.items))) }
+    ensures none { IfOk result (λ begun. begun.retry.state.pending ≡ []) }
+    ensures pendings { IfOk result (λ begun. begun.pendings.items ≡
+        flat_map pendings_of (flat_map (λ (t : Table). t.leaves) tables.items)) }
+    ensures imports { IfOk result (λ begun. begun.imports.items ≡
+        flat_map (named_of begun.retry.state.world) begun.pendings.items) }
     ensures globs { IfOk result (λ begun. begun.globs.items ≡ flat_map (unless_named begun.retry.state.world)
         (flat_map globs_of (flat_map (λ (t : Table). t.leaves) tables.items))) }
+    ensures enums { IfOk result (λ begun. (e : Id) → lookup (same_enum e) begun.enums.entries
+        ≡ enum_vis (spec.names_of tables.items) e) }
     ensures rest { IfOk result (λ begun. begun.rest.items ≡ map emptied tables.items) }
-    ensures fault { IfErr result
-        (IsNotBegun builder (spec.names_of tables.items) (imports_of tables.items)) }
+    ensures fault { IfErr result (IsNotDeclared builder) }
 {
     let parts = table_parts(alloc, tables)?;
     let leaves = split(alloc, parts.leaves)?;
     let names = parts.names;
-    let retry = declared(alloc, builder, names.as_slice(), leaves.pendings)?;
+    let retry = declared(alloc, builder, names.as_slice())?;
+    let imports = named_imports(alloc, retry.world(), leaves.pendings.as_slice())?;
     let globs = bringing_names(alloc, retry.world(), leaves.globs)?;
+    let enums = enum_visibilities(alloc, names.as_slice())?;
     Ok(Beginning {
         retry,
+        pendings: leaves.pendings,
+        imports,
         globs,
+        enums,
         rest: parts.rest,
     })
 }
@@ -250,10 +267,17 @@ fn begin(
     ensures begun { IfOk result (λ begun. spec.IsBegun reading.now graph.now
         (record {
           lists = begun.lists.items;
-          tables = begun.tables.items;
+          tables = begun.beginning.rest.items;
           rows = begun.externs.items;
           assocs = begun.assocs.items;
-        }) begun.globs.items begun.uses.items begun.retry.state) }
+        })
+        begun.beginning.pendings.items
+        (record {
+          imports = begun.beginning.imports.items;
+          globs = begun.beginning.globs.items;
+          enums = λ e. lookup (same_enum e) begun.beginning.enums.entries;
+          uses = begun.uses.items;
+        }) begun.beginning.retry.state) }
     ensures fault { IfErr result (IsFault reading.now graph.now) }
 {
     let made = tables_of(alloc, graph, reading)?;
@@ -274,65 +298,205 @@ fn begin(
     let beginning = begun(alloc, builder, tables)?;
     let uses = uses_of(alloc, graph, reading, lists.as_slice(), externs.as_slice())?;
     Ok(BegunCrates {
-        retry: beginning.retry,
-        globs: beginning.globs,
+        beginning,
         uses,
         lists,
-        tables: beginning.rest,
         externs,
         assocs,
     })
 }
 
-/// Settles what was begun.
-fn settled(
-    alloc: Global,
-    rounds: u32,
-    begun: Retry,
-    globs: Vec<GlobImport>,
-    uses: Vec<MacroUses>,
-) -> Result<SettledState, CollectFault>
-    ensures reached { IfOk result (λ made. IsReached globs.items uses.items 0 begun.state made.retry.state) }
-    ensures limited { IfOk result (λ made. made.is_settled ≡ false
-        → IsReached globs.items uses.items rounds begun.state made.retry.state) }
-    ensures globs { IfOk result (λ made. made.globs.items ≡ globs.items) }
-    ensures uses { IfOk result (λ made. made.uses.items ≡ uses.items) }
-    ensures fixed { IfOk result (λ made. made.is_settled ≡ true → IsFixedPoint made.retry.state) }
-    ensures filled { IfOk result (λ made. made.is_settled ≡ true
-        → All (IsFilledBySource made.retry.state.world) made.globs.items) }
-    ensures brought { IfOk result (λ made. made.is_settled ≡ true
-        → All (HasBroughtBySource made.retry.state.world) made.globs.items) }
-    ensures wide { IfOk result (λ made. made.is_settled ≡ true
-        → All (IsWideBySource made.retry.state.world) made.globs.items) }
-    ensures used { IfOk result (λ made. made.is_settled ≡ true
-        → All (HasMacros made.retry.state.world) made.uses.items) }
-    ensures fault { IfErr result (IsNotSettled globs.items uses.items begun.state) }
-{
-    let mut retry = begun;
-    match settle(&mut retry, globs.as_slice(), uses.as_slice(), rounds, alloc) {
-        Err(fault) => Err(of_glob(fault)),
-        Ok(is_settled) => Ok(SettledState {
-            retry,
-            globs,
-            uses,
-            is_settled,
-        }),
-    }
-}
-
-/// Whether the crates of a graph are in no circle.
-fn ordered(alloc: Global, graph: &CrateGraph) -> Result<(), CollectFault>
+/// The crates of a graph, each behind those that it depends on.
+fn ordered(alloc: Global, graph: &CrateGraph) -> Result<Vec<Crate>, CollectFault>
     ensures order { OnOk result ((order : List ℕ) × IsOrder (rows graph.now) order) }
     ensures fault { IfErr result (λ fault. (r : Given) → IsFault r graph.now fault) }
 {
     match graph.crates_in_topological_order(alloc) {
-        Ok(_order) => Ok(()),
+        Ok(order) => Ok(order),
         Err(fault) => Err(of_order(fault)),
     }
 }
 
-/// Collects the crates of a graph: reads their files, lists their modules and items, declares them in one world, and
-/// settles imports, globs and `macro_use` preludes there in at most so many turns.
+/// Whether def maps are what the rules of imports give of them.
+fn are_right(
+    alloc: Global,
+    world: &World,
+    imports: &[NamedImport],
+    globs: &[GlobImport],
+    enums: &IndexMap<EnumId, Visibility>,
+    ambiguous: &Slots<bool>,
+) -> Result<bool, CollectFault>
+    ensures right { IfOk result (λ right. IsTrue right ↔ spec.AreRight (of_tables (record {
+      world = world.now;
+      imports = imports.now;
+      globs = globs.now;
+      enums = enums.now.entries;
+      ambiguous = record { table = ambiguous.now; is_all_but = false };
+    }))) }
+    ensures memory { IfErr result (λ fault. fault ≡ faults.OutOfMemory) }
+{
+    let maps = DefMaps {
+        world,
+        imports,
+        globs,
+        enums,
+        ambiguous: Marks {
+            table: ambiguous,
+            is_all_but: false,
+        },
+    };
+    if !maps.are_imports_known() {
+        return Ok(false);
+    }
+    let is_right = is_supported(alloc, &maps)?;
+    Ok(is_right)
+}
+
+/// Binds what imports and globs bring, crate by crate, and marks the slots that are ambiguous.
+fn bound(
+    alloc: Global,
+    before: Retry,
+    ambiguous: &mut Slots<bool>,
+    imports: &[NamedImport],
+    globs: &[GlobImport],
+    enums: &IndexMap<EnumId, Visibility>,
+    uses: &[MacroUses],
+    order: &[Crate],
+) -> Result<Retry, CollectFault>
+    ensures bound { IfOk result (λ made. AreCratesBound imports.now globs.now uses.now order.now before.state made.state) }
+    ensures memory { IfErr result (λ fault. fault ≡ faults.OutOfMemory) }
+{
+    let given = Importing {
+        imports,
+        globs,
+        enums,
+    };
+    let made = bind_crates(before, ambiguous, alloc, &given, uses, order)?;
+    Ok(made)
+}
+
+/// A state in which names and traits are imported.
+#[derive(Drop)]
+struct ImportedState {
+    retry: Retry,
+    ambiguous: Slots<bool>,
+    is_settled: bool,
+}
+
+/// Binds what imports and globs bring, and imports unnamed traits.
+fn imported(
+    alloc: Global,
+    before: Retry,
+    pendings: &[Pending],
+    imports: &[NamedImport],
+    globs: &[GlobImport],
+    enums: &IndexMap<EnumId, Visibility>,
+    uses: &[MacroUses],
+    order: &[Crate],
+) -> Result<ImportedState, CollectFault>
+    ensures later { IfOk result (λ made. spec.IsLater 0 imports.now globs.now uses.now pendings.now before.state
+        made.retry.state) }
+    ensures limited { IfOk result (λ made. made.is_settled ≡ false → spec.IsLater 4294967295 imports.now globs.now
+        uses.now pendings.now before.state made.retry.state) }
+    ensures brought { IfOk result (λ made. made.is_settled ≡ true
+        → All (HasBroughtBySource made.retry.state.world) globs.now) }
+    ensures used { IfOk result (λ made. made.is_settled ≡ true → All (HasMacros made.retry.state.world) uses.now) }
+    ensures fault { IfErr result (IsNotImported imports.now globs.now uses.now pendings.now before.state) }
+{
+    let mut ambiguous = Slots::new(alloc);
+    let bound = bound(
+        alloc,
+        before,
+        &mut ambiguous,
+        imports,
+        globs,
+        enums,
+        uses,
+        order,
+    )?;
+    let (retry, is_settled) = settle_traits(alloc, bound, globs, uses, pendings)?;
+    Ok(ImportedState {
+        retry,
+        ambiguous,
+        is_settled,
+    })
+}
+
+/// What is collected, of what was begun.
+fn finished(alloc: Global, begun: BegunCrates, order: &[Crate]) -> Result<Collected, CollectFault>
+    ensures imported { IfOk result (λ made. spec.IsImported 0 begun.beginning.imports.items begun.beginning.globs.items
+        begun.uses.items begun.beginning.pendings.items begun.beginning.retry.state made.retry.state) }
+    ensures limited { IfOk result (λ made. made.is_settled ≡ false → spec.IsImported 4294967295
+        begun.beginning.imports.items begun.beginning.globs.items begun.uses.items begun.beginning.pendings.items
+        begun.beginning.retry.state made.retry.state) }
+    ensures imports { IfOk result (λ made. made.imports.items ≡ begun.beginning.imports.items) }
+    ensures globs { IfOk result (λ made. made.globs.items ≡ begun.beginning.globs.items) }
+    ensures enums { IfOk result (λ made. made.enums.entries ≡ begun.beginning.enums.entries) }
+    ensures uses { IfOk result (λ made. made.uses.items ≡ begun.uses.items) }
+    ensures lists { IfOk result (λ made. made.lists.items ≡ begun.lists.items) }
+    ensures tables { IfOk result (λ made. made.tables.items ≡ begun.beginning.rest.items) }
+    ensures externs { IfOk result (λ made. made.externs.items ≡ begun.externs.items) }
+    ensures assocs { IfOk result (λ made. made.assocs.items ≡ begun.assocs.items) }
+    ensures right { IfOk result (λ made. IsTrue made.is_supported ↔ spec.AreRight (of_tables (record {
+      world = made.retry.state.world;
+      imports = made.imports.items;
+      globs = made.globs.items;
+      enums = made.enums.entries;
+      ambiguous = record { table = made.ambiguous; is_all_but = false };
+    }))) }
+    ensures brought { IfOk result (λ made. made.is_settled ≡ true
+        → All (HasBroughtBySource made.retry.state.world) made.globs.items) }
+    ensures used { IfOk result (λ made. made.is_settled ≡ true
+        → All (HasMacros made.retry.state.world) made.uses.items) }
+    ensures fault { IfErr result (IsNotImported begun.beginning.imports.items begun.beginning.globs.items
+        begun.uses.items begun.beginning.pendings.items begun.beginning.retry.state) }
+{
+    let BegunCrates {
+        beginning,
+        uses,
+        lists,
+        externs,
+        assocs,
+    } = begun;
+    let Beginning {
+        retry: started,
+        pendings,
+        imports,
+        globs,
+        enums,
+        rest,
+    } = beginning;
+    let (is, gs) = (imports.as_slice(), globs.as_slice());
+    let made = imported(
+        alloc,
+        started,
+        pendings.as_slice(),
+        is,
+        gs,
+        &enums,
+        uses.as_slice(),
+        order,
+    )?;
+    let retry = waiting(made.retry, pendings)?;
+    let is_supported = are_right(alloc, retry.world(), is, gs, &enums, &made.ambiguous)?;
+    Ok(Collected {
+        retry,
+        imports,
+        globs,
+        enums,
+        ambiguous: made.ambiguous,
+        uses,
+        is_supported,
+        is_settled: made.is_settled,
+        lists,
+        tables: rest,
+        externs,
+        assocs,
+    })
+}
+
+/// Collects the crates of a graph: reads their files, lists their modules and items, declares them in one world, and binds
+/// imports, globs and `macro_use` preludes there, crate by crate.
 ///
 /// # Errors
 ///
@@ -342,38 +506,54 @@ pub fn collect(
     alloc: Global,
     graph: &CrateGraph,
     reading: &Reading<'_>,
-    rounds: u32,
 ) -> Result<Collected, CollectFault>
     // The crates are in no circle.
     ensures order { OnOk result ((order : List ℕ) × IsOrder (rows graph.now) order) }
 
-    // The state was reached from that of the crates' own declarations by rounds of imports and steps of globs and crates.
+    // The state was reached from that of the crates' own declarations: names were bound there by imports and globs, crate
+    // by crate, then traits without a name were imported, and nothing else was written.
     ensures collected { IfOk result (λ made. spec.IsCollected 0 reading.now graph.now
         (record {
           lists = made.lists.items;
           tables = made.tables.items;
           rows = made.externs.items;
           assocs = made.assocs.items;
-        }) made.globs.items made.uses.items made.retry.state) }
+        })
+        (record {
+          imports = made.imports.items;
+          globs = made.globs.items;
+          enums = λ e. lookup (same_enum e) made.enums.entries;
+          uses = made.uses.items;
+        }) made.retry.state) }
 
-    // Where it is not settled, the turns that were asked for were taken, and each of them wrote something.
-    ensures limited { IfOk result (λ made. made.is_settled ≡ false → spec.IsCollected rounds reading.now graph.now
+    // Where it is not settled, as many steps as a number of 32 bits counts brought traits or macros.
+    ensures limited { IfOk result (λ made. made.is_settled ≡ false → spec.IsCollected 4294967295 reading.now graph.now
         (record {
           lists = made.lists.items;
           tables = made.tables.items;
           rows = made.externs.items;
           assocs = made.assocs.items;
-        }) made.globs.items made.uses.items made.retry.state) }
+        })
+        (record {
+          imports = made.imports.items;
+          globs = made.globs.items;
+          enums = λ e. lookup (same_enum e) made.enums.entries;
+          uses = made.uses.items;
+        }) made.retry.state) }
 
-    // Where it is settled, each import and each glob, tried again, would write nothing, and no `macro_use` prelude would get
-    // a macro.
-    ensures fixed { IfOk result (λ made. made.is_settled ≡ true → IsFixedPoint made.retry.state) }
-    ensures filled { IfOk result (λ made. made.is_settled ≡ true
-        → All (IsFilledBySource made.retry.state.world) made.globs.items) }
+    // It tells exactly whether the def maps are what the rules of imports give of them: each name is what its module
+    // declares, else what an import by name brings, else what globs bring together.
+    ensures supported { IfOk result (λ made. IsTrue made.is_supported ↔ spec.AreRight (of_tables (record {
+      world = made.retry.state.world;
+      imports = made.imports.items;
+      globs = made.globs.items;
+      enums = made.enums.entries;
+      ambiguous = record { table = made.ambiguous; is_all_but = false };
+    }))) }
+
+    // Where it is settled, no glob has an unnamed trait to bring, and no `macro_use` prelude would get a macro.
     ensures brought { IfOk result (λ made. made.is_settled ≡ true
         → All (HasBroughtBySource made.retry.state.world) made.globs.items) }
-    ensures wide { IfOk result (λ made. made.is_settled ≡ true
-        → All (IsWideBySource made.retry.state.world) made.globs.items) }
     ensures used { IfOk result (λ made. made.is_settled ≡ true
         → All (HasMacros made.retry.state.world) made.uses.items) }
 
@@ -382,26 +562,8 @@ pub fn collect(
     // glob names what the world does not have.
     ensures fault { IfErr result (IsFault reading.now graph.now) }
 {
-    ordered(alloc, graph)?;
+    let order = ordered(alloc, graph)?;
     let begun = begin(alloc, graph, reading)?;
-    let BegunCrates {
-        retry,
-        globs,
-        uses,
-        lists,
-        tables,
-        externs,
-        assocs,
-    } = begun;
-    let made = settled(alloc, rounds, retry, globs, uses)?;
-    Ok(Collected {
-        retry: made.retry,
-        globs: made.globs,
-        uses: made.uses,
-        is_settled: made.is_settled,
-        lists,
-        tables,
-        externs,
-        assocs,
-    })
+    let made = finished(alloc, begun, order.as_slice())?;
+    Ok(made)
 }

@@ -1,18 +1,11 @@
 //! Why crates are not collected.
-ghost use Rattle.std.specs.Prelude.{◌≡◌, List};
+ghost use Rattle.std.specs.Prelude.{◌≡◌};
 ghost use Rattle.crate_items.specs.CrateGraphs.{Graph, rows};
 ghost use Rattle.crate_items.specs.OrderFaults as orders;
 ghost use Rattle.crate_tables.specs.CrateFillings.{IsFaultIn, IsShortageOr, Reading};
 ghost use Rattle.crate_tables.specs.DeclaredWorlds.{IsRefusal};
-ghost use Rattle.crate_tables.specs.declared.declared_name.DeclaredName.{DeclaredName};
-ghost use Rattle.dm_collector.specs.CollectFaults.{IsFault, IsNotBegun, IsNotSettled};
-ghost use Rattle.dm_collector.specs.Globs.{HasUnknown};
-ghost use Rattle.dm_collector.specs.MacroUses.{Uses};
-ghost use Rattle.dm_collector.specs.Steps.{IsLeftBy};
-ghost use Rattle.dm_collector.specs.declared.glob_fault.GlobFault.TheVariants as globs;
-ghost use Rattle.dm_collector.specs.declared.sources.GlobImport.{GlobImport};
+ghost use Rattle.dm_collector.specs.CollectFaults.{IsFault, IsNotDeclared, of_glob};
 ghost use Rattle.dm_maps.specs.World.{World};
-ghost use Rattle.dm_retry.specs.Rounds.{Pending, State};
 ghost use Rattle.dm_collector.specs.declared.collect_fault.CollectFault.TheVariants as faults;
 
 use crate::glob_fault::GlobFault;
@@ -84,7 +77,7 @@ pub(crate) fn of_filling(fault: FillFault) -> CollectFault
 
 /// The same of a world.
 pub(crate) fn of_declared(fault: NotDeclared) -> CollectFault
-    ensures { (w : World) (ns : List DeclaredName) (ps : List Pending) → IsRefusal w fault → IsNotBegun w ns ps result }
+    ensures { (w : World) → IsRefusal w fault → IsNotDeclared w result }
 {
     match fault {
         NotDeclared::Dangling(fault) => CollectFault::Dangling(fault),
@@ -94,8 +87,7 @@ pub(crate) fn of_declared(fault: NotDeclared) -> CollectFault
 
 /// The same of globs.
 pub(crate) fn of_glob(fault: GlobFault) -> CollectFault
-    ensures { (gs : List GlobImport) (us : List Uses) (s t : State) → IsLeftBy fault gs us s t
-        → (fault ≡ globs.Unknown → HasUnknown t.world gs) → IsNotSettled gs us s result }
+    ensures { result ≡ of_glob fault }
 {
     match fault {
         GlobFault::Unknown => CollectFault::Unknown,

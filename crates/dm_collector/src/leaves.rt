@@ -3,11 +3,11 @@ ghost use Rattle.std.specs.Prelude.{◌≡◌, ◌++◌, ◌∷◌, [], IfOk, On
 ghost use Rattle.std.specs.List.{flat_map};
 ghost use Rattle.dm_collector.specs.Leaves as spec;
 
-use crate::sources::GlobImport;
 use crate_items::items::declared_import::DeclaredImport;
 use crate_tables::use_leaf::UseLeaf;
 use dm_base::imports::{GlobId, ImportId};
 use dm_base::name::Name;
+use dm_imports::glob_import::GlobImport;
 use dm_retry::import_kind::ImportKind;
 use dm_retry::pending::Pending;
 use item_tree::items::imports;

@@ -4,8 +4,8 @@ ghost use Rattle.std.specs.List.{flat_map};
 ghost use Rattle.dm_collector.specs.PreludeGlobs as spec;
 ghost use Rattle.dm_maps.specs.World.{crate_map};
 
-use crate::sources::GlobImport;
 use dm_base::ids::{Crate, ModuleId, UseId};
+use dm_imports::glob_import::GlobImport;
 use dm_maps::world::World;
 use dm_maps::world::maps_of::crate_def_map;
 use std::alloc::{AllocError, Global};

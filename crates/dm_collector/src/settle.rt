@@ -1,39 +1,31 @@
-//! Rounds of imports and globs until the world is a fixed point of both.
+//! Unnamed traits and `macro_use` preludes, once names are bound, until none gets anything more.
 ghost use Rattle.std.specs.Prelude.{◌≡◌, false, true, All, IfErr, IfOk, List, OnOk};
 ghost use Rattle.dm_retry.specs.Settling.{IsFixedPoint};
-ghost use Rattle.dm_collector.specs.GlobOrders.{behind};
-ghost use Rattle.dm_collector.specs.Globs.{HasUnknown, IsFilledBySource};
+ghost use Rattle.dm_collector.specs.Globs.{HasUnknown};
 ghost use Rattle.dm_collector.specs.MacroPreludes.{HasMacros};
 ghost use Rattle.dm_collector.specs.MacroUses.{Uses};
 ghost use Rattle.dm_collector.specs.Steps.{IsLeftBy, IsReached};
 ghost use Rattle.dm_collector.specs.UnnamedTraits.{HasBroughtBySource};
-ghost use Rattle.dm_collector.specs.Widening.{IsWideBySource};
 ghost use Rattle.dm_collector.specs.declared.glob_fault.GlobFault.TheVariants as faults;
-ghost use Rattle.dm_collector.specs.declared.sources.GlobImport.{GlobImport as Glob};
+ghost use Rattle.dm_imports.specs.declared.glob_import.GlobImport.{GlobImport as Glob};
 
 mod bring;
-mod fill;
-mod tasks;
-mod use_macros;
-mod widen;
+pub(crate) mod use_macros;
 
 use crate::glob_fault::GlobFault;
-use crate::glob_order::in_order;
 use crate::macro_uses::MacroUses;
-use crate::sources::GlobImport;
+use bring::bring_all;
+use dm_imports::glob_import::GlobImport;
 use dm_retry::retry::Retry;
 use std::alloc::{AllocError, Global};
-use tasks::{GlobTask, do_all};
 use use_macros::use_all;
 
-/// Settles the imports, fills the globs, brings the unnamed traits of their sources, widens what they bound, and gives
-/// crates the macros that they use, in turn, at most `limit` times, until nothing changes. Answers whether that was
-/// reached: then the world is a fixed point, and each import and each glob, tried again, would bind nothing, nor let
-/// more see a binding, nor would a `macro_use` prelude get a macro.
+/// Resolves the imports as `_`, brings the unnamed traits of the globs' sources, and gives crates the macros that they use,
+/// in turn, at most `limit` times, until nothing changes. Answers whether that was reached.
 ///
-/// Fails where a glob names what the world does not have (`GlobImport::is_known` tests it), and where an allocation
-/// fails. What was done before is kept: rounds of imports and steps of these globs and crates, and nothing else.
-pub fn settle(
+/// Fails where a glob names what the world does not have (`is_known` tests it), and where an allocation fails. What was
+/// done before is kept.
+pub(crate) fn settle(
     retry: &mut Retry,
     globs: &[GlobImport],
     uses: &[MacroUses],
@@ -41,12 +33,8 @@ pub fn settle(
     alloc: Global,
 ) -> Result<bool, GlobFault>
     ensures fixed { IfOk result (λ settled. settled ≡ true → IsFixedPoint retry.new.state) }
-    ensures filled { IfOk result
-        (λ settled. settled ≡ true → All (IsFilledBySource retry.new.state.world) globs.now) }
     ensures brought { IfOk result
         (λ settled. settled ≡ true → All (HasBroughtBySource retry.new.state.world) globs.now) }
-    ensures wide { IfOk result
-        (λ settled. settled ≡ true → All (IsWideBySource retry.new.state.world) globs.now) }
     ensures used { IfOk result
         (λ settled. settled ≡ true → All (HasMacros retry.new.state.world) uses.now) }
 
@@ -84,8 +72,8 @@ fn resolve(retry: &mut Retry, limit: u32) -> Result<bool, GlobFault>
     Ok(settled)
 }
 
-/// Goes over the globs; or where they had nothing to do, gives crates the macros that they use. Answers whether there was
-/// anything to do.
+/// Brings the unnamed traits of the globs' sources; or where there were none left, gives crates the macros that they use.
+/// Answers whether there was anything to do.
 fn write(
     retry: &mut Retry,
     globs: &[GlobImport],
@@ -93,12 +81,8 @@ fn write(
     alloc: Global,
 ) -> Result<bool, GlobFault>
     ensures same { IfOk result (λ written. written ≡ false → retry.new ≡ retry.old) }
-    ensures filled { IfOk result
-        (λ written. written ≡ false → All (IsFilledBySource retry.old.state.world) globs.now) }
     ensures brought { IfOk result
         (λ written. written ≡ false → All (HasBroughtBySource retry.old.state.world) globs.now) }
-    ensures wide { IfOk result
-        (λ written. written ≡ false → All (IsWideBySource retry.old.state.world) globs.now) }
     ensures used { IfOk result
         (λ written. written ≡ false → All (HasMacros retry.old.state.world) uses.now) }
     ensures reached { IsReached globs.now uses.now 0 retry.old.state retry.new.state }
@@ -107,55 +91,9 @@ fn write(
     ensures unknown { IfErr result
         (λ fault. fault ≡ faults.Unknown → HasUnknown retry.new.state.world globs.now) }
 {
-    if write_in_order(retry, globs, alloc)? {
+    if bring_all(retry, globs)? {
         return Ok(true);
     }
     let used = use_all(retry, uses, alloc)?;
     Ok(used)
-}
-
-/// Goes over the globs, each behind those of the module that it has its names from. Answers whether one wrote anything.
-fn write_in_order(retry: &mut Retry, globs: &[GlobImport], alloc: Global) -> Result<bool, GlobFault>
-    ensures same { IfOk result (λ written. written ≡ false → retry.new ≡ retry.old) }
-    ensures filled { IfOk result
-        (λ written. written ≡ false → All (IsFilledBySource retry.old.state.world) globs.now) }
-    ensures brought { IfOk result
-        (λ written. written ≡ false → All (HasBroughtBySource retry.old.state.world) globs.now) }
-    ensures wide { IfOk result
-        (λ written. written ≡ false → All (IsWideBySource retry.old.state.world) globs.now) }
-    ensures reached { (us : List Uses) → IsReached globs.now us 0 retry.old.state retry.new.state }
-    ensures written { IfOk result
-        (λ written. written ≡ true → (us : List Uses) → IsReached globs.now us 1 retry.old.state retry.new.state) }
-    ensures unknown { IfErr result
-        (λ fault. fault ≡ faults.Unknown → HasUnknown retry.new.state.world globs.now) }
-{
-    let ordered = in_order(alloc, retry.world(), globs)?;
-    let written = write_globs(retry, ordered.as_slice(), alloc)?;
-    Ok(written)
-}
-
-/// Fills the globs; or where there was nothing to bind, brings unnamed traits; or where there was none, widens what
-/// they bound. Answers whether there was anything to do.
-fn write_globs(retry: &mut Retry, globs: &[&GlobImport], alloc: Global) -> Result<bool, GlobFault>
-    ensures same { IfOk result (λ written. written ≡ false → retry.new ≡ retry.old) }
-    ensures filled { IfOk result
-        (λ written. written ≡ false → All (IsFilledBySource retry.old.state.world) (behind globs.now)) }
-    ensures brought { IfOk result
-        (λ written. written ≡ false → All (HasBroughtBySource retry.old.state.world) (behind globs.now)) }
-    ensures wide { IfOk result
-        (λ written. written ≡ false → All (IsWideBySource retry.old.state.world) (behind globs.now)) }
-    ensures reached { (us : List Uses) → IsReached (behind globs.now) us 0 retry.old.state retry.new.state }
-    ensures written { IfOk result
-        (λ written. written ≡ true → (us : List Uses) → IsReached (behind globs.now) us 1 retry.old.state retry.new.state) }
-    ensures unknown { IfErr result
-        (λ fault. fault ≡ faults.Unknown → HasUnknown retry.new.state.world (behind globs.now)) }
-{
-    if do_all(retry, globs, alloc, GlobTask::Fill)? {
-        return Ok(true);
-    }
-    if do_all(retry, globs, alloc, GlobTask::Bring)? {
-        return Ok(true);
-    }
-    let widened = do_all(retry, globs, alloc, GlobTask::Widen)?;
-    Ok(widened)
 }

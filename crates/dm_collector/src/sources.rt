@@ -8,18 +8,18 @@ ghost use Rattle.std.specs.Option.{option_map_or};
 ghost use Rattle.dm_maps.specs.GoesOn.{variants_if_known};
 ghost use Rattle.dm_maps.specs.World.{scope_of};
 ghost use Rattle.dm_scope.specs.Sorted.{deref_entry, names_of, seen};
-ghost use Rattle.dm_collector.specs.Globs.{glob_holds, resolved, source_in, source_meant, source_names};
+ghost use Rattle.dm_collector.specs.Globs as spec;
+ghost use Rattle.dm_collector.specs.Globs.{glob_holds, source_in, source_meant, source_names};
 ghost use Rattle.dm_collector.specs.declared.glob_fault.GlobFault.TheVariants as faults;
 
 use crate::glob_fault::GlobFault;
 use crate::globs::Glob;
 use dm_base::ids::{EnumId, ModuleId};
-use dm_base::imports::{GlobId, ImportOrExternCrate};
+use dm_base::imports::ImportOrExternCrate;
 use dm_base::item_ids::{AdtId, ModuleDefId};
-use dm_base::mod_path::ModPath;
 use dm_base::name::Name;
 use dm_base::per_ns::PerNs;
-use dm_base::visibility::Visibility;
+use dm_imports::glob_import::GlobImport;
 use dm_maps::world::World;
 use dm_maps::world::variants::Variants;
 use dm_retry::meaning::path_meaning;
@@ -34,63 +34,39 @@ pub enum GlobSource {
     Enum(EnumId),
 }
 
-/// A glob import (`use path::*`).
-pub struct GlobImport {
-    /// The module that it imports into.
-    pub into: ModuleId,
-    pub path: ModPath,
-    /// Who may see what it brings, at most.
-    pub vis: Visibility,
-    pub import: GlobId,
+/// Whether all that a glob names is the world's: its module, its use, the crate of its path's `$crate`, and what its
+/// visibility names. Does not allocate.
+pub fn is_known(world: &World, glob: &GlobImport) -> bool
+    ensures { IsTrue result ↔ KnowsAll world.now (glob_holds glob.now) }
+{
+    let import = Some(ImportOrExternCrate::Glob(glob.import));
+    let placed = world.knows_res(glob.into, &PerNs::none(), import);
+    let begun = world.knows_path(&glob.path);
+    let seen = world.knows_vis(glob.vis);
+    placed && begun && seen
 }
 
-/// Hand-written `Drop`, to keep proofs small: dropping one is then a single call.
-impl Drop for GlobImport {
-    fn drop(self) {
-        let GlobImport {
-            into: _into,
-            path: _path,
-            vis: _vis,
-            import: _import,
-        } = self;
-    }
-}
-
-impl GlobImport {
-    /// Whether all that the glob names is the world's: its module, its use, the crate of its path's `$crate`, and what
-    /// its visibility names. Does not allocate.
-    pub fn is_known(&self, world: &World) -> bool
-        ensures { IsTrue result ↔ KnowsAll world.now (glob_holds self.now) }
-    {
-        let import = Some(ImportOrExternCrate::Glob(self.import));
-        let placed = world.knows_res(self.into, &PerNs::none(), import);
-        let begun = world.knows_path(&self.path);
-        let seen = world.knows_vis(self.vis);
-        placed && begun && seen
-    }
-
-    /// The glob with the module or enum that its path means in the current state of the world; none where it means
-    /// neither. Does not allocate.
-    ///
-    /// Its module has to be the world's, and so has the crate of the path's `$crate`: `knows_def` and `knows_path` test it.
-    pub fn resolved(&self, world: &World) -> Option<Glob>
-        requires module_known { IsTrue (knows world.now (held.Module self.now.into)) }
-        requires path_known { KnowsAll world.now (path_holds self.now.path.kind) }
-        ensures { result ≡ resolved world.now self.now }
-    {
-        let from = source_meant(&path_meaning(world, self.into, &self.path))?;
-        Some(Glob {
-            into: self.into,
-            from,
-            vis: self.vis,
-            import: self.import,
-        })
-    }
+/// A glob with the module or enum that its path means in the current state of the world; none where it means neither. Does
+/// not allocate.
+///
+/// Its module has to be the world's, and so has the crate of the path's `$crate`: `knows_def` and `knows_path` test it.
+pub fn resolved(world: &World, glob: &GlobImport) -> Option<Glob>
+    requires module_known { IsTrue (knows world.now (held.Module glob.now.into)) }
+    requires path_known { KnowsAll world.now (path_holds glob.now.path.kind) }
+    ensures { result ≡ spec.resolved world.now glob.now }
+{
+    let from = source_meant(&path_meaning(world, glob.into, &glob.path))?;
+    Some(Glob {
+        into: glob.into,
+        from,
+        vis: glob.vis,
+        import: glob.import,
+    })
 }
 
 /// A glob with its source, where its path means one. Fails where the glob names what the world does not have.
 pub(crate) fn known(world: &World, glob: &GlobImport) -> Result<Option<Glob>, GlobFault>
-    ensures value { IfOk result (λ found. found ≡ resolved world.now glob.now) }
+    ensures value { IfOk result (λ found. found ≡ spec.resolved world.now glob.now) }
     ensures into { IfOk result
         (λ found. IfSome found (λ g. IsTrue (knows world.now (held.Module g.into)))) }
     ensures used { IfOk result
@@ -99,10 +75,10 @@ pub(crate) fn known(world: &World, glob: &GlobImport) -> Result<Option<Glob>, Gl
     ensures err { IfErr result
         (λ fault. (fault ≡ faults.Unknown) × ¬ (KnowsAll world.now (glob_holds glob.now))) }
 {
-    if !glob.is_known(world) {
+    if !is_known(world, glob) {
         return Err(GlobFault::Unknown);
     }
-    Ok(glob.resolved(world))
+    Ok(resolved(world, glob))
 }
 
 /// The source that an answer has, where no segment is left.

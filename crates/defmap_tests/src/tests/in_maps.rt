@@ -397,7 +397,7 @@ fn collected_of(
         files: &files,
         limit: LIMIT,
     };
-    match collect(alloc, &graph, &reading, LIMIT) {
+    match collect(alloc, &graph, &reading) {
         Err(_fault) => Ok(None),
         Ok(collected) => Ok(Some(Settled {
             files,

@@ -3,21 +3,40 @@ ghost use Rattle.std.specs.Prelude.{◌≡◌, false, is_some, true, All, Contai
 ghost use Rattle.dm_maps.specs.declared.check.held.HeldId.TheVariants as held;
 ghost use Rattle.dm_maps.specs.Holding.{vis_holds};
 ghost use Rattle.dm_maps.specs.Known.{knows, KnowsAll};
-ghost use Rattle.dm_collector.specs.Globs.{glob_holds, resolved};
+ghost use Rattle.dm_collector.specs.Globs.{glob_holds, HasUnknown, resolved};
 ghost use Rattle.dm_collector.specs.MacroUses.{Uses};
 ghost use Rattle.dm_collector.specs.declared.glob_fault.GlobFault.TheVariants as faults;
 ghost use Rattle.dm_collector.specs.Steps.{after_step, Bring, brought, IsReached, writes};
 ghost use Rattle.dm_collector.specs.UnnamedTraits.{HasBroughtBySource, missing_trait};
-ghost use Rattle.dm_collector.specs.declared.sources.GlobImport.{GlobImport as Import};
+ghost use Rattle.dm_imports.specs.declared.glob_import.GlobImport.{GlobImport as Import};
 
 use crate::glob_fault::GlobFault;
 use crate::globs::Glob;
-use crate::sources::{GlobImport, known};
+use crate::sources::known;
 use crate::unnamed_traits::{missing_trait, unnamed_count};
+use dm_imports::glob_import::GlobImport;
 use dm_retry::retry::Retry;
 
+/// Brings the unnamed traits that some globs have yet to bring, once. Answers whether there were any.
+pub(crate) fn bring_all(retry: &mut Retry, globs: &[GlobImport]) -> Result<bool, GlobFault>
+    ensures same { IfOk result (λ written. written ≡ false → retry.new ≡ retry.old) }
+    ensures brought { IfOk result
+        (λ written. written ≡ false → All (HasBroughtBySource retry.old.state.world) globs.now) }
+    ensures reached { (us : List Uses) → IsReached globs.now us 0 retry.old.state retry.new.state }
+    ensures written { IfOk result
+        (λ written. written ≡ true → (us : List Uses) → IsReached globs.now us 1 retry.old.state retry.new.state) }
+    ensures unknown { IfErr result
+        (λ fault. fault ≡ faults.Unknown → HasUnknown retry.new.state.world globs.now) }
+{
+    let mut written = false;
+    for glob in globs {
+        written |= bring(retry, glob)?;
+    }
+    Ok(written)
+}
+
 /// Brings the unnamed traits that a glob has yet to bring. Answers whether there were any.
-pub(crate) fn bring(retry: &mut Retry, glob: &GlobImport) -> Result<bool, GlobFault>
+fn bring(retry: &mut Retry, glob: &GlobImport) -> Result<bool, GlobFault>
     ensures same { IfOk result (λ written. written ≡ false → retry.new ≡ retry.old) }
     ensures brought { IfOk result
         (λ written. written ≡ false → HasBroughtBySource retry.old.state.world glob.now) }

@@ -4,7 +4,7 @@ ghost use Rattle.dm_collector.specs.MacroPreludes as spec;
 ghost use Rattle.dm_collector.specs.MacroUses.{Uses};
 ghost use Rattle.dm_collector.specs.Steps.{after_step, IsReached, Use, writes};
 ghost use Rattle.dm_collector.specs.declared.glob_fault.GlobFault.TheVariants as faults;
-ghost use Rattle.dm_collector.specs.declared.sources.GlobImport.{GlobImport as Import};
+ghost use Rattle.dm_imports.specs.declared.glob_import.GlobImport.{GlobImport as Import};
 
 use crate::glob_fault::GlobFault;
 use crate::macro_preludes::{missing_macro, missing_macro_names, own_map};
@@ -34,7 +34,11 @@ pub(crate) fn use_all(
 }
 
 /// Gives the `macro_use` prelude of a crate what it has yet to get. Answers whether there was anything.
-fn use_macros(retry: &mut Retry, uses: &MacroUses, alloc: Global) -> Result<bool, AllocError>
+pub(crate) fn use_macros(
+    retry: &mut Retry,
+    uses: &MacroUses,
+    alloc: Global,
+) -> Result<bool, AllocError>
     ensures same { IfOk result (λ written. written ≡ false → retry.new ≡ retry.old) }
     ensures used { IfOk result (λ written. written ≡ false → spec.HasMacros retry.old.state.world uses.now) }
     ensures reached { (gs : List Import) (us : List Uses) → Contains us uses.now

@@ -4,7 +4,7 @@ use Rattle.crate_items.specs.Modules.{Listing}
 use Rattle.crate_tables.specs.CrateFillings.{Crates, IsKnownTable}
 use Rattle.crate_tables.specs.CrateTables.{Table}
 use Rattle.std.proofs.lemmas.List.Elements.{All-weaker}
-use Rattle.dm_collector.proofs.FaultLemmas.{not-begun, passed}
+use Rattle.dm_collector.proofs.FaultLemmas.{not-declared, passed}
 use Rattle.dm_collector.specs.CollectFaults.{IsFault}
 use Rattle.dm_collector.specs.MacroUses.{macro_uses}
 use Rattle.dm_collector.proofs.collect.begin.Goals as goal
@@ -33,8 +33,11 @@ returns-clause-begun c =
       kept = λ i. record { lists = lists; tables = c.in_ok-beginning.ensures.rest i; rows = c.in_ok-made.made.externs.items; assocs = places };
       world = c.in_ok-beginning.ensures.world;
       declared = c.in_ok-beginning.ensures.declared;
-      pending = c.in_ok-beginning.ensures.pending;
+      none = c.in_ok-beginning.ensures.none;
+      pendings = c.in_ok-beginning.ensures.pendings;
+      imports = c.in_ok-beginning.ensures.imports;
       globs = c.in_ok-beginning.ensures.globs;
+      enums = c.in_ok-beginning.ensures.enums;
       uses = c.in_ok-uses.ensures.uses
           ∙ (λ i. macro_uses c.args.reading.now.files (c.as_slice-3.ensures.value i) (c.as_slice-4.ensures.value i) 0 c.args.graph.now);
     }
@@ -54,4 +57,4 @@ returns-in_err-beginning-clause-fault c =
     subst (λ (both : List Listing × List Table). AreAllAdded c.args.reading.now.files both.0 0 0 both.1 before whole)
     (λ i. (c.as_slice.ensures.value i, c.as_slice-2.ensures.value i)) c.in_ok-assocs.ensures.added in
     passed c.from_residual-in_err-beginning.result c.in_err-beginning.field-0.0 (IsFault c.args.reading.now c.args.graph.now) c.from_residual-in_err-beginning.ensures.1
-    (not-begun c.args.reading.now c.args.graph.now crates whole (record { filled = c.in_ok-made.ensures.filled; items = items }) c.in_err-beginning.field-0.0 c.in_err-beginning.ensures.fault)
+    (not-declared c.args.reading.now c.args.graph.now crates whole (record { filled = c.in_ok-made.ensures.filled; items = items }) c.in_err-beginning.field-0.0 c.in_err-beginning.ensures.fault)

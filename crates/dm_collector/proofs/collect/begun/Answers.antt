@@ -1,8 +1,9 @@
-use Rattle.std.proofs.Common.{◌∙◌, List, subst, sym}
+use Rattle.std.proofs.Common.{◌∙◌, List, ap, subst, sym}
 use Rattle.std.specs.Prelude.{All}
 use Rattle.crate_tables.specs.CrateTables.{IsNameOf}
 use Rattle.crate_tables.specs.DeclaredWorlds.{AreShown}
 use Rattle.crate_tables.specs.declared.declared_name.DeclaredName.{DeclaredName}
+use Rattle.dm_collector.specs.Enums.{enum_vis}
 use Rattle.dm_collector.proofs.TableLemmas.{names-known}
 use Rattle.dm_collector.proofs.collect.begun.Goals as goal
 
@@ -13,3 +14,7 @@ declared-requires-clause-known c =
 pub returns-clause-declared : goal.returns-clause-declared
 returns-clause-declared c =
     subst (λ (ds : List DeclaredName). AreShown c.in_ok-retry.retry.state.world c.in_ok-retry.retry.state.globs ds) (c.as_slice.ensures.value ∙ c.in_ok-parts.ensures.names) c.in_ok-retry.ensures.declared
+
+pub returns-clause-enums : goal.returns-clause-enums
+returns-clause-enums c = λ e.
+    c.in_ok-enums.ensures e ∙ ap (λ (ds : List DeclaredName). enum_vis ds e) (c.as_slice-3.ensures.value ∙ c.in_ok-parts.ensures.names)

@@ -1,4 +1,4 @@
 use Rattle.dm_collector.proofs.collect.declared.Goals as goal
 
 pub returns-in-Err-clause-fault : goal.returns-in-Err-clause-fault
-returns-in-Err-clause-fault c = c.of_declared.ensures c.args.tables c.args.names.now c.args.pendings.items c.in-Err.ensures.refused
+returns-in-Err-clause-fault c = c.of_declared.ensures c.args.tables c.in-Err.ensures.refused

@@ -5,7 +5,7 @@ use Rattle.dm_collector.specs.Globs.{resolved}
 use Rattle.dm_collector.specs.MacroUses.{Uses}
 use Rattle.dm_collector.specs.Steps.{IsReached}
 use Rattle.dm_collector.specs.UnnamedTraits.{missing_trait}
-use Rattle.dm_collector.specs.declared.sources.GlobImport.{GlobImport}
+use Rattle.dm_imports.specs.declared.glob_import.GlobImport.{GlobImport}
 use Rattle.dm_collector.proofs.settle.bring.bring.Given as goal
 
 -- what was written are steps of the glob, of which one wrote where any did; while none wrote, all is as it was, and no trait so

@@ -2,7 +2,7 @@ use Rattle.std.proofs.Common.{◌≡◌, List, false, take, true}
 use Rattle.std.specs.List.{All}
 use Rattle.dm_collector.specs.MacroPreludes.{HasMacros}
 use Rattle.dm_collector.specs.Steps.{IsReached}
-use Rattle.dm_collector.specs.declared.sources.GlobImport.{GlobImport}
+use Rattle.dm_imports.specs.declared.glob_import.GlobImport.{GlobImport}
 use Rattle.dm_collector.proofs.settle.use_macros.use_all.Given as goal
 
 -- what was written are steps of the crates, of which one wrote where any did; while none wrote, all is as it was, and each crate so

@@ -3,7 +3,7 @@ use Rattle.std.specs.List.{All, Contains}
 use Rattle.dm_base.specs.Names.{Name}
 use Rattle.dm_collector.specs.MacroUses.{Uses}
 use Rattle.dm_collector.specs.Steps.{IsReached, Use, writes}
-use Rattle.dm_collector.specs.declared.sources.GlobImport.{GlobImport}
+use Rattle.dm_imports.specs.declared.glob_import.GlobImport.{GlobImport}
 use Rattle.dm_collector.proofs.settle.use_macros.use_each.Given as goal
 
 -- what was written are steps of the crate, of which one wrote where any did; while none wrote, all is as it was, and under no name
