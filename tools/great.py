@@ -217,8 +217,8 @@ def platforms(size):
         crate.bind((name,), "on_unix", "value")
         crate.line(file, "use self::Enum::*;\n#[cfg(not(unix))] use self::missing;")
         crate.line(file, "#[cfg_attr(unix, cfg(windows))] fn gone() {}")
-        for variant in "ABC":
-            crate.bind((name,), variant, by("type value", "glob"))
+        for variant, meaning in (("A", "type value"), ("B", "type value"), ("C", "type")):
+            crate.bind((name,), variant, by(meaning, "glob"))
         crate.line(file, f"#[macro_export]\nmacro_rules! exported_{k} {{ ($x:expr) => {{ $x; {{}} }} }}")
         crate.bind((), f"exported_{k}", "macro!")
         crate.define((name,), f"exported_{k}")
