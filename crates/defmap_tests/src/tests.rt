@@ -18,6 +18,7 @@ macro_rules! again {
 
 mod answers;
 mod base;
+mod imports;
 mod in_maps;
 mod listings;
 mod rounds;

@@ -16,9 +16,9 @@ use Rattle.dm_scope.specs.Sorted.{names_of}
 use Rattle.dm_imports.specs.declared.container.Container.{Container}
 use Rattle.dm_imports.specs.declared.glob_import.GlobImport.{GlobImport}
 use Rattle.dm_imports.specs.declared.named_import.NamedImport.{NamedImport}
-use Rattle.dm_imports.specs.Meanings.{joined}
+use Rattle.dm_imports.specs.Meanings.{is_declared, joined}
 use Rattle.dm_imports.specs.Paths.{DefMaps}
-use Rattle.dm_imports.specs.Rules.{IsSupported, all_imports, all_offers, glob_asks, import_brings, import_to, is_declared, join_all, offer_from, offer_to, offered, offers_to, source_of}
+use Rattle.dm_imports.specs.Rules.{IsSupported, all_imports, all_offers, glob_asks, import_brings, import_to, join_all, offer_from, offer_to, offered, offers_to, source_of}
 use Rattle.dm_imports.specs.Slots.{same_place}
 use Rattle.dm_imports.specs.Supporting.{Agrees, AllAgree, GlobAgrees, names_brought, source_names}
 use Rattle.dm_imports.proofs.ListLemmas.{name-absent, name-listed, none-of, some-of}

@@ -1,6 +1,6 @@
 -- What a name of a module means in one namespace: a definition, who sees it, by what it came into the module, and
 -- whether it is ambiguous.
-use Rattle.std.specs.Prelude.{false, Option, Some, None, if◌then◌else◌}
+use Rattle.std.specs.Prelude.{Bool, true, false, Option, Some, None, if◌then◌else◌}
 use Rattle.std.specs.Option.{ForSome, option_map}
 use Rattle.dm_base.specs.declared.imports.ImportOrExternCrate.{ImportOrExternCrate}
 use Rattle.dm_base.specs.declared.imports.ImportOrExternCrate.TheVariants as wide
@@ -49,6 +49,10 @@ abbrev pub in_namespace : Namespace → PerNs → Option Meaning
 in_namespace Types x = option_map type_meaning x.types
 in_namespace Values x = option_map value_meaning x.values
 in_namespace Macros x = option_map macro_meaning x.macros
+
+-- whether a module declares it
+abbrev pub is_declared : Meaning → Bool
+is_declared x = elim x.source [ source.Declaration ↦ true | _ ↦ false ]
 
 -- what is there by itself, and seen by all
 abbrev pub public_def : ModuleDefId → Meaning

@@ -1,8 +1,9 @@
 -- What the path of an import or a glob means in def maps, as they are.
-use Rattle.std.specs.Prelude.{Bool, true, false, not, List, [], ◌∷◌, Option, Some, None, if◌then◌else◌, slice_get}
+use Rattle.std.specs.Prelude.{◌&&◌, Bool, true, false, not, List, [], ◌∷◌, Option, Some, None, if◌then◌else◌, slice_get}
 use Rattle.std.specs.Option.{option_and_then, option_map, option_map_or, option_or}
 use Rattle.dm_base.specs.declared.fields_shape.FieldsShape.{FieldsShape}
 use Rattle.dm_base.specs.declared.fields_shape.FieldsShape.TheVariants as shape
+use Rattle.dm_base.specs.declared.ids.Crate.{Crate}
 use Rattle.dm_base.specs.declared.ids.EnumId.{EnumId}
 use Rattle.dm_base.specs.declared.ids.ModuleId.{ModuleId}
 use Rattle.dm_base.specs.declared.imports.ImportId.{ImportId}
@@ -15,10 +16,12 @@ use Rattle.dm_base.specs.declared.mod_path.PathKind.TheVariants as kind
 use Rattle.dm_base.specs.declared.per_ns.Namespace.{Namespace}
 use Rattle.dm_base.specs.declared.per_ns.Namespace.TheVariants.{Types, Values, Macros}
 use Rattle.dm_base.specs.declared.visibility.Visibility.{Visibility}
+use Rattle.dm_base.specs.declared.visibility.Visibility.TheVariants.{PubCrate, Public}
 use Rattle.dm_base.specs.Builtins.{builtin_words}
 use Rattle.dm_base.specs.Names.{Name, find_name}
 use Rattle.dm_base.specs.Path.{Path}
 use Rattle.dm_base.specs.PerNs.{keep}
+use Rattle.dm_base.specs.Sameness.{same_def}
 use Rattle.dm_base.specs.Tree.{IsKnown, crate_of, outer, sees}
 use Rattle.dm_base.specs.Visibility.{NamesKnown}
 use Rattle.dm_def_map.specs.Maps.{LocalMap}
@@ -35,7 +38,7 @@ use Rattle.dm_imports.specs.declared.meaning.Meaning.{Meaning}
 use Rattle.dm_imports.specs.declared.meaning.Source.{Source}
 use Rattle.dm_imports.specs.declared.meaning.Source.TheVariants as source
 use Rattle.dm_imports.specs.declared.named_import.NamedImport.{NamedImport}
-use Rattle.dm_imports.specs.Meanings.{IsNamed, in_namespace, public_def}
+use Rattle.dm_imports.specs.Meanings.{IsNamed, in_namespace, is_declared, public_def}
 
 -- Def maps, with what is imported in them.
 pub record DefMaps : Type 0 where
@@ -174,14 +177,26 @@ in_root d a n s =
     option_or (option_and_then (λ r. shown d a r n s) (root_of d.world (crate_of (tree_of d.world) a.home)))
     (extern_crate_in d a n s)
 
+abbrev pub is_macro : MacroId → Meaning → Bool
+is_macro t x = is_declared x && same_def x.def (def.MacroId t)
+
+-- a textual macro is exported where the root of its crate declares it under its name
+abbrev pub is_exported : World → Crate → MacroId → Name → Bool
+is_exported w k t n =
+    option_map_or (λ r. option_map_or (is_macro t) (in_namespace Macros (bound_in (scope_of w r) n)) false) (root_of w k) false
+
+-- its crate sees it, and all do where it is exported
+abbrev pub textual_macro : World → Crate → MacroId → Name → Meaning
+textual_macro w k t n = record (public_def (def.MacroId t)) { vis = if is_exported w k t n then Public else PubCrate k }
+
 -- a textual macro goes before all
-abbrev pub textual_in : Option MacroId → Namespace → Option Meaning
-textual_in t Types = None
-textual_in t Values = None
-textual_in t Macros = option_map (λ m. public_def (def.MacroId m)) t
+abbrev pub textual_in : DefMaps → Asking → Option MacroId → Name → Namespace → Option Meaning
+textual_in d a t n Types = None
+textual_in d a t n Values = None
+textual_in d a t n Macros = option_map (λ m. textual_macro d.world (crate_of (tree_of d.world) a.home) m n) t
 
 abbrev pub plain : DefMaps → Asking → Option MacroId → Name → Namespace → Option Meaning
-plain d a t n s = option_or (textual_in t s) (in_module d a n s)
+plain d a t n s = option_or (textual_in d a t n s) (in_module d a n s)
 
 abbrev pub is_2015 : DefMaps → Asking → Bool
 is_2015 d a = is_2015_in d.world (crate_of (tree_of d.world) a.home)

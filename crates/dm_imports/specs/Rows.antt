@@ -3,14 +3,15 @@
 use Rattle.std.specs.Prelude.{◌≡◌, true, false, [], ◌∷◌, Some, None, codes, refl}
 use Rattle.dm_base.specs.declared.imports.ImportOrExternCrate.TheVariants as wide
 use Rattle.dm_base.specs.declared.imports.ImportOrGlob.TheVariants as narrow
-use Rattle.dm_base.specs.declared.per_ns.Namespace.TheVariants.{Types, Values}
-use Rattle.dm_base.specs.declared.visibility.Visibility.TheVariants.{Public}
+use Rattle.dm_base.specs.declared.per_ns.Namespace.TheVariants.{Types, Values, Macros}
+use Rattle.dm_base.specs.declared.item_ids.ModuleDefId.TheVariants as def
+use Rattle.dm_base.specs.declared.visibility.Visibility.TheVariants.{PubCrate, Public}
 use Rattle.dm_maps.specs.ItemHomes.{homes_of}
 use Rattle.dm_maps.specs.Trees.{tree_of}
 use Rattle.dm_imports.specs.declared.meaning.Source.TheVariants as source
 use Rattle.dm_imports.specs.Paths.{DefMaps}
 use Rattle.dm_imports.specs.Rules.{given}
-use Rattle.dm_imports.specs.Written.{a_function, a_module, a_struct, a_type, a_value, glob, import, leaf, meant, number, star, types_and_values, within, world_of}
+use Rattle.dm_imports.specs.Written.{a_function, a_macro, a_module, a_struct, a_type, a_value, behind, crate_id, glob, import, leaf, meant, number, star, types_and_values, with_macros, within, world_of}
 
 -- ---- An import by name goes before a glob, also where the glob was there first.
 --
@@ -94,3 +95,32 @@ ambiguous_names = refl
 pub nothing_there : given two_globs (number 3) (codes "Y") Types ≡ None
 unfolding tree_of homes_of
 nothing_there = refl
+
+-- ---- A textual macro is seen by its crate alone, and by all where it is exported; of two of one name the import takes the
+-- last before it.
+--
+-- macro_rules! m { .. }  pub use m as n;
+-- #[macro_export] macro_rules! e { .. }  pub use e as f;  macro_rules! e { .. }  pub use e as g;
+abbrev textual_macros : DefMaps
+textual_macros = record {
+  world = world_of ((0, with_macros ((codes "e", a_macro 1) ∷ [])) ∷ []);
+  imports = behind (a_macro 0) (import 0 0 (codes "n") (codes "m" ∷ []))
+      ∷ behind (a_macro 1) (import 1 0 (codes "f") (codes "e" ∷ []))
+      ∷ behind (a_macro 2) (import 2 0 (codes "g") (codes "e" ∷ []))
+      ∷ [];
+  globs = [];
+  enum_vis = λ e. Public;
+  is_ambiguous = λ m n s. false;
+}
+
+pub not_exported : given textual_macros (number 0) (codes "n") Macros ≡ meant (def.MacroId (a_macro 0)) (PubCrate crate_id.krate) (source.Import (leaf 0))
+unfolding tree_of homes_of
+not_exported = refl
+
+pub exported : given textual_macros (number 0) (codes "f") Macros ≡ meant (def.MacroId (a_macro 1)) Public (source.Import (leaf 1))
+unfolding tree_of homes_of
+exported = refl
+
+pub exported_before : given textual_macros (number 0) (codes "g") Macros ≡ meant (def.MacroId (a_macro 2)) (PubCrate crate_id.krate) (source.Import (leaf 2))
+unfolding tree_of homes_of
+exported_before = refl

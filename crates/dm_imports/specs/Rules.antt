@@ -25,7 +25,7 @@ use Rattle.dm_imports.specs.declared.meaning.Source.TheVariants as source
 use Rattle.dm_imports.specs.declared.named_import.ImportKind.{ImportKind}
 use Rattle.dm_imports.specs.declared.named_import.ImportKind.TheVariants as kind
 use Rattle.dm_imports.specs.declared.named_import.NamedImport.{NamedImport}
-use Rattle.dm_imports.specs.Meanings.{joined}
+use Rattle.dm_imports.specs.Meanings.{is_declared, joined}
 use Rattle.dm_imports.specs.Paths.{AreEnumsNamed, Asking, DefMaps, at, leads, member, path_meaning}
 use Rattle.dm_imports.specs.Slots.{same_place}
 
@@ -125,9 +125,6 @@ abbrev pub all_imports : DefMaps → List NamedImport → ModuleId → Name → 
 all_imports d is m n s = fold (λ x i. option_or x (import_to d m n s i)) None is
 
 -- ---- The rules
-
-abbrev pub is_declared : Meaning → Bool
-is_declared x = elim x.source [ source.Declaration ↦ true | _ ↦ false ]
 
 abbrev pub declared : DefMaps → ModuleId → Name → Namespace → Option Meaning
 declared d m n s = keep is_declared (at d m n s)

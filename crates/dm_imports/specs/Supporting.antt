@@ -14,9 +14,9 @@ use Rattle.dm_imports.specs.declared.glob_import.GlobImport.{GlobImport}
 use Rattle.dm_imports.specs.declared.joined.Joined.{Joined}
 use Rattle.dm_imports.specs.declared.meaning.Meaning.{Meaning}
 use Rattle.dm_imports.specs.Brought.{IsBrought}
-use Rattle.dm_imports.specs.Meanings.{joined}
+use Rattle.dm_imports.specs.Meanings.{is_declared, joined}
 use Rattle.dm_imports.specs.Paths.{DefMaps, at}
-use Rattle.dm_imports.specs.Rules.{IsModule, all_imports, given, is_declared, source_of}
+use Rattle.dm_imports.specs.Rules.{IsModule, all_imports, given, source_of}
 use Rattle.dm_imports.specs.Slots.{Slots, slot_at}
 
 -- the names of a container: those that a module's scope has, or those of an enum's variants

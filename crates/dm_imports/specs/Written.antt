@@ -8,6 +8,8 @@ use Rattle.dm_base.specs.declared.imports.ImportId.{ImportId}
 use Rattle.dm_base.specs.declared.imports.ImportOrExternCrate.{ImportOrExternCrate}
 use Rattle.dm_base.specs.declared.imports.ImportOrGlob.{ImportOrGlob}
 use Rattle.dm_base.specs.declared.item_ids.AdtId.TheVariants as adt
+use Rattle.dm_base.specs.declared.item_ids.MacroId.{MacroId}
+use Rattle.dm_base.specs.declared.item_ids.MacroId.TheVariants as macro
 use Rattle.dm_base.specs.declared.item_ids.ModuleDefId.{ModuleDefId}
 use Rattle.dm_base.specs.declared.item_ids.ModuleDefId.TheVariants as def
 use Rattle.dm_base.specs.declared.mod_path.PathKind.TheVariants as kind
@@ -43,6 +45,9 @@ a_struct n = def.AdtId (adt.StructId (record { 0 = n }))
 abbrev pub a_function : ℕ → ModuleDefId
 a_function n = def.FunctionId (record { 0 = n })
 
+abbrev pub a_macro : ℕ → MacroId
+a_macro n = macro.MacroRulesId (record { 0 = n })
+
 abbrev pub within : ℕ → Visibility
 within m = Module (number m) Explicit
 
@@ -64,6 +69,12 @@ abbrev pub types_and_values : List (Name × Item ModuleDefId ImportOrExternCrate
 types_and_values ts vs = record no_scope {
   types = record { items = ts; records = [] };
   values = record { items = vs; records = [] };
+}
+
+-- a module that declares macros alone, for all
+abbrev pub with_macros : List (Name × MacroId) → Scope
+with_macros ms = record no_scope {
+  macros = record { items = map (λ m. (m.0, record { def = m.1; vis = Public; import = None })) ms; records = [] };
 }
 
 abbrev pub crate_id : MapId
@@ -114,6 +125,10 @@ plain ns = record { kind = kind.Plain; segments = ns }
 -- `pub use path as name`, and `pub use path::*`, in a module; each use has one leaf
 abbrev pub import : ℕ → ℕ → Name → List Name → NamedImport
 import u m n ns = record { home = number m; name = n; path = plain ns; vis = Public; kind = All; import = leaf u; textual = None }
+
+-- the same, behind a textual macro of the path's name
+abbrev pub behind : MacroId → NamedImport → NamedImport
+behind t i = record i { textual = Some t }
 
 abbrev pub glob : ℕ → ℕ → Visibility → List Name → GlobImport
 glob u m v ns = record { into = number m; path = plain ns; vis = v; import = star u }

@@ -17,5 +17,3 @@ pub mod paths;
 pub mod rules;
 mod search;
 pub mod slots;
-#[cfg(test)]
-mod tests;

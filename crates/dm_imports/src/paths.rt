@@ -13,6 +13,7 @@ mod around;
 pub(crate) mod containers;
 mod first;
 pub(crate) mod shown;
+pub(crate) mod textual;
 
 use crate::asking::Asking;
 use crate::container::Container;

@@ -11,10 +11,11 @@ ghost use Rattle.dm_imports.specs.Tables.{asks, of_tables};
 
 use crate::asking::Asking;
 use crate::def_maps::DefMaps;
-use crate::meaning::{Meaning, Source, public_def};
+use crate::meaning::{Meaning, Source};
 use crate::paths::around::{around, extern_crate};
 use crate::paths::shown::shown;
-use dm_base::item_ids::{MacroId, ModuleDefId};
+use crate::paths::textual::textual_macro;
+use dm_base::item_ids::MacroId;
 use dm_base::module_tree::ModuleTree;
 use dm_base::name::Name;
 use dm_base::per_ns::Namespace;
@@ -108,11 +109,22 @@ fn in_root(
 }
 
 /// A textual macro, where a macro is asked for.
-fn textual_in(textual: Option<MacroId>, namespace: Namespace) -> Option<Meaning>
-    ensures { result ≡ spec.textual_in textual namespace }
+fn textual_in(
+    maps: &DefMaps<'_>,
+    asking: &Asking<'_>,
+    textual: Option<MacroId>,
+    name: &Name,
+    namespace: Namespace,
+) -> Option<Meaning>
+    requires { MayAsk (of_tables maps.now) (asks asking.now) }
+    ensures value { result ≡ spec.textual_in (of_tables maps.now) (asks asking.now) textual name.now namespace }
+    ensures named { IsNamed maps.now.world result }
 {
     match (namespace, textual) {
-        (Namespace::Macros, Some(id)) => Some(public_def(ModuleDefId::MacroId(id))),
+        (Namespace::Macros, Some(id)) => {
+            let krate = maps.world.krate(asking.home);
+            Some(textual_macro(maps.world, krate, id, name))
+        }
         _ => None,
     }
 }
@@ -129,7 +141,7 @@ fn plain(
     ensures value { result ≡ spec.plain (of_tables maps.now) (asks asking.now) textual name.now namespace }
     ensures named { IsNamed maps.now.world result }
 {
-    let macro_before = textual_in(textual, namespace);
+    let macro_before = textual_in(maps, asking, textual, name, namespace);
     if macro_before.is_some() {
         return macro_before;
     }

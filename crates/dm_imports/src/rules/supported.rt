@@ -12,7 +12,7 @@ ghost use Rattle.dm_imports.specs.Paths.{AreEnumsNamed};
 ghost use Rattle.dm_imports.specs.Rules as spec;
 ghost use Rattle.dm_imports.specs.Rules.{AreImportsKnown, AreMapsKnown, IsSupported, SupportedIn};
 ghost use Rattle.dm_imports.specs.Supporting.{Agrees, AgreesIn, AllAgree, AreGiven, GlobAgrees, given_by};
-ghost use Rattle.dm_imports.specs.Meanings.{joined};
+ghost use Rattle.dm_imports.specs.Meanings.{is_declared, joined};
 ghost use Rattle.dm_imports.specs.Slots.{slot_at};
 ghost use Rattle.dm_imports.specs.Tables.{of_tables};
 
@@ -60,7 +60,7 @@ impl Model for Given {
 
 /// What is declared.
 fn declared(found: Option<Meaning>) -> Option<Meaning>
-    ensures { result ≡ keep spec.is_declared found }
+    ensures { result ≡ keep is_declared found }
 {
     let found = found?;
     if matches!(found.source, Source::Declaration) {

@@ -3,6 +3,7 @@
 use crate::container::Container;
 use crate::meaning::{Meaning, public_def};
 use crate::paths::containers::{led, variant_in};
+use crate::paths::textual::textual_macro;
 use crate::search::around::{certain, extern_crate};
 use crate::search::shown::{Found, Named, Who, if_seen};
 use crate::search::state::Search;
@@ -228,7 +229,9 @@ impl<'a> Search<'a> {
         }
         match (namespace, textual) {
             (Namespace::Macros, Some(id)) => {
-                Ok(Found::Is(public_def(ModuleDefId::MacroId(id)), None))
+                let krate = self.krate_of(who.home);
+                let meaning = textual_macro(self.world, krate, id, name);
+                Ok(Found::Is(meaning, None))
             }
             _ => self.in_home(who, name, namespace),
         }

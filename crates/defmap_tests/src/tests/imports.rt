@@ -1,13 +1,13 @@
 //! `is_supported` on a crate with the modules `generic` and `unix`, each with a function `open`, and `sys`, in which
-//! `pub use crate::generic::*; pub use crate::unix::open;` stand.
-use crate::bind::bind_crate;
-use crate::def_maps::DefMaps;
-use crate::glob_import::GlobImport;
-use crate::importing::Importing;
-use crate::marks::Marks;
-use crate::named_import::{ImportKind, NamedImport};
-use crate::rules::supported::is_supported;
-use crate::slots::Slots;
+//! `pub use dm_imports::generic::*; pub use dm_imports::unix::open;` stand.
+use dm_imports::bind::bind_crate;
+use dm_imports::def_maps::DefMaps;
+use dm_imports::glob_import::GlobImport;
+use dm_imports::importing::Importing;
+use dm_imports::marks::Marks;
+use dm_imports::named_import::{ImportKind, NamedImport};
+use dm_imports::rules::supported::is_supported;
+use dm_imports::slots::Slots;
 use dm_base::ids::{
     Crate, FileAstId, FileId, FunctionId, MacroCallId, ModuleId, UseId, UseTreeIdx,
 };
@@ -122,7 +122,7 @@ fn path(alloc: Global, first: &str, second: Option<&str>) -> Result<ModPath, All
     Ok(ModPath::from_segments(PathKind::Crate, segments))
 }
 
-/// `pub use crate::unix::open;`
+/// `pub use dm_imports::unix::open;`
 fn import(alloc: Global) -> Result<NamedImport, AllocError> {
     Ok(NamedImport {
         home: SYS,
@@ -135,7 +135,7 @@ fn import(alloc: Global) -> Result<NamedImport, AllocError> {
     })
 }
 
-/// `pub use crate::generic::*;`
+/// `pub use dm_imports::generic::*;`
 fn glob(alloc: Global) -> Result<GlobImport, AllocError> {
     Ok(GlobImport {
         into: SYS,
