@@ -12,10 +12,8 @@ SPACES = ("type", "value", "macro")
 # Where the rules are not Rust's, each as rustc has it. `Maps` follows the rules, and these where it
 # is told so.
 ROOT_ALONE = "in edition 2015 paths begin in the root alone, and not in the extern prelude"
-TEXTUAL_IN_CRATE = "a textual macro that is not exported is shown to its crate alone"
 EXTERN_SHOWN = "a public import of an extern crate's item shows it to all, though it be private"
-USED_IN_CRATE = "a macro by `#[macro_use] extern crate` is shown to the crate that uses it alone"
-AMENDMENTS = (ROOT_ALONE, TEXTUAL_IN_CRATE, EXTERN_SHOWN, USED_IN_CRATE)
+AMENDMENTS = (ROOT_ALONE, EXTERN_SHOWN)
 
 
 class Unknown(Exception):
@@ -287,7 +285,7 @@ class Maps:
         roots = self.around.macro_roots if space == "macro" else []
         for number, (root, names) in reversed(list(enumerate(roots))):
             found = self.foreign(root, space, name) if names is None or name in names else None
-            if found and number and USED_IN_CRATE in self.amended:
+            if found and number:
                 return Meaning(found.what, self.root)
             if found:
                 return found
@@ -332,7 +330,7 @@ class Maps:
         if is_absolute:
             return self.by(one, "a crate behind two colons", self.extern(space, name))
         if textual and space == "macro":
-            is_shown = TEXTUAL_IN_CRATE not in self.amended or self.around.is_exported(textual)
+            is_shown = self.around.is_exported(textual)
             found = Meaning(("macro", textual), () if is_shown else self.root)
             return self.by(one, "a textual macro", found)
         return self.in_module(one, space, name)

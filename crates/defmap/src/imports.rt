@@ -1,4 +1,5 @@
 //! What each import of some crates means.
+use crate::ambiguous::Ambiguities;
 use crate::definitions::definition_text;
 use crate::hidden::Hidden;
 use crate::macro_homes::macro_homes;
@@ -57,6 +58,7 @@ struct Listing<'s, 'h, 'l, 'f> {
     lines: &'l Lines<'f>,
     /// The named imports that may mean more.
     partly: IndexSet<usize>,
+    ambiguous: Ambiguities,
     out: String,
 }
 
@@ -69,6 +71,7 @@ impl<'s, 'h, 'l, 'f> Drop for Listing<'s, 'h, 'l, 'f> {
             hidden: _hidden,
             lines: _lines,
             partly: _partly,
+            ambiguous: _ambiguous,
             out: _out,
         } = self;
     }
@@ -122,6 +125,8 @@ impl<'s, 'h, 'l, 'f> Listing<'s, 'h, 'l, 'f> {
             }
             let reservation = if self.hidden.notes.cause_of_named(place).is_some() {
                 "; unknown"
+            } else if self.ambiguous.named.contains_key(&place) {
+                "; ambiguous"
             } else if self.partly.contains(&place) {
                 "; more unknown"
             } else {
@@ -165,6 +170,7 @@ impl<'s, 'h, 'l, 'f> Listing<'s, 'h, 'l, 'f> {
             hidden: _hidden,
             lines: _lines,
             partly: _partly,
+            ambiguous: _ambiguous,
             out,
         } = self;
         out
@@ -175,8 +181,13 @@ impl<'s, 'h, 'l, 'f> Listing<'s, 'h, 'l, 'f> {
         for (place, glob) in settled.collected.globs.iter().enumerate() {
             if is_own(settled, glob.into) {
                 let leaf = (glob.import.use_, glob.import.idx);
-                let is_unknown = self.hidden.notes.cause_of_glob(place).is_some();
-                let reservation = if is_unknown { "; unknown" } else { "" };
+                let reservation = if self.hidden.notes.cause_of_glob(place).is_some() {
+                    "; unknown"
+                } else if self.ambiguous.globs.contains_key(&place) {
+                    "; ambiguous"
+                } else {
+                    ""
+                };
                 self.add(glob.into, &glob.path, leaf, None, reservation)?;
             }
         }
@@ -192,6 +203,7 @@ fn listed(lines: &Lines<'_>, hidden: &Hidden<'_>) -> Result<String, AllocError> 
         hidden,
         lines,
         partly: partly_unknown(hidden)?,
+        ambiguous: Ambiguities::of(hidden.alloc(), hidden.settled())?,
         out: String::new(hidden.alloc()),
     };
     listing.add_all()?;

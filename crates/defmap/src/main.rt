@@ -2,6 +2,7 @@
 //! what leads nowhere; and prints what is read of one file.
 #![tactic(auto)]
 
+mod ambiguous;
 mod answer;
 mod assocs;
 mod definitions;

@@ -1,4 +1,5 @@
 //! What a path means in a module.
+use crate::ambiguous::{Ambiguity, ambiguity_in, ambiguity_text, ambiguous_name};
 use crate::definitions::definition_text;
 use crate::meanings::{Meant, meaning, meant_in};
 use crate::path_text::path_text;
@@ -275,6 +276,30 @@ impl<'s, 'l, 'f> Teller<'s, 'l, 'f> {
         }
     }
 
+    /// Adds that a path comes to an ambiguous name, and the globs that bring it: it means nothing then.
+    fn add_ambiguity(&mut self, path: &ModPath, ambiguity: Ambiguity) -> Result<(), AllocError> {
+        let (alloc, settled) = (self.alloc, self.settled);
+        let Some(found) = ambiguous_name(alloc, settled, self.home, path, ambiguity)? else {
+            return Ok(());
+        };
+        let text = ambiguity_text(alloc, settled, &found)?;
+        write!(self.out, "{text}\n")?;
+        self.is_found = false;
+        for glob in &found.globs {
+            self.add_step(ImportOrExternCrate::Glob(glob.import))?;
+        }
+        Ok(())
+    }
+
+    /// Adds what a path means, and whether it comes to an ambiguous name.
+    fn add_answer(&mut self, path: &ModPath) -> Result<(), AllocError> {
+        self.add_path(path)?;
+        match ambiguity_in(self.alloc, self.settled, self.home, path)? {
+            None => Ok(()),
+            Some(ambiguity) => self.add_ambiguity(path, ambiguity),
+        }
+    }
+
     /// Adds what a path means.
     fn add_path(&mut self, path: &ModPath) -> Result<(), AllocError> {
         let Some(found) = meaning(self.settled.world(), self.home, path) else {
@@ -320,6 +345,6 @@ pub(crate) fn meaning_text(
         out: String::new(alloc),
         is_found: false,
     };
-    teller.add_path(path)?;
+    teller.add_answer(path)?;
     Ok(teller.into_parts())
 }

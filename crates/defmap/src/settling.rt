@@ -7,7 +7,7 @@ use defmap_inputs::complaints::Complaints;
 use defmap_inputs::crates_read::CratesRead;
 use defmap_inputs::failure::{Failure, Status};
 use dm_base::ids::Crate;
-use dm_collector::collect::Collected;
+use dm_collector::collected::Collected;
 use std::alloc::{AllocError, Global};
 
 /// The settled crates, and what could not be read of them.

@@ -1,4 +1,5 @@
 //! What leads nowhere in some crates.
+use crate::ambiguous::{Ambiguities, Ambiguity, ambiguity_text, ambiguous_name};
 use crate::hidden::Hidden;
 use crate::macro_calls::{CallEnd, end_of, item_of};
 use crate::macro_homes::{MacroHome, macro_homes};
@@ -158,6 +159,70 @@ impl Unresolved {
         Ok(())
     }
 
+    /// Adds an import whose path comes to an ambiguous name.
+    fn add_ambiguous(
+        &mut self,
+        alloc: Global,
+        settled: &Settled,
+        (home, path): (ModuleId, &ModPath),
+        leaf: (UseId, UseTreeIdx),
+        ambiguity: Ambiguity,
+    ) -> Result<(), AllocError> {
+        let Some(found) = ambiguous_name(alloc, settled, home, path, ambiguity)? else {
+            return Ok(());
+        };
+        let (use_, idx) = leaf;
+        let written = path_text(alloc, path)?;
+        let why = ambiguity_text(alloc, settled, &found)?;
+        self.told.push(Told {
+            spot: use_spot(alloc, settled, use_, idx)?,
+            message: format!(in alloc; "ambiguous import {written}: {why}")?,
+        })?;
+        Ok(())
+    }
+
+    /// Adds the named imports of the crates that are asked about whose paths come to ambiguous names.
+    fn add_ambiguous_named(
+        &mut self,
+        hidden: &Hidden<'_>,
+        all: &Ambiguities,
+    ) -> Result<(), AllocError> {
+        let settled = hidden.settled();
+        let retry = &settled.collected.retry;
+        for (place, ambiguity) in all.named.iter() {
+            let Some(pending) = retry.get(*place) else {
+                continue;
+            };
+            let asking = (pending.origin(), pending.path());
+            if is_own(settled, asking.0) {
+                let import = pending.import();
+                let leaf = (import.use_, import.idx);
+                self.add_ambiguous(hidden.alloc(), settled, asking, leaf, *ambiguity)?;
+            }
+        }
+        Ok(())
+    }
+
+    /// Adds the globs of these crates whose paths do.
+    fn add_ambiguous_globs(
+        &mut self,
+        hidden: &Hidden<'_>,
+        all: &Ambiguities,
+    ) -> Result<(), AllocError> {
+        let settled = hidden.settled();
+        for (place, ambiguity) in all.globs.iter() {
+            let Some(glob) = settled.collected.globs.get(*place) else {
+                continue;
+            };
+            if is_own(settled, glob.into) {
+                let asking = (glob.into, &glob.path);
+                let leaf = (glob.import.use_, glob.import.idx);
+                self.add_ambiguous(hidden.alloc(), settled, asking, leaf, *ambiguity)?;
+            }
+        }
+        Ok(())
+    }
+
     /// Adds a macro call of the crate that leads nowhere.
     fn add_call(
         &mut self,
@@ -210,6 +275,9 @@ impl Unresolved {
         self.add_modules(alloc, settled)?;
         self.add_named(hidden)?;
         self.add_globs(hidden)?;
+        let ambiguous = Ambiguities::of(alloc, settled)?;
+        self.add_ambiguous_named(hidden, &ambiguous)?;
+        self.add_ambiguous_globs(hidden, &ambiguous)?;
         self.add_calls(hidden, homes)
     }
 

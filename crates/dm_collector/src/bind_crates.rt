@@ -1,5 +1,5 @@
 //! The imports and globs of crates, bound crate by crate.
-ghost use Rattle.std.specs.Prelude.{◌≡◌, IfErr, IfOk, List, OnOk};
+ghost use Rattle.std.specs.Prelude.{◌≡◌, [], IfErr, IfOk, List, OnOk};
 ghost use Rattle.dm_collector.specs.Binding as spec;
 ghost use Rattle.dm_collector.specs.Steps.{IsReached};
 ghost use Rattle.dm_collector.specs.declared.collect_fault.CollectFault.TheVariants as faults;
@@ -13,7 +13,9 @@ use dm_base::ids::Crate;
 use dm_imports::bind::bind_crate;
 use dm_imports::importing::Importing;
 use dm_imports::slots::Slots;
+use dm_maps::world::World;
 use dm_retry::retry::Retry;
+use dm_scope::glob_imports::PerNsGlobImports;
 use std::alloc::{AllocError, Global};
 
 /// Gives a crate the macros that it uses.
@@ -34,6 +36,24 @@ fn use_macros_of(
     }
 }
 
+/// A world in which no import waits.
+pub(crate) fn unimported(
+    alloc: Global,
+    world: World,
+    flags: PerNsGlobImports,
+) -> Result<Retry, CollectFault>
+    ensures world { IfOk result (λ retry. retry.state.world ≡ world) }
+    ensures globs { IfOk result (λ retry. retry.state.globs ≡ flags) }
+    ensures none { IfOk result (λ retry. retry.state.pending ≡ []) }
+    ensures memory { IfErr result (λ fault. fault ≡ faults.OutOfMemory) }
+{
+    match Retry::new(world, flags, Vec::new(alloc)) {
+        Ok(retry) => Ok(retry),
+        // No import waits, so that none is unknown: this does not come up.
+        Err((_fault, _world, _flags, _none)) => Err(CollectFault::OutOfMemory),
+    }
+}
+
 /// Binds what the imports and globs of a crate bring.
 fn bind_names(
     before: Retry,
@@ -48,11 +68,8 @@ fn bind_names(
 {
     let (mut world, mut flags, _pendings) = before.into_parts();
     bind_crate(&mut world, &mut flags, ambiguous, alloc, given, krate)?;
-    match Retry::new(world, flags, Vec::new(alloc)) {
-        Ok(retry) => Ok(retry),
-        // No import waits, so that none is unknown: this does not come up.
-        Err((_fault, _world, _flags, _none)) => Err(CollectFault::OutOfMemory),
-    }
+    let made = unimported(alloc, world, flags)?;
+    Ok(made)
 }
 
 /// Gives a crate the macros that it uses, and binds what its imports and globs bring.

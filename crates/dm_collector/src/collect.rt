@@ -23,13 +23,15 @@ ghost use Rattle.dm_def_map.specs.Variants.{same_enum};
 ghost use Rattle.dm_imports.specs.Tables.{of_tables};
 ghost use Rattle.dm_scope.specs.Flags.{no_globs};
 
-use crate::bind_crates::bind_crates;
+use crate::bind_crates::{bind_crates, unimported};
 use crate::collect_fault::{CollectFault, of_builder, of_declared, of_filling, of_order};
+use crate::collected::Collected;
 use crate::enums::enum_visibilities;
 use crate::leaves::split;
 use crate::macro_uses::{MacroUses, macro_uses};
 use crate::named_imports::named_imports;
 use crate::prelude_globs::bringing_names;
+use crate::support::are_right;
 use crate::unnamed_imports::{settle_traits, waiting};
 use crate_items::files::crate_graph::CrateGraph;
 use crate_items::modules::CrateModules;
@@ -42,12 +44,9 @@ use crate_tables::extern_crates::ExternCrateRow;
 use crate_tables::table_parts::table_parts;
 use dm_base::ids::{Crate, EnumId};
 use dm_base::visibility::Visibility;
-use dm_imports::def_maps::DefMaps;
 use dm_imports::glob_import::GlobImport;
 use dm_imports::importing::Importing;
-use dm_imports::marks::Marks;
 use dm_imports::named_import::NamedImport;
-use dm_imports::rules::supported::is_supported;
 use dm_imports::slots::Slots;
 use dm_maps::builder::WorldBuilder;
 use dm_maps::world::World;
@@ -56,56 +55,6 @@ use dm_retry::retry::Retry;
 use dm_scope::glob_imports::PerNsGlobImports;
 use indexmap::IndexMap;
 use std::alloc::Global;
-
-/// Crates, collected. The crates of the graph have their numbers in the world, too.
-pub struct Collected {
-    /// The world, its glob table, and all imports, which wait.
-    pub retry: Retry,
-    /// The imports that bind names, as the rules of imports take them.
-    pub imports: Vec<NamedImport>,
-    /// The globs of all crates.
-    pub globs: Vec<GlobImport>,
-    /// Who sees each enum.
-    pub enums: IndexMap<EnumId, Visibility>,
-    /// The slots that are ambiguous.
-    pub ambiguous: Slots<bool>,
-    /// The roots that each crate has macros from.
-    pub uses: Vec<MacroUses>,
-    /// Whether the def maps are what the rules of imports give of them. Where they are not, what some names mean goes by
-    /// the order of imports.
-    pub is_supported: bool,
-    /// Whether all unnamed traits and all macros of `macro_use` preludes came.
-    pub is_settled: bool,
-    /// The modules that each crate declares, with what was read of their files.
-    pub lists: Vec<CrateModules>,
-    /// The table of each crate, from which names and imports were taken: the ids of its modules, and where its uses and
-    /// its definitions are written.
-    pub tables: Vec<CrateTable>,
-    /// The extern crates of all crates, by their numbers.
-    pub externs: Vec<ExternCrateRow>,
-    /// Where the associated items of all crates are written.
-    pub assocs: Vec<AssocPlace>,
-}
-
-/// A hand-written `Drop`, to keep proofs small: what drops one has one call to prove.
-impl Drop for Collected {
-    fn drop(self) {
-        let Collected {
-            retry: _retry,
-            imports: _imports,
-            globs: _globs,
-            enums: _enums,
-            ambiguous: _ambiguous,
-            uses: _uses,
-            is_supported: _is_supported,
-            is_settled: _is_settled,
-            lists: _lists,
-            tables: _tables,
-            externs: _externs,
-            assocs: _assocs,
-        } = self;
-    }
-}
 
 /// A state in which nothing is imported yet, with what is imported, and the tables without names and imports.
 #[derive(Drop)]
@@ -126,20 +75,6 @@ struct BegunCrates {
     lists: Vec<CrateModules>,
     externs: Vec<ExternCrateRow>,
     assocs: Vec<AssocPlace>,
-}
-
-/// A world in which no import waits.
-fn unimported(alloc: Global, world: World, flags: PerNsGlobImports) -> Result<Retry, CollectFault>
-    ensures world { IfOk result (λ retry. retry.state.world ≡ world) }
-    ensures globs { IfOk result (λ retry. retry.state.globs ≡ flags) }
-    ensures none { IfOk result (λ retry. retry.state.pending ≡ []) }
-    ensures memory { IfErr result (λ fault. fault ≡ faults.OutOfMemory) }
-{
-    match Retry::new(world, flags, Vec::new(alloc)) {
-        Ok(retry) => Ok(retry),
-        // No import waits, so that none is unknown: this does not come up.
-        Err((_fault, _world, _flags, _none)) => Err(CollectFault::OutOfMemory),
-    }
 }
 
 /// The world of some tables, with names declared.
@@ -315,41 +250,6 @@ fn ordered(alloc: Global, graph: &CrateGraph) -> Result<Vec<Crate>, CollectFault
         Ok(order) => Ok(order),
         Err(fault) => Err(of_order(fault)),
     }
-}
-
-/// Whether def maps are what the rules of imports give of them.
-fn are_right(
-    alloc: Global,
-    world: &World,
-    imports: &[NamedImport],
-    globs: &[GlobImport],
-    enums: &IndexMap<EnumId, Visibility>,
-    ambiguous: &Slots<bool>,
-) -> Result<bool, CollectFault>
-    ensures right { IfOk result (λ right. IsTrue right ↔ spec.AreRight (of_tables (record {
-      world = world.now;
-      imports = imports.now;
-      globs = globs.now;
-      enums = enums.now.entries;
-      ambiguous = record { table = ambiguous.now; is_all_but = false };
-    }))) }
-    ensures memory { IfErr result (λ fault. fault ≡ faults.OutOfMemory) }
-{
-    let maps = DefMaps {
-        world,
-        imports,
-        globs,
-        enums,
-        ambiguous: Marks {
-            table: ambiguous,
-            is_all_but: false,
-        },
-    };
-    if !maps.are_imports_known() {
-        return Ok(false);
-    }
-    let is_right = is_supported(alloc, &maps)?;
-    Ok(is_right)
 }
 
 /// Binds what imports and globs bring, crate by crate, and marks the slots that are ambiguous.

@@ -4,6 +4,7 @@
 mod bind_crates;
 pub mod collect;
 pub mod collect_fault;
+pub mod collected;
 pub mod enums;
 pub mod glob_fault;
 pub mod globs;
@@ -14,6 +15,7 @@ pub mod named_imports;
 pub mod prelude_globs;
 mod settle;
 pub mod sources;
+mod support;
 mod unnamed_imports;
 pub mod unnamed_traits;
 pub mod unresolved_names;

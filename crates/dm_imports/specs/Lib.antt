@@ -5,6 +5,7 @@ pub mod Rules
 pub mod Tables
 pub mod Brought
 pub mod Supporting
+pub mod Asked
 pub mod Written
 pub mod Bound
 pub mod Rows

@@ -5,6 +5,7 @@ use Rattle.dm_base.specs.declared.fields_shape.FieldsShape.{FieldsShape}
 use Rattle.dm_base.specs.declared.fields_shape.FieldsShape.TheVariants as shape
 use Rattle.dm_base.specs.declared.ids.Crate.{Crate}
 use Rattle.dm_base.specs.declared.ids.EnumId.{EnumId}
+use Rattle.dm_base.specs.declared.ids.ExternCrateId.{ExternCrateId}
 use Rattle.dm_base.specs.declared.ids.ModuleId.{ModuleId}
 use Rattle.dm_base.specs.declared.imports.ImportId.{ImportId}
 use Rattle.dm_base.specs.contracts.imports.ImportIdPartialEq.TheImpl as import_eq
@@ -129,8 +130,17 @@ local_of w m = option_map_or (λ l. l) (option_and_then (λ k. slice_get w.local
 abbrev pub extern_crate : DefMaps → ModuleId → Name → Option Meaning
 extern_crate d m n = option_map (λ e. public_def (def.ModuleId e.0)) (find_name n (local_of d.world m))
 
+-- a crate alone sees a macro that an extern crate of it brings, and all see those of the standard library
+abbrev pub used_vis : Crate → Option ExternCrateId → Visibility
+used_vis k None = Public
+used_vis k (Some e) = PubCrate k
+
+abbrev pub used : Crate → MacroId × Option ExternCrateId → Meaning
+used k e = record (public_def (def.MacroId e.0)) { vis = used_vis k e.1 }
+
 abbrev pub used_macro : DefMaps → ModuleId → Name → Option Meaning
-used_macro d m n = option_map (λ e. public_def (def.MacroId e.0)) (find_name n (macro_uses_of d.world ((tree_of d.world).map_of m)))
+used_macro d m n =
+    option_map (used (crate_of (tree_of d.world) m)) (find_name n (macro_uses_of d.world ((tree_of d.world).map_of m)))
 
 abbrev pub builtin : Name → Option Meaning
 builtin n = option_map (λ b. public_def (def.BuiltinType b)) (find_name n builtin_words)

@@ -40,13 +40,6 @@ fn is_import_known(maps: &DefMaps<'_>, import: &NamedImport) -> bool
     is_module(maps, import.home) && is_named(maps.world, import.vis)
 }
 
-/// The same of a glob.
-fn is_glob_known(maps: &DefMaps<'_>, glob: &GlobImport) -> bool
-    ensures { IsTrue result ↔ IsGlobKnown (of_tables maps.now) glob.now }
-{
-    is_module(maps, glob.into) && is_named(maps.world, glob.vis)
-}
-
 /// The same of some imports.
 fn imports_known(maps: &DefMaps<'_>, imports: &[NamedImport]) -> bool
     ensures { IsTrue result ↔ All (IsImportKnown (of_tables maps.now)) imports.now }
@@ -64,7 +57,7 @@ fn globs_known(maps: &DefMaps<'_>, globs: &[GlobImport]) -> bool
     ensures { IsTrue result ↔ All (IsGlobKnown (of_tables maps.now)) globs.now }
 {
     for glob in globs {
-        if !is_glob_known(maps, glob) {
+        if !maps.is_glob_known(glob) {
             return false;
         }
     }
@@ -72,6 +65,13 @@ fn globs_known(maps: &DefMaps<'_>, globs: &[GlobImport]) -> bool
 }
 
 impl<'a> DefMaps<'a> {
+    /// Whether the module of a glob, and the one that its visibility names, are the world's.
+    pub fn is_glob_known(&self, glob: &GlobImport) -> bool
+        ensures { IsTrue result ↔ IsGlobKnown (of_tables self.now) glob.now }
+    {
+        is_module(self, glob.into) && is_named(self.world, glob.vis)
+    }
+
     /// Whether imports and globs stand in modules of the world's, and their visibilities name such: what `is_supported`
     /// asks for.
     pub fn are_imports_known(&self) -> bool

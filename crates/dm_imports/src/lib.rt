@@ -1,6 +1,7 @@
 //! What imports and globs bind in def maps: the rules, and whether def maps are what the rules give of them.
 #![tactic(auto)]
 
+mod asked;
 pub mod asking;
 pub mod bind;
 pub mod container;

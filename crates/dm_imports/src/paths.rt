@@ -9,7 +9,7 @@ ghost use Rattle.dm_imports.specs.Paths as spec;
 ghost use Rattle.dm_imports.specs.Paths.{MayAsk};
 ghost use Rattle.dm_imports.specs.Tables.{asks, of_tables};
 
-mod around;
+pub(crate) mod around;
 pub(crate) mod containers;
 mod first;
 pub(crate) mod shown;

@@ -3,6 +3,7 @@
 mod all_imports;
 mod all_offers;
 mod join;
+pub mod meanings;
 pub(crate) mod offers;
 pub(crate) mod source_names;
 pub mod supported;

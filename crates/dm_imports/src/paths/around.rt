@@ -12,12 +12,13 @@ use crate::def_maps::DefMaps;
 use crate::meaning::{Meaning, public_def};
 use crate::paths::shown::shown;
 use dm_base::builtin_type::BuiltinType;
-use dm_base::ids::{MapId, ModuleId};
-use dm_base::item_ids::ModuleDefId;
+use dm_base::ids::{Crate, ExternCrateId, MapId, ModuleId};
+use dm_base::item_ids::{MacroId, ModuleDefId};
 use dm_base::item_in_ns::ItemModules;
 use dm_base::module_tree::ModuleTree;
 use dm_base::name::Name;
 use dm_base::per_ns::Namespace;
+use dm_base::visibility::Visibility;
 use dm_maps::local_def_map::LocalDefMap;
 use dm_maps::world::World;
 use dm_maps::world::maps_of::local_def_map;
@@ -54,6 +55,21 @@ pub(crate) fn extern_crate(maps: &DefMaps<'_>, m: ModuleId, name: &Name) -> Opti
     }
 }
 
+/// A macro of the `macro_use` prelude of a crate, by what brought it: the crate alone sees what an extern crate of it brings,
+/// and all see what the standard library does.
+pub(crate) fn used(krate: Crate, id: MacroId, brought_by: Option<ExternCrateId>) -> Meaning
+    ensures { result ≡ spec.used krate (id, brought_by) }
+{
+    let vis = match brought_by {
+        None => Visibility::Public,
+        Some(_) => Visibility::PubCrate(krate),
+    };
+    Meaning {
+        vis,
+        ..public_def(ModuleDefId::MacroId(id))
+    }
+}
+
 /// A macro of the `macro_use` prelude.
 fn used_macro(maps: &DefMaps<'_>, m: ModuleId, name: &Name) -> Option<Meaning>
     requires { IsKnown (tree_of maps.now.world) m }
@@ -62,7 +78,7 @@ fn used_macro(maps: &DefMaps<'_>, m: ModuleId, name: &Name) -> Option<Meaning>
 {
     match maps.world.macro_use_of(map_of(maps.world, m), name) {
         None => None,
-        Some((id, _krate)) => Some(public_def(ModuleDefId::MacroId(id))),
+        Some((id, brought_by)) => Some(used(maps.world.krate(m), id, brought_by)),
     }
 }
 

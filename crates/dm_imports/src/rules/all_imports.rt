@@ -67,7 +67,7 @@ fn imported(maps: &DefMaps<'_>, import: &NamedImport, found: Meaning) -> Meaning
 }
 
 /// What an import brings in a namespace.
-fn import_brings(
+pub(crate) fn import_brings(
     maps: &DefMaps<'_>,
     below: &Slots<Joined>,
     import: &NamedImport,

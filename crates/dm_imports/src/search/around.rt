@@ -1,6 +1,7 @@
 //! Names around a module of the crate whose names are searched.
 
 use crate::meaning::{Meaning, public_def};
+use crate::paths::around::used;
 use crate::search::shown::{Found, Who, if_seen};
 use crate::search::state::Search;
 use dm_base::builtin_type::BuiltinType;
@@ -35,8 +36,9 @@ pub(crate) fn extern_crate(world: &World, m: ModuleId, name: &Name) -> Option<Me
 
 /// A macro of the `macro_use` prelude.
 fn used_macro(world: &World, m: ModuleId, name: &Name) -> Option<Meaning> {
-    let (id, _brought_by) = world.macro_use_of(map_of(world, m)?, name)?;
-    Some(public_def(ModuleDefId::MacroId(id)))
+    let map = map_of(world, m)?;
+    let (id, brought_by) = world.macro_use_of(map, name)?;
+    Some(used(map.krate, id, brought_by))
 }
 
 /// A builtin type.

@@ -69,7 +69,7 @@ impl<'a> Search<'a> {
         self.is_open_no_more(slot)
     }
 
-    /// Has a bound import follow what it found as that grows; nothing else replaces it.
+    /// Has a bound import follow what it found as that grows. Only an ambiguous definition replaces another.
     fn grow(
         &mut self,
         number: usize,
@@ -80,17 +80,13 @@ impl<'a> Search<'a> {
     ) -> Result<(), AllocError> {
         let is_ambiguous = before.is_ambiguous || after.is_ambiguous;
         let vis = grown(self.world, asker.home, before.vis, after.vis);
-        let is_same = before.def == after.def && vis.is_none();
-        if is_same && is_ambiguous == before.is_ambiguous {
-            return Ok(());
-        }
         if before.def != after.def && !after.is_ambiguous {
             return Ok(());
         }
         let together = Meaning {
             vis: vis.unwrap_or(before.vis),
             is_ambiguous,
-            ..before
+            ..after
         };
         if together == before {
             return Ok(());

@@ -28,10 +28,8 @@ fn joined(world: &World, cell: &Cell<'_>, glob: usize, offer: Meaning) -> Option
     };
     let is_ambiguous = all.is_ambiguous || offer.is_ambiguous || all.def != offer.def;
     let vis = grown(world, cell.m, all.vis, offer.vis);
-    let is_first = glob < cell.first_glob;
-    if !is_first && is_ambiguous == all.is_ambiguous && vis.is_none() {
-        return None;
-    }
+    // The definition is that of the first glob, which may offer another one once that is ambiguous.
+    let is_first = glob <= cell.first_glob;
     let first = if is_first { offer } else { all };
     let together = Meaning {
         vis: vis.unwrap_or(all.vis),
@@ -39,6 +37,9 @@ fn joined(world: &World, cell: &Cell<'_>, glob: usize, offer: Meaning) -> Option
         ..first
     };
     let first_glob = if is_first { glob } else { cell.first_glob };
+    if together == all && first_glob == cell.first_glob {
+        return None;
+    }
     Some((together, first_glob))
 }
 

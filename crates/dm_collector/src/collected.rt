@@ -1,0 +1,91 @@
+//! `Collected`: crates, collected.
+ghost use Rattle.std.specs.Prelude.{◌≡◌, false};
+
+use crate::macro_uses::MacroUses;
+use crate_items::modules::CrateModules;
+use crate_tables::assoc_items::filling::AssocPlace;
+use crate_tables::crate_table::CrateTable;
+use crate_tables::extern_crates::ExternCrateRow;
+use dm_base::ids::EnumId;
+use dm_base::visibility::Visibility;
+use dm_imports::def_maps::DefMaps;
+use dm_imports::glob_import::GlobImport;
+use dm_imports::marks::Marks;
+use dm_imports::named_import::NamedImport;
+use dm_imports::slots::Slots;
+use dm_retry::retry::Retry;
+use indexmap::IndexMap;
+
+/// Crates, collected. The crates of the graph have their numbers in the world, too.
+pub struct Collected {
+    /// The world, its glob table, and all imports, which wait.
+    pub retry: Retry,
+    /// The imports that bind names, as the rules of imports take them.
+    pub imports: Vec<NamedImport>,
+    /// The globs of all crates.
+    pub globs: Vec<GlobImport>,
+    /// Who sees each enum.
+    pub enums: IndexMap<EnumId, Visibility>,
+    /// The slots that are ambiguous.
+    pub ambiguous: Slots<bool>,
+    /// The roots that each crate has macros from.
+    pub uses: Vec<MacroUses>,
+    /// Whether the def maps are what the rules of imports give of them. Where they are not, what some names mean goes by
+    /// the order of imports.
+    pub is_supported: bool,
+    /// Whether all unnamed traits and all macros of `macro_use` preludes came.
+    pub is_settled: bool,
+    /// The modules that each crate declares, with what was read of their files.
+    pub lists: Vec<CrateModules>,
+    /// The table of each crate, from which names and imports were taken: the ids of its modules, and where its uses and
+    /// its definitions are written.
+    pub tables: Vec<CrateTable>,
+    /// The extern crates of all crates, by their numbers.
+    pub externs: Vec<ExternCrateRow>,
+    /// Where the associated items of all crates are written.
+    pub assocs: Vec<AssocPlace>,
+}
+
+/// A hand-written `Drop`, to keep proofs small: what drops one has one call to prove.
+impl Drop for Collected {
+    fn drop(self) {
+        let Collected {
+            retry: _retry,
+            imports: _imports,
+            globs: _globs,
+            enums: _enums,
+            ambiguous: _ambiguous,
+            uses: _uses,
+            is_supported: _is_supported,
+            is_settled: _is_settled,
+            lists: _lists,
+            tables: _tables,
+            externs: _externs,
+            assocs: _assocs,
+        } = self;
+    }
+}
+
+impl Collected {
+    /// The def maps, with what is imported in them.
+    pub fn def_maps(&self) -> DefMaps<'_>
+        ensures { result ≡ record {
+          world = self.now.retry.state.world;
+          imports = self.now.imports.items;
+          globs = self.now.globs.items;
+          enums = self.now.enums.entries;
+          ambiguous = record { table = self.now.ambiguous; is_all_but = false };
+        } }
+    {
+        DefMaps {
+            world: self.retry.world(),
+            imports: self.imports.as_slice(),
+            globs: self.globs.as_slice(),
+            enums: &self.enums,
+            ambiguous: Marks {
+                table: &self.ambiguous,
+                is_all_but: false,
+            },
+        }
+    }
+}

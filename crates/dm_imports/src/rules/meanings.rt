@@ -1,0 +1,96 @@
+//! What each import means, in each namespace.
+ghost use Rattle.std.specs.Prelude.{◌≡◌, ◌++◌, All, IfOk, OnOk, map};
+ghost use Rattle.dm_base.specs.Tree.{IsKnown};
+ghost use Rattle.dm_base.specs.Visibility.{NamesKnown};
+ghost use Rattle.dm_maps.specs.Trees.{tree_of};
+ghost use Rattle.dm_imports.specs.Brought.{AreAllNamed, IsBrought};
+ghost use Rattle.dm_imports.specs.Paths.{AreEnumsNamed};
+ghost use Rattle.dm_imports.specs.Rules.{AreImportsKnown, AreMapsKnown, IsImportKnown};
+ghost use Rattle.dm_imports.specs.Asked as spec;
+ghost use Rattle.dm_imports.specs.Tables.{of_tables};
+
+use crate::def_maps::DefMaps;
+use crate::joined::Joined;
+use crate::meaning::Meaning;
+use crate::named_import::NamedImport;
+use crate::rules::all_imports::import_brings;
+use crate::rules::all_offers::all_offers;
+use crate::slots::Slots;
+use dm_base::per_ns::Namespace;
+use std::alloc::{AllocError, Global};
+
+/// What an import brings in each namespace.
+#[derive(Clone, Copy, PartialEq, Eq, Debug)]
+pub struct ImportMeanings {
+    pub types: Option<Meaning>,
+    pub values: Option<Meaning>,
+    pub macros: Option<Meaning>,
+}
+
+/// What an import brings.
+fn meanings_of(maps: &DefMaps<'_>, below: &Slots<Joined>, import: &NamedImport) -> ImportMeanings
+    requires below { IsBrought (of_tables maps.now) below.now }
+    requires named { AreAllNamed maps.now.world below.now }
+    requires enums { AreEnumsNamed (of_tables maps.now) }
+    requires home { IsKnown (tree_of maps.now.world) import.now.home }
+    requires vis { NamesKnown (tree_of maps.now.world) import.now.vis }
+    ensures { result ≡ spec.meanings_of (of_tables maps.now) import.now }
+{
+    ImportMeanings {
+        types: import_brings(maps, below, import, Namespace::Types),
+        values: import_brings(maps, below, import, Namespace::Values),
+        macros: import_brings(maps, below, import, Namespace::Macros),
+    }
+}
+
+/// Adds what each of some imports brings.
+fn push_meanings(
+    all: &mut Vec<ImportMeanings>,
+    maps: &DefMaps<'_>,
+    below: &Slots<Joined>,
+    imports: &[NamedImport],
+) -> Result<(), AllocError>
+    requires below { IsBrought (of_tables maps.now) below.now }
+    requires named { AreAllNamed maps.now.world below.now }
+    requires enums { AreEnumsNamed (of_tables maps.now) }
+    requires imports { All (IsImportKnown (of_tables maps.now)) imports.now }
+    ensures { OnOk result (all.new.items ≡ all.old.items ++ map (spec.meanings_of (of_tables maps.now)) imports.now) }
+{
+    for import in imports {
+        all.push(meanings_of(maps, below, import))?;
+    }
+    Ok(())
+}
+
+/// The same of all imports, where `below` is what globs bring.
+fn all_meanings(
+    alloc: Global,
+    maps: &DefMaps<'_>,
+    below: &Slots<Joined>,
+) -> Result<Vec<ImportMeanings>, AllocError>
+    requires known { AreMapsKnown (of_tables maps.now) }
+    requires below { IsBrought (of_tables maps.now) below.now }
+    requires named { AreAllNamed maps.now.world below.now }
+    ensures { IfOk result (λ all. all.items ≡ map (spec.meanings_of (of_tables maps.now)) maps.now.imports) }
+{
+    let mut all = Vec::new(alloc);
+    push_meanings(&mut all, maps, below, maps.imports)?;
+    Ok(all)
+}
+
+/// What each import brings in each namespace, in the order of the imports.
+///
+/// Imports and globs have to stand in modules of the world's, and so have those to be that their visibilities name:
+/// `DefMaps::are_imports_known` tests it.
+///
+/// # Errors
+///
+/// Fails only where memory runs out.
+pub fn import_meanings(alloc: Global, maps: &DefMaps<'_>) -> Result<Vec<ImportMeanings>, AllocError>
+    requires { AreImportsKnown (of_tables maps.now) }
+    ensures { IfOk result (λ all. all.items ≡ map (spec.meanings_of (of_tables maps.now)) maps.now.imports) }
+{
+    let below = all_offers(alloc, maps)?;
+    let all = all_meanings(alloc, maps, &below)?;
+    Ok(all)
+}
