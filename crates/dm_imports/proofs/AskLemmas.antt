@@ -18,6 +18,7 @@ use Rattle.dm_imports.specs.declared.glob_import.GlobImport.{GlobImport}
 use Rattle.dm_imports.specs.declared.joined.Joined.{Joined}
 use Rattle.dm_imports.specs.declared.meaning.Meaning.{Meaning}
 use Rattle.dm_imports.specs.declared.named_import.NamedImport.{NamedImport}
+use Rattle.dm_imports.specs.Asked.{module_asks}
 use Rattle.dm_imports.specs.Brought.{AreAllNamed, IsBrought}
 use Rattle.dm_imports.specs.Meanings.{AreNamed, IsNamed, joined}
 use Rattle.dm_imports.specs.Paths.{AreEnumsNamed, Asking, DefMaps, MayAsk}
@@ -64,3 +65,6 @@ enums-named t e = by (vis_in t.enums e)
 
 pub maps-known : (t : MapTables) → AreImportsKnown (of_tables t) → AreMapsKnown (of_tables t)
 maps-known t h = record { enums = enums-named t; imports = h.imports; globs = h.globs }
+
+pub module-may : (t : MapTables) (m : ModuleId) (a : Asking) → a ≡ module_asks m → IsKnown (tree_of t.world) m → MayAsk (of_tables t) a
+module-may t m a is home = subst (MayAsk (of_tables t)) (sym is) (record { home = home; enums = enums-named t; below = λ k n s x e. cc })
