@@ -5,6 +5,9 @@ pub mod Rules
 pub mod Tables
 pub mod Brought
 pub mod Supporting
+pub mod Grounded
+pub mod Grounding
 pub mod Written
 pub mod Bound
 pub mod Rows
+pub mod GroundedRows
