@@ -1,6 +1,7 @@
 -- Passes over ways: how they begin, go on and end.
 use native.Mathlib.Omega.{arith}
-use Rattle.std.proofs.Common.{◌≡◌, ◌∙◌, ◌<◌, ap, refl, subst, sym, true, false, true≢false, inl, inr, length, zero, Bool, List, [], ◌∷◌}
+use Rattle.std.proofs.Common.{◌≡◌, ◌∙◌, ◌<◌, ap, refl, subst, sym, true, false, true≢false, inl, inr, length, nat_eq, suc, zero, ℕ, Bool, List, [], ◌∷◌, ◌++◌, get_or}
+use Rattle.std.proofs.lemmas.Bool.{eq-eqb}
 use Rattle.std.specs.List.{All, Contains}
 use Rattle.std.specs.Prelude.{is_some}
 use Rattle.dm_base.specs.declared.ids.ModuleId.{ModuleId}
@@ -14,7 +15,7 @@ use Rattle.dm_imports.specs.Slots.{Slots, no_slots, slot_at}
 use Rattle.dm_imports.proofs.SlotLemmas.{nothing-at}
 use Rattle.dm_imports.proofs.StepLemmas.{offers-more}
 use Rattle.dm_imports.proofs.WayLemmas.{done-grounded, stuck-not}
-use Rattle.std.proofs.lemmas.List.Elements.{All-contains}
+use Rattle.std.proofs.lemmas.List.Elements.{All-contains, Contains-append_left, Contains-get_or, Contains-push}
 
 -- ---- Before the first pass
 
@@ -43,7 +44,11 @@ module _ (d : DefMaps) (k : SlotSet) (b : Slots Joined) (has : (m : ModuleId) (n
 
 a-way : (ws : List Way) → 0 < length ws → (w : Way) × Contains ws w
 a-way [] lt = absurd (omega arith)
-a-way (w ∷ ws) lt = (w, zero, lt, refl)
+a-way (w ∷ ws) lt = (w, (zero, lt, refl))
+
+pub some-left : (n : ℕ) → nat_eq n 0 ≡ false → 0 < n
+some-left zero e = absurd (true≢false (sym (eq-eqb 0 0 refl) ∙ e))
+some-left (suc n) e = omega arith
 
 pub ends-stuck : (d : DefMaps) (k : SlotSet) (ws : List Way) → AreCovered d k ws → All (IsOpen d k (known_offers d k)) ws → All (IsWay d) ws → 0 < length ws → IsGrounded d → ⊥
 ends-stuck d k ws covered stuck ways lt grounded =
@@ -56,3 +61,17 @@ no-ways (w ∷ ws) e = absurd (omega arith)
 
 pub ends-done : (d : DefMaps) (k : SlotSet) (ws : List Way) → AreCovered d k ws → IsSafe d k → length ws ≡ 0 → IsGrounded d
 ends-done d k ws covered safe e = done-grounded d k (subst (AreCovered d k) (no-ways ws e) covered) safe
+
+-- ---- One way of a pass
+
+-- what holds of ways holds of the last, and of those before it
+pub popped-ways : (P : Way → Type 0) (ws init : List Way) (w : Way) → ws ≡ init ++ w ∷ [] → All P ws → All P init × P w
+popped-ways P ws init w whole all =
+    let each = subst (All P) whole all in
+    let one = All-contains P (init ++ w ∷ []) in (
+      All-from init (λ v has. one v each (Contains-append_left init (w ∷ []) v has)),
+      one w each (Contains-push init w),
+    )
+  where
+    All-from : (xs : List Way) → ((v : Way) → Contains xs v → P v) → All P xs
+    All-from xs h k v lt = h (get_or xs k v) (Contains-get_or xs k v lt)

@@ -155,11 +155,8 @@ module _ (d : DefMaps) (k l : SlotSet) (more : IsMore k l) (o p : Offers) (withi
 
   import-more : (m : ModuleId) (n : Name) (s : Namespace) (x : Meaning) (i : NamedImport) → is_import_step d k o m n s x i ≡ true → is_import_step d l p m n s x i ≡ true
   import-more m n s x i =
-      let there = same_place i.home i.name m n in
-      let its = is_by (Some i.import) x.source in
-      both-more there (its && brings i.kind s && leads_by d k o i s) there (its && brings i.kind s && leads_by d l p i s) (λ e. e)
-      (both-more its (brings i.kind s && leads_by d k o i s) its (brings i.kind s && leads_by d l p i s) (λ e. e)
-      (both-more (brings i.kind s) (leads_by d k o i s) (brings i.kind s) (leads_by d l p i s) (λ e. e) (leads-more i s)))
+      let its = same_place i.home i.name m n && is_by (Some i.import) x.source && brings i.kind s in
+      both-more its (leads_by d k o i s) its (leads_by d l p i s) (λ e. e) (leads-more i s)
 
   glob-more : (m : ModuleId) (n : Name) (s : Namespace) (x : Meaning) → is_glob_step d o m n s x ≡ true → is_glob_step d p m n s x ≡ true
   glob-more m n s x = by x.is_ambiguous
@@ -172,6 +169,6 @@ module _ (d : DefMaps) (k l : SlotSet) (more : IsMore k l) (o p : Offers) (withi
   step-more m n s x =
       let one = list_any (is_import_step d k o m n s x) d.imports in
       let two = list_any (is_import_step d l p m n s x) d.imports in
-      either-more (is_declared x) (is_glob_step d o m n s x || one) (is_declared x) (is_glob_step d p m n s x || two) (λ e. e)
-      (either-more (is_glob_step d o m n s x) one (is_glob_step d p m n s x) two (glob-more m n s x)
-      (list-more (is_import_step d k o m n s x) (is_import_step d l p m n s x) (import-more m n s x) d.imports))
+      either-more (is_declared x || is_glob_step d o m n s x) one (is_declared x || is_glob_step d p m n s x) two
+      (either-more (is_declared x) (is_glob_step d o m n s x) (is_declared x) (is_glob_step d p m n s x) (λ e. e) (glob-more m n s x))
+      (list-more (is_import_step d k o m n s x) (is_import_step d l p m n s x) (import-more m n s x) d.imports)

@@ -16,12 +16,12 @@ use Rattle.dm_base.specs.Names.{Name, same_name}
 use Rattle.dm_base.specs.Tree.{same_module}
 use Rattle.dm_imports.specs.declared.meaning.Meaning.{Meaning}
 use Rattle.dm_imports.specs.declared.named_import.NamedImport.{NamedImport}
-use Rattle.dm_imports.specs.Grounded.{IsClosed, IsGrounded, Offers, SlotSet, is_glob_step, is_import_step, is_step, known_offers}
+use Rattle.dm_imports.specs.Grounded.{IsClosed, IsGrounded, Offers, SlotSet, is_glob_step, is_import_step, is_step, known_offers, leads_by}
 use Rattle.dm_imports.specs.Grounding.{AreCovered, AreSafeOffers, IsImportOf, IsMore, IsOpen, IsSafe, IsSettled, IsWay, Way, has_slot, is_way, means, slots_of}
 use Rattle.dm_imports.specs.Meanings.{is_declared}
-use Rattle.dm_imports.specs.Paths.{DefMaps, at}
-use Rattle.dm_imports.specs.Rules.{IsModule}
-use Rattle.dm_imports.specs.Slots.{Slots, same_namespace, same_slot, slot_at}
+use Rattle.dm_imports.specs.Paths.{DefMaps, is_by}
+use Rattle.dm_imports.specs.Rules.{brings}
+use Rattle.dm_imports.specs.Slots.{Slots, same_namespace, same_place, same_slot, slot_at}
 use Rattle.dm_imports.proofs.ListLemmas.{some-of}
 use Rattle.dm_imports.proofs.SlotLemmas.{name-same, namespace-same}
 use Rattle.dm_imports.proofs.StepLemmas.{step-more}
@@ -42,7 +42,7 @@ namespace-refl Macros = refl
 slot-refl : (m : ModuleId) (n : Name) (s : Namespace) → same_slot m n s m n s ≡ true
 slot-refl m n s = both (same_namespace s s) (same_module m m) (same_name n n) (namespace-refl s) (same_module-refl m) (nat_list_eq_equiv.refl n)
   where
-    both : (a b c : Bool) → a ≡ true → b ≡ true → c ≡ true → (a && b && c) ≡ true
+    both : (a b c : Bool) → a ≡ true → b ≡ true → c ≡ true → (a && (b && c)) ≡ true
     both true true true e f g = refl
     both true true false e f g = g
     both true false c e f g = f
@@ -80,23 +80,20 @@ way-step d k o w x is = by w.import is.import
     steps = list_any (is_import_step d k o w.home w.name w.namespace x) d.imports
 
     by : (i : Option NamedImport) → ForSome i (IsImportOf d w) → is_way d k o (record w { import = i }) x ≡ true → is_step d k o w.home w.name w.namespace x ≡ true
-    by None h e = elim (or_cases (is_declared x) (is_glob_step d o w.home w.name w.namespace x) e) [
-      | inl a ↦ or_left (is_declared x) (is_glob_step d o w.home w.name w.namespace x || steps) a
-      | inr a ↦ or_right (is_declared x) (is_glob_step d o w.home w.name w.namespace x || steps) (or_left (is_glob_step d o w.home w.name w.namespace x) steps a)
-    ]
+    by None h e = or_left (is_declared x || is_glob_step d o w.home w.name w.namespace x) steps e
     by (Some i) h e =
         let has = (h i refl).listed in
         let one = list_any-from_Any (is_import_step d k o w.home w.name w.namespace x) d.imports (has.0, i, has.1, has.2, e) in
-        or_right (is_declared x) (is_glob_step d o w.home w.name w.namespace x || steps) (or_right (is_glob_step d o w.home w.name w.namespace x) steps one)
+        or_right (is_declared x || is_glob_step d o w.home w.name w.namespace x) steps one
 
 -- a table of known slots to which one was given that a way derives has no more than each closed set
 pub given-safe : (d : DefMaps) (old new : Slots Bool) (o : Offers) (w : Way) (x : Meaning) → IsGiven old new w → IsWay d w → means d w ≡ Some x → is_way d (slots_of old) o w x ≡ true
     → AreSafeOffers d o → IsSafe d (slots_of old) → IsSafe d (slots_of new)
-given-safe d old new o w x given is at step offers safe c closed m n s h = elim (given-cases old new w given m n s h) [
+given-safe d old new o w x given is found step offers safe c closed m n s h = elim (given-cases old new w given m n s h) [
   | inl e ↦ safe c closed m n s e
   | inr e ↦
       let derived = step-more d (slots_of old) c (safe c closed) o (known_offers d c) (offers c closed) w.home w.name w.namespace x (way-step d (slots_of old) o w x is step) in
-      sym (set-same c w.home w.name w.namespace m n s e) ∙ closed w.home is.home w.name w.namespace x at derived
+      sym (set-same c w.home w.name w.namespace m n s e) ∙ closed w.home is.home w.name w.namespace x found derived
 ]
 
 -- ---- Covered ways
@@ -131,7 +128,7 @@ module _ (d : DefMaps) (k l : SlotSet) (init left : List Way) (w : Way) where
 module _ (d : DefMaps) (k : SlotSet) (ws : List Way) (covered : AreCovered d k ws) (stuck : All (IsOpen d k (known_offers d k)) ws) where
   -- a way that derives its slot derives a known one
   known-slot : (w : Way) (x : Meaning) → IsWay d w → means d w ≡ Some x → is_way d k (known_offers d k) w x ≡ true → has_slot k w ≡ true
-  known-slot w x is at step = elim (covered w is (ap is_some at)) [
+  known-slot w x is found step = elim (covered w is (ap is_some found)) [
     | inl h ↦ h
     | inr h ↦
         let this = All-contains (IsOpen d k (known_offers d k)) ws w stuck h in
@@ -141,27 +138,26 @@ module _ (d : DefMaps) (k : SlotSet) (ws : List Way) (covered : AreCovered d k w
   ]
 
   pub stuck-closed : IsClosed d k
-  stuck-closed m is n s x at step = elim (or_cases (is_declared x) (is_glob_step d (known_offers d k) m n s x || imports) step) [
-    | inl a ↦ by_slot (or_left (is_declared x) (is_glob_step d (known_offers d k) m n s x) a)
-    | inr a ↦ elim (or_cases (is_glob_step d (known_offers d k) m n s x) imports a) [
-      | inl b ↦ by_slot (or_right (is_declared x) (is_glob_step d (known_offers d k) m n s x) b)
-      | inr b ↦ let i = some-of (is_import_step d k (known_offers d k) m n s x) d.imports b in by_import i.0 i.1 i.2
-    ]
+  stuck-closed m is n s x there step = elim (or_cases (is_declared x || is_glob_step d (known_offers d k) m n s x) imports step) [
+    | inl a ↦ known-slot (record { home = m; name = n; namespace = s; import = None }) x (record { home = is; import = λ i e. cc }) there a
+    | inr b ↦ let i = some-of (is_import_step d k (known_offers d k) m n s x) d.imports b in by_import i.0 i.1 i.2
   ]
     where
       imports : Bool
       imports = list_any (is_import_step d k (known_offers d k) m n s x) d.imports
 
-      by_slot : (is_declared x || is_glob_step d (known_offers d k) m n s x) ≡ true → k m n s ≡ true
-      by_slot e = known-slot (record { home = m; name = n; namespace = s; import = None }) x (record { home = is; import = λ i e. cc }) at e
-
       by_import : (i : NamedImport) → Contains d.imports i → is_import_step d k (known_offers d k) m n s x i ≡ true → k m n s ≡ true
       by_import i has e =
           let w : Way = record { home = m; name = n; namespace = s; import = Some i } in
-          let p = and_parts _ _ (and_parts _ _ e).0 in
-          let its : IsImportOf d w i = record { listed = has; home = same_module-true i.home m p.0; name = name-same i.name n p.1 } in
-          let import : ForSome (Some i) (IsImportOf d w) = λ j e. let same : i ≡ j = cc in subst (IsImportOf d w) same its in
-          known-slot w x (record { home = is; import = import }) at e
+          let here = same_place i.home i.name m n in
+          let its = is_by (Some i.import) x.source in
+          let q = and_parts (here && its && brings i.kind s) (leads_by d k (known_offers d k) i s) e in
+          let r = and_parts (here && its) (brings i.kind s) q.0 in
+          let t = and_parts here its r.0 in
+          let p = and_parts (same_module i.home m) (same_name i.name n) t.0 in
+          let own : IsImportOf d w i = record { listed = has; home = same_module-true i.home m p.0; name = name-same i.name n p.1 } in
+          let import : ForSome (Some i) (IsImportOf d w) = λ j f. let same : i ≡ j = cc in subst (IsImportOf d w) same own in
+          known-slot w x (record { home = is; import = import }) there e
 
   -- so a way that is open keeps def maps from being grounded
   pub stuck-not : (w : Way) → Contains ws w → IsWay d w → IsGrounded d → ⊥

@@ -69,11 +69,11 @@ fn settle_all<'a>(
     requires safe { IsSafe (of_tables maps.now) (slots_of known.old) }
     ensures ways { IfOk result (λ left. All (IsWay (of_tables maps.now)) left.items) }
     ensures safe { OnOk result (IsSafe (of_tables maps.now) (slots_of known.new)) }
-    ensures covered { IfOk result (λ left. AreCovered (of_tables maps.now) (slots_of known.old) ways.items
+    ensures covered { IfOk result (λ left. AreCovered (of_tables maps.now) (slots_of known.old) ways.entry.items
         → AreCovered (of_tables maps.now) (slots_of known.new) left.items) }
-    ensures fewer { IfOk result (λ left. length left.items ≤ length ways.items) }
-    ensures same { IfOk result (λ left. length left.items ≡ length ways.items → known.new ≡ known.old) }
-    ensures stuck { IfOk result (λ left. length left.items ≡ length ways.items
+    ensures fewer { IfOk result (λ left. length left.items ≤ length ways.entry.items) }
+    ensures same { IfOk result (λ left. length left.items ≡ length ways.entry.items → known.new ≡ known.old) }
+    ensures stuck { IfOk result (λ left. length left.items ≡ length ways.entry.items
         → All (IsOpen (of_tables maps.now) (slots_of known.old) (offers_in offered.now)) left.items) }
 {
     let mut waiting = ways;
@@ -99,10 +99,10 @@ fn pass<'a>(
     requires safe { IsSafe (of_tables maps.now) (slots_of known.old) }
     ensures ways { IfOk result (λ left. All (IsWay (of_tables maps.now)) left.items) }
     ensures safe { OnOk result (IsSafe (of_tables maps.now) (slots_of known.new)) }
-    ensures covered { IfOk result (λ left. AreCovered (of_tables maps.now) (slots_of known.old) ways.items
+    ensures covered { IfOk result (λ left. AreCovered (of_tables maps.now) (slots_of known.old) ways.entry.items
         → AreCovered (of_tables maps.now) (slots_of known.new) left.items) }
-    ensures fewer { IfOk result (λ left. length left.items ≤ length ways.items) }
-    ensures stuck { IfOk result (λ left. length left.items ≡ length ways.items
+    ensures fewer { IfOk result (λ left. length left.items ≤ length ways.entry.items) }
+    ensures stuck { IfOk result (λ left. length left.items ≡ length ways.entry.items
         → All (IsOpen (of_tables maps.now) (slots_of known.new)
         (spec.known_offers (of_tables maps.now) (slots_of known.new))) left.items) }
 {
