@@ -1,14 +1,5 @@
-//! `is_supported` on a crate with the modules `generic` and `unix`, each with a function `open`, and `sys`, in which
-//! `pub use dm_imports::generic::*; pub use dm_imports::unix::open;` stand.
-use dm_imports::bind::bind_crate;
-use dm_imports::def_maps::DefMaps;
-use dm_imports::glob_import::GlobImport;
-use dm_imports::importing::Importing;
-use dm_imports::marks::Marks;
-use dm_imports::named_import::{ImportKind, NamedImport};
-use dm_imports::rules::grounded::is_grounded;
-use dm_imports::rules::supported::is_supported;
-use dm_imports::slots::Slots;
+//! `is_supported` and `is_grounded` on a crate with the modules `generic` and `unix`, each with a function `open`, and
+//! `sys`, in which `pub use dm_imports::generic::*; pub use dm_imports::unix::open;` stand.
 use dm_base::ids::{
     Crate, FileAstId, FileId, FunctionId, MacroCallId, ModuleId, UseId, UseTreeIdx,
 };
@@ -19,6 +10,15 @@ use dm_base::name::Name;
 use dm_base::per_ns::PerNs;
 use dm_base::source::{Edition, EditionedFileId, HirFileId, TreeId};
 use dm_base::visibility::Visibility;
+use dm_imports::bind::bind_crate;
+use dm_imports::def_maps::DefMaps;
+use dm_imports::glob_import::GlobImport;
+use dm_imports::importing::Importing;
+use dm_imports::marks::Marks;
+use dm_imports::named_import::{ImportKind, NamedImport};
+use dm_imports::rules::grounded::is_grounded;
+use dm_imports::rules::supported::is_supported;
+use dm_imports::slots::Slots;
 use dm_maps::builder::WorldBuilder;
 use dm_maps::module_origin::ModuleOrigin;
 use dm_maps::world::World;
