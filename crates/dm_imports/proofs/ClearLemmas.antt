@@ -11,7 +11,6 @@ use Rattle.dm_base.specs.declared.per_ns.Namespace.{Namespace}
 use Rattle.dm_base.specs.declared.per_ns.Namespace.TheVariants.{Types, Values, Macros}
 use Rattle.dm_base.specs.Names.{Name}
 use Rattle.dm_base.specs.Path.{Path}
-use Rattle.dm_base.specs.PerNs.{keep}
 use Rattle.dm_base.specs.Tree.{crate_of, outer, sees}
 use Rattle.dm_maps.specs.Readings.{prelude_of, root_of}
 use Rattle.dm_maps.specs.Trees.{tree_of}

@@ -1,21 +1,19 @@
 -- Def maps, as they are seen by one who knows some slots alone, and who may ask there.
-use Rattle.std.proofs.Common.{◌≡◌, ◌∙◌, cond, refl, subst, sym, true, false, not, Bool, Option, None, Some}
+use Rattle.std.proofs.Common.{◌≡◌, refl, subst, sym, true, not, Bool, Option, None, Some}
 use Rattle.std.specs.Prelude.{is_none, is_some}
 use Rattle.std.specs.Option.{option_map}
 use Rattle.dm_base.specs.declared.ids.ModuleId.{ModuleId}
 use Rattle.dm_base.specs.declared.per_ns.Namespace.{Namespace}
 use Rattle.dm_base.specs.Names.{Name}
-use Rattle.dm_base.specs.Tree.{IsKnown}
 use Rattle.dm_base.specs.Visibility.{NamesKnown}
 use Rattle.dm_maps.specs.Trees.{tree_of}
-use Rattle.dm_maps.specs.World.{World}
 use Rattle.dm_imports.specs.declared.glob_import.GlobImport.{GlobImport}
 use Rattle.dm_imports.specs.declared.joined.Joined.{Joined}
 use Rattle.dm_imports.specs.declared.meaning.Meaning.{Meaning}
 use Rattle.dm_imports.specs.declared.named_import.NamedImport.{NamedImport}
 use Rattle.dm_imports.specs.Grounded.{Offers, SlotSet, knowing, knowing_asks}
 use Rattle.dm_imports.specs.Grounding.{AreReady, MayOffer, slots_of}
-use Rattle.dm_imports.specs.Meanings.{IsNamed, joined}
+use Rattle.dm_imports.specs.Meanings.{IsNamed}
 use Rattle.dm_imports.specs.Paths.{Asking, DefMaps, MayAsk}
 use Rattle.dm_imports.specs.Rules.{IsImportKnown, all_offers}
 use Rattle.dm_imports.specs.Slots.{Slots, slot_at}

@@ -1,6 +1,6 @@
 -- Lists of ways: what they have, and that they have all.
 use native.Mathlib.Omega.{arith}
-use Rattle.std.proofs.Common.{◌≡◌, ◌∙◌, ◌<◌, ap, refl, subst, sym, true, false, true≢false, inl, inr, length, zero, suc, ℕ, Bool, Option, None, Some, List, [], ◌∷◌, ◌++◌}
+use Rattle.std.proofs.Common.{◌≡◌, ◌∙◌, ap, refl, subst, sym, true, false, true≢false, inr, zero, suc, Bool, Option, None, Some, List, [], ◌∷◌}
 use Rattle.std.proofs.lemmas.List.Elements.{All-append, All-cons, All-head, All-nil, All-tail, Contains-append_left, Contains-append_right}
 use Rattle.std.specs.List.{All, Contains, flat_map, list_any}
 use Rattle.std.specs.Option.{ForSome}
@@ -12,8 +12,8 @@ use Rattle.dm_base.specs.Names.{Name, same_name}
 use Rattle.dm_maps.specs.World.{scope_of}
 use Rattle.dm_scope.specs.Sorted.{names_of}
 use Rattle.dm_imports.specs.declared.named_import.NamedImport.{NamedImport}
-use Rattle.dm_imports.specs.Grounding.{AreCovered, HasWaysOf, IsImportOf, IsSettled, IsWay, Way, import_ways, means, no_set, slot_ways, three_ways}
-use Rattle.dm_imports.specs.Paths.{DefMaps, at}
+use Rattle.dm_imports.specs.Grounding.{AreCovered, HasWaysOf, IsImportOf, IsWay, Way, import_ways, no_set, slot_ways, three_ways}
+use Rattle.dm_imports.specs.Paths.{DefMaps}
 use Rattle.dm_imports.specs.Rules.{IsImportKnown, IsModule}
 use Rattle.dm_imports.proofs.ListLemmas.{name-absent, name-listed}
 use Rattle.dm_imports.proofs.UnboundLemmas.{at-unbound}

@@ -1,6 +1,6 @@
 -- Passes over ways: how they begin, go on and end.
 use native.Mathlib.Omega.{arith}
-use Rattle.std.proofs.Common.{◌≡◌, ◌∙◌, ◌<◌, ap, refl, subst, sym, true, false, true≢false, inl, inr, length, nat_eq, suc, zero, ℕ, Bool, List, [], ◌∷◌, ◌++◌, get_or}
+use Rattle.std.proofs.Common.{◌≡◌, ◌∙◌, ◌<◌, ap, refl, subst, sym, false, true≢false, inl, inr, length, nat_eq, suc, zero, ℕ, Bool, List, [], ◌∷◌, ◌++◌, get_or}
 use Rattle.std.proofs.lemmas.Bool.{eq-eqb}
 use Rattle.std.specs.List.{All, Contains}
 use Rattle.std.specs.Prelude.{is_some}

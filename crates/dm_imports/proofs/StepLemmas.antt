@@ -1,5 +1,5 @@
 -- What one step derives from known slots, it derives from more.
-use Rattle.std.proofs.Common.{◌≡◌, ◌∙◌, ap, cond, refl, subst, sym, true, false, not, true≢false, Bool, Option, None, Some, List, [], ◌∷◌, ◌&&◌, ◌||◌, inl, inr}
+use Rattle.std.proofs.Common.{◌≡◌, ◌∙◌, ap, cond, refl, sym, true, false, not, true≢false, Bool, Option, None, Some, List, [], ◌∷◌, ◌&&◌, ◌||◌, inl, inr}
 use Rattle.std.specs.Prelude.{is_none, is_some}
 use Rattle.std.proofs.lemmas.Bool.{and_from, and_parts, or_cases, or_left, or_parts, or_right}
 use Rattle.std.specs.List.{cons_option, filter_map, list_any}
@@ -19,10 +19,10 @@ use Rattle.dm_imports.specs.declared.joined.Joined.{Joined}
 use Rattle.dm_imports.specs.declared.meaning.Meaning.{Meaning}
 use Rattle.dm_imports.specs.declared.named_import.NamedImport.{NamedImport}
 use Rattle.dm_imports.specs.Grounded.{Offers, SlotSet, is_brought, is_clear, is_glob_step, is_import_step, is_step, known_offer, known_offers, knowing, knowing_asks, leads_by}
-use Rattle.dm_imports.specs.Grounding.{AreWithin, IsMore, IsWithin, is_conflict}
+use Rattle.dm_imports.specs.Grounding.{AreWithin, IsMore, is_conflict}
 use Rattle.dm_imports.specs.Meanings.{is_declared, joined}
-use Rattle.dm_imports.specs.Paths.{DefMaps, is_by, is_by_glob, leads, member, path_meaning}
-use Rattle.dm_imports.specs.Rules.{all_offers, brings, conflicts, glob_asks, is_other, join_all, offer, offer_from, offer_to, offered, source_of}
+use Rattle.dm_imports.specs.Paths.{DefMaps, is_by, is_by_glob, member, path_meaning}
+use Rattle.dm_imports.specs.Rules.{all_offers, brings, conflicts, glob_asks, is_other, join_all, offer, offer_from, offer_to, offered}
 use Rattle.dm_imports.specs.Slots.{same_place}
 use Rattle.dm_imports.specs.Tables.{spoiled_if}
 use Rattle.dm_imports.proofs.ClearLemmas.{Clearer, Same, clearer-refl, led-same, member-clearer, path-same}

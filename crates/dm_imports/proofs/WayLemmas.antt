@@ -1,9 +1,9 @@
 -- Ways in which slots are derived, and what a table of known slots is when none of them goes on.
 use native.Mathlib.Omega.{arith}
-use Rattle.std.proofs.Common.{◌≡◌, ◌∙◌, ◌<◌, ◌⊎◌, ap, cond, refl, subst, sym, true, false, true≢false, inl, inr, length, zero, suc, Bool, Option, None, Some, List, [], ◌∷◌, ◌++◌, ◌&&◌, ◌||◌}
+use Rattle.std.proofs.Common.{◌≡◌, ◌∙◌, ◌⊎◌, ap, cond, refl, subst, sym, true, false, true≢false, inl, inr, zero, Bool, Option, None, Some, List, [], ◌∷◌, ◌++◌, ◌&&◌, ◌||◌}
 use Rattle.std.specs.Prelude.{is_some}
 use Rattle.std.proofs.lemmas.Bool.{and_parts, or_cases, or_left, or_right}
-use Rattle.std.proofs.lemmas.List.Elements.{All-contains, All-head, Contains-append_cases, Contains-append_left, Contains-append_right, Contains-push_cases}
+use Rattle.std.proofs.lemmas.List.Elements.{All-contains, Contains-append_cases, Contains-append_left, Contains-append_right, Contains-push_cases}
 use Rattle.std.proofs.lemmas.List.Folds.{list_any-from_Any}
 use Rattle.std.specs.Cmp.Lexicographic.{nat_list_eq_equiv}
 use Rattle.std.specs.List.{All, Contains, list_any}
@@ -17,7 +17,7 @@ use Rattle.dm_base.specs.Tree.{same_module}
 use Rattle.dm_imports.specs.declared.meaning.Meaning.{Meaning}
 use Rattle.dm_imports.specs.declared.named_import.NamedImport.{NamedImport}
 use Rattle.dm_imports.specs.Grounded.{IsClosed, IsGrounded, Offers, SlotSet, is_glob_step, is_import_step, is_step, known_offers, leads_by}
-use Rattle.dm_imports.specs.Grounding.{AreCovered, AreSafeOffers, IsImportOf, IsMore, IsOpen, IsSafe, IsSettled, IsWay, Way, has_slot, is_way, means, slots_of}
+use Rattle.dm_imports.specs.Grounding.{AreCovered, AreSafeOffers, IsImportOf, IsMore, IsOpen, IsSafe, IsWay, Way, has_slot, is_way, means, slots_of}
 use Rattle.dm_imports.specs.Meanings.{is_declared}
 use Rattle.dm_imports.specs.Paths.{DefMaps, is_by}
 use Rattle.dm_imports.specs.Rules.{brings}

@@ -1,5 +1,5 @@
 -- How it is seen that def maps are grounded: by ways in which slots may be derived, of which fewer and fewer are open.
-use Rattle.std.specs.Prelude.{◌≡◌, ◌⊎◌, All, Contains, Bool, true, false, List, [], ◌∷◌, ◌||◌, Option, Some, None, cond, is_some, map}
+use Rattle.std.specs.Prelude.{◌≡◌, ◌⊎◌, Contains, Bool, true, false, List, [], ◌∷◌, ◌||◌, Option, Some, None, cond, is_some, map}
 use Rattle.std.specs.Option.{ForSome, option_map_or}
 use Rattle.dm_base.specs.declared.ids.ModuleId.{ModuleId}
 use Rattle.dm_base.specs.declared.per_ns.Namespace.{Namespace}
@@ -16,10 +16,10 @@ use Rattle.dm_imports.specs.declared.joined.Joined.{Joined}
 use Rattle.dm_imports.specs.declared.meaning.Meaning.{Meaning}
 use Rattle.dm_imports.specs.declared.named_import.NamedImport.{NamedImport}
 use Rattle.dm_imports.specs.Brought.{AreAllNamed, IsBrought}
-use Rattle.dm_imports.specs.Grounded.{IsClosed, Offers, SlotSet, is_clear, is_glob_step, is_import_step, is_step, known_offers, knowing}
+use Rattle.dm_imports.specs.Grounded.{IsClosed, Offers, SlotSet, is_clear, is_glob_step, is_import_step, known_offers, knowing}
 use Rattle.dm_imports.specs.Meanings.{is_declared}
 use Rattle.dm_imports.specs.Paths.{AreEnumsNamed, DefMaps, at}
-use Rattle.dm_imports.specs.Rules.{AreMapsKnown, IsImportKnown, IsModule, offer_from, source_of}
+use Rattle.dm_imports.specs.Rules.{AreMapsKnown, IsModule, offer_from, source_of}
 use Rattle.dm_imports.specs.Slots.{Slots, slot_at}
 
 abbrev pub no_set : SlotSet

@@ -1,4 +1,4 @@
-use Rattle.std.proofs.Common.{◌≡◌, Bool, subst, sym}
+use Rattle.std.proofs.Common.{Bool, subst, sym}
 use Rattle.std.specs.List.{All}
 use Rattle.dm_imports.specs.Grounded.{known_offers}
 use Rattle.dm_imports.specs.Grounding.{IsOpen, slots_of}

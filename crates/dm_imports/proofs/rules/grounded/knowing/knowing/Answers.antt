@@ -1,6 +1,4 @@
 use Rattle.std.proofs.Common.{◌∙◌, ap, true}
-use Rattle.dm_imports.specs.Grounded.{knowing}
-use Rattle.dm_imports.specs.Grounding.{slots_of}
 use Rattle.dm_imports.specs.Tables.{MapTables, of_tables}
 use Rattle.dm_imports.proofs.KnowingLemmas.{known-tables}
 use Rattle.dm_imports.proofs.rules.grounded.knowing.knowing.Goals as goal

@@ -1,5 +1,5 @@
-use Rattle.std.proofs.Common.{◌≡◌, ◌∙◌, ap}
-use Rattle.dm_imports.specs.Grounded.{is_clear, knowing, knowing_asks}
+use Rattle.std.proofs.Common.{◌∙◌, ap}
+use Rattle.dm_imports.specs.Grounded.{is_clear}
 use Rattle.dm_imports.specs.Grounding.{offers_in, slots_of}
 use Rattle.dm_imports.specs.Paths.{path_meaning}
 use Rattle.dm_imports.specs.Tables.{asks, of_tables}

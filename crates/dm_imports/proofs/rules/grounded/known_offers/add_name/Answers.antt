@@ -1,17 +1,13 @@
-use Rattle.std.proofs.Common.{◌≡◌, ◌∙◌, ap, cond, subst, Option}
-use Rattle.dm_base.specs.declared.ids.ModuleId.{ModuleId}
+use Rattle.std.proofs.Common.{◌≡◌, ap, subst, Option}
 use Rattle.dm_base.specs.declared.per_ns.Namespace.{Namespace}
 use Rattle.dm_base.specs.declared.per_ns.Namespace.TheVariants.{Types, Values, Macros}
-use Rattle.dm_base.specs.Names.{Name}
 use Rattle.dm_maps.specs.World.{World}
-use Rattle.dm_imports.specs.declared.joined.Joined.{Joined}
 use Rattle.dm_imports.specs.declared.meaning.Meaning.{Meaning}
 use Rattle.dm_imports.specs.Brought.{AreAllNamed, join}
 use Rattle.dm_imports.specs.Grounding.{known_from, slots_of}
-use Rattle.dm_imports.specs.Slots.{Slots, same_slot, slot_at}
 use Rattle.dm_imports.specs.Tables.{MapTables, of_tables}
 use Rattle.dm_imports.proofs.JoinLemmas.{joined-written}
-use Rattle.dm_imports.proofs.SlotLemmas.{Written, three-slots}
+use Rattle.dm_imports.proofs.SlotLemmas.{three-slots}
 use Rattle.dm_imports.proofs.rules.grounded.known_offers.add_name.Goals as goal
 
 pub returns-clause-joined : goal.returns-clause-joined

@@ -1,4 +1,4 @@
-use Rattle.std.proofs.Common.{◌≡◌, ◌∙◌, ◌++◌, Bor, List, None, ap, subst, sym}
+use Rattle.std.proofs.Common.{Bor, List, None, subst, sym}
 use Rattle.std.proofs.lemmas.List.Elements.{Contains-append_right}
 use Rattle.std.specs.List.{Contains, flat_map}
 use Rattle.dm_base.specs.Names.{Name}

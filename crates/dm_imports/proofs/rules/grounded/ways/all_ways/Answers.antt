@@ -1,7 +1,6 @@
-use Rattle.std.proofs.Common.{◌≡◌, ◌∙◌, ◌++◌, List, ap, subst, sym}
+use Rattle.std.proofs.Common.{◌∙◌, ◌++◌, List, ap, subst, sym}
 use Rattle.std.proofs.lemmas.List.Elements.{All-contains_itself}
 use Rattle.std.specs.List.{All, Contains, flat_map}
-use Rattle.dm_imports.specs.declared.named_import.NamedImport.{NamedImport}
 use Rattle.dm_imports.specs.Grounding.{IsWay, Way, import_ways}
 use Rattle.dm_imports.specs.Tables.{MapTables, of_tables}
 use Rattle.dm_imports.proofs.ListedLemmas.{import-ways, ways-cover}
