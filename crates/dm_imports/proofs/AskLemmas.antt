@@ -33,7 +33,7 @@ module-known w m h = h
 pub glob-may : (d : DefMaps) (g : GlobImport) (a : Asking) → a ≡ glob_asks g → IsKnown (tree_of d.world) g.into → AreEnumsNamed d → MayAsk d a
 glob-may d g a is home enums = subst (MayAsk d) (sym is) (record { home = home; enums = enums; below = λ m n s x e. cc })
 
-joined-named : (w : World) (j : Joined) → AreNamed w j → NamesKnown (tree_of w) (joined j).vis
+pub joined-named : (w : World) (j : Joined) → AreNamed w j → NamesKnown (tree_of w) (joined j).vis
 joined-named w j h = by j.is_ambiguous
   where
     by : (b : Bool) → NamesKnown (tree_of w) (cond b j.least j.most)

@@ -1,5 +1,5 @@
 -- Def maps in which imports and globs were bound, step by step.
-use Rattle.std.proofs.Common.{◌≡◌, ◌∙◌, inl, inr, All, List, [], ◌∷◌, ◌++◌, ap, refl, sym}
+use Rattle.std.proofs.Common.{◌∙◌, inl, inr, List, [], ◌∷◌, ◌++◌, ap, refl, sym}
 use Rattle.std.proofs.lemmas.List.Elements.{All-append, All-cons, All-nil}
 use Rattle.std.proofs.lemmas.List.Sums.{fold-append}
 use Rattle.dm_imports.specs.declared.glob_import.GlobImport.{GlobImport}

@@ -16,7 +16,7 @@ use Rattle.dm_imports.specs.declared.container.Container.{Container}
 use Rattle.dm_imports.specs.declared.glob_import.GlobImport.{GlobImport}
 use Rattle.dm_imports.specs.declared.joined.Joined.{Joined}
 use Rattle.dm_imports.specs.declared.meaning.Meaning.{Meaning}
-use Rattle.dm_imports.specs.Brought.{AreAllNamed, HasOffers, alone, both, join}
+use Rattle.dm_imports.specs.Brought.{AreAllNamed, HasJoined, HasOffers, alone, both, join}
 use Rattle.dm_imports.specs.Meanings.{AreNamed}
 use Rattle.dm_imports.specs.Paths.{DefMaps}
 use Rattle.dm_imports.specs.Rules.{conflicts, glob_asks, join_all, least, least_of, most, most_of, offer_from, offer_to, offered, source_of}
@@ -24,14 +24,14 @@ use Rattle.dm_imports.specs.Slots.{Slots, same_place, same_slot, slot_at}
 use Rattle.dm_imports.specs.Supporting.{source_names}
 use Rattle.dm_imports.proofs.AgainLemmas.{least-again, least-same, most-again, most-same}
 use Rattle.dm_imports.proofs.ListLemmas.{name-absent}
-use Rattle.dm_imports.proofs.SlotLemmas.{name-same}
+use Rattle.dm_imports.proofs.SlotLemmas.{Written, name-same}
 use Rattle.dm_imports.proofs.UnboundLemmas.{member-unbound}
 
 or-again : (a b : Bool) → (a || b || b) ≡ (a || b)
 or-again a b = or_assoc a b b ∙ ap (λ c. a || c) (or_self b)
 
 -- an offer has no other definition than itself
-conflicts-self : (x : Meaning) → conflicts x x ≡ x.is_ambiguous
+pub conflicts-self : (x : Meaning) → conflicts x x ≡ x.is_ambiguous
 conflicts-self x = ap (λ b. x.is_ambiguous || not b) (def_laws.laws-law.refl x.def) ∙ or-false x.is_ambiguous
 
 module _ (w : World) (m : ModuleId) (x : Meaning) where
@@ -94,26 +94,26 @@ module _ (w : World) (m : ModuleId) (offer : GlobImport → Option Meaning) wher
       by None rest = rest
       by (Some x) rest = joins-more (alone x) gs
 
-module _ (d : DefMaps) (g : GlobImport) (c : Container) where
+module _ (w : World) (m : ModuleId) (offer : Name → Namespace → Option Meaning) where
   abbrev joins : Option Joined → Name → Namespace → Option Joined
-  joins y x t = join d.world g.into y (offer_from d g c x t)
+  joins y x t = join w m y (offer x t)
 
-  -- what a glob offers under one name is joined to what a table has
-  abbrev pub HasOffer : Name → Slots Joined → Slots Joined → Type 0
-  HasOffer n old new = (k : ModuleId) (x : Name) (t : Namespace) → slot_at new k x t ≡ cond (same_place g.into n k x) (joins (slot_at old k x t) n t) (slot_at old k x t)
+  -- what is offered under one name is joined to what a table has
+  abbrev pub HasOne : Name → Slots Joined → Slots Joined → Type 0
+  HasOne n old new = (k : ModuleId) (x : Name) (t : Namespace) → slot_at new k x t ≡ cond (same_place m n k x) (joins (slot_at old k x t) n t) (slot_at old k x t)
 
-  pub offers-none : (old : Slots Joined) → HasOffers d g c [] old old
-  offers-none old k x t = by (same_module g.into k)
+  pub joined-none : (old : Slots Joined) → HasJoined w m offer [] old old
+  joined-none old k x t = by (same_module m k)
     where
       by : (b : Bool) → slot_at old k x t ≡ cond (b && false) (joins (slot_at old k x t) x t) (slot_at old k x t)
       by true = refl
       by false = refl
 
   -- under a name, and then under others
-  pub offers-then : (n : Name) (ns : List Name) (old mid new : Slots Joined) → HasOffer n old mid → HasOffers d g c ns mid new → HasOffers d g c (n ∷ ns) old new
-  offers-then n ns old mid new one rest k x t =
-      by (same_module g.into k) (same_name n x) (list_any (same_name x) ns) (name-same n x) (one k x t) (rest k x t)
-      ∙ ap (λ b. cond (same_module g.into k && (b || list_any (same_name x) ns)) (joins (slot_at old k x t) x t) (slot_at old k x t)) (nat_list_eq_equiv.symm n x)
+  pub joined-then : (n : Name) (ns : List Name) (old mid new : Slots Joined) → HasOne n old mid → HasJoined w m offer ns mid new → HasJoined w m offer (n ∷ ns) old new
+  joined-then n ns old mid new one rest k x t =
+      by (same_module m k) (same_name n x) (list_any (same_name x) ns) (name-same n x) (one k x t) (rest k x t)
+      ∙ ap (λ b. cond (same_module m k && (b || list_any (same_name x) ns)) (joins (slot_at old k x t) x t) (slot_at old k x t)) (nat_list_eq_equiv.symm n x)
     where
       by : (s b a : Bool) → (b ≡ true → n ≡ x)
           → slot_at mid k x t ≡ cond (s && b) (joins (slot_at old k x t) n t) (slot_at old k x t)
@@ -122,7 +122,7 @@ module _ (d : DefMaps) (g : GlobImport) (c : Container) where
       by false b a same e f = f ∙ e
       by true true true same e f =
           let here : slot_at mid k x t ≡ joins (slot_at old k x t) x t = e ∙ ap (λ y. joins (slot_at old k x t) y t) (same refl) in
-          f ∙ ap (λ y. joins y x t) here ∙ join-twice d.world g.into (slot_at old k x t) (offer_from d g c x t)
+          f ∙ ap (λ y. joins y x t) here ∙ join-twice w m (slot_at old k x t) (offer x t)
       by true true false same e f = f ∙ e ∙ ap (λ y. joins (slot_at old k x t) y t) (same refl)
       by true false true same e f = f ∙ ap (λ y. joins y x t) e
       by true false false same e f = f ∙ e
@@ -145,22 +145,32 @@ no-source d g k x t y e = by (same_module g.into k)
     by true = ap (λ o. join d.world k y (option_and_then (λ c. offer_from d g c x t) o)) (sym e)
     by false = refl
 
--- a table to which the offers of a glob under all names of its source were joined has its offers
-pub glob-joined : (d : DefMaps) (g : GlobImport) (c : Container) (ns : List Name) (old new : Slots Joined) → source_of d g ≡ Some c
-    → ((n : Name) → Contains (source_names d.world c) n → Contains ns n) → HasOffers d g c ns old new
-    → (k : ModuleId) (x : Name) (t : Namespace) → slot_at new k x t ≡ join d.world k (slot_at old k x t) (offer_to d k x t g)
-glob-joined d g c ns old new is listed has k x t = by (same_module g.into k) (list_any (same_name x) ns) (same_module-true g.into k) refl (has k x t)
+-- A table to which what is offered a module under some names was joined has all that is offered, if there is nothing
+-- under other names.
+pub all-joined : (w : World) (m : ModuleId) (offer : Name → Namespace → Option Meaning) (ns : List Name) (old new : Slots Joined)
+    → ((x : Name) (t : Namespace) → list_any (same_name x) ns ≡ false → offer x t ≡ None) → HasJoined w m offer ns old new
+    → (k : ModuleId) (x : Name) (t : Namespace) → slot_at new k x t ≡ join w k (slot_at old k x t) (cond (same_module m k) (offer x t) None)
+all-joined w m offer ns old new unlisted has k x t = by (same_module m k) (list_any (same_name x) ns) (same_module-true m k) refl (has k x t)
   where
     y : Option Joined
     y = slot_at old k x t
 
-    from : Option Container → Option Meaning
-    from o = option_and_then (λ b. offer_from d g b x t) o
-
-    by : (b a : Bool) → (b ≡ true → g.into ≡ k) → list_any (same_name x) ns ≡ a → slot_at new k x t ≡ cond (b && a) (join d.world g.into y (offer_from d g c x t)) y
-        → slot_at new k x t ≡ join d.world k y (cond b (from (source_of d g)) None)
+    by : (b a : Bool) → (b ≡ true → m ≡ k) → list_any (same_name x) ns ≡ a → slot_at new k x t ≡ cond (b && a) (join w m y (offer x t)) y → slot_at new k x t ≡ join w k y (cond b (offer x t) None)
     by false a same e h = h
-    by true true same e h = h ∙ (λ i. join d.world (same refl i) y (from (sym is i)))
-    by true false same e h =
-        let none : offer_from d g c x t ≡ None = ap (option_map (offered d g)) (member-unbound d (glob_asks g) c x t (λ l. name-absent x ns e (listed x l))) in
-        h ∙ ap (join d.world k y) (sym none) ∙ ap (λ o. join d.world k y (from o)) (sym is)
+    by true true same e h = h ∙ ap (λ v. join w v y (offer x t)) (same refl)
+    by true false same e h = h ∙ ap (join w k y) (sym (unlisted x t e))
+
+-- a table to which the offers of a glob under all names of its source were joined has its offers
+pub glob-joined : (d : DefMaps) (g : GlobImport) (c : Container) (ns : List Name) (old new : Slots Joined) → source_of d g ≡ Some c
+    → ((n : Name) → Contains (source_names d.world c) n → Contains ns n) → HasOffers d g c ns old new
+    → (k : ModuleId) (x : Name) (t : Namespace) → slot_at new k x t ≡ join d.world k (slot_at old k x t) (offer_to d k x t g)
+glob-joined d g c ns old new is listed has k x t =
+    all-joined d.world g.into (offer_from d g c) ns old new
+    (λ n s e. ap (option_map (offered d g)) (member-unbound d (glob_asks g) c n s (λ l. name-absent n ns e (listed n l)))) has k x t
+    ∙ ap (λ o. join d.world k (slot_at old k x t) (cond (same_module g.into k) (option_and_then (λ b. offer_from d g b x t) o) None)) (sym is)
+
+-- a slot to which an offer was joined, by what the offer and the world are
+pub joined-written : (a b : Slots Joined) (m : ModuleId) (n : Name) (s : Namespace) (v w : World) (o p : Option Meaning) → v ≡ w → o ≡ p
+    → ((k : ModuleId) (x : Name) (t : Namespace) → slot_at b k x t ≡ cond (same_slot m n s k x t) (join v m (slot_at a k x t) o) (slot_at a k x t))
+    → Written a b m n s (λ y. join w m y p)
+joined-written a b m n s v w o p same is h k x t = h k x t ∙ (λ i. cond (same_slot m n s k x t) (join (same i) m (slot_at a k x t) (is i)) (slot_at a k x t))

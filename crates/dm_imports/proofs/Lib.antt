@@ -11,3 +11,10 @@ mod CrateLemmas
 mod AskLemmas
 mod OutcomeLemmas
 mod BoundLemmas
+mod ClearLemmas
+mod StepLemmas
+mod WayLemmas
+mod KnownOfferLemmas
+mod KnowingLemmas
+mod ListedLemmas
+mod PassLemmas

@@ -9,7 +9,7 @@ use Rattle.dm_base.specs.IdLaws.{same_module-true}
 use Rattle.dm_base.specs.Names.{Name, same_name}
 use Rattle.dm_imports.specs.Slots.{Slots, no_slots, same_namespace, same_place, same_slot, slot_at}
 
-namespace-same : (s t : Namespace) → same_namespace s t ≡ true → s ≡ t
+pub namespace-same : (s t : Namespace) → same_namespace s t ≡ true → s ≡ t
 namespace-same Types Types e = refl
 namespace-same Types Values e = absurd (true≢false (sym e))
 namespace-same Types Macros e = absurd (true≢false (sym e))

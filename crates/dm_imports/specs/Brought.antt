@@ -43,11 +43,15 @@ join w m (Some j) (Some x) = Some (both w m j x)
 abbrev pub AreAllNamed : World → Slots Joined → Type 0
 AreAllNamed w b = (k : ModuleId) (x : Name) (t : Namespace) → ForSome (slot_at b k x t) (AreNamed w)
 
--- a table has what a glob offers of a source under some names joined to what another has
-abbrev pub HasOffers : DefMaps → GlobImport → Container → List Name → Slots Joined → Slots Joined → Type 0
-HasOffers d g c ns old new =
+-- a table has what is offered a module under some names joined to what another has
+abbrev pub HasJoined : World → ModuleId → (Name → Namespace → Option Meaning) → List Name → Slots Joined → Slots Joined → Type 0
+HasJoined w m offer ns old new =
     (k : ModuleId) (x : Name) (t : Namespace) →
-    slot_at new k x t ≡ cond (same_module g.into k && list_any (same_name x) ns) (join d.world g.into (slot_at old k x t) (offer_from d g c x t)) (slot_at old k x t)
+    slot_at new k x t ≡ cond (same_module m k && list_any (same_name x) ns) (join w m (slot_at old k x t) (offer x t)) (slot_at old k x t)
+
+-- what a glob offers of a source is
+abbrev pub HasOffers : DefMaps → GlobImport → Container → List Name → Slots Joined → Slots Joined → Type 0
+HasOffers d g c ns old new = HasJoined d.world g.into (offer_from d g c) ns old new
 
 -- a table has what globs bring together
 abbrev pub IsBrought : DefMaps → Slots Joined → Type 0

@@ -6,6 +6,9 @@ pub mod Tables
 pub mod Brought
 pub mod Supporting
 pub mod Asked
+pub mod Grounded
+pub mod Grounding
 pub mod Written
 pub mod Bound
 pub mod Rows
+pub mod GroundedRows

@@ -62,13 +62,13 @@ pub record Asked : Type 0 where
   pub import : Option ImportId
   -- what globs bring, and the slots where that leads on; all where there is no table
   pub below : Option (Slots Joined)
-  pub offered : Option (Slots Bool)
+  pub offered : Option (Slots Joined)
 
 -- what some globs bring together, which may be spoiled
 abbrev pub spoiled_if : Bool → Joined → Meaning
 spoiled_if b j = let x = joined j in record x { is_ambiguous = x.is_ambiguous || b }
 
-abbrev pub joined_by : Option (Slots Bool) → ModuleId → Name → Namespace → Joined → Meaning
+abbrev pub joined_by : Option (Slots Joined) → ModuleId → Name → Namespace → Joined → Meaning
 joined_by None m n s j = joined j
 joined_by (Some k) m n s j = spoiled_if (is_none (slot_at k m n s)) j
 

@@ -13,7 +13,7 @@ pub struct Asking<'a> {
     pub import: Option<ImportId>,
     pub below: Option<&'a Slots<Joined>>,
     /// The slots where what globs bring leads on; all where there is no table.
-    pub offered: Option<&'a Slots<bool>>,
+    pub offered: Option<&'a Slots<Joined>>,
 }
 
 impl<'a> Model for Asking<'a> {

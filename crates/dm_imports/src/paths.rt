@@ -11,7 +11,7 @@ ghost use Rattle.dm_imports.specs.Tables.{asks, of_tables};
 
 pub(crate) mod around;
 pub(crate) mod containers;
-mod first;
+pub(crate) mod first;
 pub(crate) mod shown;
 pub(crate) mod textual;
 

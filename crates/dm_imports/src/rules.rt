@@ -2,6 +2,7 @@
 
 mod all_imports;
 mod all_offers;
+pub mod grounded;
 mod join;
 pub mod meanings;
 pub(crate) mod offers;

@@ -1,5 +1,5 @@
-//! `is_supported` on a crate with the modules `generic` and `unix`, each with a function `open`, and `sys`, in which
-//! `pub use dm_imports::generic::*; pub use dm_imports::unix::open;` stand.
+//! `is_supported` and `is_grounded` on a crate with the modules `generic` and `unix`, each with a function `open`, and
+//! `sys`, in which `pub use crate::generic::*; pub use crate::unix::open;` stand.
 use dm_base::ids::{
     Crate, FileAstId, FileId, FunctionId, MacroCallId, ModuleId, UseId, UseTreeIdx,
 };
@@ -16,6 +16,7 @@ use dm_imports::glob_import::GlobImport;
 use dm_imports::importing::Importing;
 use dm_imports::marks::Marks;
 use dm_imports::named_import::{ImportKind, NamedImport};
+use dm_imports::rules::grounded::is_grounded;
 use dm_imports::rules::supported::is_supported;
 use dm_imports::slots::Slots;
 use dm_maps::builder::WorldBuilder;
@@ -122,12 +123,12 @@ fn path(alloc: Global, first: &str, second: Option<&str>) -> Result<ModPath, All
     Ok(ModPath::from_segments(PathKind::Crate, segments))
 }
 
-/// `pub use dm_imports::unix::open;`
-fn import(alloc: Global) -> Result<NamedImport, AllocError> {
+/// `pub use` of `open` of a module.
+fn import(alloc: Global, first: &str) -> Result<NamedImport, AllocError> {
     Ok(NamedImport {
         home: SYS,
         name: Name::new(alloc, "open")?,
-        path: path(alloc, "unix", Some("open"))?,
+        path: path(alloc, first, Some("open"))?,
         vis: Visibility::Public,
         kind: ImportKind::All,
         import: IMPORT,
@@ -135,7 +136,7 @@ fn import(alloc: Global) -> Result<NamedImport, AllocError> {
     })
 }
 
-/// `pub use dm_imports::generic::*;`
+/// `pub use crate::generic::*;`
 fn glob(alloc: Global) -> Result<GlobImport, AllocError> {
     Ok(GlobImport {
         into: SYS,
@@ -149,7 +150,7 @@ fn glob(alloc: Global) -> Result<GlobImport, AllocError> {
 fn bound(alloc: Global) -> Option<(PerNs, bool)> {
     let mut flags = PerNsGlobImports::new(alloc);
     let mut world = declared(alloc, &mut flags)?;
-    let imports = vec![in alloc; import(alloc).ok()?].ok()?;
+    let imports = vec![in alloc; import(alloc, "unix").ok()?].ok()?;
     let globs = vec![in alloc; glob(alloc).ok()?].ok()?;
     let enums = IndexMap::new(alloc);
     let given = Importing {
@@ -197,7 +198,7 @@ fn supports(
     let name = Name::new(alloc, "open").ok()?;
     let items = open(function, import_);
     bind(&mut world, &mut flags, SYS, name, items, Some(by))?;
-    let imports = vec![in alloc; import(alloc).ok()?].ok()?;
+    let imports = vec![in alloc; import(alloc, "unix").ok()?].ok()?;
     let globs = vec![in alloc; glob(alloc).ok()?].ok()?;
     let enums = IndexMap::new(alloc);
     let none = Slots::new(alloc);
@@ -242,5 +243,42 @@ fn an_import_by_name_goes_before_a_glob(rt: HostRuntime) -> Result<(), AllocErro
 fn bind_crate_binds_what_the_rules_give(rt: HostRuntime) -> Result<(), AllocError> {
     let by = Some(ImportOrGlob::Import(IMPORT));
     assert!(rt; bound(rt.alloc()) == Some((open(1, by), true)));
+    Ok(())
+}
+
+/// Whether the def maps are grounded in which `sys::open` is the function of `unix`, by an import of `open` of a module.
+fn grounds(alloc: Global, first: &str) -> Option<bool> {
+    let mut flags = PerNsGlobImports::new(alloc);
+    let mut world = declared(alloc, &mut flags)?;
+    let name = Name::new(alloc, "open").ok()?;
+    let items = open(1, Some(ImportOrGlob::Import(IMPORT)));
+    let by = ImportOrExternCrate::Import(IMPORT);
+    bind(&mut world, &mut flags, SYS, name, items, Some(by))?;
+    let imports = vec![in alloc; import(alloc, first).ok()?].ok()?;
+    let globs = Vec::new(alloc);
+    let enums = IndexMap::new(alloc);
+    let none = Slots::new(alloc);
+    let ambiguous = Marks {
+        table: &none,
+        is_all_but: false,
+    };
+    let maps = DefMaps {
+        world: &world,
+        imports: imports.as_slice(),
+        globs: globs.as_slice(),
+        enums: &enums,
+        ambiguous,
+    };
+    if !maps.are_imports_known() {
+        return None;
+    }
+    is_grounded(alloc, &maps).ok()
+}
+
+#[test]
+fn an_import_of_itself_has_no_ground(rt: HostRuntime) -> Result<(), AllocError> {
+    let alloc = rt.alloc();
+    assert!(rt; grounds(alloc, "unix") == Some(true));
+    assert!(rt; grounds(alloc, "sys") == Some(false));
     Ok(())
 }

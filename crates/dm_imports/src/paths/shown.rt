@@ -61,7 +61,7 @@ fn below(asking: &Asking<'_>, m: ModuleId, name: &Name, namespace: Namespace) ->
 
 /// What some globs bring together, which leads on at some slots alone.
 fn joined_by(
-    offered: Option<&Slots<bool>>,
+    offered: Option<&Slots<Joined>>,
     m: ModuleId,
     name: &Name,
     namespace: Namespace,

@@ -28,7 +28,7 @@ use dm_base::per_ns::Namespace;
 use std::alloc::{AllocError, Global};
 
 /// Whether an import of a kind brings what a namespace has.
-fn brings(kind: ImportKind, namespace: Namespace) -> bool
+pub(crate) fn brings(kind: ImportKind, namespace: Namespace) -> bool
     ensures { result ≡ spec.brings kind namespace }
 {
     match (kind, namespace) {

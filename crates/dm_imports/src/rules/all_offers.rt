@@ -32,7 +32,7 @@ use dm_maps::world::World;
 use std::alloc::{AllocError, Global};
 
 /// Joins an offer to those of its slot.
-fn add_offer(
+pub(crate) fn add_offer(
     all: &mut Slots<Joined>,
     world: &World,
     m: ModuleId,

@@ -71,7 +71,12 @@ fn declared(found: Option<Meaning>) -> Option<Meaning>
 }
 
 /// What globs bring to a slot.
-fn brought(globs: &Slots<Joined>, m: ModuleId, name: &Name, namespace: Namespace) -> Option<Meaning>
+pub(crate) fn brought(
+    globs: &Slots<Joined>,
+    m: ModuleId,
+    name: &Name,
+    namespace: Namespace,
+) -> Option<Meaning>
     ensures { result ≡ option_map joined (slot_at globs.now m name.now namespace) }
 {
     let all = globs.get(m, name, namespace)?;

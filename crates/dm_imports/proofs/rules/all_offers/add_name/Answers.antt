@@ -1,23 +1,12 @@
-use Rattle.std.proofs.Common.{◌≡◌, ◌∙◌, ap, cond, subst, Option}
-use Rattle.dm_base.specs.declared.ids.ModuleId.{ModuleId}
-use Rattle.dm_base.specs.declared.per_ns.Namespace.{Namespace}
+use Rattle.std.proofs.Common.{◌≡◌, ap, subst}
 use Rattle.dm_base.specs.declared.per_ns.Namespace.TheVariants.{Types, Values, Macros}
-use Rattle.dm_base.specs.Names.{Name}
 use Rattle.dm_maps.specs.World.{World}
-use Rattle.dm_imports.specs.declared.joined.Joined.{Joined}
-use Rattle.dm_imports.specs.declared.meaning.Meaning.{Meaning}
 use Rattle.dm_imports.specs.Brought.{AreAllNamed, join}
 use Rattle.dm_imports.specs.Rules.{offer_from}
-use Rattle.dm_imports.specs.Slots.{Slots, same_slot, slot_at}
 use Rattle.dm_imports.specs.Tables.{MapTables, of_tables}
-use Rattle.dm_imports.proofs.SlotLemmas.{Written, three-slots}
+use Rattle.dm_imports.proofs.JoinLemmas.{joined-written}
+use Rattle.dm_imports.proofs.SlotLemmas.{three-slots}
 use Rattle.dm_imports.proofs.rules.all_offers.add_name.Goals as goal
-
--- a slot to which an offer was joined, by what the offer and the world are
-written : (a b : Slots Joined) (m : ModuleId) (n : Name) (s : Namespace) (v w : World) (o p : Option Meaning) → v ≡ w → o ≡ p
-    → ((k : ModuleId) (x : Name) (t : Namespace) → slot_at b k x t ≡ cond (same_slot m n s k x t) (join v m (slot_at a k x t) o) (slot_at a k x t))
-    → Written a b m n s (λ y. join w m y p)
-written a b m n s v w o p same is h k x t = h k x t ∙ (λ i. cond (same_slot m n s k x t) (join (same i) m (slot_at a k x t) (is i)) (slot_at a k x t))
 
 pub returns-clause-joined : goal.returns-clause-joined
 returns-clause-joined c =
@@ -30,9 +19,9 @@ returns-clause-joined c =
     let e = c.add_offer-2.new.all in
     let f = c.add_offer-3.new.all in
     three-slots a b e f g.into n (λ s y. join d.world g.into y (offer_from d g c.args.source n s))
-    (written a b g.into n Types c.maps.inside.world.now d.world c.offer_from-types.result (offer_from d g c.args.source n Types) same c.offer_from-types.ensures.value c.in_ok-add_offer.ensures.joined)
-    (written b e g.into n Values c.maps.inside.world.now d.world c.offer_from-values.result (offer_from d g c.args.source n Values) same c.offer_from-values.ensures.value c.in_ok-add_offer-2.ensures.joined)
-    (written e f g.into n Macros c.maps.inside.world.now d.world c.offer_from-macros.result (offer_from d g c.args.source n Macros) same c.offer_from-macros.ensures.value c.in_ok-add_offer-3.ensures.joined)
+    (joined-written a b g.into n Types c.maps.inside.world.now d.world c.offer_from-types.result (offer_from d g c.args.source n Types) same c.offer_from-types.ensures.value c.in_ok-add_offer.ensures.joined)
+    (joined-written b e g.into n Values c.maps.inside.world.now d.world c.offer_from-values.result (offer_from d g c.args.source n Values) same c.offer_from-values.ensures.value c.in_ok-add_offer-2.ensures.joined)
+    (joined-written e f g.into n Macros c.maps.inside.world.now d.world c.offer_from-macros.result (offer_from d g c.args.source n Macros) same c.offer_from-macros.ensures.value c.in_ok-add_offer-3.ensures.joined)
 
 pub returns-clause-named : goal.returns-clause-named
 returns-clause-named c =

@@ -3,8 +3,9 @@ use Rattle.std.proofs.lemmas.List.{drop_all}
 use Rattle.dm_base.specs.Names.{Name}
 use Rattle.dm_scope.specs.Sorted.{seen}
 use Rattle.dm_imports.specs.Brought.{HasOffers}
+use Rattle.dm_imports.specs.Rules.{offer_from}
 use Rattle.dm_imports.specs.Tables.{of_tables}
-use Rattle.dm_imports.proofs.JoinLemmas.{offers-none, offers-then}
+use Rattle.dm_imports.proofs.JoinLemmas.{joined-none, joined-then}
 use Rattle.dm_imports.proofs.ListLemmas.{next-of}
 use Rattle.dm_imports.proofs.rules.all_offers.add_names.Goals as goal
 
@@ -17,7 +18,7 @@ loop-name-preserved c =
     let n = c.name-item.result in
     record {
       offers = λ new rest.
-          let here = offers-then d g c.args.source n.now (seen (drop (i + 1) ns)) c.loop-name.all c.add_name.new.all new c.in_ok-add_name.ensures.joined rest in
+          let here = joined-then d.world g.into (offer_from d g c.args.source) n.now (seen (drop (i + 1) ns)) c.loop-name.all c.add_name.new.all new c.in_ok-add_name.ensures.joined rest in
           c.loop-name.invariant.offers new
           (subst (λ (xs : List (Bor Name)). HasOffers d g c.args.source (seen xs) c.loop-name.all new) (sym (next-of ns i n c.loop-name-test.true c.name-item.is)) here);
       named = c.in_ok-add_name.ensures.named;
@@ -30,4 +31,4 @@ returns-clause-joined c =
     let ns = c.args.names.now in
     c.loop-name.invariant.offers c.loop-name.all
     (subst (λ (xs : List (Bor Name)). HasOffers d g c.args.source (seen xs) c.loop-name.all c.loop-name.all) (sym (drop_all c.loop-name.name-index ns c.loop-name-test.false))
-    (offers-none d g c.args.source c.loop-name.all))
+    (joined-none d.world g.into (offer_from d g c.args.source) c.loop-name.all))

@@ -1,0 +1,141 @@
+-- How it is seen that def maps are grounded: by ways in which slots may be derived, of which fewer and fewer are open.
+use Rattle.std.specs.Prelude.{◌≡◌, ◌⊎◌, Contains, Bool, true, false, List, [], ◌∷◌, ◌||◌, Option, Some, None, cond, is_some, map}
+use Rattle.std.specs.Option.{ForSome, option_map_or}
+use Rattle.dm_base.specs.declared.ids.ModuleId.{ModuleId}
+use Rattle.dm_base.specs.declared.per_ns.Namespace.{Namespace}
+use Rattle.dm_base.specs.declared.per_ns.Namespace.TheVariants.{Types, Values, Macros}
+use Rattle.dm_base.specs.Names.{Name}
+use Rattle.dm_base.specs.Tree.{IsKnown}
+use Rattle.dm_base.specs.Visibility.{NamesKnown}
+use Rattle.dm_maps.specs.Trees.{tree_of}
+use Rattle.dm_maps.specs.World.{World, scope_of}
+use Rattle.dm_scope.specs.Sorted.{names_of}
+use Rattle.dm_imports.specs.declared.container.Container.{Container}
+use Rattle.dm_imports.specs.declared.glob_import.GlobImport.{GlobImport}
+use Rattle.dm_imports.specs.declared.joined.Joined.{Joined}
+use Rattle.dm_imports.specs.declared.meaning.Meaning.{Meaning}
+use Rattle.dm_imports.specs.declared.named_import.NamedImport.{NamedImport}
+use Rattle.dm_imports.specs.Brought.{AreAllNamed, IsBrought}
+use Rattle.dm_imports.specs.Grounded.{IsClosed, Offers, SlotSet, is_clear, is_glob_step, is_import_step, known_offers, knowing}
+use Rattle.dm_imports.specs.Meanings.{is_declared}
+use Rattle.dm_imports.specs.Paths.{AreEnumsNamed, DefMaps, at}
+use Rattle.dm_imports.specs.Rules.{AreMapsKnown, IsModule, offer_from, source_of}
+use Rattle.dm_imports.specs.Slots.{Slots, slot_at}
+
+abbrev pub no_set : SlotSet
+no_set m n s = false
+
+-- the slots that a table has
+abbrev pub slots_of : {T : Type 0} → Slots T → SlotSet
+slots_of t m n s = is_some (slot_at t m n s)
+
+-- what a table of offers has
+abbrev pub offers_in : Slots Joined → Offers
+offers_in t m n s = slot_at t m n s
+
+-- what is asked of def maps, and of a table of what globs bring in them
+pub record AreReady (d : DefMaps) (b : Slots Joined) : Type 0 where
+  pub known : AreMapsKnown d
+  pub brought : IsBrought d b
+  pub named : AreAllNamed d.world b
+
+-- ---- What a glob offers by known slots: p is its source in def maps, and c is it to one who knows those slots alone
+
+abbrev pub known_from : DefMaps → SlotSet → GlobImport → Container → Container → Name → Namespace → Option Meaning
+known_from d k g p c n s = cond (is_clear (offer_from (knowing d k) g c n s)) (offer_from d g p n s) None
+
+-- a glob of a module of the world's, whose visibility names such
+pub record MayOffer (d : DefMaps) (g : GlobImport) : Type 0 where
+  pub into : IsKnown (tree_of d.world) g.into
+  pub vis : NamesKnown (tree_of d.world) g.vis
+  pub enums : AreEnumsNamed d
+
+-- both sources of a glob are these; without them one of the two is none
+abbrev pub HasSources : DefMaps → SlotSet → GlobImport → Option (Container × Container) → Type 0
+HasSources d k g None = (source_of d g ≡ None) ⊎ (source_of (knowing d k) g ≡ None)
+HasSources d k g (Some x) = (source_of d g ≡ Some x.0) × (source_of (knowing d k) g ≡ Some x.1)
+
+-- ---- Ways
+
+-- A slot, and the import that may derive it; without one a declaration may, or globs.
+pub record Way : Type 0 where
+  pub home : ModuleId
+  pub name : Name
+  pub namespace : Namespace
+  pub import : Option NamedImport
+
+abbrev pub three_ways : ModuleId → Name → Option NamedImport → List Way
+three_ways m n i = map (λ s. record { home = m; name = n; namespace = s; import = i }) (Types ∷ Values ∷ Macros ∷ [])
+
+abbrev pub import_ways : NamedImport → List Way
+import_ways i = three_ways i.home i.name (Some i)
+
+abbrev pub slot_ways : ModuleId → Name → List Way
+slot_ways m n = three_ways m n None
+
+-- a list has the ways of all names of a module
+abbrev pub HasWaysOf : World → ModuleId → List Way → Type 0
+HasWaysOf w m ws = (n : Name) → Contains (names_of (scope_of w m)) n → (s : Namespace) → Contains ws (record { home = m; name = n; namespace = s; import = None })
+
+-- what the slot of a way means
+abbrev pub means : DefMaps → Way → Option Meaning
+means d w = at d w.home w.name w.namespace
+
+abbrev pub has_slot : SlotSet → Way → Bool
+has_slot k w = k w.home w.name w.namespace
+
+abbrev pub is_way : DefMaps → SlotSet → Offers → Way → Meaning → Bool
+is_way d k o w x = elim w.import [
+  | None ↦ is_declared x || is_glob_step d o w.home w.name w.namespace x
+  | Some i ↦ is_import_step d k o w.home w.name w.namespace x i
+]
+
+-- an import of def maps, and of that slot
+pub record IsImportOf (d : DefMaps) (w : Way) (i : NamedImport) : Type 0 where
+  pub listed : Contains d.imports i
+  pub home : i.home ≡ w.home
+  pub name : i.name ≡ w.name
+
+-- its slot is one of a module, and so is its import's
+pub record IsWay (d : DefMaps) (w : Way) : Type 0 where
+  pub home : IsModule d w.home
+  pub import : ForSome w.import (IsImportOf d w)
+
+-- Its slot means something, is not known, and no step derives it in this way.
+pub record IsOpen (d : DefMaps) (k : SlotSet) (o : Offers) (w : Way) : Type 0 where
+  pub meaning : Meaning
+  pub there : means d w ≡ Some meaning
+  pub unknown : has_slot k w ≡ false
+  pub fails : is_way d k o w meaning ≡ false
+
+-- ---- What a table of known slots has
+
+-- no more than each closed set
+abbrev pub IsSafe : DefMaps → SlotSet → Type 0
+IsSafe d k = (c : SlotSet) → IsClosed d c → (m : ModuleId) (n : Name) (s : Namespace) → k m n s ≡ true → c m n s ≡ true
+
+-- no more is offered than by the slots of each closed set
+abbrev pub is_conflict : Option Joined → Bool
+is_conflict o = option_map_or (λ j. j.is_ambiguous) o false
+
+pub record IsWithin (o p : Option Joined) : Type 0 where
+  pub there : is_some o ≡ true → is_some p ≡ true
+  pub conflict : is_conflict o ≡ true → is_conflict p ≡ true
+
+abbrev pub AreWithin : Offers → Offers → Type 0
+AreWithin o p = (m : ModuleId) (n : Name) (s : Namespace) → IsWithin (o m n s) (p m n s)
+
+abbrev pub AreSafeOffers : DefMaps → Offers → Type 0
+AreSafeOffers d o = (c : SlotSet) → IsClosed d c → AreWithin o (known_offers d c)
+
+-- the slot of a way is known, or the way is listed
+abbrev pub IsSettled : SlotSet → List Way → Way → Type 0
+IsSettled k ws w = (has_slot k w ≡ true) ⊎ Contains ws w
+
+-- so it is with each way whose slot means something
+abbrev pub AreCovered : DefMaps → SlotSet → List Way → Type 0
+AreCovered d k ws = (w : Way) → IsWay d w → is_some (means d w) ≡ true → IsSettled k ws w
+
+-- no slot is lost
+abbrev pub IsMore : SlotSet → SlotSet → Type 0
+IsMore k l = (m : ModuleId) (n : Name) (s : Namespace) → k m n s ≡ true → l m n s ≡ true
