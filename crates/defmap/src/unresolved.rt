@@ -1,5 +1,5 @@
 //! What leads nowhere in some crates.
-use crate::ambiguous::{Ambiguities, Ambiguity, ambiguity_text, ambiguous_name};
+use crate::ambiguous::{Ambiguities, Ambiguity, AmbiguousName, ambiguity_text, ambiguous_name};
 use crate::hidden::Hidden;
 use crate::macro_calls::{CallEnd, end_of, item_of};
 use crate::macro_homes::{MacroHome, macro_homes};
@@ -93,6 +93,12 @@ pub(crate) fn leads_nowhere(world: &World, glob: &GlobImport) -> bool {
     is_known(world, glob) && resolved(world, glob).is_none()
 }
 
+/// Why it is unknown what an ambiguous name means, if it is: what is hidden would go before what globs bring.
+fn cause_at(hidden: &Hidden<'_>, found: &AmbiguousName<'_, '_>) -> Option<Cause> {
+    let module = found.module?;
+    hidden.notes.cause_of_name(module, found.name)
+}
+
 impl Unresolved {
     /// Adds an import that leads nowhere.
     fn add_import(
@@ -159,18 +165,22 @@ impl Unresolved {
         Ok(())
     }
 
-    /// Adds an import whose path comes to an ambiguous name.
+    /// Adds an import whose path comes to an ambiguous name, or counts it as unknown, where what is hidden may bind that.
     fn add_ambiguous(
         &mut self,
-        alloc: Global,
-        settled: &Settled,
+        hidden: &Hidden<'_>,
         (home, path): (ModuleId, &ModPath),
         leaf: (UseId, UseTreeIdx),
         ambiguity: Ambiguity,
     ) -> Result<(), AllocError> {
+        let (alloc, settled) = (hidden.alloc(), hidden.settled());
         let Some(found) = ambiguous_name(alloc, settled, home, path, ambiguity)? else {
             return Ok(());
         };
+        if let Some(cause) = cause_at(hidden, &found) {
+            self.count(settled.world(), home, cause);
+            return Ok(());
+        }
         let (use_, idx) = leaf;
         let written = path_text(alloc, path)?;
         let why = ambiguity_text(alloc, settled, &found)?;
@@ -197,7 +207,7 @@ impl Unresolved {
             if is_own(settled, asking.0) {
                 let import = pending.import();
                 let leaf = (import.use_, import.idx);
-                self.add_ambiguous(hidden.alloc(), settled, asking, leaf, *ambiguity)?;
+                self.add_ambiguous(hidden, asking, leaf, *ambiguity)?;
             }
         }
         Ok(())
@@ -217,7 +227,7 @@ impl Unresolved {
             if is_own(settled, glob.into) {
                 let asking = (glob.into, &glob.path);
                 let leaf = (glob.import.use_, glob.import.idx);
-                self.add_ambiguous(hidden.alloc(), settled, asking, leaf, *ambiguity)?;
+                self.add_ambiguous(hidden, asking, leaf, *ambiguity)?;
             }
         }
         Ok(())
