@@ -168,15 +168,16 @@ fn bound(alloc: Global) -> Option<(PerNs, bool)> {
         Crate(0),
     )
     .ok()?;
+    let marks = Marks {
+        table: &ambiguous,
+        is_all_but: false,
+    };
     let maps = DefMaps {
         world: &world,
         imports: imports.as_slice(),
         globs: globs.as_slice(),
         enums: &enums,
-        ambiguous: Marks {
-            table: &ambiguous,
-            is_all_but: false,
-        },
+        ambiguous: marks,
     };
     if !maps.are_imports_known() {
         return None;
