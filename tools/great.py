@@ -182,23 +182,86 @@ def workspace(size):
     return crates
 
 
+def add_ring(crate, ring, length):
+    """A ring of globs: each module of it has what all others declare."""
+    names = [f"r{ring}_{k}" for k in range(length)]
+    for k, name in enumerate(names):
+        crate.line(crate.root, f"mod {name} {{")
+        crate.line(crate.root, f"    pub use super::{names[(k + 1) % length]}::*;")
+        crate.line(crate.root, f"    pub fn f{k}() {{}} pub struct S{k}; fn hidden{k}() {{}}")
+        crate.line(crate.root, "}")
+        crate.module((name,))
+        for other in range(length):
+            came = other != k
+            crate.bind((name,), f"f{other}", by("value", "glob") if came else "value")
+            crate.bind((name,), f"S{other}", by("type value", "glob") if came else "type value")
+        crate.bind((name,), f"hidden{k}", "value")
+
+
 def rings(size):
-    """Rings of globs: each module of one has what all others of it declare."""
+    """Rings of globs."""
     crate = Crate("rings")
     crate.module(())
     for ring in range(12 * size):
-        names = [f"r{ring}_{k}" for k in range(24)]
-        for k, name in enumerate(names):
-            crate.line(crate.root, f"mod {name} {{")
-            crate.line(crate.root, f"    pub use super::{names[(k + 1) % len(names)]}::*;")
-            crate.line(crate.root, f"    pub fn f{k}() {{}} pub struct S{k}; fn hidden{k}() {{}}")
-            crate.line(crate.root, "}")
-            crate.module((name,))
-            for other in range(len(names)):
-                came = other != k
-                crate.bind((name,), f"f{other}", by("value", "glob") if came else "value")
-                crate.bind((name,), f"S{other}", by("type value", "glob") if came else "type value")
-            crate.bind((name,), f"hidden{k}", "value")
+        add_ring(crate, ring, 24)
+    return [crate]
+
+
+def add_ladder(crate, ladder, depth):
+    """A ladder of shadowing, by files: each module has a glob of the one before, and an import that shadows a name of it, in
+    one namespace of two."""
+    items = {"type": "pub struct X {}", "value": "pub fn X() {}"}
+    first = f"l{ladder}_0"
+    crate.line(crate.root, f"mod {first};")
+    crate.line(f"{crate.name}/{first}.rs", f"{' '.join(items.values())} pub fn below() {{}}")
+    crate.module((first,))
+    crate.bind((first,), "X", "type value")
+    crate.bind((first,), "below", "value")
+    for k in range(1, depth + 1):
+        before, rung, beside = f"l{ladder}_{k - 1}", f"l{ladder}_{k}", f"z{ladder}_{k}"
+        shadowed, other = ("type", "value") if k % 2 else ("value", "type")
+        crate.line(crate.root, f"mod {rung};\nmod {beside};")
+        crate.line(f"{crate.name}/{rung}.rs", f"pub use super::{before}::*;\npub use super::{beside}::X;")
+        crate.line(f"{crate.name}/{beside}.rs", items[shadowed])
+        crate.module((rung,))
+        crate.module((beside,))
+        crate.bind((beside,), "X", shadowed)
+        ways = {shadowed: by(shadowed, "import"), other: by(other, "glob")}
+        crate.bind((rung,), "X", f"{ways['type']} {ways['value']}")
+        crate.bind((rung,), "below", by("value", "glob"))
+
+
+def ladders(size):
+    """Ladders of shadowing."""
+    crate = Crate("ladders")
+    crate.module(())
+    for ladder in range(4 * size):
+        add_ladder(crate, ladder, 60)
+    return [crate]
+
+
+class Unbound(Crate):
+    """A crate of which is not noted what its names mean."""
+
+    def module(self, path):
+        pass
+
+    def bind(self, path, name, meaning):
+        pass
+
+
+def alone(add, count):
+    """A crate with one ring or one ladder, to be measured."""
+    crate = Unbound("alone")
+    add(crate, 0, count)
+    return [crate]
+
+
+def chain(count, is_best):
+    """Imports of which each renames the one before it, or in the worst order the one behind it."""
+    crate = Crate("chain")
+    lines = [f"use a{k} as a{k + 1};" for k in range(count)]
+    crate.files[crate.root] = ["struct a0;", *(lines if is_best else lines[::-1])]
     return [crate]
 
 
@@ -231,7 +294,14 @@ def platforms(size):
     return [crate]
 
 
-GRAPHS = {graph.__name__: graph for graph in (tree_of_files, facade, workspace, rings, platforms)}
+GRAPHS = {graph.__name__: graph for graph in (tree_of_files, facade, workspace, rings, ladders, platforms)}
+# What is measured and not compared: the words of a table of docs/COST.md, and the crates.
+COSTS = {
+    **{f"ring | {count:,} globs": (alone, add_ring, count) for count in (100, 400, 1000)},
+    **{f"ladder | {depth:,} rungs": (alone, add_ladder, depth) for depth in (100, 1000, 10000)},
+    **{f"chain, best order | {count:,} imports": (chain, count, True) for count in (10**4, 10**5)},
+    **{f"chain, worst order | {count:,} imports": (chain, count, False) for count in (10**4, 10**5)},
+}
 
 
 def fixture(crates):

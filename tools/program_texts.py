@@ -7,9 +7,9 @@ same heading in the file `.out` what is to be printed. The program reads the tex
 of `cfg`. In a text `%{HEX}` is the character of that number, and its last line has no line feed. Of a table `cut` is
 printed how many beginnings of the text, cut before each character, are as long as their tokens together.
 
-`fixtures`: a text is a graph of crates. Its heading is a name, and behind ` | ` the words that the program is run with; where
-none stand there, `tree --dump --diagnostics`. What goes to the standard error stands behind `told: `, and the status
-behind `ends: ` where it is not 0.
+`fixtures` and `nameres`: a text is a graph of crates. Its heading is a name, and behind ` | ` the words that the program
+is run with; where none stand there, `tree --dump --diagnostics`. What goes to the standard error stands behind `told: `,
+and the status behind `ends: ` where it is not 0.
 """
 import re
 import subprocess
@@ -74,7 +74,7 @@ def item_texts():
 
 
 def fixture_texts():
-    for heading, text, printed in paired("fixtures"):
+    for heading, text, printed in [*paired("fixtures"), *paired("nameres")]:
         name, _, words = heading.partition(WORDS)
         words = words.split(" ") if words else DUMP
         yield Text(f"fixture: {name}", [*words[:1], "--fixture", "-", *words[1:]], f"{text}\n", f"{printed}\n" if printed else "")

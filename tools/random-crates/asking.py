@@ -14,6 +14,7 @@ from rustc_answers import without_numbers
 
 SECONDS = 10
 NAMES = 24
+SUPPORTED = "\nsupported: yes\n"
 # What random crates name of the standard library; rustc has its own.
 LIBRARY = f"{os.path.dirname(os.path.abspath(__file__))}/library"
 # The lints by which rustc warns that what a name means may change.
@@ -51,6 +52,7 @@ class Ours:
     meant: dict = field(default_factory=dict)  # by key: of each namespace the kind and the path
     unknown: set = field(default_factory=set)
     bound: dict = field(default_factory=dict)  # by module and name, in which namespaces it is bound
+    is_supported: bool = False
     fault: str = ""
 
 
@@ -221,16 +223,17 @@ def options_of(graph, folder):
 
 
 def run(program, folder, command, options, root):
-    """What `defmap` prints; and what is wrong where it does not end, or fails."""
-    words = [program, command, root, *options]
+    """What `defmap` prints, and tells with `--stats`; and what is wrong where it does not end, or
+    fails."""
+    words = [program, command, root, "--stats", *options]
     try:
         ran = subprocess.run(words, cwd=folder, capture_output=True, text=True, timeout=SECONDS,
                              check=False)
     except subprocess.TimeoutExpired:
-        return "", "hung"
+        return "", "", "hung"
     if ran.returncode not in (0, 1, 3):
-        return "", f"status {ran.returncode}: {ran.stderr[:300]}"
-    return ran.stdout, ""
+        return "", "", f"status {ran.returncode}: {ran.stderr[:300]}"
+    return ran.stdout, ran.stderr, ""
 
 
 def read_imports(printed, ours, keys, own):
@@ -258,15 +261,33 @@ def read_imports(printed, ours, keys, own):
                 meant[part] = ("", "")
 
 
-def ask_defmap(program, folder, options, root, keys):
-    """What `defmap` says of files in a folder, by the keys of places; without keys by places."""
-    ours, own = Ours(), root.split("/")[0].removesuffix(".rs")
-    printed, ours.fault = run(program, folder, "imports", options, root)
-    if not ours.fault:
-        read_imports(printed, ours, keys, own)
-        printed, ours.fault = run(program, folder, "tree", options, root)
+def add_imports(ours, program, folder, options, root, keys):
+    """Adds what imports mean by `defmap`, of files in a folder, by the keys of places; without keys
+    by places."""
+    printed, told, ours.fault = run(program, folder, "imports", options, root)
+    read_imports(printed, ours, keys, root.split("/")[0].removesuffix(".rs"))
+    ours.is_supported = SUPPORTED in told
+
+
+def note_bound(ours, printed):
+    """Notes what modules bind by what `defmap tree` printed."""
     for module, names in trees(printed).items():
         ours.bound.update({(module, name): spaces for name, spaces in names.items()})
+
+
+def add_bound(ours, program, folder, options, root):
+    """Adds what modules bind by `defmap`."""
+    printed, told, ours.fault = run(program, folder, "tree", options, root)
+    note_bound(ours, printed)
+    ours.is_supported = SUPPORTED in told
+
+
+def ask_defmap(program, folder, options, root, keys):
+    """What `defmap` says of files in a folder."""
+    ours = Ours()
+    add_imports(ours, program, folder, options, root, keys)
+    if not ours.fault:
+        add_bound(ours, program, folder, options, root)
     return ours
 
 

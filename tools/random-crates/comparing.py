@@ -104,12 +104,17 @@ def note_unstable(outcome):
         outcome.unstable = set().union(*(by_order(outcome, it) for it in range(ORDERS)))
 
 
-def repaired(graph, theirs):
-    """A graph without what rustc refuses, as far as that is known."""
+def refused_numbers(graph, theirs):
+    """The numbers of what rustc refuses in a graph: of leaves, where it refuses any."""
     leaves = {leaf.number for items in item_lists(graph) for item in items if isinstance(item, Use)
               for leaf in item.tree.leaves()}
     numbers = set(theirs.refused)
-    return without(graph, numbers & leaves or numbers)
+    return numbers & leaves or numbers
+
+
+def repaired(graph, theirs):
+    """A graph without what rustc refuses, as far as that is known."""
+    return without(graph, refused_numbers(graph, theirs))
 
 
 def outcomes_of(program, graph, rounds):

@@ -4,6 +4,7 @@ import json
 import os
 import re
 import subprocess
+import tempfile
 from dataclasses import dataclass, field
 
 from judging import Wrong
@@ -114,13 +115,26 @@ def words_of(graph, crate, cfgs):
     return words + [crate.root]
 
 
+@dataclass
+class Ran:
+    """How a run of rustc ended, and what it printed."""
+
+    returncode: int
+    stdout: str
+    stderr: str
+
+
 def run(words, folder):
-    environment = {**os.environ, "RUSTC_BOOTSTRAP": "1"}
-    try:
-        return subprocess.run(words, cwd=folder, env=environment, capture_output=True, text=True,
-                              timeout=SECONDS, check=False)
-    except subprocess.TimeoutExpired:
-        raise Wrong(f"rustc takes more than {SECONDS} s") from None
+    """Runs rustc. What it prints goes to files, so that it need not wait for a reader."""
+    how = {"cwd": folder, "env": {**os.environ, "RUSTC_BOOTSTRAP": "1"}, "check": False}
+    with tempfile.TemporaryFile() as out, tempfile.TemporaryFile() as told:
+        try:
+            ran = subprocess.run(words, stdout=out, stderr=told, timeout=SECONDS, **how)
+        except subprocess.TimeoutExpired:
+            raise Wrong(f"rustc takes more than {SECONDS} s") from None
+        for it in (out, told):
+            it.seek(0)
+        return Ran(ran.returncode, out.read().decode(), told.read().decode())
 
 
 def build(graph, crate, folder):

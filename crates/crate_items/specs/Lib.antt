@@ -36,3 +36,4 @@ pub mod CrateAttributes
 pub mod ItemRows
 pub mod TextualOrders
 pub mod TextualScopes
+pub mod TextualRows

@@ -1,14 +1,12 @@
--- Definitions and uses that a table gets hold what is the builder's; and one item more.
+-- Definitions that a table gets hold what is the builder's; and one item more.
 use Rattle.std.proofs.Common.{◌≡◌, ◌++◌, ◌∷◌, [], Bool, true, false, cond, List, Option, Some, None, refl}
-use Rattle.std.specs.Prelude.{All, IsTrue, map}
-use Rattle.std.proofs.lemmas.List.Elements.{All-append, All-cons, All-nil}
-use Rattle.crate_items.specs.declared.items.declared_import.DeclaredImport.{DeclaredImport}
+use Rattle.std.specs.Prelude.{IsTrue}
 use Rattle.crate_items.specs.declared.items.declared_item.DeclaredItem.{DeclaredItem}
 use Rattle.crate_items.specs.declared.items.declared_variant.DeclaredVariant.{DeclaredVariant}
 use Rattle.crate_tables.proofs.TableLemmas.{table-named, table-on, type-known}
 use Rattle.crate_tables.specs.CrateDefs.{constructor_vis, with_declared, with_items, with_variant_of, with_variants}
 use Rattle.crate_tables.specs.CrateMaps.{Filled}
-use Rattle.crate_tables.specs.CrateTables.{IsLeafOf, IsTableOf, Table, leaf_in, with_leaves, with_named}
+use Rattle.crate_tables.specs.CrateTables.{IsTableOf, Table, with_named}
 use Rattle.crate_tables.specs.NewModules.{CrateView}
 use Rattle.dm_base.specs.PerNs.{constructed, macro_alone, of_def, type_and_value, value_alone}
 use Rattle.dm_base.specs.declared.visibility.Visibility.{Visibility}
@@ -20,7 +18,6 @@ use Rattle.dm_base.specs.declared.fields_shape.FieldsShape.{FieldsShape}
 use Rattle.dm_base.specs.declared.ids.Crate.{Crate}
 use Rattle.dm_base.specs.declared.ids.EnumId.{EnumId}
 use Rattle.dm_base.specs.declared.ids.ModuleId.{ModuleId}
-use Rattle.dm_base.specs.declared.ids.UseId.{UseId}
 use Rattle.dm_base.specs.declared.item_ids.AdtId.TheVariants as adt
 use Rattle.dm_base.specs.declared.item_ids.MacroId.{MacroId}
 use Rattle.dm_base.specs.declared.item_ids.ModuleDefId.{ModuleDefId}
@@ -72,24 +69,6 @@ table-defined v w k t m None d vis shape grown km kd is kv = table-on v w k t gr
 table-defined v w k t m (Some n) d vis shape grown km kd is kv =
     table-named w k t (record { home = m; name = n; items = of_def d vis (constructor_vis shape vis) None }) (table-on v w k t grown is)
     (record { known = (grown.known (held.Module m) km, def-known w d vis shape kd (grown.all (vis_holds vis) kv)) })
-
-all-leaves : (w : World) (m : ModuleId) (vis : Visibility) (u : UseId) (xs : List DeclaredImport)
-    → IsTrue (knows w (held.Module m)) → IsTrue (knows w (held.Use u)) → KnowsAll w (vis_holds vis) → All (IsLeafOf w) (map (leaf_in m vis u) xs)
-all-leaves w m vis u [] km ku kv = All-nil (IsLeafOf w)
-all-leaves w m vis u (x ∷ xs) km ku kv = All-cons (IsLeafOf w) (leaf_in m vis u x) (map (leaf_in m vis u) xs) (km, (ku, kv)) (all-leaves w m vis u xs km ku kv)
-
--- a table with the leaves of a use more
-pub table-used : (v w : World) (k : Crate) (t : Table) (m : ModuleId) (vis : Visibility) (u : UseId) (xs : List DeclaredImport)
-    → IsGrown v w → IsTrue (knows v (held.Module m)) → IsTrue (knows w (held.Use u)) → IsTableOf v k t → KnowsAll v (vis_holds vis)
-    → IsTableOf w k (with_leaves t m vis u xs)
-table-used v w k t m vis u xs grown km ku is kv =
-    let on = table-on v w k t grown is in
-    record {
-      krate = on.krate;
-      ids = on.ids;
-      names = on.names;
-      leaves = All-append (IsLeafOf w) t.leaves (map (leaf_in m vis u) xs) on.leaves (all-leaves w m vis u xs (grown.known (held.Module m) km) ku (grown.all (vis_holds vis) kv));
-    }
 
 -- one variant more, and one item more
 pub variants-more : (w : World) (e : EnumId) (xs : List DeclaredVariant) (x : DeclaredVariant) → with_variants w e (xs ++ x ∷ []) ≡ with_variant_of (with_variants w e xs) e x

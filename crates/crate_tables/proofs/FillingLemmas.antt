@@ -8,7 +8,7 @@ use Rattle.crate_tables.specs.CrateFillings.{AreCratesFrom, Crates, IsCrateIn, I
 use Rattle.crate_tables.specs.CrateRoots.{HasRoots, KnowsRoots, root_holds}
 use Rattle.crate_tables.specs.declared.fill_fault.FillFault.{FillFault}
 use Rattle.crate_tables.specs.declared.fill_fault.FillFault.TheVariants.{NoRootFile, TooManyModules, OutOfNumbers, OutOfMemory}
-use Rattle.crate_tables.specs.CrateTables.{IsLeafOf, IsNameOf, IsTableOf, Table}
+use Rattle.crate_tables.specs.CrateTables.{IsLeafOf, IsNameOf, IsTableOf, Table, leaf_holds}
 use Rattle.crate_tables.specs.ExternCrates.{Linked, held_root, linkable}
 use Rattle.dm_maps.specs.Holding.{vis_holds}
 use Rattle.dm_maps.specs.Pushes.{push_holds}
@@ -32,7 +32,7 @@ next-crate r g c now next n d ds ds' l s first same one before all rest =
 pub known-on : (v w : World) (t : Table) → IsKept v w → IsKnownTable v t → IsKnownTable w t
 known-on v w t grown known = record {
   names = All-weaker (IsNameOf v) (IsNameOf w) (λ d k. record { known = grown.all (push_holds d.home d.items None) k.known }) t.names known.names;
-  leaves = All-weaker (IsLeafOf v) (IsLeafOf w) (λ x k. grown.all ((held.Module x.home ∷ held.Use x.use_ ∷ []) ++ vis_holds x.visibility) k) t.leaves known.leaves;
+  leaves = All-weaker (IsLeafOf v) (IsLeafOf w) (λ x k. grown.all (leaf_holds x) k) t.leaves known.leaves;
 }
 
 pub tables-on : (v w : World) (ts : List Table) → IsKept v w → All (IsKnownTable v) ts → All (IsKnownTable w) ts

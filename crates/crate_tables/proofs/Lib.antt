@@ -5,7 +5,9 @@ pub mod RootLemmas
 pub mod StepLemmas
 pub mod VariantLemmas
 pub mod DefLemmas
+pub mod UseLemmas
 pub mod ExternLemmas
+pub mod LibraryLemmas
 pub mod PreludeLemmas
 pub mod FillingLemmas
 pub mod DeclaredLemmas

@@ -3,7 +3,7 @@ use Rattle.std.proofs.Common.{◌++◌, ◌∷◌, [], Option, Some, None}
 use Rattle.std.specs.Prelude.{IfSome, IsTrue}
 use Rattle.std.proofs.lemmas.List.Elements.{All-push, All-weaker}
 use Rattle.crate_tables.proofs.GrownLemmas.{ids-more, ids-on}
-use Rattle.crate_tables.specs.CrateTables.{IsLeafOf, IsNameOf, IsTableOf, Table, left_out, module_name, with_id, with_name}
+use Rattle.crate_tables.specs.CrateTables.{IsLeafOf, IsNameOf, IsTableOf, Table, leaf_holds, left_out, module_name, with_id, with_name}
 use Rattle.crate_tables.specs.declared.declared_name.DeclaredName.{DeclaredName}
 use Rattle.dm_base.specs.PerNs.{type_alone}
 use Rattle.dm_base.specs.declared.visibility.Visibility.{Visibility}
@@ -26,7 +26,7 @@ table-on v w k t grown is = record {
   krate = grown.known (held.Crate k) is.krate;
   ids = ids-on v w t.ids grown is.ids;
   names = All-weaker (IsNameOf v) (IsNameOf w) (λ d k. record { known = grown.all (push_holds d.home d.items None) k.known }) t.names is.names;
-  leaves = All-weaker (IsLeafOf v) (IsLeafOf w) (λ x known. grown.all ((held.Module x.home ∷ held.Use x.use_ ∷ []) ++ vis_holds x.visibility) known) t.leaves is.leaves;
+  leaves = All-weaker (IsLeafOf v) (IsLeafOf w) (λ x known. grown.all (leaf_holds x) known) t.leaves is.leaves;
 }
 
 -- so is one with a module more that is left out

@@ -1,9 +1,8 @@
 -- What was known stays known, and so do tables.
-use Rattle.std.proofs.Common.{◌∷◌, [], ◌++◌, List, None}
+use Rattle.std.proofs.Common.{◌∷◌, [], List, None}
 use Rattle.std.proofs.lemmas.List.Elements.{All-weaker}
-use Rattle.crate_tables.specs.CrateTables.{IsLeafOf, IsNameOf, IsTableOf, Table}
+use Rattle.crate_tables.specs.CrateTables.{IsLeafOf, IsNameOf, IsTableOf, Table, leaf_holds}
 use Rattle.crate_tables.specs.TextualMacros.{StaysKnown}
-use Rattle.dm_maps.specs.Holding.{vis_holds}
 use Rattle.dm_maps.specs.Pushes.{push_holds}
 use Rattle.dm_maps.specs.declared.check.held.HeldId.{HeldId}
 use Rattle.dm_maps.specs.declared.check.held.HeldId.TheVariants as held
@@ -20,5 +19,5 @@ table-stays w v k t stays is = record {
   krate = stays (held.Crate k) is.krate;
   ids = λ n m at. stays (held.Module m) (is.ids n m at);
   names = All-weaker (IsNameOf w) (IsNameOf v) (λ d k. record { known = all-stay w v stays (push_holds d.home d.items None) k.known }) t.names is.names;
-  leaves = All-weaker (IsLeafOf w) (IsLeafOf v) (λ x known. all-stay w v stays ((held.Module x.home ∷ held.Use x.use_ ∷ []) ++ vis_holds x.visibility) known) t.leaves is.leaves;
+  leaves = All-weaker (IsLeafOf w) (IsLeafOf v) (λ x known. all-stay w v stays (leaf_holds x) known) t.leaves is.leaves;
 }

@@ -1,15 +1,13 @@
--- The items of a crate in a builder: definitions, variants, and uses.
+-- The definitions of a crate in a builder, with their variants.
 use Rattle.std.specs.Prelude.{ℕ, Bool, true, false, List, [], ◌∷◌, Option, None, Some, length, slice_get, if◌then◌else◌}
-use Rattle.crate_items.specs.DeclaredImports.{declared_imports}
 use Rattle.crate_items.specs.DeclaredItems.{written}
 use Rattle.crate_items.specs.DeclaredVariants.{declared_variants}
-use Rattle.crate_items.specs.declared.items.declared_import.DeclaredImport.{DeclaredImport}
 use Rattle.crate_items.specs.declared.items.declared_item.DeclaredItem.{DeclaredItem}
 use Rattle.crate_items.specs.declared.items.declared_variant.DeclaredVariant.{DeclaredVariant}
 use Rattle.crate_items.specs.Modules.{Listing}
 use Rattle.crate_items.specs.Sources.{Source, source_at}
 use Rattle.crate_tables.specs.CrateMaps.{Filled}
-use Rattle.crate_tables.specs.CrateTables.{Table, def_at, use_at, with_def_at, with_leaves, with_named, with_use_at}
+use Rattle.crate_tables.specs.CrateTables.{Table, def_at, with_def_at, with_named}
 use Rattle.crate_tables.specs.NewModules.{CrateView, is_macro_root}
 use Rattle.crate_tables.specs.Visibilities.{id_at, visibility_of}
 use Rattle.dm_base.specs.PerNs.{of_def}
@@ -25,7 +23,7 @@ use Rattle.dm_base.specs.declared.item_ids.ModuleDefId.{ModuleDefId}
 use Rattle.dm_base.specs.declared.item_ids.ModuleDefId.TheVariants as def
 use Rattle.dm_base.specs.declared.item_ids.VariantId.TheVariants.{EnumVariantId}
 use Rattle.dm_maps.specs.Build.{item_def, with_item}
-use Rattle.dm_maps.specs.BuildItems.{next_use, next_variant, with_use, with_variant}
+use Rattle.dm_maps.specs.BuildItems.{next_variant, with_variant}
 use Rattle.dm_maps.specs.BuildTables.{with_fields}
 use Rattle.dm_maps.specs.ItemFaults.{has_variant}
 use Rattle.dm_maps.specs.World.{World}
@@ -99,25 +97,10 @@ abbrev pub defined_if : Filled → DeclaredItem → ModuleId → Visibility → 
 defined_if s x m v None vs = s
 defined_if s x m v (Some k) vs = defined s x m v k vs
 
--- ---- Uses
-
-abbrev pub is_use : ItemKind → Bool
-is_use item.Use = true
-is_use _ = false
-
--- a use x of the module m, seen by v, is added with its leaves
-abbrev pub used : Filled → DeclaredItem → ModuleId → Visibility → List DeclaredImport → Filled
-used s x m v xs = record {
-  world = with_use s.world m;
-  table = with_use_at (with_leaves s.table m v (next_use s.world) xs) (use_at (next_use s.world) x);
-}
-
 -- ---- Items
 
 abbrev pub added_in : CrateView → Filled → DeclaredItem → ModuleId → Visibility → Filled
-added_in c s x m v =
-    if is_use x.kind then used s x m v (declared_imports c.list c.files x)
-    else defined_if s x m v (def_kind x.kind) (declared_variants c.options c.list c.files x)
+added_in c s x m v = defined_if s x m v (def_kind x.kind) (declared_variants c.options c.list c.files x)
 
 -- whom an item of the module m is shown to
 abbrev pub visibility_in : CrateView → Table → DeclaredItem → ModuleId → Visibility
@@ -132,7 +115,7 @@ added_if c s x (Some m) = added_in c s x m (visibility_in c s.table x m)
 abbrev pub with_declared : CrateView → Filled → DeclaredItem → Filled
 with_declared c s x = added_if c s x (id_at s.table.ids x.«module»)
 
--- Each item is added, in order, in its module: definitions with their variants and names, uses with their leaves.
+-- Each definition among the items is added, in order, in its module, with its variants and its name.
 abbrev pub with_items : CrateView → Filled → List DeclaredItem → Filled
 with_items c s [] = s
 with_items c s (x ∷ xs) = with_items c (with_declared c s x) xs

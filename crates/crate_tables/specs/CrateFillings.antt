@@ -21,7 +21,9 @@ use Rattle.crate_tables.specs.CrateMacros.{WithMacros, with_macros}
 use Rattle.crate_tables.specs.CrateMaps.{Filled, with_crate_modules}
 use Rattle.crate_tables.specs.CrateRoots.{root_id, with_externs, with_roots}
 use Rattle.crate_tables.specs.CrateTables.{IsLeafOf, IsNameOf, Table}
+use Rattle.crate_tables.specs.CrateUses.{Textual, with_uses}
 use Rattle.crate_tables.specs.ExternCrates.{Linked, with_extern_crates}
+use Rattle.crate_tables.specs.LibraryNames.{library_name, with_library_in}
 use Rattle.crate_tables.specs.NewModules.{CrateView}
 use Rattle.crate_tables.specs.PreludeImports.{Importer, Lists, named_among}
 use Rattle.crate_tables.specs.ProceduralMacros.{with_procedural_macros}
@@ -31,6 +33,7 @@ use Rattle.crate_tables.specs.StandardPreludes.{standard_prelude, unnamed, with_
 use Rattle.crate_tables.specs.TextualMacros.{with_scopes}
 use Rattle.crate_tables.specs.declared.extern_crates.ExternCrateRow.{ExternCrateRow}
 use Rattle.crate_tables.specs.declared.fill_fault.FillFault.{FillFault}
+use Rattle.crate_tables.specs.declared.library_name.LibraryName.{LibraryName}
 use Rattle.crate_tables.specs.declared.fill_fault.FillFault.TheVariants.{NoRootFile, TooManyModules, OutOfNumbers, OutOfMemory}
 use Rattle.dm_base.specs.declared.ids.Crate.{Crate}
 use Rattle.dm_base.specs.declared.ids.ModuleId.{ModuleId}
@@ -52,12 +55,20 @@ pub record IsListOf (r : Reading) (d : Data) (l : Listing) : Type 0 where
 
 -- ---- All items of a crate
 
--- the macros among the items are added, and then each module gets those that are in its textual scope
-abbrev pub in_scope : CrateView → WithMacros → List DeclaredItem → Filled
-in_scope c made items = record {
-  world = with_scopes items made.ids made.table.ids made.world (textual_scopes c.list items);
+abbrev pub textual_in : CrateView → WithMacros → List DeclaredItem → Textual
+textual_in c made items = record { items = items; macros = made.ids; scopes = textual_scopes c.list items }
+
+-- each module gets the macros that are in its textual scope
+abbrev pub scopes_given : WithMacros → Textual → Filled
+scopes_given made t = record {
+  world = with_scopes t.items t.macros made.table.ids made.world t.scopes;
   table = made.table;
 }
+
+-- the macros among the items are added, then each module gets those that are in its textual scope, and then the uses are
+-- added, whose leaves may mean these
+abbrev pub in_scope : CrateView → WithMacros → List DeclaredItem → Filled
+in_scope c made items = with_uses c (textual_in c made items) (scopes_given made (textual_in c made items))
 
 abbrev pub with_macros_in_scope : CrateView → Filled → List DeclaredItem → Filled
 with_macros_in_scope c s items = in_scope c (with_macros c (record { world = s.world; table = s.table; ids = [] }) items) items
@@ -91,17 +102,22 @@ unfoldable pub with_all_items : CrateView → List Dependency → Linked → Lis
 with_all_items c ds s items =
     listed c (others_added c (macros_added c (with_extern_crates c ds (blocks_added c s items) items) items) items) (length s.rows) items
 
+-- behind these a root of the edition 2015 binds the standard library
+abbrev pub with_all_bound : CrateView → List Dependency → Option LibraryName → Linked → List DeclaredItem → Linked
+with_all_bound c ds lib s items = with_library_in c.krate lib (with_all_items c ds s items)
+
 -- ---- Crates
 
 abbrev pub with_rows : Filled → List ExternCrateRow → Linked
 with_rows s rows = record { world = s.world; table = s.table; rows = rows }
 
--- s is w with the modules of a crate's list below its root, and with their items, in the order of the text; the extern
--- crates of the world so far get its own behind them
-pub record HasList (c : CrateView) (ds : List Dependency) (w : World) (rows : List ExternCrateRow) (s : Linked) : Type 0 where
+-- s is w with the modules of a crate's list below its root, and with their items, in the order of the text, and what the
+-- root binds without an item; the extern crates of the world so far get its own behind them
+pub record HasList (c : CrateView) (ds : List Dependency) (lib : Option LibraryName) (w : World) (rows : List ExternCrateRow)
+    (s : Linked) : Type 0 where
   pub items : List ModuleItem
   pub order : AreItemsFrom c.list.sources 0 c.list.modules items
-  pub filled : s ≡ with_all_items c ds (with_rows (with_crate_modules c w (root_id c.krate)) rows)
+  pub filled : s ≡ with_all_bound c ds lib (with_rows (with_crate_modules c w (root_id c.krate)) rows)
       (flat_map (declared_of c.edition c.list c.files) items)
 
 abbrev pub view_of : List SourceFile → Crate → Data → Listing → CrateView
@@ -126,7 +142,8 @@ attributes_of files d l = crate_attributes l files d.root_file_id
 -- prelude, and then it has the modules of the list, and their items
 abbrev pub IsFilledBy : List SourceFile → Crate → Data → World → List ExternCrateRow → Listing → Linked → Type 0
 IsFilledBy files k d w rows l s =
-    HasList (view_of files k d l) d.dependencies (prepared w k (attributes_of files d l) d.dependencies) rows s
+    HasList (view_of files k d l) d.dependencies (library_name d.edition (attributes_of files d l) d.dependencies)
+    (prepared w k (attributes_of files d l) d.dependencies) rows s
 
 -- s is w with the crate k filled by the list of the modules that it declares
 pub record IsCrateIn (r : Reading) (k : Crate) (d : Data) (w : World) (rows : List ExternCrateRow) (l : Listing)

@@ -1,8 +1,7 @@
 -- What a crate has in a builder: the ids of its modules, the names that they declare, what they import, its blocks, and where
 -- all that is written.
-use Rattle.std.specs.Prelude.{◌++◌, All, IsTrue, List, [], ◌∷◌, Option, None, Some, map}
+use Rattle.std.specs.Prelude.{◌++◌, All, IsTrue, List, [], ◌∷◌, Option, None, Some}
 use Rattle.crate_tables.specs.Visibilities.{AreIdsOf, Ids}
-use Rattle.crate_items.specs.declared.items.declared_import.DeclaredImport.{DeclaredImport}
 use Rattle.crate_items.specs.declared.items.declared_item.DeclaredItem.{DeclaredItem}
 use Rattle.crate_tables.specs.declared.declared_name.DeclaredName.{DeclaredName}
 use Rattle.crate_tables.specs.declared.item_place.BlockPlace.{BlockPlace}
@@ -14,11 +13,13 @@ use Rattle.dm_base.specs.declared.per_ns.PerNs.{PerNs}
 use Rattle.dm_base.specs.declared.visibility.Visibility.{Visibility}
 use Rattle.dm_maps.specs.Holding.{vis_holds}
 use Rattle.dm_maps.specs.Pushes.{push_holds}
+use Rattle.dm_maps.specs.declared.check.held.HeldId.{HeldId}
 use Rattle.dm_maps.specs.declared.check.held.HeldId.TheVariants as held
 use Rattle.dm_base.specs.Names.{Name}
 use Rattle.dm_base.specs.declared.ids.Crate.{Crate}
 use Rattle.dm_base.specs.declared.ids.ModuleId.{ModuleId}
 use Rattle.dm_base.specs.declared.ids.UseId.{UseId}
+use Rattle.dm_base.specs.declared.item_ids.MacroId.{MacroId}
 use Rattle.dm_base.specs.declared.item_ids.ModuleDefId.{ModuleDefId}
 use Rattle.dm_base.specs.declared.item_ids.ModuleDefId.TheVariants as def
 use Rattle.dm_maps.specs.Known.{knows, KnowsAll}
@@ -50,12 +51,9 @@ abbrev pub with_named : Table → ModuleId → Option Name → PerNs → Table
 with_named t m None items = t
 with_named t m (Some n) items = with_name t (record { home = m; name = n; items = items })
 
--- with the leaves of a use more, which are seen by v
-abbrev pub leaf_in : ModuleId → Visibility → UseId → DeclaredImport → UseLeaf
-leaf_in m v u x = record { home = m; visibility = v; use_ = u; import = x }
-
-abbrev pub with_leaves : Table → ModuleId → Visibility → UseId → List DeclaredImport → Table
-with_leaves t m v u xs = record t { leaves = t.leaves ++ map (leaf_in m v u) xs }
+-- with the leaves of a use more
+abbrev pub with_leaves : Table → List UseLeaf → Table
+with_leaves t ls = record t { leaves = t.leaves ++ ls }
 
 -- with a use more, which the item x is
 abbrev pub use_at : UseId → DeclaredItem → UsePlace
@@ -92,9 +90,21 @@ with_id t p n v (Some m) = record t { ids = t.ids ++ Some m ∷ []; names = t.na
 pub record IsNameOf (w : World) (d : DeclaredName) : Type 0 where
   pub known : KnowsAll w (push_holds d.home d.items None)
 
--- an import whose module is the builder's, and its use, and what its visibility names
+abbrev pub textual_holds : Option MacroId → List HeldId
+textual_holds None = []
+textual_holds (Some id) = held.Macro id ∷ []
+
+-- the ids that an import names: its module, its use, those of its visibility, and the textual macro that it means
+abbrev pub leaf_holds : UseLeaf → List HeldId
+leaf_holds x = ((held.Module x.home ∷ held.Use x.use_ ∷ []) ++ vis_holds x.visibility) ++ textual_holds x.textual
+
+-- an import whose ids are the builder's
 abbrev pub IsLeafOf : World → UseLeaf → Type 0
-IsLeafOf w x = KnowsAll w ((held.Module x.home ∷ held.Use x.use_ ∷ []) ++ vis_holds x.visibility)
+IsLeafOf w x = KnowsAll w (leaf_holds x)
+
+-- a macro that is the builder's, if there is one
+abbrev pub IsMacroOf : World → Option MacroId → Type 0
+IsMacroOf w id = KnowsAll w (textual_holds id)
 
 -- the table is of a crate of the builder, and holds nothing but what is the builder's
 pub record IsTableOf (w : World) (k : Crate) (t : Table) : Type 0 where

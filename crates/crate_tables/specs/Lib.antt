@@ -8,6 +8,7 @@ pub mod RawVisibilities
 pub mod ExternCrates
 pub mod StandardPreludes
 pub mod PreludeImports
+pub mod LibraryNames
 pub mod CrateMacros
 pub mod ProceduralMacros
 pub mod Blocks
@@ -15,6 +16,7 @@ pub mod BlockLists
 pub mod CrateFillings
 pub mod DeclaredWorlds
 pub mod TextualMacros
+pub mod CrateUses
 pub mod ScopeEntries
 pub mod DefIndexes
 pub mod ModuleIndexes

@@ -3,6 +3,7 @@ use Rattle.std.specs.Prelude.{◌+◌, ℕ, IsTrue, List, [], ◌∷◌, Option,
 use Rattle.std.specs.Option.{option_map_or}
 use Rattle.crate_items.specs.TextualScopes.{Scopes, name_at}
 use Rattle.crate_items.specs.declared.items.declared_item.DeclaredItem.{DeclaredItem}
+use Rattle.crate_items.specs.declared.macros.textual_scopes.TextualMacro.{TextualMacro}
 use Rattle.crate_tables.specs.Visibilities.{Ids, id_at}
 use Rattle.dm_maps.specs.declared.check.held.HeldId.{HeldId}
 use Rattle.dm_base.specs.Names.{Name, same_name}
@@ -36,15 +37,15 @@ with_named w m (Some id) (Some n) = with_legacy w m n id
 abbrev pub with_item : List DeclaredItem → List (Option MacroId) → World → ModuleId → ℕ → World
 with_item xs ids w m i = with_named w m (macro_at ids i) (name_at xs i)
 
--- the macros of these items, in order, in the scope of the module m
-abbrev pub with_textual : List DeclaredItem → List (Option MacroId) → World → ModuleId → List ℕ → World
+-- these macros, in order, in the scope of the module m
+abbrev pub with_textual : List DeclaredItem → List (Option MacroId) → World → ModuleId → List TextualMacro → World
 with_textual xs ids w m [] = w
-with_textual xs ids w m (i ∷ numbers) = with_textual xs ids (with_item xs ids w m i) m numbers
+with_textual xs ids w m (t ∷ ts) = with_textual xs ids (with_item xs ids w m t.number) m ts
 
 -- a module that was left out has no scope
-abbrev pub with_scope_of : List DeclaredItem → List (Option MacroId) → World → Option ModuleId → List ℕ → World
-with_scope_of xs ids w None numbers = w
-with_scope_of xs ids w (Some m) numbers = with_textual xs ids w m numbers
+abbrev pub with_scope_of : List DeclaredItem → List (Option MacroId) → World → Option ModuleId → List TextualMacro → World
+with_scope_of xs ids w None ts = w
+with_scope_of xs ids w (Some m) ts = with_textual xs ids w m ts
 
 abbrev pub with_scopes_from : List DeclaredItem → List (Option MacroId) → Ids → World → ℕ → Scopes → World
 with_scopes_from xs ids modules w n [] = w

@@ -1,5 +1,5 @@
 //! All items of a crate, added to a builder.
-ghost use Rattle.std.specs.Prelude.{◌≡◌, IsTrue, OnOk};
+ghost use Rattle.std.specs.Prelude.{◌≡◌, IfSome, IsTrue, OnOk};
 ghost use Rattle.crate_tables.specs.CrateFillings as spec;
 ghost use Rattle.crate_tables.specs.CrateRoots.{root_id as root_of};
 ghost use Rattle.crate_tables.specs.CrateTables.{IsTableOf};
@@ -14,6 +14,7 @@ use crate::blocks::add_blocks;
 use crate::crate_table::CrateTable;
 use crate::extern_crates::{ExternCrateRow, add_extern_crates};
 use crate::item_outline::outlines;
+use crate::library_name::{LibraryName, declare_library};
 use crate::new_module::CrateView;
 use crate::raw_visibilities::add_written_items;
 use crate_items::files::dependency::Dependency;
@@ -68,5 +69,30 @@ pub(crate) fn add_all_items(
         externs.as_slice(),
         first,
     )?;
+    Ok(())
+}
+
+/// The same, and then the root binds what it binds without an item.
+pub(crate) fn add_all_bound(
+    builder: &mut WorldBuilder,
+    table: &mut CrateTable,
+    externs: &mut Vec<ExternCrateRow>,
+    alloc: Global,
+    view: &CrateView<'_>,
+    dependencies: &[Dependency],
+    library: Option<LibraryName>,
+    items: Vec<DeclaredItem>,
+) -> Result<(), BuildFault>
+    requires table { IsTableOf builder.old view.now.krate table.old }
+    requires roots { KnowsAll builder.old (linkable view.now.krate dependencies.now) }
+    requires library { IfSome library (λ l. IsTrue (knows builder.old (held.Module (root_of l.krate)))) }
+    ensures added { OnOk result ((record { world = builder.new; table = table.new; rows = externs.new.items }) ≡
+        spec.with_all_bound view.now dependencies.now library
+        (record { world = builder.old; table = table.old; rows = externs.old.items }) items.items) }
+    ensures kept { OnOk result (IsTableOf builder.new view.now.krate table.new) }
+    ensures stays { IsKept builder.old builder.new }
+{
+    add_all_items(builder, table, externs, alloc, view, dependencies, items)?;
+    declare_library(builder, table, view, library)?;
     Ok(())
 }

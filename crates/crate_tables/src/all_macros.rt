@@ -1,24 +1,55 @@
-//! All macros of a crate in a builder: procedural ones, those that are bound as items, and those in textual scope.
-ghost use Rattle.std.specs.Prelude.{◌≡◌, IsTrue, OnOk};
+//! All macros of a crate in a builder: procedural ones, those that are bound as items, those in textual scope, and the uses,
+//! which may mean these.
+ghost use Rattle.std.specs.Prelude.{◌≡◌, All, IsTrue, OnOk};
 ghost use Rattle.crate_tables.specs.CrateFillings as spec;
 ghost use Rattle.crate_tables.specs.CrateRoots.{root_id as root_of};
-ghost use Rattle.crate_tables.specs.CrateTables.{IsTableOf};
+ghost use Rattle.crate_tables.specs.CrateTables.{IsMacroOf, IsTableOf};
 ghost use Rattle.crate_tables.specs.Kept.{IsKept};
 ghost use Rattle.dm_maps.specs.declared.check.held.HeldId.TheVariants as held;
 ghost use Rattle.dm_maps.specs.Known.{knows};
 
 use crate::crate_macros::add_macros;
 use crate::crate_table::CrateTable;
+use crate::crate_uses::{TextualView, add_uses};
 use crate::new_module::CrateView;
 use crate::procedural_macros::add_procedural_macros;
 use crate::textual_macros::add_textual_macros;
 use crate_items::items::declared_item::DeclaredItem;
 use crate_items::macros::textual_scopes::textual_scopes;
+use dm_base::item_ids::MacroId;
 use dm_maps::build_fault::BuildFault;
 use dm_maps::builder::WorldBuilder;
 use std::alloc::Global;
 
-/// Adds the macros among the items of a crate, and gives each module those that are in its textual scope.
+/// Gives each module the macros in its textual scope, and adds the uses of a crate, which may mean these.
+fn add_in_scope(
+    builder: &mut WorldBuilder,
+    table: &mut CrateTable,
+    alloc: Global,
+    view: &CrateView<'_>,
+    items: &[DeclaredItem],
+    macros: &[Option<MacroId>],
+) -> Result<(), BuildFault>
+    requires table { IsTableOf builder.old view.now.krate table.old }
+    requires macros { All (IsMacroOf builder.old) macros.now }
+    ensures added { OnOk result ((record { world = builder.new; table = table.new }) ≡
+        spec.in_scope view.now (record { world = builder.old; table = table.old; ids = macros.now }) items.now) }
+    ensures kept { OnOk result (IsTableOf builder.new view.now.krate table.new) }
+    ensures stays { IsKept builder.old builder.new }
+{
+    let made = textual_scopes(alloc, view.list, items)?;
+    let scopes = made.as_slice();
+    add_textual_macros(builder, alloc, view.krate, table, items, macros, scopes)?;
+    let textual = TextualView {
+        items,
+        macros,
+        scopes,
+    };
+    add_uses(builder, table, alloc, view, &textual)?;
+    Ok(())
+}
+
+/// Adds the macros among the items of a crate, and then its uses, and gives each module the macros in its textual scope.
 fn add_macros_in_scope(
     builder: &mut WorldBuilder,
     table: &mut CrateTable,
@@ -34,20 +65,12 @@ fn add_macros_in_scope(
     ensures stays { IsKept builder.old builder.new }
 {
     let macros = add_macros(builder, table, alloc, view, items)?;
-    let scopes = textual_scopes(alloc, view.list, items)?;
-    add_textual_macros(
-        builder,
-        alloc,
-        view.krate,
-        table,
-        items,
-        macros.as_slice(),
-        scopes.as_slice(),
-    )?;
+    add_in_scope(builder, table, alloc, view, items, macros.as_slice())?;
     Ok(())
 }
 
-/// Adds the macros among the items of a crate, and behind these the procedural ones, which are in no textual scope.
+/// Adds the macros among the items of a crate and its uses, and behind these the procedural macros, which are in no textual
+/// scope.
 pub(crate) fn add_all_macros(
     builder: &mut WorldBuilder,
     table: &mut CrateTable,

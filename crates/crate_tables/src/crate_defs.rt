@@ -1,6 +1,5 @@
-//! The items of a crate, added to a builder: definitions, variants and uses.
+//! The definitions of a crate, added to a builder, with their variants.
 ghost use Rattle.std.specs.Prelude.{◌≡◌, ◌↔◌, true, IfErr, IfOk, IfSome, IsTrue, OnOk, length, slice_get};
-ghost use Rattle.crate_items.specs.DeclaredImports.{declared_imports};
 ghost use Rattle.crate_items.specs.DeclaredVariants.{declared_variants};
 ghost use Rattle.crate_tables.specs.CrateDefs as spec;
 ghost use Rattle.crate_tables.specs.CrateMaps.{is_shortage};
@@ -15,12 +14,11 @@ ghost use Rattle.dm_maps.specs.declared.build_fault.BuildFault.TheVariants.{Take
 
 use crate::crate_maps::parent_id;
 use crate::crate_table::CrateTable;
-use crate::item_place::{DefPlace, UsePlace};
+use crate::item_place::DefPlace;
 use crate::new_module::CrateView;
 use crate::raw_visibilities::set_fields;
 use crate::visibilities::known_visibility;
 use crate_items::files::source::Source;
-use crate_items::items::declared_import::declared_imports;
 use crate_items::items::declared_item::DeclaredItem;
 use crate_items::items::declared_variant::{DeclaredVariant, declared_variants};
 use crate_items::modules::CrateModules;
@@ -76,12 +74,6 @@ pub(crate) fn def_kind(kind: item_kind::ItemKind) -> Option<ItemKind>
         item_kind::ItemKind::TypeAlias => Some(ItemKind::TypeAlias),
         _ => None,
     }
-}
-
-fn is_use(kind: item_kind::ItemKind) -> bool
-    ensures { result ≡ spec.is_use kind }
-{
-    matches!(kind, item_kind::ItemKind::Use)
 }
 
 /// Whether a name is taken.
@@ -229,64 +221,6 @@ fn define_if(
     }
 }
 
-/// Adds a use of a module, with its leaves.
-fn add_use(
-    builder: &mut WorldBuilder,
-    table: &mut CrateTable,
-    alloc: Global,
-    view: &CrateView<'_>,
-    item: &DeclaredItem,
-    m: ModuleId,
-    visibility: Visibility,
-) -> Result<(), BuildFault>
-    requires { IsTrue (knows builder.old (held.Module m)) }
-    ensures world { OnOk result (builder.new ≡ (spec.used (record { world = builder.old; table = table.old })
-        item.now m visibility (declared_imports view.now.list view.now.files item.now)).world) }
-    ensures table { OnOk result (table.new ≡ (spec.used (record { world = builder.old; table = table.old })
-        item.now m visibility (declared_imports view.now.list view.now.files item.now)).table) }
-    ensures kept { (k : Crate) → IsTableOf builder.old k table.old → KnowsAll builder.old (vis_holds visibility)
-        → OnOk result (IsTableOf builder.new k table.new) }
-    ensures grown { IsGrown builder.old builder.new }
-    ensures fault { IfErr result (λ fault. is_shortage fault ≡ true) }
-{
-    let imports = declared_imports(alloc, view.list, view.files, item)?;
-    let use_ = builder.add_use(m)?;
-    table.push_leaves(m, visibility, use_, imports)?;
-    table.push_use(UsePlace {
-        use_,
-        file: item.file,
-        item: item.item,
-    })?;
-    Ok(())
-}
-
-/// Adds an item in a module.
-fn add_in(
-    builder: &mut WorldBuilder,
-    table: &mut CrateTable,
-    alloc: Global,
-    view: &CrateView<'_>,
-    item: DeclaredItem,
-    m: ModuleId,
-    visibility: Visibility,
-) -> Result<(), BuildFault>
-    requires { IsTrue (knows builder.old (held.Module m)) }
-    ensures world { OnOk result (builder.new ≡ (spec.added_in view.now
-        (record { world = builder.old; table = table.old }) item m visibility).world) }
-    ensures table { OnOk result (table.new ≡ (spec.added_in view.now
-        (record { world = builder.old; table = table.old }) item m visibility).table) }
-    ensures kept { (k : Crate) → IsTableOf builder.old k table.old → KnowsAll builder.old (vis_holds visibility)
-        → OnOk result (IsTableOf builder.new k table.new) }
-    ensures grown { IsGrown builder.old builder.new }
-    ensures fault { IfErr result (λ fault. is_shortage fault ≡ true) }
-{
-    if is_use(item.kind) {
-        add_use(builder, table, alloc, view, &item, m, visibility)
-    } else {
-        define_if(builder, table, alloc, view, item, m, visibility)
-    }
-}
-
 /// Whom an item of a module is shown to.
 pub(crate) fn item_visibility(
     builder: &WorldBuilder,
@@ -313,7 +247,7 @@ pub(crate) fn item_visibility(
     )
 }
 
-/// Adds an item of a crate, unless its module was left out.
+/// Adds an item of a crate, if it is a definition, and unless its module was left out.
 fn add_item(
     builder: &mut WorldBuilder,
     table: &mut CrateTable,
@@ -332,19 +266,19 @@ fn add_item(
         None => Ok(()),
         Some(m) => {
             let visibility = item_visibility(builder, table, view, &item, m);
-            add_in(builder, table, alloc, view, item, m, visibility)
+            define_if(builder, table, alloc, view, item, m, visibility)
         }
     }
 }
 
-/// Adds the items of a crate, as `declared_items` gives them, each in its module: functions, structs, unions, enums with
-/// their variants, constants, statics, traits and type aliases, which are declared there under their names, and uses with
-/// their leaves. What stands in a module that was left out is left out.
+/// Adds the definitions among the items of a crate, as `declared_items` gives them, each in its module: functions, structs,
+/// unions, enums with their variants, constants, statics, traits and type aliases, which are declared there under their
+/// names. What stands in a module that was left out is left out.
 ///
 /// # Errors
 ///
-/// Fails where memory or numbers run out: `OutOfNumbers` where there are 4,294,967,295 items, variants or uses. What was
-/// added before stays.
+/// Fails where memory or numbers run out: `OutOfNumbers` where there are 4,294,967,295 items or variants. What was added
+/// before stays.
 pub fn add_items(
     builder: &mut WorldBuilder,
     table: &mut CrateTable,

@@ -1,26 +1,28 @@
 //! The crates of a graph, added to a builder with all that they declare.
-ghost use Rattle.std.specs.Prelude.{◌≡◌, ◌++◌, ◌∷◌, ◌<◌, [], All, IfErr, IfOk, IsTrue, OnOk, Some, length, slice_get};
+ghost use Rattle.std.specs.Prelude.{◌≡◌, ◌++◌, ◌∷◌, ◌<◌, [], All, IfErr, IfOk, IfSome, IsTrue, OnOk, Some, length, slice_get};
 ghost use Rattle.crate_items.specs.CrateGraphs.{AreKnown};
 ghost use Rattle.crate_tables.specs.BlockLists.{with_all_blocks};
 ghost use Rattle.crate_tables.specs.CrateFillings as spec;
-ghost use Rattle.crate_tables.specs.CrateRoots.{KnowsRoots, root_holds, with_roots};
+ghost use Rattle.crate_tables.specs.CrateRoots.{KnowsRoots, root_holds, root_id as root_of, with_roots};
 ghost use Rattle.crate_tables.specs.CrateTables.{IsTableOf};
 ghost use Rattle.crate_tables.specs.ExternCrates.{Linked, linkable};
 ghost use Rattle.crate_tables.specs.DeclaredWorlds.{BindNothing};
 ghost use Rattle.crate_tables.specs.Kept.{IsKept};
+ghost use Rattle.crate_tables.specs.LibraryNames as names;
 ghost use Rattle.crate_items.specs.Modules.{Listing};
 ghost use Rattle.dm_maps.specs.declared.check.held.HeldId.TheVariants as held;
 ghost use Rattle.dm_maps.specs.Added.{IsGrown};
 ghost use Rattle.dm_maps.specs.Build.{no_world};
 ghost use Rattle.dm_maps.specs.Known.{knows, KnowsAll};
 
-use crate::all_items::add_all_items;
+use crate::all_items::add_all_bound;
 use crate::block_lists::list_blocks;
 use crate::crate_maps::add_modules;
 use crate::crate_roots::{add_externs, crate_roots, root_id};
 use crate::crate_table::CrateTable;
 use crate::extern_crates::ExternCrateRow;
 use crate::fill_fault::FillFault;
+use crate::library_name::{LibraryName, library_name};
 use crate::new_module::CrateView;
 use crate::set_preludes::set_preludes;
 use crate::standard_prelude::set_attributes;
@@ -85,17 +87,19 @@ fn listed(
     }
 }
 
-/// Adds the modules of a crate's list, and their items.
+/// Adds the modules of a crate's list, and their items, and binds what the root binds without an item.
 fn fill_list(
     builder: &mut WorldBuilder,
     externs: &mut Vec<ExternCrateRow>,
     alloc: Global,
     view: &CrateView<'_>,
     dependencies: &[Dependency],
+    library: Option<LibraryName>,
 ) -> Result<CrateTable, BuildFault>
     requires root { KnowsAll builder.old (root_holds view.now.krate) }
     requires roots { KnowsAll builder.old (linkable view.now.krate dependencies.now) }
-    ensures items { IfOk result (λ table. spec.HasList view.now dependencies.now builder.old externs.old.items
+    requires library { IfSome library (λ l. IsTrue (knows builder.old (held.Module (root_of l.krate)))) }
+    ensures items { IfOk result (λ table. spec.HasList view.now dependencies.now library builder.old externs.old.items
         (record { world = builder.new; table = table; rows = externs.new.items })) }
     ensures kept { IfOk result (IsTableOf builder.new view.now.krate) }
     ensures stays { IsKept builder.old builder.new }
@@ -103,13 +107,14 @@ fn fill_list(
     let mut table = add_modules(builder, alloc, view, root_id(view.krate))?;
     let rows = module_items(alloc, view.list)?;
     let items = declared_items(alloc, view.edition, view.list, view.files, rows.as_slice())?;
-    add_all_items(
+    add_all_bound(
         builder,
         &mut table,
         externs,
         alloc,
         view,
         dependencies,
+        library,
         items,
     )?;
     Ok(table)
@@ -146,13 +151,15 @@ fn fill_listed(
     requires root { KnowsAll builder.old (root_holds view.now.krate) }
     requires roots { KnowsAll builder.old (linkable view.now.krate dependencies.now) }
     ensures filled { IfOk result (λ table. spec.HasList view.now dependencies.now
+        (names.library_name view.now.edition attributes.items dependencies.now)
         (spec.prepared builder.old view.now.krate attributes.items dependencies.now) externs.old.items
         (record { world = builder.new; table = table; rows = externs.new.items })) }
     ensures kept { IfOk result (IsTableOf builder.new view.now.krate) }
     ensures stays { IsKept builder.old builder.new }
 {
+    let library = library_name(alloc, view.edition, attributes.as_slice(), dependencies)?;
     prepare(builder, alloc, view.krate, attributes, dependencies)?;
-    let table = fill_list(builder, externs, alloc, view, dependencies)?;
+    let table = fill_list(builder, externs, alloc, view, dependencies, library)?;
     Ok(table)
 }
 

@@ -1,9 +1,9 @@
 //! The macros of a crate, added to a builder.
-ghost use Rattle.std.specs.Prelude.{◌≡◌, ◌++◌, ◌∷◌, [], None, Some, true, IfErr, IfOk, IsTrue, OnOk, length};
+ghost use Rattle.std.specs.Prelude.{◌≡◌, ◌++◌, ◌∷◌, [], None, Some, true, All, IfErr, IfOk, IsTrue, OnOk, length};
 ghost use Rattle.crate_tables.specs.CrateMacros as spec;
 ghost use Rattle.crate_tables.specs.CrateMaps.{is_shortage};
 ghost use Rattle.crate_tables.specs.CrateRoots as roots;
-ghost use Rattle.crate_tables.specs.CrateTables.{IsTableOf, with_named};
+ghost use Rattle.crate_tables.specs.CrateTables.{IsMacroOf, IsTableOf, with_named};
 ghost use Rattle.dm_base.specs.PerNs.{macro_alone};
 ghost use Rattle.dm_maps.specs.Holding.{vis_holds};
 ghost use Rattle.dm_maps.specs.declared.check.held.HeldId.TheVariants as held;
@@ -189,6 +189,7 @@ fn add_as(
     ensures table { OnOk result (table.new ≡
         spec.placed_as view.now table.old item.now m (spec.next_macro builder.old loc)) }
     ensures id { IfOk result (λ id. id ≡ spec.next_macro builder.old loc) }
+    ensures known { IfOk result (λ id. IsTrue (knows builder.new (held.Macro id))) }
     ensures kept { OnOk result (IsTableOf builder.new view.now.krate table.new) }
     ensures grown { IsGrown builder.old builder.new }
     ensures fault { IfErr result (λ fault. is_shortage fault ≡ true) }
@@ -216,10 +217,12 @@ fn add_in(
 ) -> Result<(), BuildFault>
     requires table { IsTableOf builder.old view.now.krate table.old }
     requires root { IsTrue (knows builder.old (held.Module (roots.root_id view.now.krate))) }
+    requires ids { All (IsMacroOf builder.old) ids.old.items }
     ensures added { OnOk result ((record { world = builder.new; table = table.new; ids = ids.new.items }) ≡
         spec.added_by view.now (record { world = builder.old; table = table.old; ids = ids.old.items })
         item.now (Some loc)) }
     ensures kept { OnOk result (IsTableOf builder.new view.now.krate table.new) }
+    ensures ids { OnOk result (All (IsMacroOf builder.new) ids.new.items) }
     ensures grown { IsGrown builder.old builder.new }
     ensures fault { IfErr result (λ fault. is_shortage fault ≡ true) }
 {
@@ -247,10 +250,12 @@ fn add_one(
 ) -> Result<(), BuildFault>
     requires table { IsTableOf builder.old view.now.krate table.old }
     requires root { IsTrue (knows builder.old (held.Module (roots.root_id view.now.krate))) }
+    requires ids { All (IsMacroOf builder.old) ids.old.items }
     ensures added { OnOk result ((record { world = builder.new; table = table.new; ids = ids.new.items }) ≡
         spec.with_macro_item view.now (record { world = builder.old; table = table.old; ids = ids.old.items })
         item.now) }
     ensures kept { OnOk result (IsTableOf builder.new view.now.krate table.new) }
+    ensures ids { OnOk result (All (IsMacroOf builder.new) ids.new.items) }
     ensures grown { IsGrown builder.old builder.new }
     ensures fault { IfErr result (λ fault. is_shortage fault ≡ true) }
 {
@@ -283,6 +288,7 @@ pub fn add_macros(
         (record { world = builder.new; table = table.new; ids = ids.items }) ≡
         spec.with_macros view.now (record { world = builder.old; table = table.old; ids = [] }) items.now) }
     ensures kept { OnOk result (IsTableOf builder.new view.now.krate table.new) }
+    ensures known { IfOk result (λ ids. All (IsMacroOf builder.new) ids.items) }
     ensures grown { IsGrown builder.old builder.new }
     ensures fault { IfErr result (λ fault. is_shortage fault ≡ true) }
 {

@@ -1,5 +1,5 @@
 //! What a crate has in a builder.
-ghost use Rattle.std.specs.Prelude.{◌≡◌, ◌++◌, ◌∷◌, [], OnOk, map};
+ghost use Rattle.std.specs.Prelude.{◌≡◌, ◌++◌, ◌∷◌, [], OnOk};
 ghost use Rattle.dm_base.specs.declared.ids.Crate.{Crate};
 ghost use Rattle.dm_maps.specs.World.{World};
 ghost use Rattle.crate_tables.specs.CrateTables as spec;
@@ -7,8 +7,7 @@ ghost use Rattle.crate_tables.specs.CrateTables as spec;
 use crate::declared_name::DeclaredName;
 use crate::item_place::{BlockPlace, DefPlace, UsePlace};
 use crate::use_leaf::UseLeaf;
-use crate_items::items::declared_import::DeclaredImport;
-use dm_base::ids::{ModuleId, UseId};
+use dm_base::ids::ModuleId;
 use dm_base::item_ids::ModuleDefId;
 use dm_base::name::Name;
 use dm_base::per_ns::PerNs;
@@ -199,16 +198,10 @@ impl CrateTable {
     }
 
     /// Adds the leaves of a use.
-    pub(crate) fn push_leaves(
-        &mut self,
-        home: ModuleId,
-        visibility: Visibility,
-        use_: UseId,
-        imports: Vec<DeclaredImport>,
-    ) -> Result<(), AllocError>
-        ensures { OnOk result (self.new ≡ spec.with_leaves self.old home visibility use_ imports.items) }
+    pub(crate) fn push_leaves(&mut self, leaves: Vec<UseLeaf>) -> Result<(), AllocError>
+        ensures { OnOk result (self.new ≡ spec.with_leaves self.old leaves.items) }
     {
-        let added = add_leaves(&mut self.leaves, home, visibility, use_, imports)?;
+        let added = add_leaves(&mut self.leaves, leaves)?;
         Ok(added)
     }
 
@@ -241,23 +234,11 @@ impl CrateTable {
 }
 
 /// Adds the leaves of a use to some others.
-fn add_leaves(
-    leaves: &mut Vec<UseLeaf>,
-    home: ModuleId,
-    visibility: Visibility,
-    use_: UseId,
-    imports: Vec<DeclaredImport>,
-) -> Result<(), AllocError>
-    ensures { OnOk result
-        (leaves.new.items ≡ leaves.old.items ++ map (spec.leaf_in home visibility use_) imports.items) }
+fn add_leaves(leaves: &mut Vec<UseLeaf>, more: Vec<UseLeaf>) -> Result<(), AllocError>
+    ensures { OnOk result (leaves.new.items ≡ leaves.old.items ++ more.items) }
 {
-    for import in imports {
-        leaves.push(UseLeaf {
-            home,
-            visibility,
-            use_,
-            import,
-        })?;
+    for leaf in more {
+        leaves.push(leaf)?;
     }
     Ok(())
 }

@@ -11,7 +11,7 @@ ghost use Rattle.dm_maps.specs.Known.{knows};
 use crate::crate_maps::parent_id;
 use crate::crate_table::CrateTable;
 use crate_items::items::declared_item::DeclaredItem;
-use crate_items::macros::textual_scopes::TextualScope;
+use crate_items::macros::textual_scopes::{TextualMacro, TextualScope};
 use dm_base::ids::{Crate, ModuleId};
 use dm_base::item_ids::MacroId;
 use dm_base::name::Name;
@@ -41,7 +41,7 @@ fn define(
 }
 
 /// The macro that the item of a number is.
-fn macro_at(macros: &[Option<MacroId>], number: usize) -> Option<MacroId>
+pub(crate) fn macro_at(macros: &[Option<MacroId>], number: usize) -> Option<MacroId>
     ensures { result ≡ spec.macro_at macros.now number }
 {
     match macros.get(number) {
@@ -86,24 +86,43 @@ fn define_item(
     }
 }
 
-/// Defines the macros that some items are, in order.
+/// Defines a macro of a textual scope.
+fn define_one(
+    builder: &mut WorldBuilder,
+    alloc: Global,
+    items: &[DeclaredItem],
+    macros: &[Option<MacroId>],
+    m: ModuleId,
+    one: &TextualMacro,
+) -> Result<(), BuildFault>
+    requires { IsTrue (knows builder.old (held.Module m)) }
+    ensures world { OnOk result
+        (builder.new ≡ spec.with_item items.now macros.now builder.old m one.now.number) }
+    ensures stays { spec.StaysKnown builder.old builder.new }
+    ensures shown { spec.AllStayShown builder.old builder.new }
+    ensures fault { IfErr result (λ fault. is_shortage fault ≡ true) }
+{
+    define_item(builder, alloc, items, macros, m, one.number)
+}
+
+/// Defines some macros, in order.
 fn define_all(
     builder: &mut WorldBuilder,
     alloc: Global,
     items: &[DeclaredItem],
     macros: &[Option<MacroId>],
     m: ModuleId,
-    numbers: &[usize],
+    scope: &[TextualMacro],
 ) -> Result<(), BuildFault>
     requires { IsTrue (knows builder.old (held.Module m)) }
     ensures world { OnOk result
-        (builder.new ≡ spec.with_textual items.now macros.now builder.old m numbers.now) }
+        (builder.new ≡ spec.with_textual items.now macros.now builder.old m scope.now) }
     ensures stays { spec.StaysKnown builder.old builder.new }
     ensures shown { spec.AllStayShown builder.old builder.new }
     ensures fault { IfErr result (λ fault. is_shortage fault ≡ true) }
 {
-    for number in numbers {
-        define_item(builder, alloc, items, macros, m, *number)?;
+    for one in scope {
+        define_one(builder, alloc, items, macros, m, one)?;
     }
     Ok(())
 }

@@ -46,6 +46,7 @@ kind_lands k m e f p kind.UnresolvedExternCrate front rest = (refl, tt)
 kind_lands k m e f p kind.UnresolvedImport front rest = (refl, tt)
 kind_lands k m e f p (kind.UnresolvedMacroCall path) front rest =
     call_lands m path (nat_lt (length front) (2 ^ 32)) front rest (record { file = f; item = item_of p })
+kind_lands k m e f p kind.AmbiguousImport front rest = tt
 kind_lands k m e f p kind.UnresolvedVisibility front rest = tt
 kind_lands k m e f p (kind.DuplicateDefinition name) front rest = tt
 kind_lands k m e f p kind.UnconfiguredCode front rest = (refl, tt)

@@ -10,8 +10,6 @@ use Rattle.dm_base.specs.declared.ids.MapId.{MapId}
 use Rattle.dm_maps.specs.BuildMaps.{lacks_map, with_diagnostic}
 use Rattle.dm_maps.specs.Known.{knows}
 use Rattle.dm_maps.specs.World.{World}
-use Rattle.dm_retry.specs.Rounds.{changed_beside}
-use Rattle.dm_retry.specs.Retries.{Retries}
 use Rattle.dm_scope.specs.declared.diagnostics.DefDiagnostic.{DefDiagnostic}
 
 -- the map is the world's, and so is all that the diagnostic names
@@ -27,33 +25,25 @@ abbrev pub with_all : World → MapId → List DefDiagnostic → World
 with_all w id [] = w
 with_all w id (d ∷ ds) = with_all (with_one w id d) id ds
 
--- the same in the world of imports: no path reads a diagnostic, so none becomes due
-abbrev pub beside : Retries → World → Retries
-beside r w = record r { state = changed_beside r.state w }
-
--- the diagnostics are added
-abbrev pub added : Retries → MapId → List DefDiagnostic → Retries
-added r id ds = beside r (with_all r.state.world id ds)
-
 -- the first of them are
-pub record IsPartly (r : Retries) (id : MapId) (ds : List DefDiagnostic) (new : Retries) : Type 0 where
+pub record IsPartly (old : World) (id : MapId) (ds : List DefDiagnostic) (new : World) : Type 0 where
   pub first : List DefDiagnostic
   pub rest : List DefDiagnostic
   pub split : ds ≡ first ++ rest
-  pub state : new ≡ added r id first
+  pub world : new ≡ with_all old id first
 
 abbrev pub map_of : Crate → MapId
 map_of k = record { krate = k; block = None }
 
 -- the map of a crate has what is told of it, behind what it had, and nothing else changes
-pub record AreAdded (c : MappedCrate) (row : ℕ) (xs : List Diagnostic) (old new : Retries) : Type 0 where
+pub record AreAdded (c : MappedCrate) (row : ℕ) (xs : List Diagnostic) (old new : World) : Type 0 where
   pub diagnostics : List DefDiagnostic
   pub told : map told_by diagnostics ≡ told_from c row xs
-  pub state : new ≡ added old (map_of c.krate) diagnostics
+  pub world : new ≡ with_all old (map_of c.krate) diagnostics
 
 -- it has the first of them
-pub record ArePartlyAdded (c : MappedCrate) (row : ℕ) (xs : List Diagnostic) (old new : Retries) : Type 0 where
+pub record ArePartlyAdded (c : MappedCrate) (row : ℕ) (xs : List Diagnostic) (old new : World) : Type 0 where
   pub diagnostics : List DefDiagnostic
   pub rest : List Told
   pub told : told_from c row xs ≡ map told_by diagnostics ++ rest
-  pub state : new ≡ added old (map_of c.krate) diagnostics
+  pub world : new ≡ with_all old (map_of c.krate) diagnostics

@@ -58,6 +58,7 @@ kind_text (kind.UnresolvedModule paths) = tried paths
 kind_text kind.ModuleInItself = codes "a file within itself"
 kind_text kind.UnresolvedExternCrate = codes "unresolved extern crate"
 kind_text kind.UnresolvedImport = codes "unresolved import"
+kind_text kind.AmbiguousImport = codes "ambiguous import"
 kind_text (kind.UnresolvedMacroCall p) = no_macro p
 kind_text kind.UnresolvedVisibility = codes "unresolved visibility"
 kind_text (kind.DuplicateDefinition n) = taken n

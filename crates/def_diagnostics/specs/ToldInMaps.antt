@@ -82,8 +82,8 @@ abbrev pub call_said : Option MacroCallKind → Path → Option Said
 call_said None path = None
 call_said (Some call) path = Some (Plain (wrong.UnresolvedMacroCall call path))
 
--- the kind that a def map has for it. It has none for a file within itself, a visibility that leads nowhere, and a
--- second declaration
+-- the kind that a def map has for it. It has none for a file within itself, an ambiguous import, a visibility that leads
+-- nowhere, and a second declaration
 abbrev pub said_of : Crate → ℕ → AstId → Place → DiagnosticKind → Option Said
 said_of k row ast place (kind.UnresolvedModule paths) = Some (Missing ast (map as_text paths))
 said_of k row ast place kind.UnresolvedExternCrate = Some (Plain (wrong.UnresolvedExternCrate ast))

@@ -23,6 +23,8 @@ pub enum DiagnosticKind {
     UnresolvedExternCrate,
     /// The path of a use tree leads nowhere.
     UnresolvedImport,
+    /// A use tree imports an ambiguous name: globs bring different definitions of it.
+    AmbiguousImport,
     /// The path of a macro call leads nowhere.
     UnresolvedMacroCall(ModPath),
     /// A visibility leads to no module around.
@@ -41,6 +43,7 @@ impl Drop for DiagnosticKind {
             DiagnosticKind::ModuleInItself => {}
             DiagnosticKind::UnresolvedExternCrate => {}
             DiagnosticKind::UnresolvedImport => {}
+            DiagnosticKind::AmbiguousImport => {}
             DiagnosticKind::UnresolvedMacroCall(_path) => {}
             DiagnosticKind::UnresolvedVisibility => {}
             DiagnosticKind::DuplicateDefinition(_name) => {}

@@ -12,7 +12,6 @@ use crate::item_modules::MappedCrate;
 use crate::told_in_maps::{CallPlace, told_in_map};
 use dm_base::ids::MapId;
 use dm_maps::world::World;
-use dm_retry::retry::Retry;
 use dm_scope::diagnostics::DefDiagnostic;
 use std::alloc::{AllocError, Global};
 
@@ -34,31 +33,30 @@ fn may_have(world: &World, map: MapId, diagnostic: &DefDiagnostic) -> bool
 }
 
 /// Adds a diagnostic to a map, if it names nothing else than what the world has.
-fn add_one(retry: &mut Retry, map: MapId, diagnostic: DefDiagnostic) -> Result<(), AllocError>
-    ensures ok { OnOk result (retry.new ≡
-        spec.beside retry.old (spec.with_one retry.old.state.world map diagnostic)) }
-    ensures err { OnErr result (retry.new ≡ retry.old) }
+fn add_one(world: &mut World, map: MapId, diagnostic: DefDiagnostic) -> Result<(), AllocError>
+    ensures ok { OnOk result (world.new ≡ spec.with_one world.old map diagnostic) }
+    ensures err { OnErr result (world.new ≡ world.old) }
 {
-    if may_have(retry.world(), map, &diagnostic) {
-        retry.add_diagnostic(map, diagnostic)?;
+    if may_have(world, map, &diagnostic) {
+        world.add_diagnostic(map, diagnostic)?;
     }
     Ok(())
 }
 
 /// Adds diagnostics to a map, in order.
-fn add_all(retry: &mut Retry, map: MapId, diagnostics: Vec<DefDiagnostic>) -> Result<(), AllocError>
-    ensures ok { OnOk result (retry.new ≡ spec.added retry.old map diagnostics.items) }
-    ensures err { OnErr result (spec.IsPartly retry.old map diagnostics.items retry.new) }
+fn add_all(world: &mut World, map: MapId, diagnostics: Vec<DefDiagnostic>) -> Result<(), AllocError>
+    ensures ok { OnOk result (world.new ≡ spec.with_all world.old map diagnostics.items) }
+    ensures err { OnErr result (spec.IsPartly world.old map diagnostics.items world.new) }
 {
     for diagnostic in diagnostics {
-        add_one(retry, map, diagnostic)?;
+        add_one(world, map, diagnostic)?;
     }
     Ok(())
 }
 
 /// Adds to the def map of a crate what it has of its diagnostics (`told_in_map`), behind those that it has: then
-/// `DefMap::diagnostics` has them. Nothing else of the world changes, and no import becomes due. What names a module or a
-/// crate that the world does not have stays out.
+/// `DefMap::diagnostics` has them. Nothing else of the world changes. What names a module or a crate that the world does not
+/// have stays out.
 ///
 /// Answers with the rows of the macro calls, the first of which has the number `first_row`: so several crates may have one
 /// table.
@@ -67,21 +65,21 @@ fn add_all(retry: &mut Retry, map: MapId, diagnostics: Vec<DefDiagnostic>) -> Re
 ///
 /// Fails only where memory runs out. The map has the first of them then.
 pub fn add_diagnostics(
-    retry: &mut Retry,
+    world: &mut World,
     alloc: Global,
     first_row: usize,
     krate: &MappedCrate<'_>,
     diagnostics: &[Diagnostic],
 ) -> Result<Vec<CallPlace>, AllocError>
     ensures calls { IfOk result (λ calls. calls.items ≡ flat_map calls_of diagnostics.now) }
-    ensures ok { OnOk result (spec.AreAdded krate.now first_row diagnostics.now retry.old retry.new) }
-    ensures err { OnErr result (spec.ArePartlyAdded krate.now first_row diagnostics.now retry.old retry.new) }
+    ensures ok { OnOk result (spec.AreAdded krate.now first_row diagnostics.now world.old world.new) }
+    ensures err { OnErr result (spec.ArePartlyAdded krate.now first_row diagnostics.now world.old world.new) }
 {
     let told = told_in_map(alloc, first_row, krate, diagnostics)?;
     let map = MapId {
         krate: krate.krate,
         block: None,
     };
-    add_all(retry, map, told.diagnostics)?;
+    add_all(world, map, told.diagnostics)?;
     Ok(told.calls)
 }

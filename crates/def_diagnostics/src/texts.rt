@@ -146,6 +146,7 @@ pub fn kind_text(alloc: Global, kind: &DiagnosticKind) -> Result<String, AllocEr
         DiagnosticKind::ModuleInItself => copied(alloc, "a file within itself"),
         DiagnosticKind::UnresolvedExternCrate => copied(alloc, "unresolved extern crate"),
         DiagnosticKind::UnresolvedImport => copied(alloc, "unresolved import"),
+        DiagnosticKind::AmbiguousImport => copied(alloc, "ambiguous import"),
         DiagnosticKind::UnresolvedMacroCall(path) => no_macro(alloc, path),
         DiagnosticKind::UnresolvedVisibility => copied(alloc, "unresolved visibility"),
         DiagnosticKind::DuplicateDefinition(name) => taken(alloc, name),

@@ -165,6 +165,7 @@ fn def_kind(
         }
         DiagnosticKind::UnconfiguredCode => Ok(Some(unconfigured_kind(krate, ast))),
         DiagnosticKind::ModuleInItself
+        | DiagnosticKind::AmbiguousImport
         | DiagnosticKind::UnresolvedVisibility
         | DiagnosticKind::DuplicateDefinition(_) => Ok(None),
     }

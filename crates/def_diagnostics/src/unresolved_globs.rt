@@ -1,21 +1,15 @@
 //! What is told of globs that lead nowhere.
 ghost use Rattle.std.specs.Prelude.{◌≡◌};
 ghost use Rattle.def_diagnostics.specs.UnresolvedGlobs as spec;
-ghost use Rattle.def_diagnostics.specs.UnresolvedImports.{is_of, told_in};
-ghost use Rattle.std.specs.List.{find};
-ghost use Rattle.std.specs.Option.{option_map};
+ghost use Rattle.dm_imports.specs.Tables.{of_tables};
 
-use crate::diagnostic::{Diagnostic, DiagnosticKind, Place};
-use crate::macro_meaning::{knows_module, knows_path};
-use crate::unresolved_imports::place_of;
+use crate::diagnostic::{Diagnostic, DiagnosticKind};
+use crate::unresolved_imports::told_of;
 use crate_tables::item_place::UsePlace;
-use dm_base::ids::ModuleId;
-use dm_base::imports::GlobId;
 use dm_base::item_ids::{AdtId, ModuleDefId};
-use dm_base::mod_path::ModPath;
-use dm_maps::world::World;
-use dm_retry::meaning::path_meaning;
-use hir_def_map::result::ResolvePathResult;
+use dm_base::per_ns::Namespace;
+use dm_imports::def_maps::DefMaps;
+use dm_imports::glob_import::GlobImport;
 
 /// Whether a definition has names that a glob brings.
 fn is_source(def: ModuleDefId) -> bool
@@ -28,55 +22,32 @@ fn is_source(def: ModuleDefId) -> bool
     }
 }
 
-/// Whether an answer is such a definition, where no segment is left.
-fn means_source(answer: &ResolvePathResult) -> bool
-    ensures { result ≡ spec.means_source answer.now }
+/// Whether the path of a glob means neither a module nor an enum, by the rules of imports. Does not allocate.
+pub fn leads_nowhere(maps: &DefMaps<'_>, glob: &GlobImport) -> bool
+    ensures { result ≡ spec.leads_nowhere (of_tables maps.now) glob.now }
 {
-    if answer.segment_index.is_some() {
-        return false;
-    }
-    match answer.resolved_def.types {
-        None => false,
-        Some(item) => is_source(item.def),
+    match maps.meaning_in(glob.into, None, &glob.path, Namespace::Types) {
+        None => true,
+        Some(meaning) => !is_source(meaning.def),
     }
 }
 
-/// Whether the path of a glob in a module means neither a module nor an enum.
-fn leads_nowhere(world: &World, into: ModuleId, path: &ModPath) -> bool
-    ensures { result ≡ spec.leads_nowhere world.now into path.now }
-{
-    if knows_module(world, into) && knows_path(world, path) {
-        !means_source(&path_meaning(world, into, path))
-    } else {
-        false
-    }
-}
-
-/// What is told of a glob at its use tree, if its use is one of these.
-fn told_of(uses: &[UsePlace], import: GlobId) -> Option<Diagnostic>
-    ensures { result ≡ option_map (told_in import.idx) (find (is_of import.use_) uses.now) }
-{
-    let place = place_of(uses, import.use_)?;
-    Some(Diagnostic {
-        file: place.file,
-        place: Place::UseTree(place.item, import.idx),
-        kind: DiagnosticKind::UnresolvedImport,
-    })
-}
-
-/// What is told of a glob of a path in a module, if it leads neither to a module nor to an enum and is written in one of
-/// some uses: at its use tree. One that names what the world does not have is not told of. Does not allocate.
+/// What is told of a glob, if its path means neither a module nor an enum and it is written in one of some uses: at its use
+/// tree. Does not allocate.
 pub fn unresolved_glob(
-    world: &World,
+    maps: &DefMaps<'_>,
     uses: &[UsePlace],
-    into: ModuleId,
-    path: &ModPath,
-    import: GlobId,
+    glob: &GlobImport,
 ) -> Option<Diagnostic>
-    ensures { result ≡ spec.unresolved_glob world.now uses.now into path.now import }
+    ensures { result ≡ spec.unresolved_glob (of_tables maps.now) uses.now glob.now }
 {
-    if leads_nowhere(world, into, path) {
-        told_of(uses, import)
+    if leads_nowhere(maps, glob) {
+        told_of(
+            DiagnosticKind::UnresolvedImport,
+            uses,
+            glob.import.use_,
+            glob.import.idx,
+        )
     } else {
         None
     }

@@ -1,94 +1,143 @@
-//! What is told of named imports that lead nowhere.
-ghost use Rattle.std.specs.Prelude.{◌≡◌, ◌++◌, IfOk, OnOk, option_copied, slice_get};
-ghost use Rattle.std.specs.List.{find};
+//! What is told of imports that mean nothing, and of those of ambiguous names.
+ghost use Rattle.std.specs.Prelude.{◌≡◌, ◌++◌, [], IfOk, OnOk, option_copied};
+ghost use Rattle.std.specs.List.{cons_option, find};
 ghost use Rattle.def_diagnostics.specs.UnresolvedImports as spec;
 
 use crate::diagnostic::{Diagnostic, DiagnosticKind, Place};
 use crate_tables::item_place::UsePlace;
 use dm_base::ids::{UseId, UseTreeIdx};
-use dm_retry::retry::Retry;
+use dm_imports::meaning::Meaning;
+use dm_imports::named_import::NamedImport;
+use dm_imports::rules::meanings::ImportMeanings;
 use std::alloc::{AllocError, Global};
 
 /// Where a use is written.
-pub(crate) fn place_of(uses: &[UsePlace], use_: UseId) -> Option<&UsePlace>
+fn place_of(uses: &[UsePlace], use_: UseId) -> Option<&UsePlace>
     ensures { option_copied result ≡ find (spec.is_of use_) uses.now }
 {
     uses.iter().find(|place| place.use_.0 == use_.0)
 }
 
-/// Adds what is told of a use tree, if the use is one of these.
-pub(crate) fn push_import(
-    found: &mut Vec<Diagnostic>,
+/// What is told of a use tree, if the use is one of these.
+pub(crate) fn told_of(
+    kind: DiagnosticKind,
     uses: &[UsePlace],
     use_: UseId,
     tree: UseTreeIdx,
-) -> Result<(), AllocError>
-    ensures { OnOk result
-        (found.new.items ≡ found.old.items ++ spec.unresolved_import uses.now use_ tree) }
+) -> Option<Diagnostic>
+    ensures { result ≡ spec.told_of kind uses.now use_ tree }
 {
-    match place_of(uses, use_) {
+    let place = place_of(uses, use_)?;
+    Some(Diagnostic {
+        file: place.file,
+        place: Place::UseTree(place.item, tree),
+        kind,
+    })
+}
+
+/// Adds a diagnostic, if there is one.
+fn push_told(found: &mut Vec<Diagnostic>, told: Option<Diagnostic>) -> Result<(), AllocError>
+    ensures { OnOk result (found.new.items ≡ found.old.items ++ cons_option told []) }
+{
+    match told {
         None => Ok(()),
-        Some(place) => {
-            found.push(Diagnostic {
-                file: place.file,
-                place: Place::UseTree(place.item, tree),
-                kind: DiagnosticKind::UnresolvedImport,
-            })?;
+        Some(diagnostic) => {
+            found.push(diagnostic)?;
             Ok(())
         }
     }
 }
 
-/// Adds what is told of the import of a number.
-fn push_pending(
+/// Adds what is told of the import at a place, which means nothing.
+fn push_at(
     found: &mut Vec<Diagnostic>,
-    retry: &Retry,
+    imports: &[NamedImport],
     uses: &[UsePlace],
-    number: usize,
+    place: usize,
 ) -> Result<(), AllocError>
-    ensures { OnOk result (found.new.items ≡ found.old.items
-        ++ spec.of_pending uses.now (slice_get retry.now.state.pending number)) }
+    ensures { OnOk result (found.new.items ≡ found.old.items ++ spec.of_place imports.now uses.now place) }
 {
-    match retry.get(number) {
+    match imports.get(place) {
         None => Ok(()),
-        Some(pending) => {
-            let import = pending.import();
-            push_import(found, uses, import.use_, import.idx)
+        Some(import) => {
+            let kind = DiagnosticKind::UnresolvedImport;
+            let told = told_of(kind, uses, import.import.use_, import.import.idx);
+            push_told(found, told)
         }
     }
 }
 
-/// Adds what is told of the imports of these numbers.
-fn push_pendings(
-    found: &mut Vec<Diagnostic>,
-    retry: &Retry,
-    uses: &[UsePlace],
-    numbers: &[usize],
-) -> Result<(), AllocError>
-    ensures { OnOk result (found.new.items ≡ found.old.items
-        ++ spec.of_numbers retry.now.state uses.now numbers.now) }
-{
-    for number in numbers {
-        push_pending(found, retry, uses, *number)?;
-    }
-    Ok(())
-}
-
-/// What is told of the named imports that lead nowhere, of those that are written in some uses, as those of a crate: in
-/// the order of the imports, at their use trees.
+/// What is told of the imports at some places, which mean nothing, of those that are written in some uses, as those of a
+/// crate: in the order of the places, at their use trees.
 ///
 /// # Errors
 ///
 /// Fails only where memory runs out.
 pub fn unresolved_imports(
     alloc: Global,
-    retry: &Retry,
+    imports: &[NamedImport],
+    places: &[usize],
     uses: &[UsePlace],
 ) -> Result<Vec<Diagnostic>, AllocError>
-    ensures { IfOk result (λ found. found.items ≡ spec.unresolved_imports retry.now.state uses.now) }
+    ensures { IfOk result (λ found. found.items ≡ spec.unresolved_imports imports.now uses.now places.now) }
 {
-    let numbers = retry.unresolved()?;
     let mut found = Vec::new(alloc);
-    push_pendings(&mut found, retry, uses, numbers.as_slice())?;
+    for place in places {
+        push_at(&mut found, imports, uses, *place)?;
+    }
+    Ok(found)
+}
+
+fn is_ambiguous(meaning: Option<Meaning>) -> bool
+    ensures { result ≡ spec.is_ambiguous meaning }
+{
+    match meaning {
+        None => false,
+        Some(meaning) => meaning.is_ambiguous,
+    }
+}
+
+fn are_ambiguous(meanings: ImportMeanings) -> bool
+    ensures { result ≡ spec.are_ambiguous meanings }
+{
+    is_ambiguous(meanings.types) || is_ambiguous(meanings.values) || is_ambiguous(meanings.macros)
+}
+
+/// Adds what is told of an import, if it brings an ambiguous name.
+fn push_ambiguous(
+    found: &mut Vec<Diagnostic>,
+    uses: &[UsePlace],
+    meanings: ImportMeanings,
+    import: &NamedImport,
+) -> Result<(), AllocError>
+    ensures { OnOk result (found.new.items ≡ found.old.items ++ spec.if_ambiguous uses.now meanings import.now) }
+{
+    if !are_ambiguous(meanings) {
+        return Ok(());
+    }
+    let kind = DiagnosticKind::AmbiguousImport;
+    let told = told_of(kind, uses, import.import.use_, import.import.idx);
+    push_told(found, told)
+}
+
+/// What is told of the imports that bring an ambiguous name, of those that are written in some uses: in their order, at their
+/// use trees. `meanings` is what each import brings, in their order.
+///
+/// # Errors
+///
+/// Fails only where memory runs out.
+pub fn ambiguous_imports(
+    alloc: Global,
+    imports: &[NamedImport],
+    meanings: &[ImportMeanings],
+    uses: &[UsePlace],
+) -> Result<Vec<Diagnostic>, AllocError>
+    ensures { IfOk result
+        (λ found. found.items ≡ spec.ambiguous_imports uses.now meanings.now imports.now) }
+{
+    let mut found = Vec::new(alloc);
+    for (meant, import) in meanings.iter().zip(imports) {
+        push_ambiguous(&mut found, uses, *meant, import)?;
+    }
     Ok(found)
 }

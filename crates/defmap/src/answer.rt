@@ -1,14 +1,15 @@
 //! The answer to what is asked.
-use crate::imports::imports_text;
-use crate::items::{Manner, items_text};
-use crate::places::Lines;
-use crate::resolve::{meaning_text, module_at};
-use crate::settled::Settled;
 use crate::settling::{SettledInputs, settle_crates};
-use crate::stats::{Stopwatch, push_counts};
+use crate::stats::push_counts;
 use crate::trees::trees_text;
-use crate::unresolved::{Told, UnknownCount, find_unresolved, nothing, push_messages};
-use crate::written_path::written_path;
+use defmap_answers::crates::Crates;
+use defmap_answers::imports::imports_text;
+use defmap_answers::items::{Manner, items_text};
+use defmap_answers::places::Lines;
+use defmap_answers::resolve::{meaning_text, module_at};
+use defmap_answers::stopwatch::Stopwatch;
+use defmap_answers::unresolved::{Told, UnknownCount, find_unresolved, nothing, push_messages};
+use defmap_answers::written_path::written_path;
 use defmap_inputs::arguments::{Arguments, Question, TreeForm, Wish};
 use defmap_inputs::complaints::Complaints;
 use defmap_inputs::crates_read::read_crates;
@@ -86,26 +87,26 @@ fn push_unknown(out: &mut String, name: &str, count: UnknownCount) -> Result<(),
 }
 
 /// What is told beside the answer to `unresolved`.
-fn unknown_told(
+fn unknown_told<C: Crates>(
     alloc: Global,
-    settled: &Settled,
+    crates: &C,
     unknown: &[UnknownCount],
     complaints: &Complaints,
 ) -> Result<String, AllocError> {
     let mut told = ended(alloc, complaints)?;
-    for (name, count) in settled.names.iter().zip(unknown) {
+    for (name, count) in crates.names().iter().zip(unknown) {
         push_unknown(&mut told, name.as_str(), *count)?;
     }
     Ok(told)
 }
 
 /// The messages, in lines.
-fn messages_text(
+fn messages_text<C: Crates>(
     alloc: Global,
-    settled: &Settled,
+    crates: &C,
     told: &mut Vec<Told>,
 ) -> Result<String, AllocError> {
-    let lines = Lines::new(alloc, &settled.files)?;
+    let lines = Lines::new(alloc, crates.files())?;
     let mut out = String::new(alloc);
     push_messages(&mut out, &lines, told)?;
     Ok(out)
@@ -117,15 +118,15 @@ fn has_all(given: &Arguments<'_>) -> bool {
 }
 
 /// The answer to `unresolved`.
-fn unresolved_answer(
+fn unresolved_answer<C: Crates>(
     alloc: Global,
-    settled: &Settled,
+    crates: &C,
     given: &Arguments<'_>,
     complaints: &Complaints,
 ) -> Result<Answer, AllocError> {
-    let mut found = find_unresolved(alloc, settled, has_all(given))?;
-    let out = messages_text(alloc, settled, &mut found.told)?;
-    let told = unknown_told(alloc, settled, found.unknown.as_slice(), complaints)?;
+    let mut found = find_unresolved(alloc, crates, has_all(given))?;
+    let out = messages_text(alloc, crates, &mut found.told)?;
+    let told = unknown_told(alloc, crates, found.unknown.as_slice(), complaints)?;
     let status = if !complaints.lines().is_empty() {
         Status::Unreadable
     } else if found.told.is_empty() {
@@ -137,16 +138,16 @@ fn unresolved_answer(
 }
 
 /// What could not be read, in lines, and whether there is nothing of it.
-fn missing_told(
+fn missing_told<C: Crates>(
     alloc: Global,
-    settled: &Settled,
+    crates: &C,
     complaints: &Complaints,
 ) -> Result<(String, bool), AllocError> {
     let mut missing = nothing(alloc, 0)?;
-    missing.add_modules(alloc, settled)?;
+    missing.add_modules(alloc, crates)?;
     let is_whole = missing.told.is_empty() && complaints.lines().is_empty();
     let mut told = ended(alloc, complaints)?;
-    let modules = messages_text(alloc, settled, &mut missing.told)?;
+    let modules = messages_text(alloc, crates, &mut missing.told)?;
     told.push_str(modules.as_str())?;
     Ok((told, is_whole))
 }
@@ -189,14 +190,14 @@ fn no_path<T>(alloc: Global, written: &str) -> Result<T, Failure> {
 }
 
 /// The answer to what a path means in a module.
-fn meaning_answer(
+fn meaning_answer<C: Crates>(
     alloc: Global,
-    settled: &Settled,
+    crates: &C,
     home: ModuleId,
     path: &ModPath,
     complaints: &Complaints,
 ) -> Result<Answer, AllocError> {
-    let (out, is_found) = meaning_text(alloc, settled, home, path)?;
+    let (out, is_found) = meaning_text(alloc, crates, home, path)?;
     Ok(Answer {
         out,
         told: ended(alloc, complaints)?,
@@ -211,9 +212,9 @@ fn meaning_answer(
 }
 
 /// The answer to `resolve`.
-fn resolve_answer(
+fn resolve_answer<C: Crates>(
     alloc: Global,
-    settled: &Settled,
+    crates: &C,
     written: &str,
     home: &str,
     complaints: &Complaints,
@@ -221,19 +222,19 @@ fn resolve_answer(
     let Some(path) = written_path(alloc, written)? else {
         return no_path(alloc, written);
     };
-    let home = module_at(alloc, settled, home)?;
-    Ok(meaning_answer(alloc, settled, home, &path, complaints)?)
+    let home = module_at(alloc, crates, home)?;
+    Ok(meaning_answer(alloc, crates, home, &path, complaints)?)
 }
 
 /// The answer to `imports`.
-fn imports_answer(
+fn imports_answer<C: Crates>(
     alloc: Global,
-    settled: &Settled,
+    crates: &C,
     given: &Arguments<'_>,
     complaints: &Complaints,
 ) -> Result<Answer, AllocError> {
     Ok(Answer {
-        out: imports_text(alloc, settled, has_all(given))?,
+        out: imports_text(alloc, crates, has_all(given))?,
         told: ended(alloc, complaints)?,
         status: read_status(complaints.lines().is_empty()),
     })

@@ -2,10 +2,10 @@
 ghost use Rattle.std.specs.Prelude.{◌≡◌};
 ghost use Rattle.hir_def_map.specs.RawVisibilities.{assoc_def};
 
-use crate::places::source_of;
 use crate::settled::Settled;
-use crate::unresolved::numbered;
 use crate_tables::assoc_items::filling::AssocPlace;
+use defmap_answers::crates::{Crates, is_asked, numbered};
+use defmap_answers::places::source_of;
 use dm_base::ids::FileId;
 use dm_base::item_ids::{AssocItemId, ItemContainerId, ModuleDefId};
 use dm_base::visibility::Visibility;
@@ -76,10 +76,10 @@ fn push_assoc(
 }
 
 /// Whether a file is one of a crate that is asked about.
-fn is_asked(settled: &Settled, file: FileId) -> bool {
+fn is_of_asked(settled: &Settled, file: FileId) -> bool {
     let lists = settled.lists();
     for number in 0..lists.len() {
-        if settled.is_asked(numbered(number)) && source_of(lists, number, file).is_some() {
+        if is_asked(settled, numbered(number)) && source_of(lists, number, file).is_some() {
             return true;
         }
     }
@@ -93,7 +93,7 @@ pub(crate) fn push_assocs(
     settled: &Settled,
 ) -> Result<(), AllocError> {
     for place in &settled.collected.assocs {
-        if is_asked(settled, place.file) {
+        if is_of_asked(settled, place.file) {
             push_assoc(out, alloc, settled.world(), *place)?;
         }
     }

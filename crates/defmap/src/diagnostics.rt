@@ -3,7 +3,6 @@
 //! macro.
 use crate::macro_view::{MacroView, calls_of};
 use crate::settled::Settled;
-use crate::unresolved::{leads_nowhere, numbered};
 use crate_items::files::crate_graph::CrateGraph;
 use crate_items::items::declared_item::DeclaredItem;
 use crate_items::modules::CrateModules;
@@ -13,6 +12,10 @@ use def_diagnostics::lines::lines;
 use def_diagnostics::macro_calls::{MacroCall, unresolved_macro_calls};
 use def_diagnostics::message::{Message, message_of, push_messages};
 use def_diagnostics::unconfigured::unconfigured;
+use def_diagnostics::unresolved_globs::leads_nowhere;
+use def_diagnostics::unresolved_imports::ambiguous_imports;
+use defmap_answers::ambiguous::Ambiguities;
+use defmap_answers::crates::{Crates, crate_name, is_asked, numbered};
 use dm_base::ids::{UseId, UseTreeIdx};
 use std::alloc::{AllocError, Global};
 use std::fmt::Write;
@@ -22,6 +25,8 @@ struct Teller<'a> {
     alloc: Global,
     settled: &'a Settled,
     view: MacroView,
+    /// The imports whose paths come to ambiguous names.
+    ambiguous: Ambiguities,
     messages: Vec<Message>,
     /// How much is unknown in each crate.
     unknown: Vec<u32>,
@@ -34,6 +39,7 @@ impl<'a> Drop for Teller<'a> {
             alloc: _alloc,
             settled: _settled,
             view: _view,
+            ambiguous: _ambiguous,
             messages: _messages,
             unknown: _unknown,
         } = self;
@@ -49,14 +55,24 @@ fn zeros(alloc: Global, count: usize) -> Result<Vec<u32>, AllocError> {
     Ok(zeros)
 }
 
+/// What is told of an import that leads nowhere, as its path comes to an ambiguous name or not.
+fn kind_of(is_ambiguous: bool) -> DiagnosticKind {
+    if is_ambiguous {
+        DiagnosticKind::AmbiguousImport
+    } else {
+        DiagnosticKind::UnresolvedImport
+    }
+}
+
 impl<'a> Teller<'a> {
     fn new(alloc: Global, settled: &'a Settled) -> Result<Teller<'a>, AllocError> {
         Ok(Teller {
             alloc,
             settled,
             view: MacroView::new(alloc, settled)?,
+            ambiguous: Ambiguities::of(alloc, settled)?,
             messages: Vec::new(alloc),
-            unknown: zeros(alloc, settled.names.len())?,
+            unknown: zeros(alloc, settled.names().len())?,
         })
     }
 
@@ -70,15 +86,15 @@ impl<'a> Teller<'a> {
     /// Adds what is told of an import that leads nowhere, unless a macro may hide what it imports.
     fn add_import(
         &mut self,
+        kind: DiagnosticKind,
         is_hidden: bool,
-        use_: UseId,
-        idx: UseTreeIdx,
+        (use_, idx): (UseId, UseTreeIdx),
     ) -> Result<(), AllocError> {
         let settled = self.settled;
         let Some(place) = settled.use_place(use_).copied() else {
             return Ok(());
         };
-        if !settled.is_asked(numbered(place.krate)) {
+        if !is_asked(settled, numbered(place.krate)) {
             return Ok(());
         }
         if is_hidden {
@@ -91,7 +107,7 @@ impl<'a> Teller<'a> {
         let diagnostic = Diagnostic {
             file: place.file,
             place: Place::UseTree(place.item, idx),
-            kind: DiagnosticKind::UnresolvedImport,
+            kind,
         };
         self.messages
             .push(message_of(self.alloc, list, &diagnostic)?)?;
@@ -101,17 +117,16 @@ impl<'a> Teller<'a> {
     /// Adds what is told of named imports.
     fn add_imports(&mut self) -> Result<(), AllocError> {
         let settled = self.settled;
-        let retry = &settled.collected.retry;
-        for place in retry.unresolved()? {
-            let Some(pending) = retry.get(place) else {
+        for place in settled.unresolved() {
+            let Some(import) = settled.collected.imports.get(*place) else {
                 continue;
             };
-            let home = pending.origin();
+            let (home, path) = (import.home, &import.path);
             let is_hidden = self
                 .view
-                .hides_import(self.alloc, settled.world(), home, pending.path())?;
-            let import = pending.import();
-            self.add_import(is_hidden, import.use_, import.idx)?;
+                .hides_import(self.alloc, settled.world(), home, path)?;
+            let kind = kind_of(self.ambiguous.named.contains_key(place));
+            self.add_import(kind, is_hidden, (import.import.use_, import.import.idx))?;
         }
         Ok(())
     }
@@ -120,12 +135,15 @@ impl<'a> Teller<'a> {
     fn add_globs(&mut self) -> Result<(), AllocError> {
         let settled = self.settled;
         let world = settled.world();
-        for glob in &settled.collected.globs {
-            if leads_nowhere(world, glob) {
+        let maps = settled.collected.def_maps();
+        for (place, glob) in settled.collected.globs.iter().enumerate() {
+            let is_ambiguous = self.ambiguous.globs.contains_key(&place);
+            if is_ambiguous || leads_nowhere(&maps, glob) {
                 let is_hidden = self
                     .view
                     .hides_import(self.alloc, world, glob.into, &glob.path)?;
-                self.add_import(is_hidden, glob.import.use_, glob.import.idx)?;
+                let kind = kind_of(is_ambiguous);
+                self.add_import(kind, is_hidden, (glob.import.use_, glob.import.idx))?;
             }
         }
         Ok(())
@@ -142,7 +160,7 @@ impl<'a> Teller<'a> {
         let Some(krate) = graph.crates().get(number) else {
             return Ok(());
         };
-        let files = &self.settled.files;
+        let files = self.settled.files();
         let faults = declaration_faults(self.alloc, list, files, krate.dependencies(), items)?;
         push_messages(&mut self.messages, self.alloc, list, faults.as_slice())
     }
@@ -179,7 +197,18 @@ impl<'a> Teller<'a> {
         push_messages(&mut self.messages, self.alloc, list, told.as_slice())
     }
 
-    /// Adds what is told of the declarations and of the macro calls of the crate of a number.
+    /// Adds what is told of the imports of ambiguous names of the crate of a number.
+    fn add_ambiguous(&mut self, number: usize, list: &CrateModules) -> Result<(), AllocError> {
+        let collected = &self.settled.collected;
+        let Some(table) = collected.tables.get(number) else {
+            return Ok(());
+        };
+        let (imports, meanings) = (collected.imports.as_slice(), collected.meanings.as_slice());
+        let told = ambiguous_imports(self.alloc, imports, meanings, table.uses())?;
+        push_messages(&mut self.messages, self.alloc, list, told.as_slice())
+    }
+
+    /// Adds what is told of the declarations, of the macro calls and of ambiguous imports of the crate of a number.
     fn add_crate(
         &mut self,
         graph: &CrateGraph,
@@ -191,14 +220,15 @@ impl<'a> Teller<'a> {
             self.add_faults(graph, number, list, items.as_slice())?;
             self.add_inactive(list, items.as_slice())?;
         }
-        self.add_calls(number, list)
+        self.add_calls(number, list)?;
+        self.add_ambiguous(number, list)
     }
 
     /// Adds what is told of the crates, import by import and call by call.
     fn add_crates(&mut self, graph: &CrateGraph) -> Result<(), AllocError> {
         let settled = self.settled;
         for (number, list) in settled.lists().iter().enumerate() {
-            if settled.is_asked(numbered(number)) {
+            if is_asked(settled, numbered(number)) {
                 self.add_crate(graph, number, list)?;
             }
         }
@@ -212,6 +242,7 @@ impl<'a> Teller<'a> {
             alloc: _alloc,
             settled: _settled,
             view: _view,
+            ambiguous: _ambiguous,
             messages,
             unknown,
         } = self;
@@ -223,7 +254,7 @@ impl<'a> Teller<'a> {
 fn push_unknown(out: &mut String, settled: &Settled, unknown: &[u32]) -> Result<(), AllocError> {
     for (number, count) in unknown.iter().enumerate() {
         if *count > 0 {
-            let name = settled.name_of(numbered(number));
+            let name = crate_name(settled, numbered(number));
             write!(out, "{name}: {count} unknown\n")?;
         }
     }
@@ -249,6 +280,6 @@ pub(crate) fn push_diagnostics(
     graph: &CrateGraph,
 ) -> Result<(), AllocError> {
     let (messages, unknown) = told_of(alloc, settled, graph)?.into_parts();
-    out.push_str(lines(alloc, &settled.files, messages)?.as_str())?;
+    out.push_str(lines(alloc, settled.files(), messages)?.as_str())?;
     push_unknown(out, settled, unknown.as_slice())
 }

@@ -5,17 +5,10 @@ use crate_items::items::declared_item::{DeclaredItem, declared_items};
 use crate_items::items::module_items::module_items;
 use crate_items::modules::CrateModules;
 use crate_tables::crate_table::CrateTable;
-use dm_base::ids::{Crate, FileId, UseId};
+use defmap_answers::places::ItemPlace;
+use dm_base::ids::{Crate, UseId};
 use indexmap::IndexMap;
 use std::alloc::{AllocError, Global};
-
-/// The crate, the file and the number there of an item.
-#[derive(Clone, Copy)]
-pub(crate) struct ItemPlace {
-    pub(crate) krate: usize,
-    pub(crate) file: FileId,
-    pub(crate) item: usize,
-}
 
 /// The items of a crate.
 fn items_of(

@@ -2,6 +2,7 @@
 use crate::settled::Settled;
 use crate_tables::block_lists::numbered_block;
 use crate_tables::crate_table::CrateTable;
+use defmap_answers::crates::asked_crates;
 use dm_base::ids::{Crate, ModuleId};
 use dm_base::item_ids::ModuleDefId;
 use dm_def_map::def_map::DefMap;
@@ -142,7 +143,7 @@ pub(crate) fn push_scope_lists(
     settled: &Settled,
 ) -> Result<(), AllocError> {
     let tables = settled.collected.tables.as_slice();
-    for krate in &settled.asked_crates(alloc)? {
+    for krate in &asked_crates(alloc, settled)? {
         push_crate(out, settled.world(), tables, *krate)?;
     }
     Ok(())

@@ -6,6 +6,7 @@ use def_diagnostics::hidden_calls::is_call_hidden;
 use def_diagnostics::macro_calls::{MacroCall, homes, known_homes, macro_calls};
 use def_diagnostics::macro_meaning::knows_module;
 use def_diagnostics::open_modules::{GlobEdge, OpenModules};
+use defmap_answers::crates::Crates;
 use dm_base::ids::ModuleId;
 use dm_base::mod_path::ModPath;
 use dm_maps::world::World;
@@ -47,7 +48,7 @@ pub(crate) fn calls_of(
         alloc,
         settled.world(),
         list,
-        &settled.files,
+        settled.files(),
         table.ids(),
         items.as_slice(),
     )

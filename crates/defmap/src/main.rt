@@ -2,37 +2,19 @@
 //! what leads nowhere; and prints what is read of one file.
 #![tactic(auto)]
 
-mod ambiguous;
 mod answer;
 mod assocs;
-mod definitions;
 mod diagnostics;
-mod hidden;
-mod imports;
 mod item_places;
-mod items;
 mod lists;
-mod macro_calls;
-mod macro_exports;
-mod macro_homes;
 mod macro_view;
-mod meanings;
-mod notes;
-mod offsets;
-mod partly;
-mod path_text;
-mod places;
-mod prelude_use;
-mod resolve;
 mod settled;
 mod settling;
-mod shown;
 mod stats;
-mod steps;
-mod tree;
 mod trees;
-mod unresolved;
-mod written_path;
+mod world_modules;
+mod world_names;
+mod world_paths;
 
 use crate::answer::give_answer;
 use defmap_inputs::arguments::read_arguments;

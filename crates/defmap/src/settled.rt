@@ -1,31 +1,50 @@
 //! The crates that are asked about, collected and settled.
-use crate::item_places::{ItemPlace, all_items, use_places};
+use crate::item_places::{all_items, use_places};
+use crate::{world_modules, world_names, world_paths};
 use crate_items::files::crate_graph::CrateGraph;
 use crate_items::files::file_table::FileTable;
 use crate_items::items::declared_item::DeclaredItem;
 use crate_items::modules::CrateModules;
 use crate_tables::crate_filling::Reading;
-use dm_base::ids::{Crate, UseId};
+use def_diagnostics::unresolved_globs::leads_nowhere;
+use defmap_answers::crates::Crates;
+use defmap_answers::places::ItemPlace;
+use dm_base::ids::{Crate, EnumId, EnumVariantId, ExternCrateId, ModuleId, UseId};
+use dm_base::imports::ImportId;
+use dm_base::item_ids::{MacroId, ModuleDefId};
+use dm_base::item_in_ns::ItemModules;
+use dm_base::mod_path::ModPath;
+use dm_base::name::Name;
+use dm_base::per_ns::{Namespace, PerNs};
+use dm_base::visibility::Visibility;
 use dm_collector::collect::collect;
 use dm_collector::collect_fault::CollectFault;
 use dm_collector::collected::Collected;
-use dm_collector::unresolved_names::list_unresolved;
+use dm_collector::unresolved_names::{list_names, names_at, unresolved_imports};
+use dm_imports::container::Container;
+use dm_imports::glob_import::GlobImport;
+use dm_imports::meaning::Meaning;
+use dm_imports::named_import::NamedImport;
+use dm_imports::rules::meanings::ImportMeanings;
 use dm_maps::world::World;
+use hir_def_map::result::ResolvePathResult;
 use indexmap::IndexMap;
 use std::alloc::{AllocError, Global};
 
 /// Crates, settled, with what tells where their items stand.
 pub(crate) struct Settled {
-    pub(crate) files: FileTable,
+    files: FileTable,
     items: Vec<Vec<DeclaredItem>>,
     uses: IndexMap<UseId, ItemPlace>,
     pub(crate) collected: Collected,
+    /// The imports that mean nothing, by their places.
+    unresolved: Vec<usize>,
     /// The name of each crate.
-    pub(crate) names: Vec<String>,
+    names: Vec<String>,
     /// Whether each crate is one of procedural macros.
     procedural: Vec<bool>,
     /// The crate that is asked about; none where all are.
-    pub(crate) asked: Option<Crate>,
+    asked: Option<Crate>,
 }
 
 /// A hand-written `Drop`, to keep proofs small: what drops one has one call to prove.
@@ -36,6 +55,7 @@ impl Drop for Settled {
             items: _items,
             uses: _uses,
             collected: _collected,
+            unresolved: _unresolved,
             names: _names,
             procedural: _procedural,
             asked: _asked,
@@ -65,23 +85,26 @@ fn of_fault(fault: CollectFault) -> NotSettled {
         CollectFault::Cycle(_)
         | CollectFault::NoRootFile(_)
         | CollectFault::OutOfNumbers
-        | CollectFault::Dangling(_)
-        | CollectFault::Unknown => NotSettled::Unfit,
+        | CollectFault::Dangling(_) => NotSettled::Unfit,
     }
 }
 
-/// The world of a graph. Names of imports that lead nowhere are listed in their modules.
+/// The crates of a graph, collected, and the places of the imports that mean nothing. Their names are listed in their
+/// modules.
 pub(crate) fn world_of(
     alloc: Global,
     graph: &CrateGraph,
     reading: &Reading<'_>,
-) -> Result<Collected, NotSettled> {
+) -> Result<(Collected, Vec<usize>), NotSettled> {
     let mut collected = match collect(alloc, graph, reading) {
         Ok(collected) => collected,
         Err(fault) => return Err(of_fault(fault)),
     };
-    list_unresolved(alloc, &mut collected.retry)?;
-    Ok(collected)
+    let maps = collected.def_maps();
+    let places = unresolved_imports(alloc, &maps, collected.meanings.as_slice())?;
+    let names = names_at(alloc, collected.imports.as_slice(), places.as_slice())?;
+    list_names(&mut collected.world, &mut collected.flags, names)?;
+    Ok((collected, places))
 }
 
 /// Whether each of the first crates of a graph is one of procedural macros.
@@ -132,7 +155,7 @@ impl Settled {
         graph: &CrateGraph,
         files: FileTable,
         names: Vec<String>,
-        collected: Collected,
+        (collected, unresolved): (Collected, Vec<usize>),
         asked: Option<Crate>,
     ) -> Result<Settled, AllocError> {
         let ItemLists {
@@ -145,6 +168,7 @@ impl Settled {
             items,
             uses,
             collected,
+            unresolved,
             names,
             procedural,
             asked,
@@ -152,52 +176,180 @@ impl Settled {
     }
 
     pub(crate) fn world(&self) -> &World {
-        self.collected.retry.world()
+        &self.collected.world
+    }
+}
+
+impl Crates for Settled {
+    fn files(&self) -> &FileTable {
+        &self.files
     }
 
-    /// The modules of each crate.
-    pub(crate) fn lists(&self) -> &[CrateModules] {
-        self.collected.lists.as_slice()
+    fn names(&self) -> &[String] {
+        self.names.as_slice()
     }
 
-    /// The items of each crate.
-    pub(crate) fn items(&self) -> &[Vec<DeclaredItem>] {
-        self.items.as_slice()
+    fn asked(&self) -> Option<Crate> {
+        self.asked
     }
 
-    pub(crate) fn use_place(&self, use_: UseId) -> Option<&ItemPlace> {
-        self.uses.get(&use_)
-    }
-
-    /// Whether a crate is one of procedural macros.
-    pub(crate) fn is_procedural(&self, krate: usize) -> bool {
+    fn is_procedural(&self, krate: usize) -> bool {
         self.procedural.get(krate).copied().unwrap_or(false)
     }
 
-    /// Whether a crate is asked about.
-    pub(crate) fn is_asked(&self, krate: Crate) -> bool {
-        match self.asked {
-            None => true,
-            Some(asked) => asked == krate,
+    fn lists(&self) -> &[CrateModules] {
+        self.collected.lists.as_slice()
+    }
+
+    fn items(&self) -> &[Vec<DeclaredItem>] {
+        self.items.as_slice()
+    }
+
+    fn module_ids(&self, krate: usize) -> &[Option<ModuleId>] {
+        match self.collected.tables.get(krate) {
+            None => &[],
+            Some(table) => table.ids(),
         }
     }
 
-    /// The crates that are asked about, in their order.
-    pub(crate) fn asked_crates(&self, alloc: Global) -> Result<Vec<Crate>, AllocError> {
-        let mut asked = Vec::new(alloc);
-        for number in 0..self.names.len() {
-            let krate = Crate(u32::try_from(number).unwrap_or(u32::MAX));
-            if self.is_asked(krate) {
-                asked.push(krate)?;
-            }
-        }
-        Ok(asked)
+    fn use_place(&self, use_: UseId) -> Option<&ItemPlace> {
+        self.uses.get(&use_)
     }
 
-    pub(crate) fn name_of(&self, krate: Crate) -> &str {
-        match self.names.get(krate.0 as usize) {
-            None => "?",
-            Some(name) => name.as_str(),
+    fn extern_place(&self, id: ExternCrateId) -> Option<ItemPlace> {
+        let row = self.collected.externs.get(id.0 as usize)?;
+        let krate = self.collected.world.module_krate(row.home)?;
+        Some(ItemPlace {
+            krate: krate.0 as usize,
+            file: row.file,
+            item: row.item,
+        })
+    }
+
+    fn root_of(&self, krate: Crate) -> Option<ModuleId> {
+        self.collected.world.root_of(krate)
+    }
+
+    fn is_2015(&self, krate: Crate) -> bool {
+        self.collected.world.is_2015(krate)
+    }
+
+    fn naming_use(&self, krate: Crate) -> Option<(ModuleId, UseId)> {
+        world_modules::naming_use(&self.collected.world, krate)
+    }
+
+    fn krate_of(&self, m: ModuleId) -> Option<Crate> {
+        self.collected.world.module_krate(m)
+    }
+
+    fn map_root(&self, m: ModuleId) -> Option<ModuleId> {
+        match self.collected.world.map_of(m) {
+            None => None,
+            Some(map) => Some(map.root_module_id()),
         }
+    }
+
+    fn parent_of(&self, m: ModuleId) -> Option<ModuleId> {
+        world_modules::parent_of(&self.collected.world, m)
+    }
+
+    fn child_of(&self, m: ModuleId, name: &Name) -> Option<ModuleId> {
+        world_modules::child_of(&self.collected.world, m, name)
+    }
+
+    fn child_name(&self, parent: ModuleId, m: ModuleId) -> Option<&Name> {
+        world_modules::child_name(&self.collected.world, parent, m)
+    }
+
+    fn children(&self, alloc: Global, m: ModuleId) -> Result<Vec<(&Name, ModuleId)>, AllocError> {
+        world_modules::children(alloc, &self.collected.world, m)
+    }
+
+    fn entries(&self, alloc: Global, m: ModuleId) -> Result<Vec<(&Name, PerNs)>, AllocError> {
+        world_modules::entries(alloc, &self.collected.world, m)
+    }
+
+    fn unnamed_traits(
+        &self,
+        alloc: Global,
+        m: ModuleId,
+    ) -> Result<Vec<(Visibility, Option<ImportId>)>, AllocError> {
+        world_modules::unnamed_traits(alloc, &self.collected.world, m)
+    }
+
+    fn bound_in(&self, m: ModuleId, name: &Name) -> PerNs {
+        self.collected.world.bound_in(m, name)
+    }
+
+    fn textual_macro(&self, m: ModuleId, name: &Name) -> Option<MacroId> {
+        self.collected.world.legacy_of(m, name)
+    }
+
+    fn item_home(&self, def: ModuleDefId) -> Option<ModuleId> {
+        world_modules::item_home(&self.collected.world, def)
+    }
+
+    fn declared_name(&self, home: ModuleId, def: ModuleDefId) -> Option<&Name> {
+        world_names::declared_name(&self.collected.world, home, def)
+    }
+
+    fn enum_of(&self, variant: EnumVariantId) -> Option<EnumId> {
+        self.collected.world.variant_enum(variant)
+    }
+
+    fn variant_name(&self, e: EnumId, variant: EnumVariantId) -> Option<&Name> {
+        world_names::variant_name(&self.collected.world, e, variant)
+    }
+
+    fn import_meaning(&self, m: ModuleId, path: &ModPath) -> Option<ResolvePathResult> {
+        world_paths::import_meaning(&self.collected.world, m, path)
+    }
+
+    fn meaning(&self, m: ModuleId, path: &ModPath) -> Option<ResolvePathResult> {
+        world_paths::meaning(&self.collected.world, m, path)
+    }
+
+    fn macro_meaning(&self, m: ModuleId, path: &ModPath) -> Option<ResolvePathResult> {
+        world_paths::macro_meaning(&self.collected.world, m, path)
+    }
+
+    fn imports(&self) -> &[NamedImport] {
+        self.collected.imports.as_slice()
+    }
+
+    fn globs(&self) -> &[GlobImport] {
+        self.collected.globs.as_slice()
+    }
+
+    fn unresolved(&self) -> &[usize] {
+        self.unresolved.as_slice()
+    }
+
+    fn import_meanings(&self, place: usize) -> Option<ImportMeanings> {
+        self.collected.meanings.get(place).copied()
+    }
+
+    fn meaning_by_rules(
+        &self,
+        home: ModuleId,
+        textual: Option<MacroId>,
+        path: &ModPath,
+        namespace: Namespace,
+    ) -> Option<Meaning> {
+        let maps = self.collected.def_maps();
+        maps.meaning_in(home, textual, path, namespace)
+    }
+
+    fn source(&self, glob: &GlobImport) -> Option<Container> {
+        self.collected.def_maps().source(glob)
+    }
+
+    fn leads_nowhere(&self, glob: &GlobImport) -> bool {
+        leads_nowhere(&self.collected.def_maps(), glob)
+    }
+
+    fn offers(&self, glob: &GlobImport, name: &Name, namespace: Namespace) -> bool {
+        let maps = self.collected.def_maps();
+        maps.is_glob_known(glob) && maps.offer(glob, name, namespace).is_some()
     }
 }

@@ -59,7 +59,7 @@ fn collected_of(
     graph: &CrateGraph,
     reading: &Reading<'_>,
     names: &[String],
-) -> Result<Collected, Failure> {
+) -> Result<(Collected, Vec<usize>), Failure> {
     match world_of(alloc, graph, reading) {
         Ok(settled) => Ok(settled),
         Err(why) => {

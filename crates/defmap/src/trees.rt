@@ -4,7 +4,8 @@ use crate::diagnostics::push_diagnostics;
 use crate::lists::push_scope_lists;
 use crate::settled::Settled;
 use crate::settling::SettledInputs;
-use crate::tree::tree_text;
+use defmap_answers::crates::{asked_crates, crate_name};
+use defmap_answers::tree::tree_text;
 use defmap_inputs::arguments::TreeForm;
 use dm_base::ids::Crate;
 use dm_maps::world::World;
@@ -44,9 +45,9 @@ fn push_trees(
     form: TreeForm,
     is_fixture: bool,
 ) -> Result<(), AllocError> {
-    for krate in &settled.asked_crates(alloc)? {
+    for krate in &asked_crates(alloc, settled)? {
         if is_fixture || form.is_dump {
-            write!(out, "# {}\n", settled.name_of(*krate))?;
+            write!(out, "# {}\n", crate_name(settled, *krate))?;
         }
         let modules = modules_of(alloc, settled, *krate, form)?;
         out.push_str(modules.as_str())?;

@@ -1,9 +1,8 @@
 //! From a text to a settled world, and from there to an answer.
-ghost use Rattle.std.specs.Prelude.{◌≡◌, ◌↔◌, false, IfOk, IsTrue, Some, slice_get};
+ghost use Rattle.std.specs.Prelude.{◌≡◌, ◌↔◌, IfOk, IsTrue, Some, slice_get};
 ghost use Rattle.dm_maps.specs.Holding.{path_holds, res_holds};
 ghost use Rattle.dm_maps.specs.declared.check.held.HeldId.TheVariants as held;
-ghost use Rattle.dm_collector.specs.Collecting.{AreRight};
-ghost use Rattle.dm_imports.specs.Tables.{of_tables};
+ghost use Rattle.dm_collector.specs.Collecting.{AreRight, maps_in};
 ghost use Rattle.dm_def_map.specs.Maps.{LocalMap, Map};
 ghost use Rattle.dm_def_map.specs.declared.modules.modes.BuiltinShadowMode.TheVariants.{Module};
 ghost use Rattle.dm_base.specs.declared.ids.Crate.{Crate};
@@ -39,13 +38,7 @@ fn one_crate(alloc: Global, root: FileId) -> Result<CrateGraph, AllocError> {
 
 /// A crate of one text, collected. It tells exactly whether its names are what the rules of imports give.
 pub fn world_of(alloc: Global, text: Vec<u8>) -> Result<Collected, CollectFault>
-    ensures { IfOk result (λ made. IsTrue made.is_supported ↔ AreRight (of_tables (record {
-      world = made.retry.state.world;
-      imports = made.imports.items;
-      globs = made.globs.items;
-      enums = made.enums.entries;
-      ambiguous = record { table = made.ambiguous; is_all_but = false };
-    }))) }
+    ensures { IfOk result (λ made. IsTrue made.is_supported ↔ AreRight (maps_in made made.world)) }
 {
     let mut files = FileTable::new(alloc);
     let path = Vec::from_slice(alloc, b"src/lib.rs")?;

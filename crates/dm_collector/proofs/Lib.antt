@@ -1,8 +1,10 @@
 pub mod KnownLemmas
 pub mod ListLemmas
 pub mod ReachLemmas
-pub mod IdleLemmas
+pub mod TraitLemmas
 pub mod TableLemmas
 pub mod MacroLemmas
 pub mod ListedLemmas
 pub mod FaultLemmas
+pub mod StayLemmas
+pub mod EndLemmas

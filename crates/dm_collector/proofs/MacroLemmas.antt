@@ -1,5 +1,5 @@
 -- What one of two options has: in which order they are asked, and what holds of it.
-use Rattle.std.proofs.Common.{◌≡◌, ◌∙◌, Bool, cond, false, is_none, is_some, List, [], ◌∷◌, not, Option, None, Some, arith, refl, sym, true}
+use Rattle.std.proofs.Common.{◌≡◌, ◌∙◌, Bool, cond, false, is_none, is_some, List, [], ◌∷◌, not, Option, None, Some, ap, arith, refl, sym, true}
 use Rattle.std.proofs.lemmas.Bool.{false≢true}
 use Rattle.std.proofs.lemmas.List.Elements.{All-contains, All-contains_itself, All-weaker}
 use Rattle.std.specs.List.{All, Contains}
@@ -14,10 +14,8 @@ use Rattle.dm_base.specs.declared.item_ids.ModuleDefId.TheVariants as def
 use Rattle.dm_maps.specs.Known.{KnowsAll}
 use Rattle.dm_maps.specs.KnownLaws.{macros-known}
 use Rattle.dm_maps.specs.World.{World}
-use Rattle.dm_retry.specs.Rounds.{State}
 use Rattle.dm_collector.specs.MacroPreludes.{HasMacros, is_public, missing_macro, public_in}
 use Rattle.dm_collector.specs.MacroUses.{Uses}
-use Rattle.dm_collector.specs.Steps.{Use, writes}
 
 pub or-assoc : {A : Type 0} (x y z : Option A) → option_or (option_or x y) z ≡ option_or x (option_or y z)
 or-assoc None y z = refl
@@ -46,18 +44,14 @@ pub none-there : {A : Type 0} (o : Option A) → is_none o ≡ true → o ≡ No
 none-there None e = refl
 none-there (Some x) e = absurd (false≢true e)
 
-unset : {A : Type 0} (o : Option A) → is_some o ≡ false → is_none o ≡ true
-unset None e = refl
-unset (Some x) e = absurd (false≢true (sym e))
+-- names under each of which a macro was missing, and none is
+none-used : (w : World) (u : Uses) (ns : List Name) → All (λ n. is_none (missing_macro w u n) ≡ false) ns → All (λ n. missing_macro w u n ≡ None) ns → ns ≡ []
+none-used w u [] some none = refl
+none-used w u (n ∷ ns) some none =
+    absurd (false≢true (sym (some 0 n (omega arith)) ∙ ap is_none (none 0 n (omega arith))))
 
--- names under each of which a macro is missing, and nothing was written
-none-used : (s : State) (u : Uses) (ns : List Name) → All (λ n. is_none (missing_macro s.world u n) ≡ false) ns → All (λ n. writes (Use u n) s ≡ false) ns → ns ≡ []
-none-used s u [] some idle = refl
-none-used s u (n ∷ ns) some idle =
-    absurd (false≢true (sym (some 0 n (omega arith)) ∙ unset (missing_macro s.world u n) (idle 0 n (omega arith))))
-
-pub used-by-none : (s : State) (u : Uses) (ns : List Name) → All (λ n. is_none (missing_macro s.world u n) ≡ false) ns → All (λ n. writes (Use u n) s ≡ false) ns → (ns ≡ [] → HasMacros s.world u) → HasMacros s.world u
-used-by-none s u ns some idle has = has (none-used s u ns some idle)
+pub used-by-none : (w : World) (u : Uses) (ns : List Name) → All (λ n. is_none (missing_macro w u n) ≡ false) ns → All (λ n. missing_macro w u n ≡ None) ns → (ns ≡ [] → HasMacros w u) → HasMacros w u
+used-by-none w u ns some none has = has (none-used w u ns some none)
 
 -- a macro that all see is the world's, where what is bound is
 pub public-known : (w : World) (x : PerNs) → KnowsAll w (res_holds x) → IfSome (public_in x.macros) (λ m. KnowsAll w (def_holds (def.MacroId m)))

@@ -1,35 +1,39 @@
--- The leaves of uses, as imports that are resolved and as globs.
+-- The leaves of uses, as imports and as globs.
 use Rattle.std.specs.Prelude.{Bool, true, false, List, [], ◌∷◌, Option, None, Some, codes, if◌then◌else◌}
 use Rattle.crate_tables.specs.declared.use_leaf.UseLeaf.{UseLeaf}
-use Rattle.dm_imports.specs.declared.glob_import.GlobImport.{GlobImport}
 use Rattle.dm_base.specs.Names.{Name}
-use Rattle.dm_retry.specs.Rounds.{Pending}
-use Rattle.dm_retry.specs.declared.import_kind.ImportKind.{ImportKind as Retried}
-use Rattle.dm_retry.specs.declared.import_kind.ImportKind.TheVariants as retried
-use Rattle.item_tree.specs.declared.items.imports.ImportKind.{ImportKind}
-use Rattle.item_tree.specs.declared.items.imports.ImportKind.TheVariants as imports
+use Rattle.dm_imports.specs.declared.glob_import.GlobImport.{GlobImport}
+use Rattle.dm_imports.specs.declared.named_import.ImportKind.{ImportKind}
+use Rattle.dm_imports.specs.declared.named_import.ImportKind.TheVariants as kind
+use Rattle.dm_imports.specs.declared.named_import.NamedImport.{NamedImport}
+use Rattle.item_tree.specs.declared.items.imports.ImportKind.{ImportKind as Written}
+use Rattle.item_tree.specs.declared.items.imports.ImportKind.TheVariants as written
 
--- `as _` binds no name; any other import narrows what it brings to whom that is shown
-abbrev pub retried_kind : Bool → ImportKind → Retried
-retried_kind true k = retried.Unnamed
-retried_kind false imports.TypeOnly = retried.TypeOnly
-retried_kind false _ = retried.ReExport
+-- `as _` binds no name, and `use a::{self}` brings a type alone
+abbrev pub kind_of : Bool → Written → ImportKind
+kind_of true k = kind.Unnamed
+kind_of false written.TypeOnly = kind.TypeOnly
+kind_of false _ = kind.All
 
-abbrev pub retried_name : Bool → Option Name → Option Name
-retried_name true n = Some (codes "_")
-retried_name false n = n
+-- the name that an import stands under
+abbrev pub name_of : Bool → Option Name → Option Name
+name_of true n = Some (codes "_")
+name_of false n = n
 
-abbrev pub pending_named : UseLeaf → Option Name → List Pending
-pending_named x None = []
-pending_named x (Some n) = record {
-  origin = x.home;
+abbrev pub import_named : UseLeaf → Name → NamedImport
+import_named x n = record {
+  home = x.home;
   name = n;
   path = x.import.path;
-  visibility = x.visibility;
-  kind = retried_kind x.import.is_unnamed x.import.kind;
+  vis = x.visibility;
+  kind = kind_of x.import.is_unnamed x.import.kind;
   import = record { use_ = x.use_; idx = x.import.tree };
-  due = false;
-} ∷ []
+  textual = x.textual;
+}
+
+abbrev pub imports_named : UseLeaf → Option Name → List NamedImport
+imports_named x None = []
+imports_named x (Some n) = import_named x n ∷ []
 
 abbrev pub glob_by : UseLeaf → GlobImport
 glob_by x = record {
@@ -39,13 +43,13 @@ glob_by x = record {
   import = record { use_ = x.use_; idx = x.import.tree };
 }
 
-abbrev pub is_glob_kind : ImportKind → Bool
-is_glob_kind imports.Glob = true
+abbrev pub is_glob_kind : Written → Bool
+is_glob_kind written.Glob = true
 is_glob_kind _ = false
 
--- the import that a leaf is, unless it is a glob
-abbrev pub pendings_of : UseLeaf → List Pending
-pendings_of x = if is_glob_kind x.import.kind then [] else pending_named x (retried_name x.import.is_unnamed x.import.name)
+-- the import that a leaf is, unless it is a glob or has nothing to bind
+abbrev pub imports_of : UseLeaf → List NamedImport
+imports_of x = if is_glob_kind x.import.kind then [] else imports_named x (name_of x.import.is_unnamed x.import.name)
 
 -- the glob that a leaf is, if it is one
 abbrev pub globs_of : UseLeaf → List GlobImport

@@ -1,4 +1,3 @@
-pub mod Globs
 pub mod UnnamedTraits
 pub mod MacroUses
 pub mod PreludeGlobs
@@ -6,8 +5,8 @@ pub mod MacroPreludes
 pub mod Steps
 pub mod UnresolvedNames
 pub mod Leaves
-pub mod NamedImports
 pub mod Enums
 pub mod Binding
+pub mod Declaring
 pub mod Collecting
 pub mod CollectFaults

@@ -7,10 +7,8 @@ use Rattle.dm_base.specs.Sameness.{same_macro}
 use Rattle.dm_base.specs.declared.per_ns.Item.{Item}
 use Rattle.dm_base.specs.declared.visibility.Visibility.{Visibility}
 use Rattle.dm_base.specs.declared.visibility.Visibility.TheVariants.{Public}
-use Rattle.dm_collector.specs.Globs.{source_names}
 use Rattle.dm_collector.specs.MacroUses.{Uses}
 use Rattle.dm_collector.specs.declared.macro_uses.MacroSource.{MacroSource}
-use Rattle.dm_collector.specs.declared.sources.GlobSource.TheVariants as source
 use Rattle.dm_base.specs.Names.{Name, find_name}
 use Rattle.dm_base.specs.contracts.ids.ExternCrateIdPartialEq.TheImpl as extern_eq
 use Rattle.dm_base.specs.declared.ids.ExternCrateId.{ExternCrateId}
@@ -21,6 +19,7 @@ use Rattle.dm_maps.specs.Cut.{among}
 use Rattle.dm_maps.specs.Readings.{macro_uses_of}
 use Rattle.dm_maps.specs.World.{World, scope_of}
 use Rattle.dm_scope.specs.Scope.{bound_in}
+use Rattle.dm_scope.specs.Sorted.{names_of}
 
 -- an entry of a prelude: a macro, and the extern crate that brought it, if one did
 abbrev pub Entry : Type 0
@@ -78,7 +77,7 @@ missing_macro w u n =
 
 -- the names under which a root may bring one: all that it has, or those that are used
 abbrev pub used_names : World → MacroSource → List Name
-used_names w s = if uses_whole s.macros then source_names w (source.Module s.root) else names_used s.macros
+used_names w s = if uses_whole s.macros then names_of (scope_of w s.root) else names_used s.macros
 
 -- A crate has its macros: under no name that a root may bring its prelude has anything yet to get.
 abbrev pub HasMacrosOf : World → Uses → MacroSource → Type 0

@@ -1,100 +1,100 @@
--- What is written once names are bound: unnamed traits and `macro_use` preludes, step by step.
-use Rattle.std.specs.Prelude.{◌≡◌, ◌⊎◌, ◌+◌, ◌≤◌, ℕ, Bool, false, not, is_some, IfSome, List, [], ◌∷◌, Option, Some, None, Contains, if◌then◌else◌}
+-- What is written beside names: unnamed traits and `macro_use` preludes, step by step.
+use Rattle.std.specs.Prelude.{◌≡◌, ◌+◌, ◌≤◌, ℕ, Bool, true, false, is_some, List, [], ◌∷◌, Option, Contains}
 use Rattle.std.specs.List.{AllByRecursion}
 use Rattle.std.specs.Option.{option_map_or}
-use Rattle.dm_base.specs.Names.{Name}
 use Rattle.crate_tables.specs.StandardPreludes.{own_map}
-use Rattle.dm_maps.specs.BuildMaps.{with_macro_use}
-use Rattle.dm_maps.specs.GoesOn.{with_unnamed_trait}
-use Rattle.dm_retry.specs.Rounds.{State, changed_beside, changed_under, round, round_answer}
-use Rattle.dm_retry.specs.Retries.{Stops}
-use Rattle.dm_collector.specs.Globs.{resolved}
+use Rattle.dm_base.specs.declared.ids.EnumId.{EnumId}
+use Rattle.dm_base.specs.declared.ids.ModuleId.{ModuleId}
+use Rattle.dm_base.specs.declared.visibility.Visibility.{Visibility}
+use Rattle.dm_base.specs.Names.{Name}
 use Rattle.dm_collector.specs.MacroPreludes.{missing_macro}
 use Rattle.dm_collector.specs.MacroUses.{Uses}
-use Rattle.dm_collector.specs.UnnamedTraits.{missing_trait}
-use Rattle.dm_collector.specs.declared.globs.Glob.{Glob}
-use Rattle.dm_collector.specs.declared.glob_fault.GlobFault.{GlobFault}
-use Rattle.dm_collector.specs.declared.glob_fault.GlobFault.TheVariants as fault
+use Rattle.dm_collector.specs.UnnamedTraits.{missing_glob, missing_import, with_unnamed}
 use Rattle.dm_imports.specs.declared.glob_import.GlobImport.{GlobImport}
+use Rattle.dm_imports.specs.declared.importing.Importing.{Importing}
+use Rattle.dm_imports.specs.declared.named_import.NamedImport.{NamedImport}
+use Rattle.dm_imports.specs.Paths.{DefMaps}
+use Rattle.dm_imports.specs.Slots.{Slots}
+use Rattle.dm_imports.specs.Tables.{MapTables, of_tables}
+use Rattle.dm_maps.specs.BuildMaps.{with_macro_use}
+use Rattle.dm_maps.specs.PushRes.{StaysShown}
+use Rattle.dm_maps.specs.World.{World}
+use Rattle.dm_scope.specs.Flags.{Globs}
 
--- A step: a round of the imports as `_`; a glob brings the unnamed trait at a place of its source; or the `macro_use`
+-- What crates import: their imports, but globs; their globs; who sees each enum; and the roots that each crate has macros
+-- from.
+pub record Given : Type 0 where
+  pub imports : List NamedImport
+  pub globs : List GlobImport
+  pub enums : EnumId → Option Visibility
+  pub uses : List Uses
+
+-- the def maps of a world, with what is imported there
+abbrev pub MapsOf : Type 0
+MapsOf = World → DefMaps
+
+abbrev pub tables_with : Importing → Slots Bool → World → MapTables
+tables_with x t w = record {
+  world = w;
+  imports = x.imports.now;
+  globs = x.globs.now;
+  enums = x.enums.now.entries;
+  ambiguous = record { table = t; is_all_but = false };
+}
+
+abbrev pub maps_with : Importing → Slots Bool → MapsOf
+maps_with x t w = of_tables (tables_with x t w)
+
+-- A step: an import as `_` brings its trait; a glob brings the unnamed trait at a place of its source; or the `macro_use`
 -- prelude of a crate gets the macro of a name.
 pub data Step : Type 0 where
-  Resolve : Step
+  Import : NamedImport → Step
   Bring : GlobImport → ℕ → Step
   Use : Uses → Name → Step
 
--- ---- What a glob writes with the source that its path means
+-- the macro that a prelude has yet to get under a name, if any
+abbrev pub with_macro_used : World → Uses → Name → World
+with_macro_used w u n = option_map_or (λ e. with_macro_use w (own_map u.krate) n e.0 e.1) (missing_macro w u n) w
 
--- its module gets the unnamed trait at a place of the source, if it has yet to bring that: whom the glob lets sees it, and it
--- keeps its import
-abbrev pub brought : State → Glob → ℕ → State
-brought s g i =
-    option_map_or (λ e. changed_beside s (with_unnamed_trait s.world g.into e.0 g.vis e.2)) (missing_trait s.world g i) s
+-- The world after a step. What is yet to be written is looked up when the step is made.
+abbrev pub after_step : MapsOf → Step → World → World
+after_step d (Import i) w = option_map_or (with_unnamed w i.home) (missing_import (d w) i) w
+after_step d (Bring g n) w = option_map_or (with_unnamed w g.into) (missing_glob (d w) g n) w
+after_step d (Use u n) w = with_macro_used w u n
 
--- ---- What a `macro_use` prelude gets
-
--- the macro that it has yet to get under a name, if any
-abbrev pub with_macro_used : State → Uses → Name → State
-with_macro_used s u n =
-    option_map_or (λ e. changed_under s n (with_macro_use s.world (own_map u.krate) n e.0 e.1)) (missing_macro s.world u n) s
-
--- ---- Steps
-
--- The state after a step. What a glob's path means, and what is yet to be written, is looked up when the step is made; where the
--- path means no source, nothing is written.
-abbrev pub after_step : Step → State → State
-after_step Resolve s = round s
-after_step (Bring g i) s = option_map_or (λ r. brought s r i) (resolved s.world g) s
-after_step (Use u n) s = with_macro_used s u n
-
--- the state after some, one after another
-abbrev pub made : List Step → State → State
-made [] s = s
-made (x ∷ xs) s = made xs (after_step x s)
+-- the world after some, one after another
+abbrev pub made : MapsOf → List Step → World → World
+made d [] w = w
+made d (x ∷ xs) w = made d xs (after_step d x w)
 
 -- whether a step writes anything
-abbrev pub writes : Step → State → Bool
-writes Resolve s = round_answer s
-writes (Bring g i) s = option_map_or (λ r. is_some (missing_trait s.world r i)) (resolved s.world g) false
-writes (Use u n) s = is_some (missing_macro s.world u n)
+abbrev pub writes : MapsOf → Step → World → Bool
+writes d (Import i) w = is_some (missing_import (d w) i)
+writes d (Bring g n) w = is_some (missing_glob (d w) g n)
+writes d (Use u n) w = is_some (missing_macro w u n)
 
 -- how many of some steps do, one after another
-abbrev pub writes_of : List Step → State → ℕ
-writes_of [] s = 0
-writes_of (x ∷ xs) s = (if writes x s then 1 else 0) + writes_of xs (after_step x s)
+abbrev pub count : Bool → ℕ
+count true = 1
+count false = 0
 
--- the glob of a step, if it has one
-abbrev pub glob_of : Step → Option GlobImport
-glob_of Resolve = None
-glob_of (Bring g i) = Some g
-glob_of (Use u n) = None
+abbrev pub writes_of : MapsOf → List Step → World → ℕ
+writes_of d [] w = 0
+writes_of d (x ∷ xs) w = count (writes d x w) + writes_of d xs (after_step d x w)
 
--- the crate of one that gets a macro, with the roots that it has macros from
-abbrev pub used_by : Step → Option Uses
-used_by (Use u n) = Some u
-used_by _ = None
+-- a step is of what is given
+abbrev pub IsOf : Given → Step → Type 0
+IsOf x (Import i) = Contains x.imports i
+IsOf x (Bring g n) = Contains x.globs g
+IsOf x (Use u n) = Contains x.uses u
 
--- A step is of some globs and crates: its glob, if it has one, is one of them, and so is its crate.
-abbrev pub IsOf : List GlobImport → List Uses → Step → Type 0
-IsOf gs us x = IfSome (glob_of x) (Contains gs) × IfSome (used_by x) (Contains us)
-
--- ---- Where settling leads
-
--- State t is reached from s by steps of these globs and crates, of which so many at least write: nothing else is written.
-pub record IsReached (gs : List GlobImport) (us : List Uses) (count : ℕ) (s t : State) : Type 0 where
+-- Another world is reached by such steps, of which so many at least write: nothing else is written.
+pub record IsReached (d : MapsOf) (x : Given) (n : ℕ) (w v : World) : Type 0 where
   pub steps : List Step
-  pub own : AllByRecursion (IsOf gs us) steps
-  pub state : t ≡ made steps s
-  pub enough : count ≤ writes_of steps s
+  pub own : AllByRecursion (IsOf x) steps
+  pub world : v ≡ made d steps w
+  pub enough : n ≤ writes_of d steps w
 
--- State t is reached but for the end of a round, which an allocation failure stopped at one of its imports.
-pub record IsCutOff (gs : List GlobImport) (us : List Uses) (s t : State) : Type 0 where
-  pub last : State
-  pub reached : IsReached gs us 0 s last
-  pub stops : Stops last t
-
--- what a fault leaves: an unknown glob stops no round
-abbrev pub IsLeftBy : GlobFault → List GlobImport → List Uses → State → State → Type 0
-IsLeftBy fault.Unknown gs us s t = IsReached gs us 0 s t
-IsLeftBy fault.OutOfMemory gs us s t = IsReached gs us 0 s t ⊎ IsCutOff gs us s t
+-- each module shows the names that it showed
+abbrev pub StillShow : World → World → Type 0
+StillShow w v = (g : Globs) (k : ModuleId) → StaysShown w g v g k

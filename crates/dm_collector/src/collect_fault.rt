@@ -4,11 +4,10 @@ ghost use Rattle.crate_items.specs.CrateGraphs.{Graph, rows};
 ghost use Rattle.crate_items.specs.OrderFaults as orders;
 ghost use Rattle.crate_tables.specs.CrateFillings.{IsFaultIn, IsShortageOr, Reading};
 ghost use Rattle.crate_tables.specs.DeclaredWorlds.{IsRefusal};
-ghost use Rattle.dm_collector.specs.CollectFaults.{IsFault, IsNotDeclared, of_glob};
+ghost use Rattle.dm_collector.specs.CollectFaults.{IsFault, IsNotDeclared};
 ghost use Rattle.dm_maps.specs.World.{World};
 ghost use Rattle.dm_collector.specs.declared.collect_fault.CollectFault.TheVariants as faults;
 
-use crate::glob_fault::GlobFault;
 use crate_items::files::crate_order::OrderFault;
 use crate_tables::declared_world::NotDeclared;
 use crate_tables::fill_fault::FillFault;
@@ -30,8 +29,6 @@ pub enum CollectFault {
     OutOfNumbers,
     /// The tables of the crates hold an id that is none of theirs.
     Dangling(WorldFault),
-    /// An import or a glob names what the world does not have, or an import is listed twice.
-    Unknown,
     OutOfMemory,
 }
 
@@ -82,15 +79,5 @@ pub(crate) fn of_declared(fault: NotDeclared) -> CollectFault
     match fault {
         NotDeclared::Dangling(fault) => CollectFault::Dangling(fault),
         NotDeclared::OutOfMemory => CollectFault::OutOfMemory,
-    }
-}
-
-/// The same of globs.
-pub(crate) fn of_glob(fault: GlobFault) -> CollectFault
-    ensures { result ≡ of_glob fault }
-{
-    match fault {
-        GlobFault::Unknown => CollectFault::Unknown,
-        GlobFault::OutOfMemory => CollectFault::OutOfMemory,
     }
 }

@@ -1,5 +1,6 @@
 //! `Collected`: crates, collected.
-ghost use Rattle.std.specs.Prelude.{◌≡◌, false};
+ghost use Rattle.std.specs.Prelude.{◌≡◌};
+ghost use Rattle.dm_collector.specs.Collecting.{tables_in};
 
 use crate::macro_uses::MacroUses;
 use crate_items::modules::CrateModules;
@@ -12,15 +13,18 @@ use dm_imports::def_maps::DefMaps;
 use dm_imports::glob_import::GlobImport;
 use dm_imports::marks::Marks;
 use dm_imports::named_import::NamedImport;
+use dm_imports::rules::meanings::ImportMeanings;
 use dm_imports::slots::Slots;
-use dm_retry::retry::Retry;
+use dm_maps::world::World;
+use dm_scope::glob_imports::PerNsGlobImports;
 use indexmap::IndexMap;
 
 /// Crates, collected. The crates of the graph have their numbers in the world, too.
 pub struct Collected {
-    /// The world, its glob table, and all imports, which wait.
-    pub retry: Retry,
-    /// The imports that bind names, as the rules of imports take them.
+    pub world: World,
+    /// Which names globs brought.
+    pub flags: PerNsGlobImports,
+    /// The imports of all crates, but globs.
     pub imports: Vec<NamedImport>,
     /// The globs of all crates.
     pub globs: Vec<GlobImport>,
@@ -28,10 +32,12 @@ pub struct Collected {
     pub enums: IndexMap<EnumId, Visibility>,
     /// The slots that are ambiguous.
     pub ambiguous: Slots<bool>,
+    /// What each import brings in each namespace, in the order of the imports.
+    pub meanings: Vec<ImportMeanings>,
     /// The roots that each crate has macros from.
     pub uses: Vec<MacroUses>,
-    /// Whether the def maps are what the rules of imports give of them. Where they are not, what some names mean goes by
-    /// the order of imports.
+    /// Whether the def maps are what the rules of imports give of them, and follow from declarations. Where they are not,
+    /// what some names mean goes by the order of imports.
     pub is_supported: bool,
     /// Whether all unnamed traits and all macros of `macro_use` preludes came.
     pub is_settled: bool,
@@ -50,11 +56,13 @@ pub struct Collected {
 impl Drop for Collected {
     fn drop(self) {
         let Collected {
-            retry: _retry,
+            world: _world,
+            flags: _flags,
             imports: _imports,
             globs: _globs,
             enums: _enums,
             ambiguous: _ambiguous,
+            meanings: _meanings,
             uses: _uses,
             is_supported: _is_supported,
             is_settled: _is_settled,
@@ -69,16 +77,10 @@ impl Drop for Collected {
 impl Collected {
     /// The def maps, with what is imported in them.
     pub fn def_maps(&self) -> DefMaps<'_>
-        ensures { result ≡ record {
-          world = self.now.retry.state.world;
-          imports = self.now.imports.items;
-          globs = self.now.globs.items;
-          enums = self.now.enums.entries;
-          ambiguous = record { table = self.now.ambiguous; is_all_but = false };
-        } }
+        ensures { result ≡ tables_in self.now self.now.world }
     {
         DefMaps {
-            world: self.retry.world(),
+            world: &self.world,
             imports: self.imports.as_slice(),
             globs: self.globs.as_slice(),
             enums: &self.enums,

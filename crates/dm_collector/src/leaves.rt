@@ -1,4 +1,4 @@
-//! The leaves of uses, as imports that are resolved and as globs.
+//! The leaves of uses, as imports and as globs.
 ghost use Rattle.std.specs.Prelude.{◌≡◌, ◌++◌, ◌∷◌, [], IfOk, OnOk};
 ghost use Rattle.std.specs.List.{flat_map};
 ghost use Rattle.dm_collector.specs.Leaves as spec;
@@ -8,37 +8,32 @@ use crate_tables::use_leaf::UseLeaf;
 use dm_base::imports::{GlobId, ImportId};
 use dm_base::name::Name;
 use dm_imports::glob_import::GlobImport;
-use dm_retry::import_kind::ImportKind;
-use dm_retry::pending::Pending;
+use dm_imports::named_import::{ImportKind, NamedImport};
 use item_tree::items::imports;
 use std::alloc::{AllocError, Global};
 
-/// Imports that are resolved in rounds, and globs.
+/// Imports, and globs.
 #[derive(Drop)]
 pub struct Leaves {
-    pub pendings: Vec<Pending>,
+    pub imports: Vec<NamedImport>,
     pub globs: Vec<GlobImport>,
 }
 
-fn retried_kind(is_unnamed: bool, kind: imports::ImportKind) -> ImportKind
-    ensures { result ≡ spec.retried_kind is_unnamed kind }
+fn kind_of(is_unnamed: bool, kind: imports::ImportKind) -> ImportKind
+    ensures { result ≡ spec.kind_of is_unnamed kind }
 {
     if is_unnamed {
         return ImportKind::Unnamed;
     }
     match kind {
         imports::ImportKind::TypeOnly => ImportKind::TypeOnly,
-        _ => ImportKind::ReExport,
+        _ => ImportKind::All,
     }
 }
 
-/// The name that an import is listed under.
-fn retried_name(
-    alloc: Global,
-    is_unnamed: bool,
-    name: Option<Name>,
-) -> Result<Option<Name>, AllocError>
-    ensures { IfOk result (λ found. found ≡ spec.retried_name is_unnamed name) }
+/// The name that an import stands under.
+fn name_of(alloc: Global, is_unnamed: bool, name: Option<Name>) -> Result<Option<Name>, AllocError>
+    ensures { IfOk result (λ found. found ≡ spec.name_of is_unnamed name) }
 {
     if is_unnamed {
         let name = Name::new(alloc, "_")?;
@@ -55,15 +50,20 @@ fn is_glob_kind(kind: imports::ImportKind) -> bool
 }
 
 /// Adds the import that a leaf is, if it has a name to bind.
-fn push_import(pendings: &mut Vec<Pending>, alloc: Global, leaf: UseLeaf) -> Result<(), AllocError>
-    ensures { OnOk result (pendings.new.items ≡ pendings.old.items
-        ++ spec.pending_named leaf (spec.retried_name leaf.import.is_unnamed leaf.import.name)) }
+fn push_import(
+    imports: &mut Vec<NamedImport>,
+    alloc: Global,
+    leaf: UseLeaf,
+) -> Result<(), AllocError>
+    ensures { OnOk result (imports.new.items ≡ imports.old.items
+        ++ spec.imports_named leaf (spec.name_of leaf.import.is_unnamed leaf.import.name)) }
 {
     let UseLeaf {
         home,
         visibility,
         use_,
         import,
+        textual,
     } = leaf;
     let DeclaredImport {
         tree,
@@ -72,16 +72,19 @@ fn push_import(pendings: &mut Vec<Pending>, alloc: Global, leaf: UseLeaf) -> Res
         name,
         is_unnamed,
     } = import;
-    let found = retried_name(alloc, is_unnamed, name)?;
-    match found {
-        None => Ok(()),
-        Some(name) => {
-            let import = ImportId { use_, idx: tree };
-            let plain = Pending::new(home, name, path, visibility, import);
-            pendings.push(plain.with_kind(retried_kind(is_unnamed, kind)))?;
-            Ok(())
-        }
-    }
+    let Some(name) = name_of(alloc, is_unnamed, name)? else {
+        return Ok(());
+    };
+    imports.push(NamedImport {
+        home,
+        name,
+        path,
+        vis: visibility,
+        kind: kind_of(is_unnamed, kind),
+        import: ImportId { use_, idx: tree },
+        textual,
+    })?;
+    Ok(())
 }
 
 /// Adds the glob that a leaf is.
@@ -93,6 +96,7 @@ fn push_glob(globs: &mut Vec<GlobImport>, leaf: UseLeaf) -> Result<(), AllocErro
         visibility,
         use_,
         import,
+        textual: _textual,
     } = leaf;
     let DeclaredImport {
         tree,
@@ -112,34 +116,34 @@ fn push_glob(globs: &mut Vec<GlobImport>, leaf: UseLeaf) -> Result<(), AllocErro
 
 /// Adds a leaf to the imports or to the globs.
 fn push_leaf(
-    pendings: &mut Vec<Pending>,
+    imports: &mut Vec<NamedImport>,
     globs: &mut Vec<GlobImport>,
     alloc: Global,
     leaf: UseLeaf,
 ) -> Result<(), AllocError>
-    ensures pendings { OnOk result (pendings.new.items ≡ pendings.old.items ++ spec.pendings_of leaf) }
+    ensures imports { OnOk result (imports.new.items ≡ imports.old.items ++ spec.imports_of leaf) }
     ensures globs { OnOk result (globs.new.items ≡ globs.old.items ++ spec.globs_of leaf) }
 {
     if is_glob_kind(leaf.import.kind) {
         push_glob(globs, leaf)
     } else {
-        push_import(pendings, alloc, leaf)
+        push_import(imports, alloc, leaf)
     }
 }
 
-/// Some leaves, as imports that are resolved and as globs, each in order.
+/// Some leaves, as imports and as globs, each in order.
 ///
 /// # Errors
 ///
 /// Fails only where memory runs out.
 pub fn split(alloc: Global, leaves: Vec<UseLeaf>) -> Result<Leaves, AllocError>
-    ensures pendings { IfOk result (λ found. found.pendings.items ≡ flat_map spec.pendings_of leaves.items) }
+    ensures imports { IfOk result (λ found. found.imports.items ≡ flat_map spec.imports_of leaves.items) }
     ensures globs { IfOk result (λ found. found.globs.items ≡ flat_map spec.globs_of leaves.items) }
 {
-    let mut pendings = Vec::new(alloc);
+    let mut imports = Vec::new(alloc);
     let mut globs = Vec::new(alloc);
     for leaf in leaves {
-        push_leaf(&mut pendings, &mut globs, alloc, leaf)?;
+        push_leaf(&mut imports, &mut globs, alloc, leaf)?;
     }
-    Ok(Leaves { pendings, globs })
+    Ok(Leaves { imports, globs })
 }

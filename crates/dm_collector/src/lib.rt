@@ -1,21 +1,18 @@
-//! From item trees to def maps, without macro expansion: names declared, and imports and globs bound as the rules say.
+//! The def maps of whole crates: names are declared, and imports, globs and `macro_use` preludes are bound, as the rules of
+//! imports say.
 #![tactic(auto)]
 
+mod begin;
 mod bind_crates;
 pub mod collect;
 pub mod collect_fault;
 pub mod collected;
 pub mod enums;
-pub mod glob_fault;
-pub mod globs;
 pub mod leaves;
-pub mod macro_preludes;
+mod macro_preludes;
 pub mod macro_uses;
-pub mod named_imports;
 pub mod prelude_globs;
 mod settle;
-pub mod sources;
 mod support;
-mod unnamed_imports;
-pub mod unnamed_traits;
+mod unnamed_traits;
 pub mod unresolved_names;

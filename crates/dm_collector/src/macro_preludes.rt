@@ -1,5 +1,5 @@
 //! What the `macro_use` prelude of a crate has yet to get.
-ghost use Rattle.std.specs.Prelude.{◌≡◌, ◌||◌, [], false, All, Contains, IfOk, IfSome, None, OnOk, is_none};
+ghost use Rattle.std.specs.Prelude.{◌≡◌, ◌||◌, ◌++◌, ◌∷◌, [], if◌then◌else◌, true, false, All, Contains, IfOk, IfSome, None, OnOk, is_none};
 ghost use Rattle.std.specs.Option.{option_copied};
 ghost use Rattle.crate_tables.specs.StandardPreludes.{own_map as map_of};
 ghost use Rattle.dm_maps.specs.Holding.{def_holds};
@@ -13,13 +13,13 @@ ghost use Rattle.dm_scope.specs.Sorted.{seen};
 ghost use Rattle.dm_collector.specs.MacroPreludes as spec;
 
 use crate::macro_uses::{MacroSource, MacroUses};
-use crate::sources::{GlobSource, add_unless, source_names};
 use crate_items::macros::declared_macro::MacroUse;
 use dm_base::ids::{Crate, ExternCrateId, MapId, ModuleId};
 use dm_base::item_ids::MacroId;
 use dm_base::name::Name;
 use dm_base::per_ns::MacrosItem;
 use dm_base::visibility::Visibility;
+use dm_imports::rules::source_names::module_names;
 use dm_maps::world::World;
 use std::alloc::{AllocError, Global};
 
@@ -180,10 +180,30 @@ fn used_names<'a>(
 {
     let macros = source.macros.as_ref();
     if uses_whole(macros) {
-        source_names(world, GlobSource::Module(source.root), alloc)
+        module_names(alloc, world, source.root)
     } else {
         references(alloc, names_used(macros))
     }
+}
+
+/// Adds a name, unless there is nothing under it.
+fn add_unless(
+    names: &mut Vec<Name>,
+    name: &Name,
+    is_nothing: bool,
+    alloc: Global,
+) -> Result<(), AllocError>
+    ensures value { OnOk result
+        (names.new.items
+        ≡ (if is_nothing then names.old.items else names.old.items ++ name.now ∷ [])) }
+    ensures none { OnOk result
+        (names.new.items ≡ [] → (names.old.items ≡ []) × (is_nothing ≡ true)) }
+{
+    if is_nothing {
+        return Ok(());
+    }
+    names.push(name.copy(alloc)?)?;
+    Ok(())
 }
 
 /// Adds those of some names under which a prelude has yet to get a macro.

@@ -1,53 +1,65 @@
 //! Whether def maps are what the rules of imports give of them.
-ghost use Rattle.std.specs.Prelude.{◌≡◌, ◌↔◌, false, IfErr, IfOk, IsTrue};
+ghost use Rattle.std.specs.Prelude.{◌≡◌, ◌↔◌, IfOk, IsTrue, map};
 ghost use Rattle.dm_collector.specs.Collecting.{AreRight};
-ghost use Rattle.dm_collector.specs.declared.collect_fault.CollectFault.TheVariants as faults;
-ghost use Rattle.dm_imports.specs.Tables.{of_tables};
+ghost use Rattle.dm_collector.specs.Steps.{maps_with};
+ghost use Rattle.dm_imports.specs.Asked.{meanings_of};
+ghost use Rattle.dm_imports.specs.Rules.{AreImportsKnown};
 
-use crate::collect_fault::CollectFault;
-use dm_base::ids::EnumId;
-use dm_base::visibility::Visibility;
 use dm_imports::def_maps::DefMaps;
-use dm_imports::glob_import::GlobImport;
+use dm_imports::importing::Importing;
 use dm_imports::marks::Marks;
-use dm_imports::named_import::NamedImport;
-use dm_imports::rules::supported::is_supported;
+use dm_imports::rules::examine::examine;
+use dm_imports::rules::meanings::ImportMeanings;
 use dm_imports::slots::Slots;
+use dm_imports::step::Step;
 use dm_maps::world::World;
-use indexmap::IndexMap;
-use std::alloc::Global;
+use std::alloc::{AllocError, Global};
 
-/// Whether def maps are what the rules of imports give of them.
-pub(crate) fn are_right(
+/// What the rules of imports say of def maps.
+#[derive(Drop)]
+pub(crate) struct Support {
+    /// Whether they are what the rules give of them, and follow from declarations.
+    pub(crate) is_right: bool,
+    /// What each import brings.
+    pub(crate) meanings: Vec<ImportMeanings>,
+}
+
+/// What the rules of imports say of def maps. `steps` are the imports and globs in the order in which they brought names:
+/// no answer depends on it.
+///
+/// Fails only where memory runs out.
+pub(crate) fn find_support(
     alloc: Global,
     world: &World,
-    imports: &[NamedImport],
-    globs: &[GlobImport],
-    enums: &IndexMap<EnumId, Visibility>,
+    given: &Importing<'_>,
     ambiguous: &Slots<bool>,
-) -> Result<bool, CollectFault>
-    ensures right { IfOk result (λ right. IsTrue right ↔ AreRight (of_tables (record {
-      world = world.now;
-      imports = imports.now;
-      globs = globs.now;
-      enums = enums.now.entries;
-      ambiguous = record { table = ambiguous.now; is_all_but = false };
-    }))) }
-    ensures memory { IfErr result (λ fault. fault ≡ faults.OutOfMemory) }
+    steps: &[Step],
+) -> Result<Support, AllocError>
+    ensures right { IfOk result
+        (λ found. IsTrue found.is_right ↔ AreRight (maps_with given.now ambiguous.now world.now)) }
+    ensures meanings { IfOk result (λ found. AreImportsKnown (maps_with given.now ambiguous.now world.now)
+        → found.meanings.items
+        ≡ map (meanings_of (maps_with given.now ambiguous.now world.now)) given.now.imports.now) }
 {
     let maps = DefMaps {
         world,
-        imports,
-        globs,
-        enums,
+        imports: given.imports,
+        globs: given.globs,
+        enums: given.enums,
         ambiguous: Marks {
             table: ambiguous,
             is_all_but: false,
         },
     };
     if !maps.are_imports_known() {
-        return Ok(false);
+        return Ok(Support {
+            is_right: false,
+            meanings: Vec::new(alloc),
+        });
     }
-    let is_right = is_supported(alloc, &maps)?;
-    Ok(is_right)
+    let found = examine(alloc, &maps, steps)?;
+    Ok(Support {
+        is_right: found.is_supported && found.is_grounded,
+        meanings: found.meanings,
+    })
 }

@@ -142,8 +142,7 @@ module _ (d : DefMaps) (k l : SlotSet) (more : IsMore k l) (home : ModuleId) (im
       (clearer-or (around (knowing d k) one n s) (around (knowing d l) two n s) p q (around-clearer n s) own)
 
   in_root-clearer : (n : Name) (s : Namespace) → Clearer (in_root (knowing d k) one n s) (in_root (knowing d l) two n s)
-  in_root-clearer n s =
-      clearer-or _ _ (extern_crate_in (knowing d k) one n s) (extern_crate_in (knowing d l) two n s) (shown-in (root_of d.world (crate_of (tree_of d.world) home)) n s) (extern-clearer n s)
+  in_root-clearer n s = shown-in (root_of d.world (crate_of (tree_of d.world) home)) n s
 
   plain-clearer : (t : Option MacroId) (n : Name) (s : Namespace) → Clearer (plain (knowing d k) one t n s) (plain (knowing d l) two t n s)
   plain-clearer t n s =

@@ -40,17 +40,21 @@ module _ (d : DefMaps) (k : SlotSet) (g : GlobImport) where
       ]
       by false = refl
 
+  -- what one with both of its sources offers by known slots
+  pub known-at : (p c : Container) → HasSources d k g (Some (p, c)) → (m : ModuleId) (x : Name) (t : Namespace) → cond (same_module g.into m) (known_from d k g p c x t) None ≡ known_offer d k m x t g
+  known-at p c is m x t = by (same_module g.into m)
+    where
+      by : (b : Bool) → cond b (known_from d k g p c x t) None ≡ cond (is_clear (cond b (from (knowing d k) x t (source_of (knowing d k) g)) None)) (cond b (from d x t (source_of d g)) None) None
+      by true = λ i. cond (is_clear (from (knowing d k) x t (sym is.1 i))) (from d x t (sym is.0 i)) None
+      by false = refl
+
   -- a table to which the offers of a glob under all names of its source were joined has its offers
   pub known-joined : (p c : Container) (ns : List Name) (old new : Slots Joined) → HasSources d k g (Some (p, c)) → ((n : Name) → Contains (source_names d.world c) n → Contains ns n)
       → HasJoined d.world g.into (known_from d k g p c) ns old new → (m : ModuleId) (x : Name) (t : Namespace) → slot_at new m x t ≡ join d.world m (slot_at old m x t) (known_offer d k m x t g)
   known-joined p c ns old new is listed has m x t =
-      all-joined d.world g.into (known_from d k g p c) ns old new unlisted has m x t ∙ ap (join d.world m (slot_at old m x t)) (by (same_module g.into m))
+      all-joined d.world g.into (known_from d k g p c) ns old new unlisted has m x t ∙ ap (join d.world m (slot_at old m x t)) (known-at p c is m x t)
     where
       unlisted : (n : Name) (s : Namespace) → list_any (same_name n) ns ≡ false → known_from d k g p c n s ≡ None
       unlisted n s e =
           ap (λ o. cond (is_clear (option_map (offered d g) o)) (offer_from d g p n s) None)
           (member-unbound (knowing d k) (glob_asks g) c n s (λ l. name-absent n ns e (listed n l)))
-
-      by : (b : Bool) → cond b (known_from d k g p c x t) None ≡ cond (is_clear (cond b (from (knowing d k) x t (source_of (knowing d k) g)) None)) (cond b (from d x t (source_of d g)) None) None
-      by true = λ i. cond (is_clear (from (knowing d k) x t (sym is.1 i))) (from d x t (sym is.0 i)) None
-      by false = refl

@@ -18,3 +18,4 @@ mod KnownOfferLemmas
 mod KnowingLemmas
 mod ListedLemmas
 mod PassLemmas
+pub mod FollowLemmas

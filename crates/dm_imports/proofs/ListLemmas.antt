@@ -1,11 +1,20 @@
 -- Lists, as loops go over them, and what is in them.
-use Rattle.std.proofs.Common.{◌≡◌, ◌∙◌, ◌+◌, ◌<◌, ◌||◌, ℕ, suc, List, ◌∷◌, add-one, ap, drop, drop-cons, get_or, length, refl, subst, sym, true, false, true≢false, Bool, Bor, Option, None, Some, IsSome, map}
+use Rattle.std.proofs.Common.{[], ◌≡◌, ◌∙◌, ◌+◌, ◌<◌, ◌||◌, ℕ, suc, List, ◌∷◌, add-one, ap, drop, drop-cons, get_or, length, refl, subst, sym, true, false, true≢false, Bool, Bor, Option, None, Some, IsSome, map}
 use Rattle.std.specs.Cmp.Lexicographic.{nat_list_eq_equiv}
 use Rattle.std.specs.List.{All, Contains, list_any}
 use Rattle.std.proofs.lemmas.List.Elements.{All-contains, All-map}
 use Rattle.std.proofs.lemmas.List.Folds.{Any-from_list_any}
 use Rattle.std.proofs.lemmas.Map.Views.{Contains-keys_from_lookup, list_any-from_Contains}
+use Rattle.std.proofs.lemmas.Bool.{ltb-false}
+use Rattle.std.proofs.lemmas.Option.{slice_get_past}
+use Rattle.std.specs.Option.{option_and_then, option_map_or}
+use Rattle.dm_base.specs.declared.ids.ModuleId.{ModuleId}
 use Rattle.dm_base.specs.Names.{Name, find_name, same_name}
+use Rattle.dm_def_map.specs.Maps.{Module}
+use Rattle.dm_maps.specs.Known.{knows}
+use Rattle.dm_maps.specs.World.{World, placed_module, scope_of}
+use Rattle.dm_maps.specs.declared.check.held.HeldId.TheVariants as held
+use Rattle.dm_scope.specs.Scope.{no_scope}
 use Rattle.dm_scope.specs.Sorted.{seen}
 use Rattle.dm_imports.proofs.SlotLemmas.{name-same}
 
@@ -40,3 +49,8 @@ find-absent {A} n es missing = by (find_name n es) refl
 -- what holds of all names of a list of references
 pub seen-all : (P : Name → Type 0) (ns : List (Bor Name)) (n : Name) → All (λ (r : Bor Name). P r.now) ns → Contains (seen ns) n → P n
 seen-all P ns n all has = All-contains P (seen ns) n (All-map P (λ (r : Bor Name). r.now) ns all) has
+
+-- ---- A module that is not the world's
+
+pub unknown-scope : (w : World) (m : ModuleId) → knows w (held.Module m) ≡ false → scope_of w m ≡ no_scope
+unknown-scope w m e = ap (λ o. option_map_or (λ (d : Module). d.scope) (option_and_then (placed_module w) o) no_scope) (slice_get_past w.places m.0 (ltb-false m.0 (length w.places) e))

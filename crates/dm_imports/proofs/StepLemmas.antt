@@ -57,7 +57,7 @@ module _ (d : DefMaps) (k l : SlotSet) (more : IsMore k l) where
       by true = offer-same n s g
       by false = λ i. refl
 
-  known_offer-more : (m : ModuleId) (n : Name) (s : Namespace) (g : GlobImport) (x : Meaning) → known_offer d k m n s g ≡ Some x → known_offer d l m n s g ≡ Some x
+  pub known_offer-more : (m : ModuleId) (n : Name) (s : Namespace) (g : GlobImport) (x : Meaning) → known_offer d k m n s g ≡ Some x → known_offer d l m n s g ≡ Some x
   known_offer-more m n s g x h = by (is_clear (offer_to (knowing d k) m n s g)) refl h
     where
       by : (b : Bool) → is_clear (offer_to (knowing d k) m n s g) ≡ b → cond b (offer_to d m n s g) None ≡ Some x → known_offer d l m n s g ≡ Some x
@@ -87,7 +87,7 @@ from-not true e = refl
 from-not false e = absurd (true≢false e)
 
 module _ (w : World) (m : ModuleId) where
-  joined-some : (xs : List Meaning) → is_some (join_all w m xs) ≡ list_any (λ x. true) xs
+  pub joined-some : (xs : List Meaning) → is_some (join_all w m xs) ≡ list_any (λ x. true) xs
   joined-some [] = refl
   joined-some (x ∷ xs) = refl
 
@@ -105,7 +105,7 @@ module _ (w : World) (m : ModuleId) where
       by true e = refl
       by false e = let p = or_parts x.is_ambiguous (not (same_def y.def x.def)) e in same p.0 p.1
 
-  conflict-more : (xs ys : List Meaning) → ((p : Meaning → Bool) → list_any p xs ≡ true → list_any p ys ≡ true) → is_conflict (join_all w m xs) ≡ true → is_conflict (join_all w m ys) ≡ true
+  pub conflict-more : (xs ys : List Meaning) → ((p : Meaning → Bool) → list_any p xs ≡ true → list_any p ys ≡ true) → is_conflict (join_all w m xs) ≡ true → is_conflict (join_all w m ys) ≡ true
   conflict-more [] ys h e = absurd (true≢false (sym e))
   conflict-more (x ∷ xs) [] h e = h (λ z. true) refl
   conflict-more (x ∷ xs) (y ∷ ys) h e = ap (λ b. b || list_any (conflicts y) ys) (sym (conflicts-self y)) ∙ h (conflicts y) (conflict-with y (x ∷ xs) e)

@@ -1,5 +1,6 @@
 -- Def maps in which imports and globs were bound.
-use Rattle.std.specs.Prelude.{◌≡◌, ◌⊎◌, All, Contains, List, Option, Some, None, fold}
+use Rattle.std.specs.Prelude.{◌≡◌, ◌⊎◌, ◌++◌, All, Contains, List, [], ◌∷◌, Option, Some, None, fold, if◌then◌else◌}
+use Rattle.std.specs.List.{filter_map}
 use Rattle.dm_base.specs.declared.ids.ModuleId.{ModuleId}
 use Rattle.dm_base.specs.declared.imports.ImportOrExternCrate.{ImportOrExternCrate}
 use Rattle.dm_base.specs.declared.imports.ImportOrExternCrate.TheVariants as wide
@@ -11,10 +12,12 @@ use Rattle.dm_base.specs.declared.per_ns.Namespace.TheVariants.{Types, Values, M
 use Rattle.dm_base.specs.declared.per_ns.PerNs.{PerNs}
 use Rattle.dm_base.specs.Names.{Name}
 use Rattle.dm_base.specs.PerNs.{macro_alone, nothing, type_alone, value_alone}
+use Rattle.dm_base.specs.Tree.{same_module}
 use Rattle.dm_maps.specs.PushRes.{with_push}
 use Rattle.dm_maps.specs.World.{World, scope_of}
 use Rattle.dm_scope.specs.Flags.{Globs}
 use Rattle.dm_scope.specs.Push.{globs_after}
+use Rattle.dm_scope.specs.Shows.{ScopePush, Shows, push_of}
 use Rattle.dm_imports.specs.declared.glob_import.GlobImport.{GlobImport}
 use Rattle.dm_imports.specs.declared.meaning.Meaning.{Meaning}
 use Rattle.dm_imports.specs.declared.meaning.Source.{Source}
@@ -77,10 +80,39 @@ IsBroughtBy is gs (source.Glob k) b = (g : GlobImport) × Contains gs g × (g.im
 abbrev pub IsBrought : List NamedImport → List GlobImport → Binding → Type 0
 IsBrought is gs b = IsBroughtBy is gs b.meaning.source b
 
--- Def maps come of others by what these imports and globs bring.
-abbrev pub AreBound : List NamedImport → List GlobImport → Maps → Maps → Type 0
-AreBound is gs old new = (bs : List Binding) × All (IsBrought is gs) bs × (new ≡ with_bindings old bs)
+-- ---- What modules show
+
+-- the push of a binding
+abbrev pub push_by : Binding → ScopePush
+push_by b = push_of b.name (items_of b.namespace b.meaning) (import_of b.meaning.source)
+
+-- the same, where its module is k
+abbrev pub push_to : ModuleId → Binding → Option ScopePush
+push_to k b = if same_module b.home k then Some (push_by b) else None
+
+-- the pushes of some bindings that go to module k, in order
+abbrev pub pushes_to : ModuleId → List Binding → List ScopePush
+pushes_to k bs = filter_map (push_to k) bs
+
+-- each module shows, behind what it showed, the pushes of these bindings that go to it
+abbrev pub ShowMore : List Binding → Maps → Maps → Type 0
+ShowMore bs old new =
+    (k : ModuleId) (ps : List ScopePush) →
+    Shows (scope_of old.world k) old.flags k ps → Shows (scope_of new.world k) new.flags k (ps ++ pushes_to k bs)
+
+-- ---- Def maps, bound
+
+-- Def maps come of others by what these imports and globs bring, one binding after another; so each module shows that
+-- behind what it showed, and a name that it declared stays what it was.
+pub record AreBound (is : List NamedImport) (gs : List GlobImport) (old new : Maps) : Type 0 where
+  pub bindings : List Binding
+  pub brought : All (IsBrought is gs) bindings
+  pub maps : new ≡ with_bindings old bindings
+  pub shown : ShowMore bindings old new
 
 -- a slot was bound, or nothing was
 abbrev pub IsBoundOrSame : Binding → Maps → Maps → Type 0
 IsBoundOrSame b old new = (new ≡ with_binding old b) ⊎ (new ≡ old)
+
+abbrev pub IsShownOrSame : Binding → Maps → Maps → Type 0
+IsShownOrSame b old new = ShowMore (b ∷ []) old new ⊎ (new ≡ old)

@@ -12,3 +12,4 @@ pub mod Written
 pub mod Bound
 pub mod Rows
 pub mod GroundedRows
+pub mod Following

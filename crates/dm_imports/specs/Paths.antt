@@ -181,11 +181,9 @@ in_module d a n s =
     let own = shown d a a.home n s in
     option_or (not_by_glob own) (option_or (around d a n s) own)
 
--- in edition 2015: what the crate's root has, and then extern crates
+-- in edition 2015: what the crate's root has
 abbrev pub in_root : DefMaps → Asking → Name → Namespace → Option Meaning
-in_root d a n s =
-    option_or (option_and_then (λ r. shown d a r n s) (root_of d.world (crate_of (tree_of d.world) a.home)))
-    (extern_crate_in d a n s)
+in_root d a n s = option_and_then (λ r. shown d a r n s) (root_of d.world (crate_of (tree_of d.world) a.home))
 
 abbrev pub is_macro : MacroId → Meaning → Bool
 is_macro t x = is_declared x && same_def x.def (def.MacroId t)

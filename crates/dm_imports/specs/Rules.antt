@@ -109,6 +109,7 @@ brings kind.All s = true
 brings kind.TypeOnly Types = true
 brings kind.TypeOnly Values = false
 brings kind.TypeOnly Macros = false
+brings kind.Unnamed s = false
 
 -- what an import brings: what its path means, shown to none who does not see that
 abbrev pub imported : DefMaps → NamedImport → Meaning → Meaning

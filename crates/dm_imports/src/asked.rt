@@ -5,6 +5,7 @@ ghost use Rattle.dm_imports.specs.Rules.{IsGlobKnown, offer};
 ghost use Rattle.dm_imports.specs.Tables.{asks, of_tables};
 
 use crate::asking::Asking;
+use crate::container::Container;
 use crate::def_maps::DefMaps;
 use crate::glob_import::GlobImport;
 use crate::meaning::Meaning;
@@ -44,6 +45,18 @@ impl<'a> DefMaps<'a> {
         if self.world.has(home) {
             let asking = module_asks(home);
             path_meaning(self, &asking, textual, path, namespace)
+        } else {
+            None
+        }
+    }
+
+    /// The module or enum that a glob's path means, if that is not the glob's own module; nothing where the glob's module
+    /// is not the world's. Takes no memory.
+    pub fn source(&self, glob: &GlobImport) -> Option<Container>
+        ensures { result ≡ spec.source_in (of_tables self.now) glob.now }
+    {
+        if self.world.has(glob.into) {
+            source_of(self, glob)
         } else {
             None
         }

@@ -6,10 +6,10 @@ use crate::glob_import::GlobImport;
 use crate::importing::Importing;
 use crate::meaning::{Meaning, Source};
 use crate::named_import::NamedImport;
-use crate::search::asker::Asks;
-use crate::search::results::Binding;
+use crate::search::results::{Binding, Outcome};
 use crate::search::search;
 use crate::slots::Slots;
+use crate::step::Step;
 use dm_base::ids::{Crate, ModuleId};
 use dm_base::imports::{ImportOrExternCrate, ImportOrGlob};
 use dm_base::item_ids::ModuleDefId;
@@ -73,7 +73,9 @@ fn push(
     namespace: Namespace,
     meaning: Meaning,
 ) -> Result<(), AllocError>
-    ensures { spec.IsBoundOrSame (record { home = m; name = name; namespace = namespace; meaning = meaning })
+    ensures bound { spec.IsBoundOrSame (record { home = m; name = name; namespace = namespace; meaning = meaning })
+        (record { world = world.old; flags = flags.old }) (record { world = world.new; flags = flags.new }) }
+    ensures shown { spec.IsShownOrSame (record { home = m; name = name; namespace = namespace; meaning = meaning })
         (record { world = world.old; flags = flags.old }) (record { world = world.new; flags = flags.new }) }
 {
     let items = items_of(namespace, meaning);
@@ -155,11 +157,11 @@ fn bind(
         meaning,
     } = binding;
     match by {
-        Asks::Import(place, _) => match given.imports.get(place) {
+        Step::Import(place, _) => match given.imports.get(place) {
             None => Ok(()),
             Some(import) => { push_import(world, flags, alloc, given, import, namespace, meaning) }
         },
-        Asks::Glob(place) => match given.globs.get(place) {
+        Step::Glob(place) => match given.globs.get(place) {
             None => Ok(()),
             Some(glob) => push_glob(world, flags, given, glob, name, namespace, meaning),
         },
@@ -193,8 +195,19 @@ fn mark(ambiguous: &mut Slots<bool>, bindings: &[Binding]) -> Result<(), AllocEr
     Ok(())
 }
 
+/// Appends steps.
+fn append(steps: &mut Vec<Step>, taken: &[Step]) -> Result<(), AllocError> {
+    for step in taken {
+        steps.push(*step)?;
+    }
+    Ok(())
+}
+
 /// Binds what the imports and globs of a crate bring, where those of all crates that it depends on are bound, and marks
 /// the slots that are ambiguous. Of one crate it is called once, when its modules bind what they declare.
+///
+/// To `steps` come the imports in the order in which they were found to bring something, and among them the globs as their
+/// sources were found. Nothing is claimed of that.
 ///
 /// Whether that is what the rules give, `is_supported` tells.
 ///
@@ -205,6 +218,7 @@ pub fn bind_crate(
     world: &mut World,
     flags: &mut PerNsGlobImports,
     ambiguous: &mut Slots<bool>,
+    steps: &mut Vec<Step>,
     alloc: Global,
     given: &Importing<'_>,
     krate: Crate,
@@ -213,7 +227,11 @@ pub fn bind_crate(
     ensures { spec.AreBound given.now.imports.now given.now.globs.now (record { world = world.old; flags = flags.old })
         (record { world = world.new; flags = flags.new }) }
 {
-    let bindings = search(alloc, world, given, krate, ambiguous)?;
+    let Outcome {
+        bindings,
+        steps: taken,
+    } = search(alloc, world, given, krate, ambiguous)?;
     mark(ambiguous, bindings.as_slice())?;
+    append(steps, taken.as_slice())?;
     bind_all(world, flags, alloc, given, bindings)
 }

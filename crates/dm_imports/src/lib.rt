@@ -18,3 +18,4 @@ pub mod paths;
 pub mod rules;
 mod search;
 pub mod slots;
+pub mod step;

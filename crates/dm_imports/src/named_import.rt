@@ -14,12 +14,15 @@ pub enum ImportKind {
     All,
     /// Types alone: `use a::{self}`.
     TypeOnly,
+    /// None: `use a::T as _`, which imports a trait without a name.
+    Unnamed,
 }
 
 /// An import of what a path means, under a name.
 pub struct NamedImport {
     /// The module that it stands in.
     pub home: ModuleId,
+    /// `_` where it is unnamed.
     pub name: Name,
     pub path: ModPath,
     /// Who may see what it brings, at most.

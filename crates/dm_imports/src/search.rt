@@ -2,21 +2,27 @@
 //! whether it is right.
 
 mod around;
-pub(crate) mod asker;
+mod asker;
 mod cell;
+mod crate_maps;
 mod follow;
+mod leaf;
+mod leaves;
+mod maps;
 mod offers;
 mod release;
 pub(crate) mod results;
 mod run;
 mod shown;
-mod sight;
 mod state;
 mod walk;
 
 use crate::importing::Importing;
-use crate::search::results::Binding;
-use crate::search::state::Search;
+use crate::search::cell::SlotKey;
+use crate::search::leaves::crate_maps;
+use crate::search::maps::Maps;
+use crate::search::results::Outcome;
+use crate::search::state::{Search, unbegun};
 use crate::slots::Slots;
 use dm_base::ids::Crate;
 use dm_base::visibility::Visibility;
@@ -27,55 +33,27 @@ use std::alloc::{AllocError, Global};
 /// How often a search begins anew, because slots turned out to be ambiguous that were not thought so.
 const RUNS: u32 = 8;
 
-/// A search that has not begun.
-fn begun<'a>(
-    alloc: Global,
-    world: &'a World,
-    given: &'a Importing<'a>,
-    krate: Crate,
-    ambiguous: &'a Slots<bool>,
-    caps: &'a Slots<Visibility>,
-) -> Search<'a> {
-    Search {
-        alloc,
-        world,
-        given,
-        krate,
-        ambiguous,
-        caps,
-        askers: Vec::new(alloc),
-        cells: Vec::new(alloc),
-        numbers: Slots::new(alloc),
-        modules: IndexMap::new(alloc),
-        tasks: Vec::new(alloc),
-        reached: Vec::new(alloc),
-        is_released: false,
-        ignores_held: false,
-    }
-}
-
-/// What was found, and who sees the slots that are ambiguous; none where that is as it was thought.
-#[derive(Drop)]
-struct Searched {
-    bindings: Vec<Binding>,
-    caps: Option<Slots<Visibility>>,
-}
-
 /// A search in which ambiguous slots are seen as is thought.
-fn search_once(
+fn search_once<M: Maps>(
     alloc: Global,
-    world: &World,
-    given: &Importing<'_>,
-    krate: Crate,
-    ambiguous: &Slots<bool>,
-    caps: &Slots<Visibility>,
-) -> Result<Searched, AllocError> {
-    let mut search = begun(alloc, world, given, krate, ambiguous, caps);
-    search.run()?;
-    search.count_least()?;
-    let caps = search.new_caps()?;
-    let bindings = search.bindings()?;
-    Ok(Searched { bindings, caps })
+    maps: &mut M,
+    caps: IndexMap<SlotKey, Visibility>,
+) -> Result<Search, AllocError> {
+    let mut search = unbegun(alloc, caps);
+    search.run(maps)?;
+    Ok(search)
+}
+
+/// A search in which ambiguous slots are seen as they turn out.
+fn search_all<M: Maps>(alloc: Global, maps: &mut M) -> Result<Search, AllocError> {
+    let mut search = search_once(alloc, maps, IndexMap::new(alloc))?;
+    for _run in 1..RUNS {
+        match search.new_caps(alloc)? {
+            None => break,
+            Some(caps) => search = search_once(alloc, maps, caps)?,
+        }
+    }
+    Ok(search)
 }
 
 /// What the imports and globs of a crate bring, where those of all crates that it depends on are bound.
@@ -87,16 +65,8 @@ pub(crate) fn search(
     given: &Importing<'_>,
     krate: Crate,
     ambiguous: &Slots<bool>,
-) -> Result<Vec<Binding>, AllocError> {
-    let mut caps = Slots::new(alloc);
-    let mut bindings = Vec::new(alloc);
-    for _run in 0..RUNS {
-        let run = search_once(alloc, world, given, krate, ambiguous, &caps)?;
-        bindings = run.bindings;
-        match run.caps {
-            None => break,
-            Some(seen) => caps = seen,
-        }
-    }
-    Ok(bindings)
+) -> Result<Outcome, AllocError> {
+    let mut maps = crate_maps(alloc, world, given, krate, ambiguous)?;
+    let mut search = search_all(alloc, &mut maps)?;
+    search.outcome(alloc, &maps.names)
 }

@@ -1,26 +1,33 @@
-//! Which macros by `macro_rules!` are in textual scope where a module of a crate ends.
-ghost use Rattle.std.specs.Prelude.{◌≡◌, ◌<◌, ◌+◌, ◌++◌, ◌∷◌, [], IfOk, OnOk, drop, length, map, slice_get};
-ghost use Rattle.std.specs.List.{list_any};
+//! Which macros by `macro_rules!` are in textual scope in a module of a crate, and from where on.
+ghost use Rattle.std.specs.Prelude.{◌≡◌, ◌<◌, ◌+◌, ◌++◌, ◌∷◌, [], IfOk, Some, OnOk, drop, length, map, reverse, slice_get};
+ghost use Rattle.std.specs.List.{find, list_any};
 ghost use Rattle.std.specs.Option.{option_copied};
 ghost use Rattle.crate_items.specs.TextualScopes as spec;
 
 use crate::items::declared_item::DeclaredItem;
-use crate::items::item_attributes::{file_attributes, item_attributes};
-use crate::macros::textual_order::{
-    TextEvent, TextualItem, declaring, textual_items, textual_order,
-};
+use crate::macros::left_behind::all_left;
+use crate::macros::textual_order::{TextEvent, textual_order};
 use crate::modules::CrateModules;
 use crate::modules::declared_module::DeclaredModule;
 use dm_base::name::Name;
-use item_tree::attributes::attribute_kind::AttributeKind;
 use item_tree::items::item_kind::ItemKind;
 use std::alloc::{AllocError, Global};
 use std::marker::Model;
 
-/// The textual scope of a module where it ends: the numbers of the items whose macros are in it, in the order of
-/// definition. Of one name the last counts. A contract sees the numbers.
+/// A macro by `macro_rules!` in the textual scope of a module.
+#[derive(Clone, Copy)]
+pub struct TextualMacro {
+    /// The number of its item.
+    pub number: usize,
+    /// The number of the item of the module behind which it is in scope: its own, or that of a module which left it there.
+    /// None where it is in scope from the beginning of the module.
+    pub behind: Option<usize>,
+}
+
+/// The textual scope of a module where it ends: the macros in it, in the order of definition. Of one name the last counts.
+/// A contract sees the macros.
 pub struct TextualScope {
-    macros: Vec<usize>,
+    macros: Vec<TextualMacro>,
 }
 
 /// Hand-written `Drop`, to keep proofs small: dropping one is then a single call.
@@ -31,142 +38,81 @@ impl Drop for TextualScope {
 }
 
 impl Model for TextualScope {
-    ghost use Rattle.std.specs.Prelude.{ℕ, List};
+    ghost use Rattle.std.specs.Prelude.{List};
+    ghost use Rattle.crate_items.specs.declared.macros.textual_scopes.TextualMacro.{TextualMacro};
 
-    ghost Value = { List ℕ };
+    ghost Value = { List TextualMacro };
 
     ghost view = { λ s. s.macros.items };
 }
 
 impl TextualScope {
-    /// The numbers, in the order of definition.
-    pub fn macros(&self) -> &[usize]
+    /// The macros, in the order of definition.
+    pub fn macros(&self) -> &[TextualMacro]
         ensures { result.now ≡ self.now }
     {
         self.macros.as_slice()
     }
 
+    /// The number of the item of the macro that a path of one name means in textual scope at an item of the module, by the
+    /// items of the crate: of the macros of that name which are in scope before the item, the last.
+    pub fn macro_before(&self, items: &[DeclaredItem], number: usize, name: &Name) -> Option<usize>
+        ensures { result ≡ spec.macro_before items.now self.now number name.now }
+    {
+        match last_meant(self.macros(), items, number, name) {
+            None => None,
+            Some(found) => Some(found.number),
+        }
+    }
+
     /// Adds some, the last.
-    fn extend(&mut self, more: &[usize]) -> Result<(), AllocError>
+    fn extend(&mut self, more: &[TextualMacro]) -> Result<(), AllocError>
         ensures { OnOk result (self.new ≡ self.old ++ more.now) }
     {
-        let added = push_numbers(&mut self.macros, more)?;
+        let added = push_macros(&mut self.macros, more)?;
         Ok(added)
     }
 }
 
-fn push_numbers(numbers: &mut Vec<usize>, more: &[usize]) -> Result<(), AllocError>
-    ensures { OnOk result (numbers.new.items ≡ numbers.old.items ++ more.now) }
+fn push_macros(macros: &mut Vec<TextualMacro>, more: &[TextualMacro]) -> Result<(), AllocError>
+    ensures { OnOk result (macros.new.items ≡ macros.old.items ++ more.now) }
 {
-    for number in more {
-        numbers.push(*number)?;
+    for one in more {
+        macros.push(*one)?;
     }
     Ok(())
 }
 
-fn is_macro_use(kind: AttributeKind) -> bool
-    ensures { result ≡ spec.is_macro_use kind }
+/// Whether what stands behind an item is in scope before another of the module.
+fn is_before(number: usize, behind: Option<usize>) -> bool
+    ensures { result ≡ spec.is_before number behind }
 {
-    match kind {
-        AttributeKind::MacroUse => true,
-        AttributeKind::MacroUseOf(_range) => true,
-        _ => false,
+    match behind {
+        None => true,
+        Some(behind) => behind < number,
     }
 }
 
-fn any_macro_use(kinds: &[AttributeKind]) -> bool
-    ensures { result ≡ list_any spec.is_macro_use kinds.now }
+/// Whether a name at an item may mean a macro.
+fn is_meant(items: &[DeclaredItem], number: usize, name: &Name, one: TextualMacro) -> bool
+    ensures { result ≡ spec.is_meant items.now number name.now one }
 {
-    kinds.iter().any(|kind| is_macro_use(*kind))
+    is_before(number, one.behind) && is_same(name_at(items, one.number), Some(name))
 }
 
-/// Whether an active `macro_use` stands before the item of a number.
-fn is_under_at(
-    alloc: Global,
-    list: &CrateModules,
+/// The last macro that a name at an item may mean.
+fn last_meant<'a>(
+    macros: &'a [TextualMacro],
     items: &[DeclaredItem],
     number: usize,
-) -> Result<bool, AllocError>
-    ensures { IfOk result (λ under. under ≡ spec.leaves_by list.now (slice_get items.now number)) }
+    name: &Name,
+) -> Option<&'a TextualMacro>
+    ensures { option_copied result ≡ find (spec.is_meant items.now number name.now) (reverse macros.now) }
 {
-    match items.get(number) {
-        None => Ok(false),
-        Some(item) => {
-            let kinds = item_attributes(alloc, list, item)?;
-            Ok(any_macro_use(kinds.as_slice()))
-        }
-    }
-}
-
-/// Whether an active `macro_use` stands before the item that declares a module.
-fn is_under(
-    alloc: Global,
-    list: &CrateModules,
-    items: &[DeclaredItem],
-    textual: &[TextualItem],
-    declared: &DeclaredModule,
-) -> Result<bool, AllocError>
-    ensures { IfOk result (λ under. under ≡
-        spec.leaves_if list.now items.now textual.now declared.now.declaration) }
-{
-    match declared.declaration() {
-        None => Ok(false),
-        Some(declaration) => match declaring(textual, declaration) {
-            None => Ok(false),
-            Some(number) => is_under_at(alloc, list, items, number),
-        },
-    }
-}
-
-/// Whether the file of a module begins with an active `macro_use`.
-fn begins_so(
-    alloc: Global,
-    list: &CrateModules,
-    declared: &DeclaredModule,
-) -> Result<bool, AllocError>
-    ensures { IfOk result (λ begins. begins ≡
-        spec.begins_so list.now declared.now.file declared.now.item) }
-{
-    match declared.item() {
-        Some(_item) => Ok(false),
-        None => {
-            let kinds = file_attributes(alloc, list, declared.file())?;
-            Ok(any_macro_use(kinds.as_slice()))
-        }
-    }
-}
-
-/// Whether a module leaves its macros.
-fn leaves(
-    alloc: Global,
-    list: &CrateModules,
-    items: &[DeclaredItem],
-    textual: &[TextualItem],
-    declared: &DeclaredModule,
-) -> Result<bool, AllocError>
-    ensures { IfOk result (λ leave. leave ≡ spec.leaves list.now items.now textual.now declared.now) }
-{
-    let under = is_under(alloc, list, items, textual, declared)?;
-    let begins = begins_so(alloc, list, declared)?;
-    Ok(under || begins)
-}
-
-/// Which modules leave their macros.
-fn all_leaves(
-    alloc: Global,
-    list: &CrateModules,
-    items: &[DeclaredItem],
-) -> Result<Vec<bool>, AllocError>
-    ensures { IfOk result (λ leave. leave.items ≡ spec.all_leaves list.now items.now) }
-{
-    let known = textual_items(alloc, items)?;
-    let textual = known.as_slice();
-    let mut leave = Vec::new(alloc);
-    for declared in list.modules() {
-        let one = leaves(alloc, list, items, textual, declared)?;
-        leave.push(one)?;
-    }
-    Ok(leave)
+    macros
+        .iter()
+        .rev()
+        .find(|one| is_meant(items, number, name, **one))
 }
 
 /// A scope of nothing for each module.
@@ -183,7 +129,7 @@ fn no_scopes(alloc: Global, modules: &[DeclaredModule]) -> Result<Vec<TextualSco
 }
 
 /// What is in the scope of a module.
-fn scope_at(scopes: &[TextualScope], home: usize) -> &[usize]
+fn scope_at(scopes: &[TextualScope], home: usize) -> &[TextualMacro]
     ensures { result.now ≡ spec.scope_at scopes.now home }
 {
     match scopes.get(home) {
@@ -192,17 +138,30 @@ fn scope_at(scopes: &[TextualScope], home: usize) -> &[usize]
     }
 }
 
-/// A copy of that.
-fn copy_at(alloc: Global, scopes: &[TextualScope], home: usize) -> Result<Vec<usize>, AllocError>
-    ensures { IfOk result (λ copy. copy.items ≡ spec.scope_at scopes.now home) }
+/// Some macros as they are in scope behind an item, or from the beginning of a module.
+fn entering(
+    alloc: Global,
+    macros: &[TextualMacro],
+    behind: Option<usize>,
+) -> Result<Vec<TextualMacro>, AllocError>
+    ensures { IfOk result (λ made. made.items ≡ map (spec.entering behind) macros.now) }
 {
-    let mut copy = Vec::new(alloc);
-    push_numbers(&mut copy, scope_at(scopes, home))?;
-    Ok(copy)
+    let mut made = Vec::new(alloc);
+    for one in macros {
+        made.push(TextualMacro {
+            number: one.number,
+            behind,
+        })?;
+    }
+    Ok(made)
 }
 
 /// Adds some macros to the scope of a module.
-fn extend_at(scopes: &mut Vec<TextualScope>, home: usize, more: &[usize]) -> Result<(), AllocError>
+fn extend_at(
+    scopes: &mut Vec<TextualScope>,
+    home: usize,
+    more: &[TextualMacro],
+) -> Result<(), AllocError>
     ensures { OnOk result (scopes.new.items ≡ spec.extended scopes.old.items home more.now) }
 {
     match scopes.get_mut(home) {
@@ -231,35 +190,35 @@ fn name_at(items: &[DeclaredItem], number: usize) -> Option<&Name>
     }
 }
 
-/// Whether one of some items has the name of another.
-fn any_named(items: &[DeclaredItem], number: usize, others: &[usize]) -> bool
-    ensures { result ≡ list_any (spec.has_name_of items.now number) others.now }
+/// Whether one of some macros has the name of an item.
+fn any_named(items: &[DeclaredItem], number: usize, others: &[TextualMacro]) -> bool
+    ensures { result ≡ list_any (λ o. spec.has_name_of items.now number o.number) others.now }
 {
     let name = name_at(items, number);
     others
         .iter()
-        .any(|other| is_same(name, name_at(items, *other)))
+        .any(|other| is_same(name, name_at(items, other.number)))
 }
 
-/// The numbers behind a place.
-fn behind(numbers: &[usize], place: usize) -> &[usize]
-    requires { place < length numbers.now }
-    ensures { result.now ≡ drop (place + 1) numbers.now }
+/// The macros behind a place.
+fn behind(macros: &[TextualMacro], place: usize) -> &[TextualMacro]
+    requires { place < length macros.now }
+    ensures { result.now ≡ drop (place + 1) macros.now }
 {
-    &numbers[place + 1..]
+    &macros[place + 1..]
 }
 
-/// Adds a number, unless one behind it has its name.
+/// Adds a macro, unless one behind it has its name.
 fn push_last(
-    last: &mut Vec<usize>,
+    last: &mut Vec<TextualMacro>,
     items: &[DeclaredItem],
-    number: usize,
-    others: &[usize],
+    one: TextualMacro,
+    others: &[TextualMacro],
 ) -> Result<(), AllocError>
-    ensures { OnOk result (last.new.items ≡ last.old.items ++ spec.if_last items.now number others.now) }
+    ensures { OnOk result (last.new.items ≡ last.old.items ++ spec.if_last items.now one others.now) }
 {
-    if !any_named(items, number, others) {
-        last.push(number)?;
+    if !any_named(items, one.number, others) {
+        last.push(one)?;
     }
     Ok(())
 }
@@ -268,13 +227,13 @@ fn push_last(
 fn last_of_each(
     alloc: Global,
     items: &[DeclaredItem],
-    numbers: &[usize],
-) -> Result<Vec<usize>, AllocError>
-    ensures { IfOk result (λ last. last.items ≡ spec.last_of_each items.now numbers.now) }
+    macros: &[TextualMacro],
+) -> Result<Vec<TextualMacro>, AllocError>
+    ensures { IfOk result (λ last. last.items ≡ spec.last_of_each items.now macros.now) }
 {
     let mut last = Vec::new(alloc);
-    for (place, number) in numbers.iter().enumerate() {
-        push_last(&mut last, items, *number, behind(numbers, place))?;
+    for (place, one) in macros.iter().enumerate() {
+        push_last(&mut last, items, *one, behind(macros, place))?;
     }
     Ok(last)
 }
@@ -304,20 +263,35 @@ fn begin(
     match parent {
         None => Ok(()),
         Some(parent) => {
-            let around = copy_at(alloc, scopes.as_slice(), parent)?;
+            let around = entering(alloc, scope_at(scopes.as_slice(), parent), None)?;
             extend_at(scopes, home, around.as_slice())
         }
     }
 }
 
-/// Whether that is so of a module.
-fn is_left(leave: &[bool], home: usize) -> bool
-    ensures { result ≡ spec.is_left leave.now home }
+/// The item behind which a module leaves its macros.
+fn left_at(left: &[Option<usize>], home: usize) -> Option<usize>
+    ensures { result ≡ spec.left_at left.now home }
 {
-    match leave.get(home) {
-        None => false,
-        Some(leave) => *leave,
+    match left.get(home) {
+        None => None,
+        Some(number) => *number,
     }
+}
+
+/// The last macro of each name in a module, as it is in scope behind an item of the module around.
+fn left_macros(
+    alloc: Global,
+    items: &[DeclaredItem],
+    macros: &[TextualMacro],
+    number: usize,
+) -> Result<Vec<TextualMacro>, AllocError>
+    ensures { IfOk result
+        (λ made. made.items ≡ map (spec.entering (Some number)) (spec.last_of_each items.now macros.now)) }
+{
+    let last = last_of_each(alloc, items, macros)?;
+    let made = entering(alloc, last.as_slice(), Some(number))?;
+    Ok(made)
 }
 
 /// A module ends.
@@ -325,22 +299,18 @@ fn end(
     scopes: &mut Vec<TextualScope>,
     alloc: Global,
     items: &[DeclaredItem],
-    leave: &[bool],
     home: usize,
     parent: Option<usize>,
+    left: Option<usize>,
 ) -> Result<(), AllocError>
-    ensures { OnOk result (scopes.new.items ≡ spec.ended items.now leave.now scopes.old.items home parent) }
+    ensures { OnOk result (scopes.new.items ≡ spec.ended items.now scopes.old.items home parent left) }
 {
-    match parent {
-        None => Ok(()),
-        Some(parent) => {
-            if is_left(leave, home) {
-                let last = last_of_each(alloc, items, scope_at(scopes.as_slice(), home))?;
-                extend_at(scopes, parent, last.as_slice())
-            } else {
-                Ok(())
-            }
+    match (parent, left) {
+        (Some(parent), Some(number)) => {
+            let made = left_macros(alloc, items, scope_at(scopes.as_slice(), home), number)?;
+            extend_at(scopes, parent, made.as_slice())
         }
+        _ => Ok(()),
     }
 }
 
@@ -363,7 +333,8 @@ fn define(
         None => Ok(()),
         Some(item) => {
             if defines(item.kind) {
-                extend_at(scopes, item.module, &[number])
+                let behind = Some(number);
+                extend_at(scopes, item.module, &[TextualMacro { number, behind }])
             } else {
                 Ok(())
             }
@@ -377,16 +348,19 @@ fn meet(
     alloc: Global,
     modules: &[DeclaredModule],
     items: &[DeclaredItem],
-    leave: &[bool],
+    left: &[Option<usize>],
     event: TextEvent,
 ) -> Result<(), AllocError>
     ensures { OnOk result
-        (scopes.new.items ≡ spec.met modules.now items.now leave.now scopes.old.items event) }
+        (scopes.new.items ≡ spec.met modules.now items.now left.now scopes.old.items event) }
 {
     match event {
         TextEvent::Begins(home) => begin(scopes, alloc, home, parent_of(modules, home)),
         TextEvent::Item(number) => define(scopes, items, number),
-        TextEvent::Ends(home) => end(scopes, alloc, items, leave, home, parent_of(modules, home)),
+        TextEvent::Ends(home) => {
+            let parent = parent_of(modules, home);
+            end(scopes, alloc, items, home, parent, left_at(left, home))
+        }
     }
 }
 
@@ -396,22 +370,22 @@ fn meet_all(
     alloc: Global,
     modules: &[DeclaredModule],
     items: &[DeclaredItem],
-    leave: &[bool],
+    left: &[Option<usize>],
     events: &[TextEvent],
 ) -> Result<(), AllocError>
     ensures { OnOk result (scopes.new.items ≡
-        spec.all_met modules.now items.now leave.now scopes.old.items events.now) }
+        spec.all_met modules.now items.now left.now scopes.old.items events.now) }
 {
     for event in events {
-        meet(scopes, alloc, modules, items, leave, *event)?;
+        meet(scopes, alloc, modules, items, left, *event)?;
     }
     Ok(())
 }
 
 /// For each module of a crate's list the macros by `macro_rules!` that are in textual scope where it ends, by their items,
-/// as `declared_items` gives these. A module begins with what is in scope where it stands, a macro is in scope behind its
-/// item, and a module under an active `macro_use` leaves the last macro of each name behind it; so does one whose file
-/// begins with one.
+/// as `declared_items` gives these, and from where on each is. A module begins with what is in scope where it stands, a
+/// macro is in scope behind its item, and a module under an active `macro_use` leaves the last macro of each name behind
+/// it; so does one whose file begins with one.
 ///
 /// # Errors
 ///
@@ -424,7 +398,7 @@ pub fn textual_scopes(
     ensures { IfOk result (λ scopes. scopes.items ≡ spec.textual_scopes list.now items.now) }
 {
     let modules = list.modules();
-    let leave = all_leaves(alloc, list, items)?;
+    let left = all_left(alloc, list, items)?;
     let events = textual_order(alloc, modules, items)?;
     let mut scopes = no_scopes(alloc, modules)?;
     meet_all(
@@ -432,7 +406,7 @@ pub fn textual_scopes(
         alloc,
         modules,
         items,
-        leave.as_slice(),
+        left.as_slice(),
         events.as_slice(),
     )?;
     Ok(scopes)

@@ -13,7 +13,7 @@ fn told(alloc: Global, text: &str) -> Result<Option<(bool, bool, bool, bool)>, A
     let Ok(made) = world_of(alloc, text) else {
         return Ok(None);
     };
-    let found = meaning_in_first(made.retry.world(), &path);
+    let found = meaning_in_first(&made.world, &path);
     Ok(Some((
         made.is_settled,
         found.types.is_some(),

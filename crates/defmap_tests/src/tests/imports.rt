@@ -1,13 +1,13 @@
 //! `is_supported` and `is_grounded` on a crate with the modules `generic` and `unix`, each with a function `open`, and
 //! `sys`, in which `pub use crate::generic::*; pub use crate::unix::open;` stand.
 use dm_base::ids::{
-    Crate, FileAstId, FileId, FunctionId, MacroCallId, ModuleId, UseId, UseTreeIdx,
+    Crate, EnumId, FileAstId, FileId, FunctionId, MacroCallId, ModuleId, UseId, UseTreeIdx,
 };
 use dm_base::imports::{GlobId, ImportId, ImportOrExternCrate, ImportOrGlob};
 use dm_base::item_ids::{ItemKind, ModuleDefId};
 use dm_base::mod_path::{ModPath, PathKind};
 use dm_base::name::Name;
-use dm_base::per_ns::PerNs;
+use dm_base::per_ns::{Namespace, PerNs};
 use dm_base::source::{Edition, EditionedFileId, HirFileId, TreeId};
 use dm_base::visibility::Visibility;
 use dm_imports::bind::bind_crate;
@@ -19,6 +19,7 @@ use dm_imports::named_import::{ImportKind, NamedImport};
 use dm_imports::rules::grounded::is_grounded;
 use dm_imports::rules::supported::is_supported;
 use dm_imports::slots::Slots;
+use dm_imports::step::Step;
 use dm_maps::builder::WorldBuilder;
 use dm_maps::module_origin::ModuleOrigin;
 use dm_maps::world::World;
@@ -146,78 +147,149 @@ fn glob(alloc: Global) -> Result<GlobImport, AllocError> {
     })
 }
 
-/// What `sys::open` is bound to by the uses, and whether the def maps are supported then.
-fn bound(alloc: Global) -> Option<(PerNs, bool)> {
-    let mut flags = PerNsGlobImports::new(alloc);
-    let mut world = declared(alloc, &mut flags)?;
-    let imports = vec![in alloc; import(alloc, "unix").ok()?].ok()?;
-    let globs = vec![in alloc; glob(alloc).ok()?].ok()?;
-    let enums = IndexMap::new(alloc);
-    let given = Importing {
-        imports: imports.as_slice(),
-        globs: globs.as_slice(),
-        enums: &enums,
-    };
-    let mut ambiguous = Slots::new(alloc);
-    bind_crate(
-        &mut world,
-        &mut flags,
-        &mut ambiguous,
-        alloc,
-        &given,
-        Crate(0),
-    )
-    .ok()?;
+/// What is imported in `sys`.
+struct Uses {
+    imports: Vec<NamedImport>,
+    globs: Vec<GlobImport>,
+    enums: IndexMap<EnumId, Visibility>,
+}
+
+/// A hand-written `Drop`, to keep proofs small: what drops one has one call to prove.
+impl Drop for Uses {
+    fn drop(self) {
+        let Uses {
+            imports: _imports,
+            globs: _globs,
+            enums: _enums,
+        } = self;
+    }
+}
+
+fn only<T: Drop>(alloc: Global, one: T) -> Result<Vec<T>, AllocError> {
+    let mut list = Vec::new(alloc);
+    list.push(one)?;
+    Ok(list)
+}
+
+/// `pub use` of `open` of a module, and the glob.
+fn both_uses(alloc: Global) -> Result<Uses, AllocError> {
+    Ok(Uses {
+        imports: only(alloc, import(alloc, "unix")?)?,
+        globs: only(alloc, glob(alloc)?)?,
+        enums: IndexMap::new(alloc),
+    })
+}
+
+/// `pub use` of `open` of a module alone.
+fn one_use(alloc: Global, first: &str) -> Result<Uses, AllocError> {
+    Ok(Uses {
+        imports: only(alloc, import(alloc, first)?)?,
+        globs: Vec::new(alloc),
+        enums: IndexMap::new(alloc),
+    })
+}
+
+fn maps_of<'a>(world: &'a World, uses: &'a Uses, ambiguous: &'a Slots<bool>) -> DefMaps<'a> {
     let marks = Marks {
-        table: &ambiguous,
+        table: ambiguous,
         is_all_but: false,
     };
-    let maps = DefMaps {
-        world: &world,
-        imports: imports.as_slice(),
-        globs: globs.as_slice(),
-        enums: &enums,
+    DefMaps {
+        world,
+        imports: uses.imports.as_slice(),
+        globs: uses.globs.as_slice(),
+        enums: &uses.enums,
         ambiguous: marks,
-    };
+    }
+}
+
+/// Whether the def maps of a world are supported.
+fn are_supported(
+    alloc: Global,
+    world: &World,
+    uses: &Uses,
+    ambiguous: &Slots<bool>,
+) -> Option<bool> {
+    let maps = maps_of(world, uses, ambiguous);
     if !maps.are_imports_known() {
         return None;
     }
-    let is_right = is_supported(alloc, &maps).ok()?;
+    is_supported(alloc, &maps).ok()
+}
+
+/// Whether they are grounded.
+fn are_grounded(
+    alloc: Global,
+    world: &World,
+    uses: &Uses,
+    ambiguous: &Slots<bool>,
+) -> Option<bool> {
+    let maps = maps_of(world, uses, ambiguous);
+    if !maps.are_imports_known() {
+        return None;
+    }
+    is_grounded(alloc, &maps, &[Step::Import(0, Namespace::Values)]).ok()
+}
+
+/// Binds what the uses bring.
+fn bind_uses(
+    world: &mut World,
+    flags: &mut PerNsGlobImports,
+    ambiguous: &mut Slots<bool>,
+    alloc: Global,
+    uses: &Uses,
+) -> Option<()> {
+    let given = Importing {
+        imports: uses.imports.as_slice(),
+        globs: uses.globs.as_slice(),
+        enums: &uses.enums,
+    };
+    let mut steps = Vec::new(alloc);
+    bind_crate(world, flags, ambiguous, &mut steps, alloc, &given, Crate(0)).ok()
+}
+
+/// What `sys::open` is bound to by some uses, and whether the def maps are supported then.
+fn bound_by(alloc: Global, uses: &Uses) -> Option<(PerNs, bool)> {
+    let mut flags = PerNsGlobImports::new(alloc);
+    let mut world = declared(alloc, &mut flags)?;
     let name = Name::new(alloc, "open").ok()?;
+    let mut ambiguous = Slots::new(alloc);
+    bind_uses(&mut world, &mut flags, &mut ambiguous, alloc, uses)?;
+    let is_right = are_supported(alloc, &world, uses, &ambiguous)?;
     Some((world.bound_in(SYS, &name), is_right))
+}
+
+fn bound(alloc: Global) -> Option<(PerNs, bool)> {
+    let uses = both_uses(alloc).ok()?;
+    bound_by(alloc, &uses)
+}
+
+/// The world, with what is declared, in which `sys::open` is a function by an import.
+fn declared_and_bound(
+    alloc: Global,
+    function: u32,
+    import_: ImportOrGlob,
+    by: ImportOrExternCrate,
+) -> Option<World> {
+    let mut flags = PerNsGlobImports::new(alloc);
+    let mut world = declared(alloc, &mut flags)?;
+    let name = Name::new(alloc, "open").ok()?;
+    let items = open(function, Some(import_));
+    bind(&mut world, &mut flags, SYS, name, items, Some(by))?;
+    Some(world)
 }
 
 /// Whether the def maps are supported in which `sys::open` is bound so.
 fn supports(
     alloc: Global,
     function: u32,
-    import_: Option<ImportOrGlob>,
+    import_: ImportOrGlob,
     by: ImportOrExternCrate,
 ) -> Option<bool> {
-    let mut flags = PerNsGlobImports::new(alloc);
-    let mut world = declared(alloc, &mut flags)?;
-    let name = Name::new(alloc, "open").ok()?;
-    let items = open(function, import_);
-    bind(&mut world, &mut flags, SYS, name, items, Some(by))?;
-    let imports = vec![in alloc; import(alloc, "unix").ok()?].ok()?;
-    let globs = vec![in alloc; glob(alloc).ok()?].ok()?;
-    let enums = IndexMap::new(alloc);
+    let uses = both_uses(alloc).ok()?;
+    let world = declared_and_bound(alloc, function, import_, by)?;
     let none = Slots::new(alloc);
-    let ambiguous = Marks {
-        table: &none,
-        is_all_but: false,
-    };
-    let maps = DefMaps {
-        world: &world,
-        imports: imports.as_slice(),
-        globs: globs.as_slice(),
-        enums: &enums,
-        ambiguous,
-    };
-    if !maps.are_imports_known() {
-        return None;
-    }
-    is_supported(alloc, &maps).ok()
+    are_supported(alloc, &world, &uses, &none)
 }
 
 #[test]
@@ -226,14 +298,14 @@ fn an_import_by_name_goes_before_a_glob(rt: HostRuntime) -> Result<(), AllocErro
     let right = supports(
         alloc,
         1,
-        Some(ImportOrGlob::Import(IMPORT)),
+        ImportOrGlob::Import(IMPORT),
         ImportOrExternCrate::Import(IMPORT),
     );
     assert!(rt; right == Some(true));
     let wrong = supports(
         alloc,
         0,
-        Some(ImportOrGlob::Glob(GLOB)),
+        ImportOrGlob::Glob(GLOB),
         ImportOrExternCrate::Glob(GLOB),
     );
     assert!(rt; wrong == Some(false));
@@ -249,31 +321,14 @@ fn bind_crate_binds_what_the_rules_give(rt: HostRuntime) -> Result<(), AllocErro
 
 /// Whether the def maps are grounded in which `sys::open` is the function of `unix`, by an import of `open` of a module.
 fn grounds(alloc: Global, first: &str) -> Option<bool> {
-    let mut flags = PerNsGlobImports::new(alloc);
-    let mut world = declared(alloc, &mut flags)?;
-    let name = Name::new(alloc, "open").ok()?;
-    let items = open(1, Some(ImportOrGlob::Import(IMPORT)));
-    let by = ImportOrExternCrate::Import(IMPORT);
-    bind(&mut world, &mut flags, SYS, name, items, Some(by))?;
-    let imports = vec![in alloc; import(alloc, first).ok()?].ok()?;
-    let globs = Vec::new(alloc);
-    let enums = IndexMap::new(alloc);
+    let uses = one_use(alloc, first).ok()?;
+    let (import_, by) = (
+        ImportOrGlob::Import(IMPORT),
+        ImportOrExternCrate::Import(IMPORT),
+    );
+    let world = declared_and_bound(alloc, 1, import_, by)?;
     let none = Slots::new(alloc);
-    let ambiguous = Marks {
-        table: &none,
-        is_all_but: false,
-    };
-    let maps = DefMaps {
-        world: &world,
-        imports: imports.as_slice(),
-        globs: globs.as_slice(),
-        enums: &enums,
-        ambiguous,
-    };
-    if !maps.are_imports_known() {
-        return None;
-    }
-    is_grounded(alloc, &maps).ok()
+    are_grounded(alloc, &world, &uses, &none)
 }
 
 #[test]

@@ -28,9 +28,9 @@ use dm_base::ids::{Crate, FileId};
 use dm_base::source::Edition;
 use dm_collector::collect::collect;
 use dm_collector::collected::Collected;
+use dm_collector::unresolved_names::unresolved_imports as unresolved_places;
 use dm_maps::world::World;
 use dm_maps::world::maps_of::{AskWorld, crate_def_map};
-use dm_retry::retry::Retry;
 use dm_scope::diagnostics::{DefDiagnostic, DefDiagnosticKind};
 use item_tree::cfg::CfgOptions;
 use std::alloc::{AllocError, Global};
@@ -60,7 +60,7 @@ impl Drop for Settled {
 
 impl Settled {
     fn world(&self) -> &World {
-        self.collected.retry.world()
+        &self.collected.world
     }
 }
 
@@ -143,10 +143,15 @@ fn add_unresolved(
     uses: &[UsePlace],
 ) -> Result<(), AllocError> {
     let collected = &settled.collected;
-    push_all(found, unresolved_imports(alloc, &collected.retry, uses)?)?;
+    let maps = collected.def_maps();
+    let imports = collected.imports.as_slice();
+    let places = unresolved_places(alloc, &maps, collected.meanings.as_slice())?;
+    push_all(
+        found,
+        unresolved_imports(alloc, imports, places.as_slice(), uses)?,
+    )?;
     for glob in &collected.globs {
-        let told = unresolved_glob(settled.world(), uses, glob.into, &glob.path, glob.import);
-        if let Some(diagnostic) = told {
+        if let Some(diagnostic) = unresolved_glob(&maps, uses, glob) {
             found.push(diagnostic)?;
         }
     }
@@ -192,12 +197,12 @@ fn told_of_all(alloc: Global, settled: &Settled) -> Result<Vec<Vec<Diagnostic>>,
 /// Adds diagnostics of a crate to its def map, and rows for its macro calls.
 fn add_to_map(
     alloc: Global,
-    retry: &mut Retry,
+    world: &mut World,
     calls: &mut Vec<CallPlace>,
     krate: &MappedCrate<'_>,
     told: &[Diagnostic],
 ) -> Result<(), AllocError> {
-    for call in add_diagnostics(retry, alloc, calls.len(), krate, told)? {
+    for call in add_diagnostics(world, alloc, calls.len(), krate, told)? {
         calls.push(call)?;
     }
     Ok(())
@@ -206,7 +211,7 @@ fn add_to_map(
 /// Adds what is told of each crate to its def map. Answers with the table of macro calls.
 fn add_to_maps(
     alloc: Global,
-    retry: &mut Retry,
+    world: &mut World,
     graph: &CrateGraph,
     lists: &[CrateModules],
     tables: &[CrateTable],
@@ -227,7 +232,7 @@ fn add_to_maps(
             list,
             ids: table.ids(),
         };
-        add_to_map(alloc, retry, &mut calls, &mapped, told.as_slice())?;
+        add_to_map(alloc, world, &mut calls, &mapped, told.as_slice())?;
     }
     Ok(calls)
 }
@@ -318,7 +323,7 @@ fn placed(alloc: Global, settled: &mut Settled) -> Result<Vec<CallPlace>, AllocE
     let collected = &mut settled.collected;
     add_to_maps(
         alloc,
-        &mut collected.retry,
+        &mut collected.world,
         &settled.graph,
         collected.lists.as_slice(),
         collected.tables.as_slice(),

@@ -72,25 +72,7 @@ fn extern_crate_in(
     }
 }
 
-/// What the root of the crate has.
-fn at_root(
-    maps: &DefMaps<'_>,
-    asking: &Asking<'_>,
-    name: &Name,
-    namespace: Namespace,
-) -> Option<Meaning>
-    requires { MayAsk (of_tables maps.now) (asks asking.now) }
-    ensures value { result ≡ option_and_then (λ r. spec.shown (of_tables maps.now) (asks asking.now) r name.now namespace)
-        (root_of maps.now.world (crate_of (tree_of maps.now.world) asking.now.home)) }
-    ensures named { IsNamed maps.now.world result }
-{
-    match maps.world.root_of(maps.world.krate(asking.home)) {
-        None => None,
-        Some(root) => shown(maps, asking, root, name, namespace),
-    }
-}
-
-/// In edition 2015: what the crate's root has, and then extern crates.
+/// In edition 2015: what the crate's root has.
 fn in_root(
     maps: &DefMaps<'_>,
     asking: &Asking<'_>,
@@ -101,11 +83,10 @@ fn in_root(
     ensures value { result ≡ spec.in_root (of_tables maps.now) (asks asking.now) name.now namespace }
     ensures named { IsNamed maps.now.world result }
 {
-    let found = at_root(maps, asking, name, namespace);
-    if found.is_some() {
-        return found;
+    match maps.world.root_of(maps.world.krate(asking.home)) {
+        None => None,
+        Some(root) => shown(maps, asking, root, name, namespace),
     }
-    extern_crate_in(maps, asking, name, namespace)
 }
 
 /// A textual macro, where a macro is asked for.

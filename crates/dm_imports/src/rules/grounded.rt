@@ -1,5 +1,6 @@
 //! Whether each meaning of def maps follows, step by step, from declarations and names around modules.
 ghost use Rattle.std.specs.Prelude.{◌≡◌, ◌↔◌, ◌≤◌, All, IfOk, IsFalse, IsTrue, OnOk, is_some, length, true};
+ghost use Rattle.dm_imports.specs.Following.{IsSound};
 ghost use Rattle.dm_imports.specs.Grounded as spec;
 ghost use Rattle.dm_imports.specs.Grounded.{IsGrounded};
 ghost use Rattle.dm_imports.specs.Grounding as by;
@@ -7,23 +8,26 @@ ghost use Rattle.dm_imports.specs.Grounding.{AreCovered, AreReady, AreSafeOffers
 ghost use Rattle.dm_imports.specs.Rules.{AreImportsKnown};
 ghost use Rattle.dm_imports.specs.Tables.{of_tables};
 
+mod following;
 mod knowing;
 mod known_offers;
 mod steps;
-mod ways;
+pub(crate) mod ways;
 
 use crate::def_maps::DefMaps;
 use crate::joined::Joined;
 use crate::paths::shown::at;
 use crate::rules::all_offers::all_offers;
+use crate::rules::grounded::following::{Followed, follow};
 use crate::rules::grounded::known_offers::known_offers;
 use crate::rules::grounded::steps::derives;
 use crate::rules::grounded::ways::{Way, all_ways};
 use crate::slots::Slots;
+use crate::step::Step;
 use std::alloc::{AllocError, Global};
 
 /// Makes the slot of a way known, if one step derives it so. Answers whether the way stays open.
-fn settle(
+pub(crate) fn settle(
     known: &mut Slots<bool>,
     maps: &DefMaps<'_>,
     brought: &Slots<Joined>,
@@ -111,9 +115,10 @@ fn pass<'a>(
     Ok(left)
 }
 
-/// Whether the slots of all ways can be derived. Passes go on until one leaves all ways open that were; each goes over
-/// them in the other order than the one before, so that chains of imports take few passes.
-fn are_derived(
+/// Passes over ways, until none is open or one leaves all open that were. Answers whether none is open. Each pass goes
+/// over them in the other order than the one before, so that chains of imports take few passes.
+fn are_settled(
+    known: &mut Slots<bool>,
     alloc: Global,
     maps: &DefMaps<'_>,
     brought: &Slots<Joined>,
@@ -121,14 +126,14 @@ fn are_derived(
 ) -> Result<bool, AllocError>
     requires ready { AreReady (of_tables maps.now) brought.now }
     requires ways { All (IsWay (of_tables maps.now)) ways.items }
-    requires covered { AreCovered (of_tables maps.now) by.no_set ways.items }
+    requires covered { AreCovered (of_tables maps.now) (slots_of known.old) ways.items }
+    requires safe { IsSafe (of_tables maps.now) (slots_of known.old) }
     ensures { IfOk result (λ yes. IsTrue yes ↔ IsGrounded (of_tables maps.now)) }
 {
-    let mut known = Slots::new(alloc);
     let mut waiting = ways;
     'passes: while !waiting.is_empty() {
         let before = waiting.len();
-        let left = pass(&mut known, alloc, maps, brought, waiting)?;
+        let left = pass(known, alloc, maps, brought, waiting)?;
         if left.len() == before {
             return Ok(false);
         }
@@ -137,7 +142,70 @@ fn are_derived(
     Ok(true)
 }
 
+/// Settles the ways that need no glob, then those that steps lead to, and again all that are left. Answers with those
+/// that stay open.
+fn settle_by_steps<'a>(
+    followed: &mut Followed<'a>,
+    alloc: Global,
+    maps: &DefMaps<'a>,
+    brought: &Slots<Joined>,
+    ways: Vec<Way<'a>>,
+    steps: &[Step],
+) -> Result<Vec<Way<'a>>, AllocError>
+    requires ready { AreReady (of_tables maps.now) brought.now }
+    requires ways { All (IsWay (of_tables maps.now)) ways.items }
+    requires covered { AreCovered (of_tables maps.now) (slots_of followed.old.known) ways.items }
+    requires sound { IsSound (of_tables maps.now) followed.old }
+    ensures ways { IfOk result (λ left. All (IsWay (of_tables maps.now)) left.items) }
+    ensures covered { IfOk result (λ left. AreCovered (of_tables maps.now) (slots_of followed.new.known) left.items) }
+    ensures safe { OnOk result (IsSafe (of_tables maps.now) (slots_of followed.new.known)) }
+{
+    let open = settle_all(
+        &mut followed.known,
+        alloc,
+        maps,
+        brought,
+        &followed.offered,
+        ways,
+    )?;
+    follow(followed, alloc, maps, brought, steps)?;
+    let left = settle_all(
+        &mut followed.known,
+        alloc,
+        maps,
+        brought,
+        &followed.offered,
+        open,
+    )?;
+    Ok(left)
+}
+
+/// Whether the slots of all ways can be derived.
+pub(crate) fn are_derived<'a>(
+    alloc: Global,
+    maps: &DefMaps<'a>,
+    brought: &Slots<Joined>,
+    ways: Vec<Way<'a>>,
+    steps: &[Step],
+) -> Result<bool, AllocError>
+    requires ready { AreReady (of_tables maps.now) brought.now }
+    requires ways { All (IsWay (of_tables maps.now)) ways.items }
+    requires covered { AreCovered (of_tables maps.now) by.no_set ways.items }
+    ensures { IfOk result (λ yes. IsTrue yes ↔ IsGrounded (of_tables maps.now)) }
+{
+    let mut followed = Followed {
+        known: Slots::new(alloc),
+        offered: Slots::new(alloc),
+        fresh: Vec::new(alloc),
+    };
+    let left = settle_by_steps(&mut followed, alloc, maps, brought, ways, steps)?;
+    let are_settled = are_settled(&mut followed.known, alloc, maps, brought, left)?;
+    Ok(are_settled)
+}
+
 /// Whether def maps are grounded: whether each meaning follows, step by step, from declarations and names around modules.
+/// `steps` are imports and globs in an order in which their names may have come: the answer does not depend on it, and
+/// where it is a right one, it is found in one pass over what imports and globs bring.
 ///
 /// Imports and globs have to stand in modules of the world's, and so have those to be that their visibilities name:
 /// `DefMaps::are_imports_known` tests it.
@@ -145,11 +213,11 @@ fn are_derived(
 /// # Errors
 ///
 /// Fails only where memory runs out.
-pub fn is_grounded(alloc: Global, maps: &DefMaps<'_>) -> Result<bool, AllocError>
+pub fn is_grounded(alloc: Global, maps: &DefMaps<'_>, steps: &[Step]) -> Result<bool, AllocError>
     requires { AreImportsKnown (of_tables maps.now) }
     ensures { IfOk result (λ yes. IsTrue yes ↔ IsGrounded (of_tables maps.now)) }
 {
     let brought = all_offers(alloc, maps)?;
     let ways = all_ways(alloc, maps)?;
-    are_derived(alloc, maps, &brought, ways)
+    are_derived(alloc, maps, &brought, ways, steps)
 }

@@ -63,7 +63,7 @@ fn push_meanings(
 }
 
 /// The same of all imports, where `below` is what globs bring.
-fn all_meanings(
+pub(crate) fn all_meanings(
     alloc: Global,
     maps: &DefMaps<'_>,
     below: &Slots<Joined>,

@@ -1,11 +1,13 @@
 //! The names of what a glob brings.
-ghost use Rattle.std.specs.Prelude.{◌≡◌, ◌++◌, [], Contains, IfOk, OnOk, map};
+ghost use Rattle.std.specs.Prelude.{◌≡◌, ◌++◌, [], false, Contains, IfOk, IsTrue, OnOk, map};
 ghost use Rattle.std.specs.Option.{option_map_or};
 ghost use Rattle.dm_base.specs.Names.{Name};
 ghost use Rattle.dm_maps.specs.GoesOn.{variants_if_known};
+ghost use Rattle.dm_maps.specs.Known.{knows};
 ghost use Rattle.dm_maps.specs.Readings.{variants_of};
 ghost use Rattle.dm_maps.specs.World.{scope_of};
-ghost use Rattle.dm_scope.specs.Sorted.{deref_entry, names_of, seen};
+ghost use Rattle.dm_maps.specs.declared.check.held.HeldId.TheVariants as held;
+ghost use Rattle.dm_scope.specs.Sorted.{AreNames, deref_entry, names_of, seen};
 ghost use Rattle.dm_imports.specs.Supporting as spec;
 
 use crate::container::Container;
@@ -39,13 +41,16 @@ fn add_variants<'a>(names: &mut Vec<&'a Name>, variants: Variants<'a>) -> Result
     Ok(())
 }
 
-/// The names that a module binds, in their order.
-pub(crate) fn module_names(
-    alloc: Global,
-    world: &World,
-    m: ModuleId,
-) -> Result<Vec<&Name>, AllocError>
-    ensures { IfOk result
+/// The names that a module binds, sorted, each once; none where the module is not the world's.
+///
+/// # Errors
+///
+/// Fails only where memory runs out.
+pub fn module_names(alloc: Global, world: &World, m: ModuleId) -> Result<Vec<&Name>, AllocError>
+    ensures names { IfOk result
+        (λ names. IsTrue (knows world.now (held.Module m)) → AreNames (seen names.items) (scope_of world.now m)) }
+    ensures none { IfOk result (λ names. knows world.now (held.Module m) ≡ false → names.items ≡ []) }
+    ensures listed { IfOk result
         (λ names. (n : Name) → Contains (names_of (scope_of world.now m)) n → Contains (seen names.items) n) }
 {
     let mut names = Vec::new(alloc);

@@ -6,7 +6,7 @@ ghost use Rattle.dm_base.specs.Tree.{IsKnown};
 ghost use Rattle.dm_base.specs.Visibility.{NamesKnown};
 ghost use Rattle.dm_maps.specs.Trees.{tree_of};
 ghost use Rattle.dm_scope.specs.Sorted.{seen};
-ghost use Rattle.dm_imports.specs.Brought.{IsBrought};
+ghost use Rattle.dm_imports.specs.Brought.{AreAllNamed, IsBrought};
 ghost use Rattle.dm_imports.specs.Paths as paths;
 ghost use Rattle.dm_imports.specs.Paths.{AreEnumsNamed};
 ghost use Rattle.dm_imports.specs.Rules as spec;
@@ -35,9 +35,9 @@ use std::alloc::{AllocError, Global};
 use std::marker::Model;
 
 /// What imports and globs bring.
-struct Given {
-    imports: Slots<Meaning>,
-    globs: Slots<Joined>,
+pub(crate) struct Given {
+    pub(crate) imports: Slots<Meaning>,
+    pub(crate) globs: Slots<Joined>,
 }
 
 /// Hand-written `Drop`, to keep proofs small: dropping one is then a single call.
@@ -245,9 +245,10 @@ fn globs_agree(
 }
 
 /// What imports and globs bring.
-fn all_given(alloc: Global, maps: &DefMaps<'_>) -> Result<Given, AllocError>
+pub(crate) fn all_given(alloc: Global, maps: &DefMaps<'_>) -> Result<Given, AllocError>
     requires { AreMapsKnown (of_tables maps.now) }
-    ensures { IfOk result (AreGiven (of_tables maps.now)) }
+    ensures value { IfOk result (AreGiven (of_tables maps.now)) }
+    ensures named { IfOk result (λ given. AreAllNamed maps.now.world given.globs) }
 {
     let globs = all_offers(alloc, maps)?;
     let imports = all_imports(alloc, maps, &globs)?;
@@ -255,7 +256,7 @@ fn all_given(alloc: Global, maps: &DefMaps<'_>) -> Result<Given, AllocError>
 }
 
 /// Whether the names that are bound, and all that could be, have what the rules give.
-fn agree(alloc: Global, maps: &DefMaps<'_>, given: &Given) -> Result<bool, AllocError>
+pub(crate) fn agree(alloc: Global, maps: &DefMaps<'_>, given: &Given) -> Result<bool, AllocError>
     requires given { AreGiven (of_tables maps.now) given.now }
     requires known { AreMapsKnown (of_tables maps.now) }
     ensures { IfOk result (λ yes. IsTrue yes ↔ IsSupported (of_tables maps.now)) }

@@ -1,19 +1,14 @@
 //! `Asker`: an import in one namespace, or a glob, on the way to what its path means.
 
 use crate::container::Container;
-use crate::meaning::Meaning;
+use crate::meaning::{Meaning, Source};
+use crate::search::leaf::Leaf;
+use crate::step::Step;
 use dm_base::ids::ModuleId;
-use dm_base::per_ns::Namespace;
-
-/// Who asks, by its place among the imports or the globs.
-#[derive(Clone, Copy, PartialEq, Eq, Debug)]
-pub(crate) enum Asks {
-    Import(usize, Namespace),
-    Glob(usize),
-}
+use dm_base::visibility::Visibility;
 
 /// How far it is.
-#[derive(Clone, Copy, PartialEq, Eq, Debug)]
+#[derive(Clone, Copy)]
 pub(crate) enum Progress {
     /// Its path means nothing yet.
     Open,
@@ -26,11 +21,16 @@ pub(crate) enum Progress {
 }
 
 /// An import in one namespace, or a glob.
-#[derive(Clone, Copy, Debug)]
+#[derive(Clone, Copy)]
 pub(crate) struct Asker {
-    pub(crate) asks: Asks,
+    pub(crate) step: Step,
+    /// Its number among the imports and globs of the crate.
+    pub(crate) leaf: usize,
     /// The module that it stands in.
     pub(crate) home: ModuleId,
+    /// Who may see what it brings, at most.
+    pub(crate) vis: Visibility,
+    pub(crate) source: Source,
     /// The slot that it binds; none where it is a glob.
     pub(crate) slot: Option<usize>,
     pub(crate) progress: Progress,
@@ -45,15 +45,23 @@ pub(crate) struct Asker {
 }
 
 /// One whose path is still to be followed.
-pub(crate) fn begun(asks: Asks, home: ModuleId, slot: Option<usize>) -> Asker {
+pub(crate) fn begun(step: Step, number: usize, leaf: &Leaf) -> Asker {
     Asker {
-        asks,
-        home,
-        slot,
+        step,
+        leaf: number,
+        home: leaf.home,
+        vis: leaf.vis,
+        source: leaf.source,
+        slot: None,
         progress: Progress::Open,
         waits_at: None,
         next_waiter: None,
         next_beside: None,
         has_other_way: false,
     }
+}
+
+/// Whether its path may still lead somewhere.
+pub(crate) fn is_open(asker: &Asker) -> bool {
+    matches!(asker.progress, Progress::Open)
 }

@@ -1,28 +1,47 @@
 //! What imports and globs do once their paths were followed, while names are searched.
 
 use crate::container::Container;
-use crate::glob_import::GlobImport;
-use crate::meaning::{Meaning, Source};
-use crate::named_import::NamedImport;
+use crate::meaning::Meaning;
 use crate::paths::containers::led;
 use crate::rules::offers::is_other;
-use crate::search::asker::{Asker, Asks, Progress};
+use crate::search::asker::{Asker, Progress, is_open};
 use crate::search::cell::Listed;
+use crate::search::maps::Maps;
 use crate::search::shown::{Found, Who};
-use crate::search::sight::{grown, least_of};
 use crate::search::state::{Search, Task};
+use crate::step::Step;
+use dm_base::ids::ModuleId;
 use dm_base::per_ns::Namespace;
 use std::alloc::AllocError;
 
-impl<'a> Search<'a> {
-    /// The place of a glob among the globs, by its number among those who ask.
-    pub(crate) fn glob_of(&self, number: usize) -> Option<usize> {
-        match self.asker(number)?.asks {
-            Asks::Glob(glob) => Some(glob),
-            Asks::Import(_, _) => None,
-        }
+/// What one brings of what it finds: it shows that to none who does not see it.
+pub(crate) fn brought<M: Maps>(maps: &M, by: &Asker, found: Meaning) -> Meaning {
+    Meaning {
+        vis: maps.least(by.home, by.vis, found.vis),
+        source: by.source,
+        ..found
     }
+}
 
+/// What a bound import brings as what it found grows; none where that is as before. Only an ambiguous definition replaces
+/// another.
+fn grown<M: Maps>(maps: &M, home: ModuleId, before: Meaning, after: Meaning) -> Option<Meaning> {
+    if before.def != after.def && !after.is_ambiguous {
+        return None;
+    }
+    let together = Meaning {
+        vis: maps.most(home, before.vis, after.vis),
+        is_ambiguous: before.is_ambiguous || after.is_ambiguous,
+        ..after
+    };
+    if together == before {
+        None
+    } else {
+        Some(together)
+    }
+}
+
+impl Search {
     /// Counts an import of a slot that is open no longer, and has those ask anew that wait there.
     fn is_open_no_more(&mut self, slot: usize) -> Result<(), AllocError> {
         if let Some(cell) = self.cells.get_mut(slot) {
@@ -42,7 +61,7 @@ impl<'a> Search<'a> {
         let Some(asker) = self.asker(number) else {
             return Ok(());
         };
-        if !matches!(asker.progress, Progress::Open) {
+        if !is_open(&asker) {
             return Ok(());
         }
         self.set_progress(number, Progress::Closed);
@@ -56,9 +75,11 @@ impl<'a> Search<'a> {
     fn bind_first(
         &mut self,
         number: usize,
+        step: Step,
         slot: usize,
         meaning: Meaning,
     ) -> Result<(), AllocError> {
+        self.steps.push(step)?;
         self.set_progress(number, Progress::Bound(meaning));
         if let Some(cell) = self.cells.get_mut(slot) {
             cell.bound = match cell.bound {
@@ -69,74 +90,64 @@ impl<'a> Search<'a> {
         self.is_open_no_more(slot)
     }
 
-    /// Has a bound import follow what it found as that grows. Only an ambiguous definition replaces another.
-    fn grow(
-        &mut self,
-        number: usize,
-        asker: Asker,
-        slot: usize,
-        before: Meaning,
-        after: Meaning,
-    ) -> Result<(), AllocError> {
-        let is_ambiguous = before.is_ambiguous || after.is_ambiguous;
-        let vis = grown(self.world, asker.home, before.vis, after.vis);
-        if before.def != after.def && !after.is_ambiguous {
-            return Ok(());
-        }
-        let together = Meaning {
-            vis: vis.unwrap_or(before.vis),
-            is_ambiguous,
-            ..after
-        };
-        if together == before {
-            return Ok(());
-        }
-        self.set_progress(number, Progress::Bound(together));
-        self.to_do(Task::Cell(slot))
-    }
-
     /// Has an import bring what it found.
-    fn bind(&mut self, number: usize, asker: Asker, meaning: Meaning) -> Result<(), AllocError> {
+    fn bind<M: Maps>(
+        &mut self,
+        maps: &M,
+        number: usize,
+        asker: &Asker,
+        meaning: Meaning,
+    ) -> Result<(), AllocError> {
         let Some(slot) = asker.slot else {
             return Ok(());
         };
         match asker.progress {
-            Progress::Open => self.bind_first(number, slot, meaning),
-            Progress::Bound(before) => self.grow(number, asker, slot, before, meaning),
+            Progress::Open => self.bind_first(number, asker.step, slot, meaning),
+            Progress::Bound(before) => match grown(maps, asker.home, before, meaning) {
+                None => Ok(()),
+                Some(together) => {
+                    self.set_progress(number, Progress::Bound(together));
+                    self.to_do(Task::Cell(slot))
+                }
+            },
             Progress::Reads(_) | Progress::Closed => Ok(()),
         }
     }
 
-    /// Follows the path of an import.
-    fn ask_import(
+    /// What the path of an import or a glob means, as far as is known.
+    fn walk_of<M: Maps>(
         &mut self,
+        maps: &M,
+        who: Who,
+        leaf: usize,
+        namespace: Namespace,
+    ) -> Result<Found, AllocError> {
+        match maps.leaves().get(leaf) {
+            None => Ok(Found::Nothing),
+            Some(leaf) => self.walk(maps, who, &leaf.path, namespace),
+        }
+    }
+
+    /// Follows the path of an import.
+    fn ask_import<M: Maps>(
+        &mut self,
+        maps: &M,
         number: usize,
-        asker: Asker,
-        import: &'a NamedImport,
+        asker: &Asker,
         namespace: Namespace,
     ) -> Result<(), AllocError> {
         let who = Who {
             home: asker.home,
             number: Some(number),
         };
-        match self.walk(who, import.textual, &import.path, namespace)? {
+        match self.walk_of(maps, who, asker.leaf, namespace)? {
             Found::Nothing => self.close(number),
             Found::Waits(slot, has_other_way) => {
                 self.wait(number, slot, has_other_way);
                 Ok(())
             }
             Found::Is(found, slot) => {
-                let vis = least_of(self.world, asker.home, import.vis, found.vis);
-                let source = Source::Import(import.import);
-                self.bind(
-                    number,
-                    asker,
-                    Meaning {
-                        vis,
-                        source,
-                        ..found
-                    },
-                )?;
+                self.bind(maps, number, asker, brought(maps, asker, found))?;
                 if let Some(slot) = slot {
                     self.wait(number, slot, false);
                 }
@@ -146,70 +157,76 @@ impl<'a> Search<'a> {
     }
 
     /// Has a glob offer the names of its source, and those that this gets.
-    fn read(&mut self, number: usize, glob: usize, source: Container) -> Result<(), AllocError> {
+    fn read<M: Maps>(
+        &mut self,
+        maps: &mut M,
+        number: usize,
+        asker: &Asker,
+        source: Container,
+    ) -> Result<(), AllocError> {
+        self.steps.push(asker.step)?;
         self.set_progress(number, Progress::Reads(source));
         if let Container::Module(m) = source {
-            let listed = self.listed(m);
-            if let Some(asker) = self.askers.get_mut(number) {
-                asker.next_beside = listed.readers;
-            }
-            let readers = Some(number);
-            self.list(m, Listed { readers, ..listed })?;
+            self.add_reader(m, number)?;
         }
-        self.offer_all(glob, source)
+        self.offer_all(maps, number, asker, source)
+    }
+
+    /// Adds a glob to those that have a module as their source.
+    fn add_reader(&mut self, m: ModuleId, number: usize) -> Result<(), AllocError> {
+        let listed = self.listed(m);
+        if let Some(asker) = self.askers.get_mut(number) {
+            asker.next_beside = listed.readers;
+        }
+        let readers = Some(number);
+        self.list(m, Listed { readers, ..listed })
     }
 
     /// Follows the path of a glob.
-    fn ask_glob(
+    fn ask_glob<M: Maps>(
         &mut self,
+        maps: &mut M,
         number: usize,
-        glob: usize,
-        by: &'a GlobImport,
+        asker: &Asker,
     ) -> Result<(), AllocError> {
         let who = Who {
-            home: by.into,
+            home: asker.home,
             number: None,
         };
-        match self.walk(who, None, &by.path, Namespace::Types)? {
+        match self.walk_of(maps, who, asker.leaf, Namespace::Types)? {
             Found::Nothing => self.close(number),
             Found::Waits(slot, has_other_way) => {
                 self.wait(number, slot, has_other_way);
                 Ok(())
             }
             Found::Is(found, _slot) => match led(Some(found)) {
-                Some(source) if is_other(by.into, source) => self.read(number, glob, source),
+                Some(source) if is_other(asker.home, source) => {
+                    self.read(maps, number, asker, source)
+                }
                 _ => self.close(number),
             },
         }
     }
 
     /// Follows a path that may lead further than before.
-    fn ask(&mut self, number: usize) -> Result<(), AllocError> {
+    fn ask<M: Maps>(&mut self, maps: &mut M, number: usize) -> Result<(), AllocError> {
         let Some(asker) = self.asker(number) else {
             return Ok(());
         };
-        let imports: &'a [NamedImport] = self.given.imports;
-        let globs: &'a [GlobImport] = self.given.globs;
-        match (asker.progress, asker.asks) {
+        match (asker.progress, asker.step) {
             (Progress::Closed, _) | (Progress::Reads(_), _) => Ok(()),
-            (_, Asks::Import(place, namespace)) => match imports.get(place) {
-                None => Ok(()),
-                Some(import) => self.ask_import(number, asker, import, namespace),
-            },
-            (_, Asks::Glob(place)) => match globs.get(place) {
-                None => Ok(()),
-                Some(glob) => self.ask_glob(number, place, glob),
-            },
+            (_, Step::Import(_, namespace)) => self.ask_import(maps, number, &asker, namespace),
+            (_, Step::Glob(_)) => self.ask_glob(maps, number, &asker),
         }
     }
 
     /// Does what is to be done for a task.
-    pub(crate) fn do_task(&mut self, task: Task) -> Result<(), AllocError> {
+    pub(crate) fn do_task<M: Maps>(&mut self, maps: &mut M, task: Task) -> Result<(), AllocError> {
         match task {
-            Task::Ask(number) => self.ask(number),
+            Task::Ask(number) => self.ask(maps, number),
             Task::Cell(slot) => {
                 self.wake(slot)?;
-                self.offer_on(slot)
+                self.offer_on(maps, slot)
             }
         }
     }

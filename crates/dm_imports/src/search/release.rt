@@ -1,219 +1,217 @@
 //! Which slots may still get something, while names are searched: an import that no way leads to is closed.
 
-use crate::search::asker::{Asks, Progress};
-use crate::search::cell::{Cell, Listed};
-use crate::search::sight::{least_of, most_of, sees};
+use crate::search::asker::is_open;
+use crate::search::cell::{Cell, Listed, SlotKey};
+use crate::search::maps::Maps;
 use crate::search::state::{Reach, Search};
 use dm_base::ids::ModuleId;
 use dm_base::visibility::Visibility;
 use std::alloc::AllocError;
 
-impl<'a> Search<'a> {
+/// The most permissive of a visibility, if there is one, and another.
+fn most_with<M: Maps>(
+    maps: &M,
+    m: ModuleId,
+    before: Option<Visibility>,
+    vis: Visibility,
+) -> Visibility {
+    match before {
+        None => vis,
+        Some(before) => maps.most(m, before, vis),
+    }
+}
+
+impl Search {
     /// Forgets which slots may get something.
-    fn forget(&mut self) -> Result<(), AllocError> {
+    fn forget(&mut self) {
         for cell in self.cells.iter_mut() {
             cell.may = None;
         }
         for (_m, listed) in self.modules.iter_mut() {
             listed.any = None;
         }
-        Ok(())
-    }
-
-    fn to_spread(&mut self, reach: Reach) -> Result<(), AllocError> {
-        self.reached.push(reach)?;
-        Ok(())
     }
 
     /// A slot may get something that is seen so.
-    fn reach(&mut self, slot: usize, vis: Visibility) -> Result<(), AllocError> {
+    fn reach<M: Maps>(&mut self, maps: &M, slot: usize, vis: Visibility) -> Result<(), AllocError> {
         let Some(cell) = self.cells.get_mut(slot) else {
             return Ok(());
         };
-        let together = match cell.may {
-            None => vis,
-            Some(before) => most_of(self.world, cell.m, before, vis),
-        };
-        if cell.may == Some(together) {
+        let together = Some(most_with(maps, cell.key.m, cell.may, vis));
+        if cell.may == together {
             return Ok(());
         }
-        cell.may = Some(together);
-        self.to_spread(Reach::Cell(slot))
+        cell.may = together;
+        self.reached.push(Reach::Cell(slot))?;
+        Ok(())
     }
 
     /// Any name of a module may get something that is seen so.
-    fn reach_module(&mut self, m: ModuleId, vis: Visibility) -> Result<(), AllocError> {
+    fn reach_module<M: Maps>(
+        &mut self,
+        maps: &M,
+        m: ModuleId,
+        vis: Visibility,
+    ) -> Result<(), AllocError> {
         let listed = self.listed(m);
-        let together = match listed.any {
-            None => vis,
-            Some(before) => most_of(self.world, m, before, vis),
-        };
-        if listed.any == Some(together) {
+        let any = Some(most_with(maps, m, listed.any, vis));
+        if listed.any == any {
             return Ok(());
         }
-        let any = Some(together);
         self.list(m, Listed { any, ..listed })?;
-        self.to_spread(Reach::Module(m))
+        self.reached.push(Reach::Module(m))?;
+        Ok(())
     }
 
-    /// What a slot has already.
-    fn has_already(&self, cell: &Cell<'a>) -> Option<Visibility> {
+    /// Who sees what a slot has already.
+    fn has_already<M: Maps>(&self, maps: &M, cell: &Cell) -> Option<Visibility> {
         if let Some(declared) = cell.declared {
             return Some(declared.vis);
         }
-        let by_import = match cell.bound {
-            None => None,
-            Some(number) => self.bound_vis(number),
-        };
-        match by_import {
-            Some(vis) => Some(self.most_in(cell, vis)),
-            None => match cell.offered {
-                None => None,
-                Some(all) => Some(all.vis),
-            },
+        let by_import = self.bound_vis(cell.bound);
+        match (by_import, cell.offered) {
+            (Some(vis), Some(all)) => Some(maps.most(cell.key.m, vis, all.vis)),
+            (None, Some(all)) => Some(all.vis),
+            (vis, None) => vis,
         }
     }
 
-    fn bound_vis(&self, number: usize) -> Option<Visibility> {
-        match self.asker(number)?.progress {
-            Progress::Bound(meaning) => Some(meaning.vis),
-            _ => None,
-        }
+    /// Who sees what an import brings, if it is bound.
+    fn bound_vis(&self, number: Option<usize>) -> Option<Visibility> {
+        let meaning = self.bound_by(number?)?;
+        Some(meaning.vis)
     }
 
     /// Reaches the slots that have something already.
-    fn reach_bound(&mut self) -> Result<(), AllocError> {
+    fn reach_bound<M: Maps>(&mut self, maps: &M) -> Result<(), AllocError> {
         for slot in 0..self.cells.len() {
             let Some(cell) = self.cell(slot) else {
                 break;
             };
-            if let Some(vis) = self.has_already(&cell) {
-                self.reach(slot, vis)?;
+            if let Some(vis) = self.has_already(maps, &cell) {
+                self.reach(maps, slot, vis)?;
             }
         }
         Ok(())
     }
 
     /// Reaches what one brings that is open: the slot of an import, or any name of a glob's module.
-    fn reach_by(&mut self, number: usize) -> Result<(), AllocError> {
+    fn reach_by<M: Maps>(&mut self, maps: &M, number: usize) -> Result<(), AllocError> {
         let Some(asker) = self.asker(number) else {
             return Ok(());
         };
-        if !matches!(asker.progress, Progress::Open) {
+        if !is_open(&asker) {
             return Ok(());
         }
-        match (asker.asks, asker.slot) {
-            (Asks::Import(place, _), Some(slot)) => match self.given.imports.get(place) {
-                None => Ok(()),
-                Some(import) => self.reach(slot, import.vis),
-            },
-            (Asks::Glob(place), _) => match self.given.globs.get(place) {
-                None => Ok(()),
-                Some(glob) => self.reach_module(glob.into, glob.vis),
-            },
-            _ => Ok(()),
+        match asker.slot {
+            Some(slot) => self.reach(maps, slot, asker.vis),
+            None => self.reach_module(maps, asker.home, asker.vis),
         }
     }
 
     /// Reaches what those bring to whom a name around their modules is left.
-    fn reach_by_other_ways(&mut self) -> Result<(), AllocError> {
+    fn reach_by_other_ways<M: Maps>(&mut self, maps: &M) -> Result<(), AllocError> {
         for number in 0..self.askers.len() {
             let Some(asker) = self.asker(number) else {
                 break;
             };
             if asker.has_other_way {
-                self.reach_by(number)?;
+                self.reach_by(maps, number)?;
             }
         }
         Ok(())
     }
 
+    /// Who may see a slot in the end, if it may get something.
+    fn may_be_at(&self, slot: Option<usize>) -> Option<Visibility> {
+        self.cell(slot?)?.may
+    }
+
     /// Whether one sees what may be where it waits.
-    fn has_way(&self, number: usize) -> bool {
+    fn has_way<M: Maps>(&self, maps: &M, number: usize) -> bool {
         let Some(asker) = self.asker(number) else {
             return false;
         };
         if asker.has_other_way {
             return true;
         }
-        let Some(slot) = asker.waits_at else {
-            return false;
-        };
-        match self.cell(slot) {
+        match self.may_be_at(asker.waits_at) {
             None => false,
-            Some(cell) => match cell.may {
-                None => false,
-                Some(vis) => sees(self.world, asker.home, vis),
-            },
+            Some(vis) => maps.sees(asker.home, vis),
         }
     }
 
     /// Reaches what those bring that wait at a slot.
-    fn reach_waiters(&mut self, cell: &Cell<'a>) -> Result<(), AllocError> {
-        let mut next = cell.waiters;
+    fn reach_waiters<M: Maps>(&mut self, maps: &M, first: Option<usize>) -> Result<(), AllocError> {
+        let mut next = first;
         for _waiter in 0..self.askers.len() {
             let Some(number) = next else {
                 break;
             };
-            if self.has_way(number) {
-                self.reach_by(number)?;
+            if self.has_way(maps, number) {
+                self.reach_by(maps, number)?;
             }
-            next = match self.asker(number) {
-                None => None,
-                Some(asker) => asker.next_waiter,
-            };
+            next = self.next_waiter(number);
         }
         Ok(())
     }
 
     /// Reaches, by a glob, what it offers of a slot. Answers with the next glob of its source.
-    fn reach_offered(
+    fn reach_offered<M: Maps>(
         &mut self,
+        maps: &M,
         number: usize,
-        cell: &Cell<'a>,
+        from: SlotKey,
         may: Visibility,
     ) -> Result<Option<usize>, AllocError> {
-        let (Some(asker), Some(place)) = (self.asker(number), self.glob_of(number)) else {
+        let Some(glob) = self.asker(number) else {
             return Ok(None);
         };
-        let Some(glob) = self.given.globs.get(place) else {
-            return Ok(None);
-        };
-        if sees(self.world, glob.into, may) {
-            let slot = self.number(glob.into, cell.name, cell.namespace)?;
-            let vis = least_of(self.world, glob.into, glob.vis, may);
-            self.reach(slot, vis)?;
+        let m = glob.home;
+        if maps.sees(m, may) {
+            let slot = self.number(maps, SlotKey { m, ..from })?;
+            self.reach(maps, slot, maps.least(m, glob.vis, may))?;
         }
-        Ok(asker.next_beside)
+        Ok(glob.next_beside)
     }
 
     /// Reaches what globs offer of a slot.
-    fn reach_readers(&mut self, cell: &Cell<'a>, may: Visibility) -> Result<(), AllocError> {
-        let mut next = self.listed(cell.m).readers;
+    fn reach_readers<M: Maps>(
+        &mut self,
+        maps: &M,
+        from: SlotKey,
+        may: Visibility,
+    ) -> Result<(), AllocError> {
+        let mut next = self.listed(from.m).readers;
         for _reader in 0..self.askers.len() {
             let Some(number) = next else {
                 break;
             };
-            next = self.reach_offered(number, cell, may)?;
+            next = self.reach_offered(maps, number, from, may)?;
         }
         Ok(())
     }
 
     /// Reaches what a slot leads to.
-    fn spread_cell(&mut self, slot: usize) -> Result<(), AllocError> {
+    fn spread_cell<M: Maps>(&mut self, maps: &M, slot: usize) -> Result<(), AllocError> {
         let Some(cell) = self.cell(slot) else {
             return Ok(());
         };
         let Some(may) = cell.may else {
             return Ok(());
         };
-        self.reach_waiters(&cell)?;
-        self.reach_readers(&cell, may)
+        self.reach_waiters(maps, cell.waiters)?;
+        self.reach_readers(maps, cell.key, may)
     }
 
     /// Reaches all slots of a module.
-    fn reach_all_of(&mut self, m: ModuleId, vis: Visibility) -> Result<(), AllocError> {
-        let mut next = self.listed(m).cells;
+    fn reach_all_of<M: Maps>(
+        &mut self,
+        maps: &M,
+        first: Option<usize>,
+        vis: Visibility,
+    ) -> Result<(), AllocError> {
+        let mut next = first;
         for _slot in 0..self.cells.len() {
             let Some(slot) = next else {
                 break;
@@ -222,7 +220,7 @@ impl<'a> Search<'a> {
                 break;
             };
             if cell.declared.is_none() {
-                self.reach(slot, vis)?;
+                self.reach(maps, slot, vis)?;
             }
             next = cell.next_in_module;
         }
@@ -230,54 +228,56 @@ impl<'a> Search<'a> {
     }
 
     /// Reaches, by a glob, any name of its module. Answers with the next glob of its source.
-    fn reach_any(&mut self, number: usize, any: Visibility) -> Result<Option<usize>, AllocError> {
-        let (Some(asker), Some(place)) = (self.asker(number), self.glob_of(number)) else {
+    fn reach_any<M: Maps>(
+        &mut self,
+        maps: &M,
+        number: usize,
+        any: Visibility,
+    ) -> Result<Option<usize>, AllocError> {
+        let Some(glob) = self.asker(number) else {
             return Ok(None);
         };
-        let Some(glob) = self.given.globs.get(place) else {
-            return Ok(None);
-        };
-        if sees(self.world, glob.into, any) {
-            let vis = least_of(self.world, glob.into, glob.vis, any);
-            self.reach_module(glob.into, vis)?;
+        if maps.sees(glob.home, any) {
+            let vis = maps.least(glob.home, glob.vis, any);
+            self.reach_module(maps, glob.home, vis)?;
         }
-        Ok(asker.next_beside)
+        Ok(glob.next_beside)
     }
 
     /// Reaches what any name of a module leads to.
-    fn spread_module(&mut self, m: ModuleId) -> Result<(), AllocError> {
+    fn spread_module<M: Maps>(&mut self, maps: &M, m: ModuleId) -> Result<(), AllocError> {
         let listed = self.listed(m);
         let Some(any) = listed.any else {
             return Ok(());
         };
-        self.reach_all_of(m, any)?;
+        self.reach_all_of(maps, listed.cells, any)?;
         let mut next = listed.readers;
         for _reader in 0..self.askers.len() {
             let Some(number) = next else {
                 break;
             };
-            next = self.reach_any(number, any)?;
+            next = self.reach_any(maps, number, any)?;
         }
         Ok(())
     }
 
     /// Reaches all that what was reached leads to.
-    fn spread(&mut self) -> Result<(), AllocError> {
+    fn spread<M: Maps>(&mut self, maps: &M) -> Result<(), AllocError> {
         for _step in 0..u64::MAX {
             match self.reached.pop() {
                 None => break,
-                Some(Reach::Cell(slot)) => self.spread_cell(slot)?,
-                Some(Reach::Module(m)) => self.spread_module(m)?,
+                Some(Reach::Cell(slot)) => self.spread_cell(maps, slot)?,
+                Some(Reach::Module(m)) => self.spread_module(maps, m)?,
             }
         }
         Ok(())
     }
 
     /// Closes the imports that no way leads to. Answers whether there were any.
-    fn close_lost(&mut self) -> Result<bool, AllocError> {
+    fn close_lost<M: Maps>(&mut self, maps: &M) -> Result<bool, AllocError> {
         let mut is_any_closed = false;
         for number in 0..self.askers.len() {
-            if self.is_open_import(number) && !self.has_way(number) {
+            if self.is_open_import(number) && !self.has_way(maps, number) {
                 self.close(number)?;
                 is_any_closed = true;
             }
@@ -288,18 +288,18 @@ impl<'a> Search<'a> {
     fn is_open_import(&self, number: usize) -> bool {
         match self.asker(number) {
             None => false,
-            Some(asker) => asker.slot.is_some() && matches!(asker.progress, Progress::Open),
+            Some(asker) => asker.slot.is_some() && is_open(&asker),
         }
     }
 
     /// Makes out anew which slots may get something, and closes the imports that no way leads to. Answers whether there
     /// were any.
-    pub(crate) fn release(&mut self) -> Result<bool, AllocError> {
-        self.forget()?;
-        self.reach_bound()?;
-        self.reach_by_other_ways()?;
-        self.spread()?;
-        let is_any_closed = self.close_lost()?;
+    pub(crate) fn release<M: Maps>(&mut self, maps: &M) -> Result<bool, AllocError> {
+        self.forget();
+        self.reach_bound(maps)?;
+        self.reach_by_other_ways(maps)?;
+        self.spread(maps)?;
+        let is_any_closed = self.close_lost(maps)?;
         self.is_released = true;
         self.wake_all()?;
         Ok(is_any_closed)

@@ -1,29 +1,17 @@
 //! How names are searched: paths are followed as far as they lead; where none leads further, what certainly does not come
 //! is released; at last globs bring names although imports of their slots are open.
 
-use crate::named_import::{ImportKind, NamedImport};
-use crate::search::asker::{Asker, Asks, Progress, begun};
-use crate::search::cell::Cell;
+use crate::search::asker::{Asker, Progress, begun};
+use crate::search::cell::{Cell, SlotKey};
+use crate::search::leaf::{Binds, Leaf, name_in};
+use crate::search::maps::Maps;
 use crate::search::offers::NAMESPACES;
 use crate::search::state::{Search, Task};
-use dm_base::ids::ModuleId;
-use dm_base::item_in_ns::ItemModules;
+use crate::step::Step;
 use dm_base::per_ns::Namespace;
 use std::alloc::AllocError;
 
-/// Whether an import may bring something in a namespace.
-fn may_bring(import: &NamedImport, namespace: Namespace) -> bool {
-    match import.kind {
-        ImportKind::All => true,
-        ImportKind::TypeOnly => matches!(namespace, Namespace::Types),
-    }
-}
-
-impl<'a> Search<'a> {
-    fn is_own_module(&self, m: ModuleId) -> bool {
-        self.world.module_krate(m) == Some(self.krate)
-    }
-
+impl Search {
     /// Adds one who asks.
     fn add_asker(&mut self, asker: Asker) -> Result<(), AllocError> {
         let number = self.askers.len();
@@ -32,13 +20,15 @@ impl<'a> Search<'a> {
     }
 
     /// Adds an import in a namespace.
-    fn add_import_in(
+    fn add_import_in<M: Maps>(
         &mut self,
-        place: usize,
-        import: &'a NamedImport,
+        maps: &M,
+        asker: Asker,
+        name: usize,
         namespace: Namespace,
     ) -> Result<(), AllocError> {
-        let slot = self.number(import.home, &import.name, namespace)?;
+        let m = asker.home;
+        let slot = self.number(maps, SlotKey { m, name, namespace })?;
         let number = self.askers.len();
         let mut next_beside = None;
         if let Some(cell) = self.cells.get_mut(slot) {
@@ -46,50 +36,46 @@ impl<'a> Search<'a> {
             cell.imports = Some(number);
             cell.open = cell.open.saturating_add(1);
         }
-        let asks = Asks::Import(place, namespace);
-        let asker = begun(asks, import.home, Some(slot));
         self.add_asker(Asker {
+            slot: Some(slot),
             next_beside,
             ..asker
         })
     }
 
     /// Adds an import.
-    fn add_import(&mut self, place: usize, import: &'a NamedImport) -> Result<(), AllocError> {
+    fn add_import<M: Maps>(
+        &mut self,
+        maps: &M,
+        number: usize,
+        leaf: &Leaf,
+    ) -> Result<(), AllocError> {
         for namespace in NAMESPACES {
-            if may_bring(import, namespace) {
-                self.add_import_in(place, import, namespace)?;
+            if let Some(name) = name_in(leaf.binds, namespace) {
+                let step = Step::Import(leaf.place, namespace);
+                self.add_import_in(maps, begun(step, number, leaf), name, namespace)?;
             }
         }
         Ok(())
     }
 
-    /// Adds the imports of the crate, in order.
-    fn add_imports(&mut self) -> Result<(), AllocError> {
-        for (place, import) in self.given.imports.iter().enumerate() {
-            if self.is_own_module(import.home) {
-                self.add_import(place, import)?;
-            }
-        }
-        Ok(())
-    }
-
-    /// Adds the globs of the crate.
-    fn add_globs(&mut self) -> Result<(), AllocError> {
-        for (place, glob) in self.given.globs.iter().enumerate() {
-            if self.is_own_module(glob.into) {
-                self.add_asker(begun(Asks::Glob(place), glob.into, None))?;
+    /// Adds the imports and globs of the crate, in order.
+    fn add_all<M: Maps>(&mut self, maps: &M) -> Result<(), AllocError> {
+        for (number, leaf) in maps.leaves().iter().enumerate() {
+            match leaf.binds {
+                Binds::Names => self.add_asker(begun(Step::Glob(leaf.place), number, leaf))?,
+                _ => self.add_import(maps, number, leaf)?,
             }
         }
         Ok(())
     }
 
     /// Does all that is to be done.
-    fn do_tasks(&mut self) -> Result<(), AllocError> {
+    fn do_tasks<M: Maps>(&mut self, maps: &mut M) -> Result<(), AllocError> {
         for _task in 0..u64::MAX {
             match self.tasks.pop() {
                 None => break,
-                Some(task) => self.do_task(task)?,
+                Some(task) => self.do_task(maps, task)?,
             }
         }
         Ok(())
@@ -106,9 +92,9 @@ impl<'a> Search<'a> {
     }
 
     /// Releases what certainly does not come, or else has globs bring names although imports of their slots are open.
-    fn go_on(&mut self) -> Result<(), AllocError> {
+    fn go_on<M: Maps>(&mut self, maps: &M) -> Result<(), AllocError> {
         let was_released = self.is_released;
-        let is_any_closed = self.release()?;
+        let is_any_closed = self.release(maps)?;
         if was_released && !is_any_closed {
             self.ignores_held = true;
             self.renew_held()?;
@@ -117,34 +103,29 @@ impl<'a> Search<'a> {
     }
 
     /// Searches what the imports and globs of the crate bring.
-    pub(crate) fn run(&mut self) -> Result<(), AllocError> {
-        self.add_imports()?;
-        self.add_globs()?;
+    pub(crate) fn run<M: Maps>(&mut self, maps: &mut M) -> Result<(), AllocError> {
+        self.add_all(maps)?;
         for _turn in 0..u64::MAX {
-            self.do_tasks()?;
+            self.do_tasks(maps)?;
             if self.ignores_held || !self.has_open() {
                 break;
             }
-            self.go_on()?;
+            self.go_on(maps)?;
         }
-        Ok(())
+        self.count_least(maps)
     }
 
     /// Makes out anew how far each slot is seen of which globs offer more than one meaning.
-    pub(crate) fn count_least(&mut self) -> Result<(), AllocError> {
+    fn count_least<M: Maps>(&mut self, maps: &mut M) -> Result<(), AllocError> {
         for cell in self.cells.iter_mut() {
             cell.least = None;
         }
         for number in 0..self.askers.len() {
-            if let Some(
-                Asker {
-                    progress: Progress::Reads(source),
-                    asks: Asks::Glob(glob),
-                    ..
-                },
-            ) = self.asker(number)
-            {
-                self.offer_all(glob, source)?;
+            let Some(asker) = self.asker(number) else {
+                break;
+            };
+            if let Progress::Reads(source) = asker.progress {
+                self.offer_all(maps, number, &asker, source)?;
             }
         }
         Ok(())

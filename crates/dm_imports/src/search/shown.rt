@@ -1,10 +1,11 @@
 //! What a slot shows while names are searched.
 
 use crate::meaning::Meaning;
-use crate::search::asker::{Asks, Progress};
-use crate::search::cell::Cell;
-use crate::search::sight::sees;
+use crate::search::asker::is_open;
+use crate::search::cell::{Cell, offered};
+use crate::search::maps::Maps;
 use crate::search::state::Search;
+use crate::step::Step;
 use dm_base::ids::ModuleId;
 use dm_base::per_ns::Namespace;
 
@@ -44,46 +45,44 @@ fn position_of(namespace: Namespace) -> usize {
     }
 }
 
-/// What the world has, where it is seen.
-pub(crate) fn if_seen(search: &Search<'_>, home: ModuleId, meaning: Option<Meaning>) -> Found {
+/// A certain meaning, or certainly nothing.
+pub(crate) fn certain(meaning: Option<Meaning>) -> Found {
     match meaning {
         None => Found::Nothing,
-        Some(meaning) => {
-            if sees(search.world, home, meaning.vis) {
-                Found::Is(meaning, None)
-            } else {
-                Found::Nothing
-            }
-        }
+        Some(meaning) => Found::Is(meaning, None),
     }
 }
 
-impl<'a> Search<'a> {
-    /// What an import brings, if it is bound.
-    fn bound_by(&self, number: usize) -> Option<Meaning> {
-        match self.asker(number)?.progress {
-            Progress::Bound(meaning) => Some(meaning),
-            _ => None,
-        }
+/// What is certain, where it is seen.
+pub(crate) fn if_seen<M: Maps>(maps: &M, home: ModuleId, meaning: Option<Meaning>) -> Found {
+    match meaning {
+        Some(seen) if maps.sees(home, seen.vis) => Found::Is(seen, None),
+        _ => Found::Nothing,
     }
+}
 
+/// What is seen of what imports or globs bring to a slot: what is not seen yet may be.
+pub(crate) fn seen_in<M: Maps>(maps: &M, home: ModuleId, slot: usize, meaning: Meaning) -> Found {
+    if maps.sees(home, meaning.vis) {
+        Found::Is(meaning, Some(slot))
+    } else {
+        Found::Waits(slot, false)
+    }
+}
+
+impl Search {
     /// The number that an import has in another namespace, if it may bring something there.
     fn number_in(&self, number: usize, namespace: Namespace) -> Option<usize> {
-        let Asks::Import(place, own) = self.asker(number)?.asks else {
+        let Step::Import(place, own) = self.asker(number)?.step else {
             return None;
         };
         let first = number.saturating_sub(position_of(own));
         let other = first.saturating_add(position_of(namespace));
-        if self.asker(other)?.asks == Asks::Import(place, namespace) {
+        if self.asker(other)?.step == Step::Import(place, namespace) {
             Some(other)
         } else {
             None
         }
-    }
-
-    /// The number that the import who asks has in the namespace of a slot.
-    fn own_number(&self, who: Who, cell: &Cell<'a>) -> Option<usize> {
-        self.number_in(who.number?, cell.namespace)
     }
 
     /// What the first import of a slot brings but for one, by the last of its imports.
@@ -97,13 +96,13 @@ impl<'a> Search<'a> {
             if number != own {
                 found = self.bound_by(number).or(found);
             }
-            next = self.asker(number)?.next_beside;
+            next = self.beside(number);
         }
         found
     }
 
     /// What imports bring to a slot but for one.
-    fn bound_in(&self, own: Option<usize>, cell: &Cell<'a>) -> Option<Meaning> {
+    fn bound_in(&self, own: Option<usize>, cell: &Cell) -> Option<Meaning> {
         let first = cell.bound?;
         if own == Some(first) {
             self.bound_beside(first, cell.imports)
@@ -119,13 +118,16 @@ impl<'a> Search<'a> {
         };
         match self.asker(number) {
             None => false,
-            Some(asker) => { asker.slot == Some(slot) && matches!(asker.progress, Progress::Open) }
+            Some(asker) => asker.slot == Some(slot) && is_open(&asker),
         }
     }
 
     /// What imports bring to a slot, or may still bring. An import does not see what it brings itself.
-    pub(crate) fn named(&self, who: Who, slot: usize, cell: &Cell<'a>) -> Named {
-        let own = self.own_number(who, cell);
+    pub(crate) fn named(&self, who: Who, slot: usize, cell: &Cell) -> Named {
+        let own = match who.number {
+            None => None,
+            Some(number) => self.number_in(number, cell.key.namespace),
+        };
         if let Some(meaning) = self.bound_in(own, cell) {
             return Named::Is(meaning);
         }
@@ -137,33 +139,16 @@ impl<'a> Search<'a> {
         }
     }
 
-    /// What globs offer a slot together. One that turned out to be ambiguous before is so from the beginning, and is seen
-    /// as it turned out.
-    pub(crate) fn offered(&self, cell: &Cell<'a>) -> Option<Meaning> {
-        let all = cell.offered?;
-        match self.caps.get(cell.m, cell.name, cell.namespace) {
-            None => Some(all),
-            Some(vis) => Some(Meaning {
-                vis,
-                is_ambiguous: true,
-                ..all
-            }),
-        }
-    }
-
-    /// What is seen of what imports or globs bring to a slot: what is not seen yet may be.
-    pub(crate) fn seen_in(&self, who: Who, slot: usize, meaning: Meaning) -> Found {
-        if sees(self.world, who.home, meaning.vis) {
-            Found::Is(meaning, Some(slot))
-        } else {
-            Found::Waits(slot, false)
-        }
-    }
-
     /// What globs bring to a slot, or may still bring.
-    pub(crate) fn by_globs(&self, who: Who, slot: usize, cell: &Cell<'a>) -> Found {
-        match self.offered(cell) {
-            Some(meaning) => self.seen_in(who, slot, meaning),
+    pub(crate) fn by_globs<M: Maps>(
+        &self,
+        maps: &M,
+        home: ModuleId,
+        slot: usize,
+        cell: &Cell,
+    ) -> Found {
+        match offered(cell) {
+            Some(meaning) => seen_in(maps, home, slot, meaning),
             None => {
                 if self.is_released && cell.may.is_none() {
                     Found::Nothing
@@ -175,17 +160,17 @@ impl<'a> Search<'a> {
     }
 
     /// What a slot shows.
-    pub(crate) fn shown(&self, who: Who, slot: usize) -> Found {
+    pub(crate) fn shown<M: Maps>(&self, maps: &M, who: Who, slot: usize) -> Found {
         let Some(cell) = self.cell(slot) else {
             return Found::Nothing;
         };
         if cell.declared.is_some() {
-            return if_seen(self, who.home, cell.declared);
+            return if_seen(maps, who.home, cell.declared);
         }
         match self.named(who, slot, &cell) {
-            Named::Is(meaning) => self.seen_in(who, slot, meaning),
+            Named::Is(meaning) => seen_in(maps, who.home, slot, meaning),
             Named::Held => Found::Waits(slot, false),
-            Named::Nothing => self.by_globs(who, slot, &cell),
+            Named::Nothing => self.by_globs(maps, who.home, slot, &cell),
         }
     }
 }

@@ -1,21 +1,17 @@
 //! `Search`: what is known on the way to what the imports and globs of a crate bring.
 
-use crate::importing::Importing;
-use crate::meaning::{Meaning, in_namespace};
-use crate::search::asker::{Asker, Progress};
-use crate::search::cell::{Cell, Listed, unlisted};
-use crate::slots::Slots;
-use dm_base::ids::{Crate, ModuleId};
-use dm_base::item_in_ns::ItemModules;
-use dm_base::name::Name;
-use dm_base::per_ns::Namespace;
+use crate::meaning::Meaning;
+use crate::search::asker::{Asker, Progress, is_open};
+use crate::search::cell::{Cell, Listed, SlotKey, unbound, unlisted};
+use crate::search::maps::Maps;
+use crate::step::Step;
+use dm_base::ids::ModuleId;
 use dm_base::visibility::Visibility;
-use dm_maps::world::World;
 use indexmap::IndexMap;
 use std::alloc::{AllocError, Global};
 
 /// What is still to be done.
-#[derive(Clone, Copy, Debug)]
+#[derive(Clone, Copy)]
 pub(crate) enum Task {
     /// A slot changed: those that wait there ask anew, and globs offer what it has.
     Cell(usize),
@@ -24,30 +20,26 @@ pub(crate) enum Task {
 }
 
 /// What can be reached, while names are released.
-#[derive(Clone, Copy, Debug)]
+#[derive(Clone, Copy)]
 pub(crate) enum Reach {
     Cell(usize),
     /// Any name of a module.
     Module(ModuleId),
 }
 
-/// What is known of the imports and globs of a crate, and of the slots that they go by.
-pub(crate) struct Search<'a> {
-    pub(crate) alloc: Global,
-    pub(crate) world: &'a World,
-    pub(crate) given: &'a Importing<'a>,
-    /// The crate whose imports and globs these are; all crates that it depends on are done.
-    pub(crate) krate: Crate,
-    /// The slots of these crates that are ambiguous.
-    pub(crate) ambiguous: &'a Slots<bool>,
-    /// Who sees slots that turned out to be ambiguous before.
-    pub(crate) caps: &'a Slots<Visibility>,
+/// What is known of the imports and globs of a crate, and of the slots that they go by: all by its number, so that what
+/// changes it is proved without the types that it is found in.
+pub(crate) struct Search {
     pub(crate) askers: Vec<Asker>,
-    pub(crate) cells: Vec<Cell<'a>>,
-    pub(crate) numbers: Slots<usize>,
+    pub(crate) cells: Vec<Cell>,
+    pub(crate) numbers: IndexMap<SlotKey, usize>,
     pub(crate) modules: IndexMap<ModuleId, Listed>,
+    /// Who sees slots that turned out to be ambiguous before.
+    pub(crate) caps: IndexMap<SlotKey, Visibility>,
     pub(crate) tasks: Vec<Task>,
     pub(crate) reached: Vec<Reach>,
+    /// The imports as they were bound, and the globs as they began to read their sources.
+    pub(crate) steps: Vec<Step>,
     /// Whether it is known which slots certainly stay empty.
     pub(crate) is_released: bool,
     /// Whether globs bring names although imports of their slots are open.
@@ -55,48 +47,42 @@ pub(crate) struct Search<'a> {
 }
 
 /// Hand-written `Drop`, to keep proofs small: dropping one is then a single call.
-impl<'a> Drop for Search<'a> {
+impl Drop for Search {
     fn drop(self) {
         let Search {
-            alloc: _alloc,
-            world: _world,
-            given: _given,
-            krate: _krate,
-            ambiguous: _ambiguous,
-            caps: _caps,
             askers: _askers,
             cells: _cells,
             numbers: _numbers,
             modules: _modules,
+            caps: _caps,
             tasks: _tasks,
             reached: _reached,
+            steps: _steps,
             is_released: _is_released,
             ignores_held: _ignores_held,
         } = self;
     }
 }
 
-/// What a world has in a slot.
-pub(crate) fn found_in(
-    world: &World,
-    ambiguous: &Slots<bool>,
-    m: ModuleId,
-    name: &Name,
-    namespace: Namespace,
-) -> Option<Meaning> {
-    let items = world.bound_in(m, name);
-    match in_namespace(&items, namespace) {
-        None => None,
-        Some(meaning) => Some(Meaning {
-            is_ambiguous: ambiguous.get(m, name, namespace).is_some(),
-            ..meaning
-        }),
+/// A search that has not begun.
+pub(crate) fn unbegun(alloc: Global, caps: IndexMap<SlotKey, Visibility>) -> Search {
+    Search {
+        askers: Vec::new(alloc),
+        cells: Vec::new(alloc),
+        numbers: IndexMap::new(alloc),
+        modules: IndexMap::new(alloc),
+        caps,
+        tasks: Vec::new(alloc),
+        reached: Vec::new(alloc),
+        steps: Vec::new(alloc),
+        is_released: false,
+        ignores_held: false,
     }
 }
 
-impl<'a> Search<'a> {
-    pub(crate) fn cell(&self, number: usize) -> Option<Cell<'a>> {
-        self.cells.get(number).copied()
+impl Search {
+    pub(crate) fn cell(&self, slot: usize) -> Option<Cell> {
+        self.cells.get(slot).copied()
     }
 
     pub(crate) fn asker(&self, number: usize) -> Option<Asker> {
@@ -110,73 +96,59 @@ impl<'a> Search<'a> {
         }
     }
 
-    /// Whether the names of a module are those of the world: it is not one of the crate.
-    pub(crate) fn is_done(&self, m: ModuleId) -> bool {
-        self.world.module_krate(m) != Some(self.krate)
+    pub(crate) fn list(&mut self, m: ModuleId, listed: Listed) -> Result<(), AllocError> {
+        self.modules.insert(m, listed)?;
+        Ok(())
     }
 
-    /// What the world has in a slot.
-    pub(crate) fn in_world(
-        &self,
-        m: ModuleId,
-        name: &Name,
-        namespace: Namespace,
-    ) -> Option<Meaning> {
-        found_in(self.world, self.ambiguous, m, name, namespace)
+    /// The import before one of the same slot, or the glob before one of the same source.
+    pub(crate) fn beside(&self, number: usize) -> Option<usize> {
+        self.asker(number)?.next_beside
+    }
+
+    /// The next one of those that wait where one does.
+    pub(crate) fn next_waiter(&self, number: usize) -> Option<usize> {
+        self.asker(number)?.next_waiter
+    }
+
+    /// The next slot of the module that a slot is in.
+    pub(crate) fn next_in_module(&self, slot: usize) -> Option<usize> {
+        self.cell(slot)?.next_in_module
+    }
+
+    /// What an import brings, if it is bound.
+    pub(crate) fn bound_by(&self, number: usize) -> Option<Meaning> {
+        match self.asker(number)?.progress {
+            Progress::Bound(meaning) => Some(meaning),
+            _ => None,
+        }
     }
 
     /// The number of a slot of the crate.
-    pub(crate) fn number(
-        &mut self,
-        m: ModuleId,
-        name: &'a Name,
-        namespace: Namespace,
-    ) -> Result<usize, AllocError> {
-        match self.numbers.get(m, name, namespace) {
-            Some(number) => Ok(number),
-            None => self.add_cell(m, name, namespace),
+    pub(crate) fn number<M: Maps>(&mut self, maps: &M, key: SlotKey) -> Result<usize, AllocError> {
+        match self.numbers.get(&key).copied() {
+            Some(slot) => Ok(slot),
+            None => {
+                let declared = maps.bound(key.m, key.name, key.namespace);
+                self.add_cell(key, declared)
+            }
         }
     }
 
     /// Adds a slot. Answers with its number.
-    fn add_cell(
-        &mut self,
-        m: ModuleId,
-        name: &'a Name,
-        namespace: Namespace,
-    ) -> Result<usize, AllocError> {
-        let number = self.cells.len();
-        let listed = self.listed(m);
-        let declared = self.in_world(m, name, namespace);
+    fn add_cell(&mut self, key: SlotKey, declared: Option<Meaning>) -> Result<usize, AllocError> {
+        let slot = self.cells.len();
+        let listed = self.listed(key.m);
+        let cap = self.caps.get(&key).copied();
         self.cells.push(Cell {
-            m,
-            name,
-            namespace,
-            declared,
-            imports: None,
-            bound: None,
-            open: 0,
-            offered: None,
-            first_glob: 0,
-            least: None,
-            waiters: None,
             may: listed.any,
             next_in_module: listed.cells,
+            ..unbound(key, declared, cap)
         })?;
-        self.numbers.put(m, name, namespace, number)?;
-        self.list(
-            m,
-            Listed {
-                cells: Some(number),
-                ..listed
-            },
-        )?;
-        Ok(number)
-    }
-
-    pub(crate) fn list(&mut self, m: ModuleId, listed: Listed) -> Result<(), AllocError> {
-        self.modules.insert(m, listed)?;
-        Ok(())
+        self.numbers.insert(key, slot)?;
+        let cells = Some(slot);
+        self.list(key.m, Listed { cells, ..listed })?;
+        Ok(slot)
     }
 
     pub(crate) fn to_do(&mut self, task: Task) -> Result<(), AllocError> {
@@ -237,7 +209,7 @@ impl<'a> Search<'a> {
     /// Whether a path is not followed to its end.
     pub(crate) fn has_open(&self) -> bool {
         for asker in &self.askers {
-            if matches!(asker.progress, Progress::Open) {
+            if is_open(asker) {
                 return true;
             }
         }

@@ -1,21 +1,17 @@
 //! How far the path of an import or a glob leads while names are searched.
 
 use crate::container::Container;
-use crate::meaning::{Meaning, public_def};
-use crate::paths::containers::{led, variant_in};
-use crate::paths::textual::textual_macro;
-use crate::search::around::{certain, extern_crate};
-use crate::search::shown::{Found, Named, Who, if_seen};
+use crate::meaning::public_def;
+use crate::paths::containers::led;
+use crate::search::cell::SlotKey;
+use crate::search::leaf::Path;
+use crate::search::maps::Maps;
+use crate::search::shown::{Found, Named, Who, certain, if_seen, seen_in};
 use crate::search::state::Search;
-use dm_base::ids::{Crate, EnumId, ModuleId};
-use dm_base::item_ids::{AdtId, MacroId, ModuleDefId};
-use dm_base::item_in_ns::ItemModules;
-use dm_base::mod_path::{ModPath, PathKind};
-use dm_base::module_tree::ModuleTree;
-use dm_base::name::Name;
+use dm_base::ids::ModuleId;
+use dm_base::item_ids::ModuleDefId;
+use dm_base::mod_path::PathKind;
 use dm_base::per_ns::Namespace;
-use dm_base::visibility::Visibility;
-use dm_maps::world::World;
 use std::alloc::AllocError;
 
 /// A module itself, as a type.
@@ -26,108 +22,63 @@ fn itself(m: ModuleId, namespace: Namespace) -> Found {
     }
 }
 
-/// The module that is so many steps outwards.
-fn outer_module(world: &World, m: ModuleId, steps: u8) -> Option<ModuleId> {
-    if world.has(m) {
-        world.outer_member(m, steps)
-    } else {
-        None
-    }
-}
-
 /// An extern crate, where a type is asked for.
-fn extern_crate_in(world: &World, m: ModuleId, name: &Name, namespace: Namespace) -> Found {
+fn extern_crate_in<M: Maps>(maps: &M, m: ModuleId, name: usize, namespace: Namespace) -> Found {
     match namespace {
-        Namespace::Types => certain(extern_crate(world, m, name)),
+        Namespace::Types => certain(maps.extern_crate(m, name)),
         Namespace::Values | Namespace::Macros => Found::Nothing,
     }
 }
 
-/// What has a name around the module left.
-fn with_other_way(found: Found, has_other_way: bool) -> Found {
-    match found {
-        Found::Waits(slot, _none) => Found::Waits(slot, has_other_way),
-        found => found,
-    }
-}
-
-impl<'a> Search<'a> {
-    /// The crate of a module.
-    fn krate_of(&self, m: ModuleId) -> Crate {
-        match self.world.module_krate(m) {
-            None => self.krate,
-            Some(krate) => krate,
-        }
-    }
-
-    /// The variant of an enum, where it is seen.
-    pub(crate) fn in_enum(
-        &self,
-        home: ModuleId,
-        e: EnumId,
-        name: &Name,
-        namespace: Namespace,
-    ) -> Found {
-        if !self.world.knows_def(ModuleDefId::AdtId(AdtId::EnumId(e))) {
-            return Found::Nothing;
-        }
-        let Some((v, shape)) = self.world.variant_of(e, name) else {
-            return Found::Nothing;
-        };
-        let vis = match self.given.enums.get(&e) {
-            None => Visibility::Public,
-            Some(vis) => *vis,
-        };
-        let variant = variant_in(namespace, shape, ModuleDefId::EnumVariantId(v), vis);
-        if_seen(self, home, variant)
-    }
-
+impl Search {
     /// A name of a container, where it is seen.
-    fn member(
+    fn member<M: Maps>(
         &mut self,
+        maps: &M,
         who: Who,
         container: Container,
-        name: &'a Name,
+        name: usize,
         namespace: Namespace,
     ) -> Result<Found, AllocError> {
         match container {
-            Container::Module(m) => self.in_module(who, m, name, namespace),
-            Container::Enum(e) => Ok(self.in_enum(who.home, e, name, namespace)),
+            Container::Module(m) => self.in_module(maps, who, SlotKey { m, name, namespace }),
+            Container::Enum(e) => Ok(if_seen(maps, who.home, maps.variant(e, name, namespace))),
         }
     }
 
     /// Segments in a container: each but the last one leads on as a type.
-    fn through(
+    fn through<M: Maps>(
         &mut self,
+        maps: &M,
         who: Who,
         container: Container,
-        segments: &'a [Name],
+        segments: &[usize],
         namespace: Namespace,
     ) -> Result<Found, AllocError> {
         let mut at = container;
-        let mut left = segments;
-        'segments: while let Some((name, rest)) = left.split_first() {
-            if rest.is_empty() {
-                return self.member(who, at, name, namespace);
+        let last = segments.len().saturating_sub(1);
+        for (place, name) in segments.iter().enumerate() {
+            if place == last {
+                return self.member(maps, who, at, *name, namespace);
             }
-            match self.member(who, at, name, Namespace::Types)? {
+            match self.member(maps, who, at, *name, Namespace::Types)? {
                 Found::Is(meaning, _slot) => match led(Some(meaning)) {
                     None => return Ok(Found::Nothing),
                     Some(into) => at = into,
                 },
                 found => return Ok(found),
             }
-            left = rest;
         }
         Ok(Found::Nothing)
     }
 
     /// What segments mean from a module, if there is one.
-    fn from_module(
+    fn from_module<M: Maps>(
         &mut self,
+        maps: &M,
         who: Who,
         m: Option<ModuleId>,
-        segments: &'a [Name],
+        segments: &[usize],
         namespace: Namespace,
     ) -> Result<Found, AllocError> {
         match m {
@@ -136,50 +87,53 @@ impl<'a> Search<'a> {
                 if segments.is_empty() {
                     Ok(itself(m, namespace))
                 } else {
-                    self.through(who, Container::Module(m), segments, namespace)
+                    self.through(maps, who, Container::Module(m), segments, namespace)
                 }
             }
         }
     }
 
     /// What globs bring to a slot of the module, where no name around that goes before it.
-    fn around_or_globs(
+    fn around_or_globs<M: Maps>(
         &mut self,
+        maps: &M,
         who: Who,
         slot: usize,
-        name: &'a Name,
-        namespace: Namespace,
+        key: SlotKey,
     ) -> Result<Found, AllocError> {
-        match self.around(who, name, namespace)? {
+        match self.around(maps, who, key.name, key.namespace)? {
             Found::Nothing => match self.cell(slot) {
                 None => Ok(Found::Nothing),
-                Some(cell) => Ok(self.by_globs(who, slot, &cell)),
+                Some(cell) => Ok(self.by_globs(maps, who.home, slot, &cell)),
             },
             found => Ok(found),
         }
     }
 
     /// A slot that an import may still bind: a name around the module may be left.
-    fn held_at(
+    fn held_at<M: Maps>(
         &mut self,
+        maps: &M,
         who: Who,
         slot: usize,
-        name: &'a Name,
-        namespace: Namespace,
+        key: SlotKey,
     ) -> Result<Found, AllocError> {
-        let around = self.around(who, name, namespace)?;
+        let around = self.around(maps, who, key.name, key.namespace)?;
         Ok(Found::Waits(slot, matches!(around, Found::Is(_, _))))
     }
 
     /// The first segment: what the module declares or imports by name goes before the names around it, and those before
     /// what globs bring.
-    fn in_home(
+    fn in_home<M: Maps>(
         &mut self,
+        maps: &M,
         who: Who,
-        name: &'a Name,
+        name: usize,
         namespace: Namespace,
     ) -> Result<Found, AllocError> {
-        let slot = self.number(who.home, name, namespace)?;
+        let m = who.home;
+        let key = SlotKey { m, name, namespace };
+        let slot = self.number(maps, key)?;
         let Some(cell) = self.cell(slot) else {
             return Ok(Found::Nothing);
         };
@@ -187,103 +141,84 @@ impl<'a> Search<'a> {
             return Ok(certain(cell.declared));
         }
         match self.named(who, slot, &cell) {
-            Named::Is(meaning) => Ok(self.seen_in(who, slot, meaning)),
-            Named::Held => self.held_at(who, slot, name, namespace),
-            Named::Nothing => self.around_or_globs(who, slot, name, namespace),
+            Named::Is(meaning) => Ok(seen_in(maps, who.home, slot, meaning)),
+            Named::Held => self.held_at(maps, who, slot, key),
+            Named::Nothing => self.around_or_globs(maps, who, slot, key),
         }
     }
 
-    /// In edition 2015: what the crate's root has, and then extern crates.
-    fn in_root(
+    /// In edition 2015: what the crate's root has.
+    fn in_root<M: Maps>(
         &mut self,
+        maps: &M,
         who: Who,
-        name: &'a Name,
+        name: usize,
         namespace: Namespace,
     ) -> Result<Found, AllocError> {
-        let root = self.world.root_of(self.krate_of(who.home));
-        let found = match root {
-            None => Found::Nothing,
-            Some(root) => self.in_module(who, root, name, namespace)?,
-        };
-        let other = extern_crate_in(self.world, who.home, name, namespace);
-        match found {
-            Found::Nothing => Ok(other),
-            found => Ok(with_other_way(found, matches!(other, Found::Is(_, _)))),
+        match maps.start(who.home, PathKind::Crate) {
+            None => Ok(Found::Nothing),
+            Some(m) => self.in_module(maps, who, SlotKey { m, name, namespace }),
         }
     }
 
     /// The first segment of a path.
-    fn first(
+    fn first<M: Maps>(
         &mut self,
+        maps: &M,
         who: Who,
-        textual: Option<MacroId>,
-        is_abs: bool,
-        name: &'a Name,
+        path: &Path,
+        name: usize,
         namespace: Namespace,
     ) -> Result<Found, AllocError> {
-        if self.world.is_2015(self.krate_of(who.home)) {
-            return self.in_root(who, name, namespace);
+        if maps.is_2015(who.home) {
+            return self.in_root(maps, who, name, namespace);
         }
-        if is_abs {
-            return Ok(extern_crate_in(self.world, who.home, name, namespace));
+        if matches!(path.kind, PathKind::Abs) {
+            return Ok(extern_crate_in(maps, who.home, name, namespace));
         }
-        match (namespace, textual) {
-            (Namespace::Macros, Some(id)) => {
-                let krate = self.krate_of(who.home);
-                let meaning = textual_macro(self.world, krate, id, name);
-                Ok(Found::Is(meaning, None))
-            }
-            _ => self.in_home(who, name, namespace),
+        match (namespace, path.textual) {
+            (Namespace::Macros, Some(id)) => Ok(certain(maps.textual(who.home, id, name))),
+            _ => self.in_home(maps, who, name, namespace),
         }
     }
 
-    /// What segments mean of which the first is looked up.
-    fn from_first(
+    /// What a path means whose first segment is looked up.
+    fn from_first<M: Maps>(
         &mut self,
+        maps: &M,
         who: Who,
-        textual: Option<MacroId>,
-        is_abs: bool,
-        segments: &'a [Name],
+        path: &Path,
         namespace: Namespace,
     ) -> Result<Found, AllocError> {
-        let Some((name, rest)) = segments.split_first() else {
+        let Some((name, rest)) = path.segments.split_first() else {
             return Ok(Found::Nothing);
         };
         if rest.is_empty() {
-            return self.first(who, textual, is_abs, name, namespace);
+            return self.first(maps, who, path, *name, namespace);
         }
-        match self.first(who, textual, is_abs, name, Namespace::Types)? {
+        match self.first(maps, who, path, *name, Namespace::Types)? {
             Found::Is(meaning, _slot) => match led(Some(meaning)) {
                 None => Ok(Found::Nothing),
-                Some(into) => self.through(who, into, rest, namespace),
+                Some(into) => self.through(maps, who, into, rest, namespace),
             },
             found => Ok(found),
         }
     }
 
     /// What a path means, as far as is known.
-    pub(crate) fn walk(
+    pub(crate) fn walk<M: Maps>(
         &mut self,
+        maps: &M,
         who: Who,
-        textual: Option<MacroId>,
-        path: &'a ModPath,
+        path: &Path,
         namespace: Namespace,
     ) -> Result<Found, AllocError> {
-        let segments = path.segments();
-        match path.kind() {
-            PathKind::Crate => {
-                let root = self.world.root_of(self.krate_of(who.home));
-                self.from_module(who, root, segments, namespace)
+        match path.kind {
+            PathKind::Plain | PathKind::Abs => self.from_first(maps, who, path, namespace),
+            kind => {
+                let from = maps.start(who.home, kind);
+                self.from_module(maps, who, from, path.segments.as_slice(), namespace)
             }
-            PathKind::DollarCrate(krate) => {
-                self.from_module(who, self.world.root_of(krate), segments, namespace)
-            }
-            PathKind::Super(steps) => {
-                let outer = outer_module(self.world, who.home, steps);
-                self.from_module(who, outer, segments, namespace)
-            }
-            PathKind::Abs => self.from_first(who, textual, true, segments, namespace),
-            PathKind::Plain => self.from_first(who, textual, false, segments, namespace),
         }
     }
 }

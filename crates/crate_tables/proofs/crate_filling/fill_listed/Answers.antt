@@ -1,4 +1,11 @@
 use Rattle.crate_tables.proofs.KeptLemmas.{kept-further, kept-grown}
+use Rattle.std.proofs.Common.{Option, subst, sym}
+use Rattle.std.specs.Prelude.{IfSome, IsTrue}
+use Rattle.crate_tables.proofs.LibraryLemmas.{library-known, library-on}
+use Rattle.crate_tables.specs.CrateRoots.{root_id}
+use Rattle.crate_tables.specs.declared.library_name.LibraryName.{LibraryName}
+use Rattle.dm_maps.specs.Known.{knows}
+use Rattle.dm_maps.specs.declared.check.held.HeldId.TheVariants as held
 use Rattle.crate_tables.proofs.crate_filling.fill_listed.Goals as goal
 use Rattle.crate_tables.specs.CrateRoots.{root_holds}
 use Rattle.crate_tables.specs.ExternCrates.{linkable}
@@ -17,3 +24,9 @@ returns-in_err-table-clause-stays c = kept-further _ _ _ (kept-grown _ _ c.in_ok
 
 pub returns-clause-stays : goal.returns-clause-stays
 returns-clause-stays c = kept-further _ _ _ (kept-grown _ _ c.in_ok-prepare.ensures.grown) c.in_ok-table.ensures.stays
+
+pub fill_list-requires-clause-library : goal.fill_list-requires-clause-library
+fill_list-requires-clause-library c =
+    library-on _ _ c.in_ok-library.library (kept-grown _ _ c.prepare.ensures.grown)
+    (subst (λ (l : Option LibraryName). IfSome l (λ l. IsTrue (knows c.args.builder.now (held.Module (root_id l.krate))))) (sym c.in_ok-library.ensures)
+    (library-known c.args.builder.now c.view.inside.edition c.as_slice.result.now c.args.view.now.krate c.args.dependencies.now c.requires.roots))

@@ -22,5 +22,6 @@ loop-item-preserved c =
           ∙ sym (ap (with_macros view (record { world = c.loop-item.builder; table = c.loop-item.table; ids = c.loop-item.ids.items })) (next-of c.args.items.now n c.item-item.result c.loop-item-test.true c.item-item.is))
           ∙ c.loop-item.invariant.added;
       kept = c.in_ok-add_one.ensures.kept;
+      ids = c.in_ok-add_one.ensures.ids;
       grown = grown-further _ _ _ c.loop-item.invariant.grown c.in_ok-add_one.ensures.grown;
     }

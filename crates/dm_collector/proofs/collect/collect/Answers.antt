@@ -1,9 +1,9 @@
-use Rattle.std.proofs.Common.{◌≡◌, List, subst, sym}
-use Rattle.std.specs.Map.{lookup}
-use Rattle.dm_collector.proofs.FaultLemmas.{not-imported, passed}
+use Rattle.std.proofs.Common.{subst, sym}
+use Rattle.dm_collector.proofs.EndLemmas.{keep-declared}
+use Rattle.dm_collector.proofs.FaultLemmas.{passed}
 use Rattle.dm_collector.specs.CollectFaults.{IsFault}
-use Rattle.dm_collector.specs.Collecting.{Given, IsBegun, IsImported, Kept}
-use Rattle.dm_def_map.specs.Variants.{same_enum}
+use Rattle.dm_collector.specs.Collecting.{IsBegun, IsImported, Kept, given_in, maps_in, names_of, state_of}
+use Rattle.dm_collector.specs.Steps.{Given}
 use Rattle.dm_collector.proofs.collect.collect.Goals as goal
 
 pub returns-in_err-order-clause-fault : goal.returns-in_err-order-clause-fault
@@ -12,47 +12,26 @@ returns-in_err-order-clause-fault c =
 
 pub returns-clause-collected : goal.returns-clause-collected
 returns-clause-collected c =
-    let b = c.in_ok-begun.begun in
-    let m = c.in_ok-made.made in
-    let e = c.in_ok-made.ensures in
-    let ps = b.beginning.pendings.items in
-    let s = b.beginning.retry.state in
-    let had : Kept = record { lists = b.lists.items; tables = b.beginning.rest.items; rows = b.externs.items; assocs = b.assocs.items } in
-    let has : Kept = record { lists = m.lists.items; tables = m.tables.items; rows = m.externs.items; assocs = m.assocs.items } in
-    let kept : had ≡ has = λ i. record { lists = sym e.lists i; tables = sym e.tables i; rows = sym e.externs i; assocs = sym e.assocs i } in
-    let was : Given = record { imports = b.beginning.imports.items; globs = b.beginning.globs.items; enums = λ x. lookup (same_enum x) b.beginning.enums.entries; uses = b.uses.items } in
-    let is : Given = record { imports = m.imports.items; globs = m.globs.items; enums = λ x. lookup (same_enum x) m.enums.entries; uses = m.uses.items } in
-    let given : was ≡ is = λ i. record { imports = sym e.imports i; globs = sym e.globs i; enums = λ x. lookup (same_enum x) (sym e.enums i); uses = sym e.uses i } in
+    let m = c.finish.new.made in
+    let b = c.in_ok-made.made in
+    let begun = subst (λ (z : Kept × Given). IsBegun c.args.reading.now c.args.graph.now z.0 z.1 (state_of b)) (λ i. (sym c.finish.ensures.kept i, sym c.finish.ensures.given i)) c.in_ok-made.ensures.begun in
+    let imported = subst (λ (x : Given). IsImported (maps_in m) 0 x (state_of b) (state_of m)) (sym c.finish.ensures.given) c.in_ok-finish.ensures.imported in
     record {
-      pendings = ps;
-      start = s;
-      begun = subst (λ (z : Kept × Given). IsBegun c.args.reading.now c.args.graph.now z.0 ps z.1 s) (λ i. (kept i, given i)) c.in_ok-begun.ensures.begun;
-      imported = subst (λ (z : Given). IsImported 0 z.imports z.globs z.uses ps s m.retry.state) given e.imported;
+      start = state_of b;
+      begun = begun;
+      imported = imported;
+      declared = keep-declared (maps_in m) 0 (given_in m) (state_of b) (state_of m) (names_of begun.crates.tables) begun.declared imported;
     }
 
 pub returns-clause-limited : goal.returns-clause-limited
 returns-clause-limited c = λ late.
-    let b = c.in_ok-begun.begun in
-    let m = c.in_ok-made.made in
-    let e = c.in_ok-made.ensures in
-    let ps = b.beginning.pendings.items in
-    let s = b.beginning.retry.state in
-    let had : Kept = record { lists = b.lists.items; tables = b.beginning.rest.items; rows = b.externs.items; assocs = b.assocs.items } in
-    let has : Kept = record { lists = m.lists.items; tables = m.tables.items; rows = m.externs.items; assocs = m.assocs.items } in
-    let kept : had ≡ has = λ i. record { lists = sym e.lists i; tables = sym e.tables i; rows = sym e.externs i; assocs = sym e.assocs i } in
-    let was : Given = record { imports = b.beginning.imports.items; globs = b.beginning.globs.items; enums = λ x. lookup (same_enum x) b.beginning.enums.entries; uses = b.uses.items } in
-    let is : Given = record { imports = m.imports.items; globs = m.globs.items; enums = λ x. lookup (same_enum x) m.enums.entries; uses = m.uses.items } in
-    let given : was ≡ is = λ i. record { imports = sym e.imports i; globs = sym e.globs i; enums = λ x. lookup (same_enum x) (sym e.enums i); uses = sym e.uses i } in
+    let m = c.finish.new.made in
+    let b = c.in_ok-made.made in
+    let begun = subst (λ (z : Kept × Given). IsBegun c.args.reading.now c.args.graph.now z.0 z.1 (state_of b)) (λ i. (sym c.finish.ensures.kept i, sym c.finish.ensures.given i)) c.in_ok-made.ensures.begun in
+    let imported = subst (λ (x : Given). IsImported (maps_in m) 4294967295 x (state_of b) (state_of m)) (sym c.finish.ensures.given) (c.in_ok-finish.ensures.limited late) in
     record {
-      pendings = ps;
-      start = s;
-      begun = subst (λ (z : Kept × Given). IsBegun c.args.reading.now c.args.graph.now z.0 ps z.1 s) (λ i. (kept i, given i)) c.in_ok-begun.ensures.begun;
-      imported = subst (λ (z : Given). IsImported 4294967295 z.imports z.globs z.uses ps s m.retry.state) given (e.limited late);
+      start = state_of b;
+      begun = begun;
+      imported = imported;
+      declared = keep-declared (maps_in m) 4294967295 (given_in m) (state_of b) (state_of m) (names_of begun.crates.tables) begun.declared imported;
     }
-
-pub returns-in_err-made-clause-fault : goal.returns-in_err-made-clause-fault
-returns-in_err-made-clause-fault c =
-    let r = c.args.reading.now in
-    let g = c.args.graph.now in
-    passed c.from_residual-in_err-made.result c.in_err-made.field-0.0 (IsFault r g) c.from_residual-in_err-made.ensures.1
-    (not-imported r g _ _ _ _ c.in_ok-begun.ensures.begun c.in_err-made.field-0.0 c.in_err-made.ensures.fault)

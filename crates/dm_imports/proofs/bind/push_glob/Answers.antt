@@ -16,4 +16,4 @@ returns c =
       meaning = record c.args.meaning { source = source.Glob g.import };
     } in
     let by : IsBrought is gs b = (g, c.requires, refl, refl) in
-    bound-once is gs _ _ b by c.push.ensures
+    bound-once is gs _ _ b by c.push.ensures.bound c.push.ensures.shown

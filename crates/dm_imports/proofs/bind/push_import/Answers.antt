@@ -16,4 +16,4 @@ returns c =
       meaning = record c.args.meaning { source = source.Import i.import };
     } in
     let by : IsBrought is gs b = (i, c.requires, refl, refl, c.in_ok-name.ensures) in
-    bound-once is gs _ _ b by c.push.ensures
+    bound-once is gs _ _ b by c.push.ensures.bound c.push.ensures.shown

@@ -30,13 +30,13 @@ use std::alloc::{AllocError, Global};
 
 /// What a glob's path means: in def maps, and to one who knows some slots alone.
 #[derive(Clone, Copy)]
-struct Sources {
-    own: Container,
-    known: Container,
+pub(crate) struct Sources {
+    pub(crate) own: Container,
+    pub(crate) known: Container,
 }
 
 /// What a glob offers of its source under a name, where that is found by known slots.
-fn known_from(
+pub(crate) fn known_from(
     maps: &DefMaps<'_>,
     known: &Slots<bool>,
     glob: &GlobImport,
@@ -108,7 +108,11 @@ fn add_names(
 }
 
 /// What a glob's path means, if it means something both in def maps and to one who knows some slots alone.
-fn sources_of(maps: &DefMaps<'_>, known: &Slots<bool>, glob: &GlobImport) -> Option<Sources>
+pub(crate) fn sources_of(
+    maps: &DefMaps<'_>,
+    known: &Slots<bool>,
+    glob: &GlobImport,
+) -> Option<Sources>
     requires { MayOffer (of_tables maps.now) glob.now }
     ensures { HasSources (of_tables maps.now) (slots_of known.now) glob.now (option_map (λ s. (s.own, s.known)) result) }
 {
@@ -119,7 +123,7 @@ fn sources_of(maps: &DefMaps<'_>, known: &Slots<bool>, glob: &GlobImport) -> Opt
 }
 
 /// Joins what a glob offers by known slots to the offers of other globs.
-fn add_glob(
+pub(crate) fn add_glob(
     all: &mut Slots<Joined>,
     alloc: Global,
     maps: &DefMaps<'_>,

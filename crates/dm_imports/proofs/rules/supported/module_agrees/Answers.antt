@@ -12,5 +12,5 @@ pub returns-clause-yes : goal.returns-clause-yes
 returns-clause-yes c = λ yes n has.
     let d = of_tables c.args.maps.now in
     let same : c.maps.inside.world.now ≡ d.world = ap (λ (t : MapTables). t.world) c.maps.view_is in
-    let there = c.in_ok-names.ensures n (subst (λ (w : World). Contains (names_of (scope_of w c.args.m)) n) (sym same) has) in
+    let there = c.in_ok-names.ensures.listed n (subst (λ (w : World). Contains (names_of (scope_of w c.args.m)) n) (sym same) has) in
     seen-all (Agrees d c.args.m) c.as_slice.result.now n (c.all_agree.ensures.0 yes) (subst (λ (l : List (Bor Name)). Contains (seen l) n) (sym c.as_slice.ensures.value) there)

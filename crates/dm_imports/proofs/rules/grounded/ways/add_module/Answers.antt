@@ -10,7 +10,7 @@ use Rattle.dm_imports.proofs.rules.grounded.ways.add_module.Goals as goal
 pub returns-clause-listed : goal.returns-clause-listed
 returns-clause-listed c = λ n has s.
     let ns = seen c.as_slice.result.now in
-    let there = subst (λ (l : List (Bor Name)). Contains (seen l) n) (sym c.as_slice.ensures.value) (c.in_ok-names.ensures n has) in
+    let there = subst (λ (l : List (Bor Name)). Contains (seen l) n) (sym c.as_slice.ensures.value) (c.in_ok-names.ensures.listed n has) in
     let own = contains-flat (slot_ways c.args.m) ns n _ there (three-contain c.args.m n s None) in
     subst (λ (ws : List Way). Contains ws (record { home = c.args.m; name = n; namespace = s; import = None })) (sym c.in_ok-add_names.ensures)
     (Contains-append_right c.args.ways.now.items (flat_map (slot_ways c.args.m) ns) _ own)

@@ -1,0 +1,12 @@
+use Rattle.std.proofs.Common.{◌∙◌, List, ap, subst, sym}
+use Rattle.crate_tables.proofs.UseLemmas.{table-used}
+use Rattle.crate_tables.specs.CrateTables.{IsTableOf, with_leaves}
+use Rattle.crate_tables.specs.declared.use_leaf.UseLeaf.{UseLeaf}
+use Rattle.crate_tables.proofs.crate_uses.add_use.Goals as goal
+
+pub returns-clause-kept : goal.returns-clause-kept
+returns-clause-kept c = λ k is seen.
+    c.in_ok-push_use.ensures.kept c.add_use.new.self k
+    (subst (IsTableOf c.add_use.new.self k) (sym (c.in_ok-push_leaves.ensures ∙ ap (λ (ls : List UseLeaf). with_leaves c.args.table.now ls) c.in_ok-leaves.ensures))
+    (table-used c.args.builder.now c.add_use.new.self k c.args.table.now c.args.textual.now c.args.number c.args.item.now c.args.m c.args.visibility c.in_ok-use_.use_ c.args.imports.items
+    c.in_ok-use_.ensures.added.grown c.requires.home c.in_ok-use_.ensures.added.known.0 c.requires.macros is seen))

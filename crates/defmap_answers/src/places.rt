@@ -1,0 +1,166 @@
+//! Where items stand, as FILE:LINE:COLUMN.
+ghost use Rattle.std.specs.Prelude.{◌≡◌, length};
+
+use crate::crates::Crates;
+use crate::offsets::{item_offset, leaf_offset};
+use crate_items::files::file_table::FileTable;
+use crate_items::files::line_index::LineIndex;
+use crate_items::files::source::Source;
+use crate_items::modules::CrateModules;
+use dm_base::ids::{ExternCrateId, FileId, UseId, UseTreeIdx};
+use dm_base::imports::ImportOrExternCrate;
+use std::alloc::{AllocError, Global};
+use std::fmt::Write;
+
+/// The crate, the file and the number there of an item.
+#[derive(Clone, Copy)]
+pub struct ItemPlace {
+    pub krate: usize,
+    pub file: FileId,
+    pub item: usize,
+}
+
+/// The lines of a file.
+#[derive(Drop)]
+struct FileLines<'a> {
+    path: &'a str,
+    /// How long its text is.
+    len: usize,
+    index: LineIndex<'a>,
+    ghost whole: { len ≡ length index },
+}
+
+/// The lines of all files, by their numbers.
+pub struct Lines<'a> {
+    files: Vec<FileLines<'a>>,
+}
+
+/// A hand-written `Drop`, to keep proofs small: what drops one has one call to prove.
+impl<'a> Drop for Lines<'a> {
+    fn drop(self) {
+        let Lines { files: _files } = self;
+    }
+}
+
+/// The lines of a text.
+fn file_lines<'a>(
+    alloc: Global,
+    path: &'a [u8],
+    text: &'a [u8],
+) -> Result<FileLines<'a>, AllocError> {
+    Ok(FileLines {
+        path: std::str::from_utf8(path).unwrap_or("?"),
+        len: text.len(),
+        index: LineIndex::new(alloc, text)?,
+    })
+}
+
+impl<'a> Lines<'a> {
+    pub fn new(alloc: Global, files: &'a FileTable) -> Result<Lines<'a>, AllocError> {
+        let mut all = Vec::new(alloc);
+        for number in 0..files.len() {
+            let id = FileId(u32::try_from(number).unwrap_or(u32::MAX));
+            if files.contains(id) {
+                all.push(file_lines(alloc, files.path(id), files.text(id))?)?;
+            }
+        }
+        Ok(Lines { files: all })
+    }
+
+    /// Adds the path of the file of a spot, its line and its column.
+    pub(crate) fn push_place(&self, out: &mut String, spot: Spot) -> Result<(), AllocError> {
+        let Some(lines) = self.files.get(spot.file.0 as usize) else {
+            return out.push_str("?");
+        };
+        let path = lines.path;
+        if spot.offset > lines.len {
+            return out.push_str(path);
+        }
+        let at = lines.index.line_col(spot.offset);
+        write!(out, "{path}:{}:{}", at.line, at.col)
+    }
+}
+
+/// The file of an import, and the byte of it where the import begins.
+#[derive(Clone, Copy)]
+pub struct Spot {
+    pub file: FileId,
+    pub offset: usize,
+}
+
+/// The source of a file in a crate's list.
+pub fn source_of(lists: &[CrateModules], krate: usize, file: FileId) -> Option<&Source> {
+    lists.get(krate)?.sources().get(file)
+}
+
+/// Where a leaf of a `use` begins.
+pub(crate) fn use_spot<C: Crates>(
+    alloc: Global,
+    crates: &C,
+    use_: UseId,
+    leaf: UseTreeIdx,
+) -> Result<Option<Spot>, AllocError> {
+    let Some(place) = crates.use_place(use_) else {
+        return Ok(None);
+    };
+    let Some(source) = source_of(crates.lists(), place.krate, place.file) else {
+        return Ok(None);
+    };
+    Ok(Some(Spot {
+        file: place.file,
+        offset: leaf_offset(alloc, source, place.item, leaf)?,
+    }))
+}
+
+/// Where an item of a crate begins.
+pub(crate) fn item_spot(
+    lists: &[CrateModules],
+    krate: usize,
+    file: FileId,
+    item: usize,
+) -> Option<Spot> {
+    let source = source_of(lists, krate, file)?;
+    Some(Spot {
+        file,
+        offset: item_offset(source, item),
+    })
+}
+
+/// Where an `extern crate` begins.
+fn extern_spot<C: Crates>(crates: &C, id: ExternCrateId) -> Option<Spot> {
+    let place = crates.extern_place(id)?;
+    item_spot(crates.lists(), place.krate, place.file, place.item)
+}
+
+/// Where the import begins that brought something.
+fn import_spot<C: Crates>(
+    alloc: Global,
+    crates: &C,
+    import: ImportOrExternCrate,
+) -> Result<Option<Spot>, AllocError> {
+    match import {
+        ImportOrExternCrate::Import(id) => use_spot(alloc, crates, id.use_, id.idx),
+        ImportOrExternCrate::Glob(id) => use_spot(alloc, crates, id.use_, id.idx),
+        ImportOrExternCrate::ExternCrate(id) => Ok(extern_spot(crates, id)),
+    }
+}
+
+/// Adds how an import is called, and where it begins.
+pub(crate) fn push_import<C: Crates>(
+    out: &mut String,
+    alloc: Global,
+    crates: &C,
+    lines: &Lines<'_>,
+    import: ImportOrExternCrate,
+) -> Result<(), AllocError> {
+    out.push_str(match import {
+        ImportOrExternCrate::Import(_) => "import",
+        ImportOrExternCrate::Glob(_) => "glob",
+        ImportOrExternCrate::ExternCrate(_) => "extern",
+    })?;
+    let Some(spot) = import_spot(alloc, crates, import)? else {
+        return Ok(());
+    };
+    out.push_str(" ")?;
+    lines.push_place(out, spot)
+}

@@ -1,7 +1,0 @@
-use Rattle.std.proofs.Common.{◌≡◌, ◌++◌, drop}
-use Rattle.std.specs.List.{flat_map}
-use Rattle.dm_collector.specs.NamedImports.{named_of}
-use Rattle.dm_collector.proofs.named_imports.named_imports.Given as goal
-
-abbrev pub invariant-loop-pending : goal.invariant-loop-pending
-invariant-loop-pending l = l.imports.items ++ flat_map (named_of l.world) (drop l.pending-index l.pendings) ≡ flat_map (named_of l.world) l.pendings

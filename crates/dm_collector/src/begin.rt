@@ -1,0 +1,211 @@
+//! Crates, before anything is imported: their files are read, and their modules and items declared in one world.
+ghost use Rattle.std.specs.Prelude.{◌≡◌, [], All, IfErr, IfOk, map};
+ghost use Rattle.std.specs.List.{flat_map};
+ghost use Rattle.std.specs.Map.{lookup};
+ghost use Rattle.crate_items.specs.CrateGraphs.{Graph};
+ghost use Rattle.crate_tables.specs.AssocItems.{AreAllAdded};
+ghost use Rattle.crate_tables.specs.CrateFillings.{AreFilled, IsKnownTable, Reading as Given};
+ghost use Rattle.crate_tables.specs.CrateTables.{IsNameOf, Table, emptied};
+ghost use Rattle.crate_tables.specs.DeclaredWorlds.{AreShown, BindNothing, with_all_declared};
+ghost use Rattle.dm_base.specs.declared.ids.EnumId.{EnumId as Id};
+ghost use Rattle.dm_collector.specs.CollectFaults.{IsFault, IsNotDeclared};
+ghost use Rattle.dm_collector.specs.Collecting as spec;
+ghost use Rattle.dm_collector.specs.Enums.{enum_vis};
+ghost use Rattle.dm_collector.specs.Leaves.{globs_of, imports_of};
+ghost use Rattle.dm_collector.specs.MacroUses.{macro_uses};
+ghost use Rattle.dm_collector.specs.PreludeGlobs.{unless_named};
+ghost use Rattle.dm_collector.specs.declared.collect_fault.CollectFault.TheVariants as faults;
+ghost use Rattle.dm_def_map.specs.Variants.{same_enum};
+ghost use Rattle.dm_scope.specs.Flags.{no_globs};
+
+use crate::collect_fault::{CollectFault, of_builder, of_declared, of_filling};
+use crate::collected::Collected;
+use crate::enums::enum_visibilities;
+use crate::leaves::split;
+use crate::macro_uses::{MacroUses, macro_uses};
+use crate::prelude_globs::bringing_names;
+use crate_items::files::crate_graph::CrateGraph;
+use crate_items::modules::CrateModules;
+use crate_tables::assoc_items::filling::{AssocPlace, add_assoc_items};
+use crate_tables::crate_filling::{FilledCrates, Reading, filled};
+use crate_tables::crate_table::CrateTable;
+use crate_tables::declared_name::DeclaredName;
+use crate_tables::declared_world::declared_world;
+use crate_tables::extern_crates::ExternCrateRow;
+use crate_tables::table_parts::table_parts;
+use dm_base::ids::EnumId;
+use dm_base::visibility::Visibility;
+use dm_imports::glob_import::GlobImport;
+use dm_imports::named_import::NamedImport;
+use dm_imports::slots::Slots;
+use dm_maps::builder::WorldBuilder;
+use dm_maps::world::World;
+use dm_scope::glob_imports::PerNsGlobImports;
+use indexmap::IndexMap;
+use std::alloc::Global;
+
+/// A world in which crates declare what they do, what they import, and their tables without names and leaves of uses.
+#[derive(Drop)]
+struct Declared {
+    world: World,
+    flags: PerNsGlobImports,
+    imports: Vec<NamedImport>,
+    globs: Vec<GlobImport>,
+    enums: IndexMap<EnumId, Visibility>,
+    rest: Vec<CrateTable>,
+}
+
+/// The world of some tables, with names declared.
+fn world_with(
+    alloc: Global,
+    tables: WorldBuilder,
+    names: &[DeclaredName],
+) -> Result<(World, PerNsGlobImports), CollectFault>
+    requires known { All (IsNameOf tables) names.now }
+    requires empty { BindNothing tables }
+    ensures world { IfOk result (λ made. (record { world = made.0; globs = made.1 }) ≡
+        with_all_declared (record { world = tables; globs = no_globs }) names.now) }
+    ensures declared { IfOk result (λ made. AreShown made.0 made.1 names.now) }
+    ensures fault { IfErr result (IsNotDeclared tables) }
+{
+    match declared_world(alloc, tables, names) {
+        Err(fault) => Err(of_declared(fault)),
+        Ok(made) => Ok(made),
+    }
+}
+
+/// The world of some tables, with what crates declare, and what they import.
+fn declare(
+    alloc: Global,
+    builder: WorldBuilder,
+    tables: Vec<CrateTable>,
+) -> Result<Declared, CollectFault>
+    requires known { All (IsKnownTable builder) tables.items }
+    requires empty { BindNothing builder }
+    ensures world { IfOk result (λ made. (record { world = made.world; globs = made.flags }) ≡
+        with_all_declared (record { world = builder; globs = no_globs }) (spec.names_of tables.items)) }
+    ensures declared { IfOk result (λ made. AreShown made.world made.flags (spec.names_of tables.items)) }
+    ensures imports { IfOk result
+        (λ made. made.imports.items ≡ flat_map imports_of (spec.leaves_of tables.items)) }
+    ensures globs { IfOk result (λ made. made.globs.items ≡ flat_map (unless_named made.world)
+        (flat_map globs_of (spec.leaves_of tables.items))) }
+    ensures enums { IfOk result (λ made. (e : Id) → lookup (same_enum e) made.enums.entries
+        ≡ enum_vis (spec.names_of tables.items) e) }
+    ensures rest { IfOk result (λ made. made.rest.items ≡ map emptied tables.items) }
+    ensures fault { IfErr result (IsNotDeclared builder) }
+{
+    let parts = table_parts(alloc, tables)?;
+    let names = parts.names;
+    let (world, flags) = world_with(alloc, builder, names.as_slice())?;
+    let leaves = split(alloc, parts.leaves)?;
+    let globs = bringing_names(alloc, &world, leaves.globs)?;
+    let enums = enum_visibilities(alloc, names.as_slice())?;
+    Ok(Declared {
+        world,
+        flags,
+        imports: leaves.imports,
+        globs,
+        enums,
+        rest: parts.rest,
+    })
+}
+
+/// The crates of a graph, filled.
+fn tables_of(
+    alloc: Global,
+    graph: &CrateGraph,
+    reading: &Reading<'_>,
+) -> Result<FilledCrates, CollectFault>
+    ensures filled { IfOk result (λ made. AreFilled reading.now graph.now
+        (record { world = made.builder; lists = made.lists.items; tables = made.tables.items; rows = made.externs.items })) }
+    ensures known { IfOk result (λ made. All (IsKnownTable made.builder) made.tables.items) }
+    ensures empty { IfOk result (λ made. BindNothing made.builder) }
+    ensures fault { IfErr result (IsFault reading.now graph.now) }
+{
+    match filled(alloc, graph, reading) {
+        Err(fault) => Err(of_filling(fault)),
+        Ok(filled) => Ok(filled),
+    }
+}
+
+/// Adds the associated items of crates that are filled.
+fn add_items(
+    builder: &mut WorldBuilder,
+    alloc: Global,
+    reading: &Reading<'_>,
+    lists: &[CrateModules],
+    tables: &[CrateTable],
+) -> Result<Vec<AssocPlace>, CollectFault>
+    ensures added { IfOk result (λ places. AreAllAdded reading.now.files lists.now 0 0 tables.now
+        (record { world = builder.old; places = [] })
+        (record { world = builder.new; places = places.items })) }
+    ensures known { (t : Table) → IsKnownTable builder.old t → IsKnownTable builder.new t }
+    ensures empty { BindNothing builder.old → BindNothing builder.new }
+    ensures fault { IfErr result (λ fault. (r : Given) (g : Graph) → IsFault r g fault) }
+{
+    match add_assoc_items(builder, alloc, reading.files, lists, tables) {
+        Ok(places) => Ok(places),
+        Err(fault) => Err(of_builder(fault)),
+    }
+}
+
+/// The roots that each crate of a graph has macros from.
+fn uses_of(
+    alloc: Global,
+    graph: &CrateGraph,
+    reading: &Reading<'_>,
+    lists: &[CrateModules],
+    rows: &[ExternCrateRow],
+) -> Result<Vec<MacroUses>, CollectFault>
+    ensures uses { IfOk result (λ uses. uses.items ≡
+        macro_uses reading.now.files lists.now rows.now 0 graph.now) }
+    ensures memory { IfErr result (λ fault. fault ≡ faults.OutOfMemory) }
+{
+    let uses = macro_uses(alloc, graph, reading.files, lists, rows)?;
+    Ok(uses)
+}
+
+/// Crates as they are collected, before anything is imported.
+pub(crate) fn begin(
+    alloc: Global,
+    graph: &CrateGraph,
+    reading: &Reading<'_>,
+) -> Result<Collected, CollectFault>
+    ensures begun { IfOk result (λ begun. spec.IsBegun reading.now graph.now (spec.kept_in begun) (spec.given_in begun)
+        (spec.state_of begun)) }
+    ensures fault { IfErr result (IsFault reading.now graph.now) }
+{
+    let made = tables_of(alloc, graph, reading)?;
+    let FilledCrates {
+        builder: filled,
+        lists,
+        tables,
+        externs,
+    } = made;
+    let mut builder = filled;
+    let assocs = add_items(
+        &mut builder,
+        alloc,
+        reading,
+        lists.as_slice(),
+        tables.as_slice(),
+    )?;
+    let declared = declare(alloc, builder, tables)?;
+    let uses = uses_of(alloc, graph, reading, lists.as_slice(), externs.as_slice())?;
+    Ok(Collected {
+        world: declared.world,
+        flags: declared.flags,
+        imports: declared.imports,
+        globs: declared.globs,
+        enums: declared.enums,
+        ambiguous: Slots::new(alloc),
+        meanings: Vec::new(alloc),
+        uses,
+        is_supported: false,
+        is_settled: false,
+        lists,
+        tables: declared.rest,
+        externs,
+        assocs,
+    })
+}
