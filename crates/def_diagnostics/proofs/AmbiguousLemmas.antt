@@ -15,8 +15,8 @@ pub more-told : (uses : List UsePlace) (x : ImportMeanings) (i : NamedImport) (x
 more-told uses x i xs all is every had a b =
     append_assoc had (if_ambiguous uses x i) (ambiguous_imports uses xs is)
     ∙ ap (λ (l : List Diagnostic). had ++ l)
-      ( ap (λ (l : List ImportMeanings). ambiguous_imports uses l (i ∷ is)) (sym a)
-      ∙ ap (λ (l : List NamedImport). ambiguous_imports uses all l) (sym b))
+    (ap (λ (l : List ImportMeanings). ambiguous_imports uses l (i ∷ is)) (sym a)
+    ∙ ap (λ (l : List NamedImport). ambiguous_imports uses all l) (sym b))
 
 no-import : (uses : List UsePlace) (xs : List ImportMeanings) → ambiguous_imports uses xs [] ≡ []
 no-import uses [] = refl

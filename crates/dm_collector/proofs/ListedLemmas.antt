@@ -16,11 +16,11 @@ pub found-more : (d : DefMaps) (n m place : ℕ) (x : ImportMeanings) (i : Named
 found-more d n m place x i xs all is every had a b t p e =
     append_assoc had (place ∷ []) (unresolved_from d m xs is)
     ∙ ap (λ (l : List ℕ). had ++ l)
-      ( ap (λ (k : ℕ). k ∷ unresolved_from d m xs is) p
-      ∙ ap (λ (k : ℕ). n ∷ unresolved_from d k xs is) e
-      ∙ ap (λ (q : Bool). if q then n ∷ unresolved_from d (n + 1) xs is else unresolved_from d (n + 1) xs is) t
-      ∙ ap (λ (l : List ImportMeanings). unresolved_from d n l (i ∷ is)) (sym a)
-      ∙ ap (λ (l : List NamedImport). unresolved_from d n all l) (sym b))
+    (ap (λ (k : ℕ). k ∷ unresolved_from d m xs is) p
+    ∙ ap (λ (k : ℕ). n ∷ unresolved_from d k xs is) e
+    ∙ ap (λ (q : Bool). if q then n ∷ unresolved_from d (n + 1) xs is else unresolved_from d (n + 1) xs is) t
+    ∙ ap (λ (l : List ImportMeanings). unresolved_from d n l (i ∷ is)) (sym a)
+    ∙ ap (λ (l : List NamedImport). unresolved_from d n all l) (sym b))
 
 -- where one list has no more, nothing is left
 no-import : (d : DefMaps) (n : ℕ) (xs : List ImportMeanings) → unresolved_from d n xs [] ≡ []

@@ -15,7 +15,7 @@ returns-in-None c =
     let had = c.args.found.now.items in
     sym (append-nil had)
     ∙ ap (λ (o : Option NamedImport). had ++ cons_option (option_and_then (λ (i : NamedImport). told_of kind.UnresolvedImport c.args.uses.now i.import.use_ i.import.idx) o) [])
-      (sym (slice_get_past c.args.imports.now c.args.place c.in-None.ensures.lookup.3))
+    (sym (slice_get_past c.args.imports.now c.args.place c.in-None.ensures.lookup.3))
 
 pub returns-in-Some : goal.returns-in-Some
 returns-in-Some c =
