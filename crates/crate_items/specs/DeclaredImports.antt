@@ -1,5 +1,5 @@
 -- What `use` items import.
-use Rattle.std.specs.Prelude.{◌+◌, ◌-◌, ◌++◌, ℕ, true, false, List, [], ◌∷◌, Option, Some, None, length, slice_get}
+use Rattle.std.specs.Prelude.{◌+◌, ◌-◌, ◌++◌, ◌&&◌, ℕ, Bool, true, false, List, [], ◌∷◌, Option, Some, None, length, nat_eq, slice_get, if◌then◌else◌}
 use Rattle.crate_items.specs.LexemeNames.{kind_at, name_at}
 use Rattle.crate_items.specs.UsePaths.{path_of}
 use Rattle.crate_items.specs.declared.items.declared_import.Binding.{Binding}
@@ -10,6 +10,7 @@ use Rattle.crate_items.specs.Files.{SourceFile, text_of}
 use Rattle.crate_items.specs.Modules.{Listing}
 use Rattle.crate_items.specs.Sources.{Source, source_at}
 use Rattle.dm_base.specs.Path.{Path}
+use Rattle.dm_base.specs.declared.mod_path.PathKind.TheVariants as path
 use Rattle.dm_base.specs.Names.{Name}
 use Rattle.dm_base.specs.declared.ids.UseTreeIdx.{UseTreeIdx}
 use Rattle.item_tree.specs.Ids.{use_tree_idx}
@@ -72,9 +73,19 @@ abbrev pub of_path : List ℕ → List Lexeme → Leaf → Option Path → List 
 of_path text ls leaf None = []
 of_path text ls leaf (Some p) = of_binding leaf.tree leaf.kind p (bound_by text ls leaf.kind leaf.alias p)
 
+abbrev pub is_type_only : ImportKind → Bool
+is_type_only imports.TypeOnly = true
+is_type_only _ = false
+
+-- `self` in a list of no path is the module that the `use` stands in
+abbrev pub leaf_path : List ℕ → List Lexeme → ImportKind → List ℕ → Option Path
+leaf_path text ls kind places =
+    if is_type_only kind && nat_eq (length places) 0 then Some (record { kind = path.Super 0; segments = [] })
+    else path_of text ls places
+
 abbrev pub of_leaf : List ℕ → List Lexeme → List ℕ → Option Leaf → List DeclaredImport
 of_leaf text ls places None = []
-of_leaf text ls places (Some leaf) = of_path text ls leaf (path_of text ls places)
+of_leaf text ls places (Some leaf) = of_path text ls leaf (leaf_path text ls leaf.kind places)
 
 -- what the tree of a number imports: nothing without a path, and nothing where it has nothing to bind
 abbrev pub import_of : List ℕ → List Lexeme → List UseTree → ℕ → UseTree → List DeclaredImport

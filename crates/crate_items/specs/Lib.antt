@@ -25,6 +25,7 @@ pub mod DeclaredItems
 pub mod UsePaths
 pub mod RawVisibilities
 pub mod DeclaredFields
+pub mod Constructors
 pub mod DeclaredVariants
 pub mod DeclaredImports
 pub mod ItemAttributes

@@ -1,4 +1,5 @@
 //! The items that the modules of a crate have: names, visibilities, shapes, variants and imports.
+pub mod constructor;
 pub mod crate_attributes;
 pub mod declared_field;
 pub mod declared_import;

@@ -1,5 +1,6 @@
 -- The definitions of a crate in a builder, with their variants.
 use Rattle.std.specs.Prelude.{ℕ, Bool, true, false, List, [], ◌∷◌, Option, None, Some, length, slice_get, if◌then◌else◌}
+use Rattle.crate_items.specs.Constructors.{constructor_visibility}
 use Rattle.crate_items.specs.DeclaredItems.{written}
 use Rattle.crate_items.specs.DeclaredVariants.{declared_variants}
 use Rattle.crate_items.specs.declared.items.declared_item.DeclaredItem.{DeclaredItem}
@@ -77,40 +78,48 @@ abbrev pub with_variants_of : World → ModuleDefId → List DeclaredVariant →
 with_variants_of w (def.AdtId (adt.EnumId e)) vs = with_variants w e vs
 with_variants_of w _ vs = w
 
--- the constructor of a struct that has one is seen as the struct
+-- the constructor of a struct, if it has one, is seen by v
 abbrev pub constructor_vis : FieldsShape → Visibility → Option Visibility
 constructor_vis shape v = if has_constructor shape then Some v else None
 
 -- a definition d of that kind, seen by v, is added in the module m, with these variants, and declared under its name: a type,
--- a value, or a struct with a constructor as both
-abbrev pub defined_as : Filled → DeclaredItem → ModuleId → Visibility → Kind → ModuleDefId → List DeclaredVariant → Filled
-defined_as s x m v k d vs = record {
+-- a value, or a struct with a constructor, which is seen by c, as both
+abbrev pub defined_as : Filled → DeclaredItem → ModuleId → Visibility → Visibility → Kind → ModuleDefId → List DeclaredVariant → Filled
+defined_as s x m v c k d vs = record {
   world = with_variants_of (with_item s.world k m) d vs;
-  table = with_def_at (with_named s.table m x.name (of_def d v (constructor_vis x.shape v) None)) (def_at d m x);
+  table = with_def_at (with_named s.table m x.name (of_def d v (constructor_vis x.shape c) None)) (def_at d m x);
 }
 
-abbrev pub defined : Filled → DeclaredItem → ModuleId → Visibility → Kind → List DeclaredVariant → Filled
-defined s x m v k vs = defined_as s x m v k (item_def k (length s.world.items)) vs
+abbrev pub defined : Filled → DeclaredItem → ModuleId → Visibility → Visibility → Kind → List DeclaredVariant → Filled
+defined s x m v c k vs = defined_as s x m v c k (item_def k (length s.world.items)) vs
 
 -- what has no kind there is passed over
-abbrev pub defined_if : Filled → DeclaredItem → ModuleId → Visibility → Option Kind → List DeclaredVariant → Filled
-defined_if s x m v None vs = s
-defined_if s x m v (Some k) vs = defined s x m v k vs
+abbrev pub defined_if : Filled → DeclaredItem → ModuleId → Visibility → Visibility → Option Kind → List DeclaredVariant → Filled
+defined_if s x m v c None vs = s
+defined_if s x m v c (Some k) vs = defined s x m v c k vs
 
 -- ---- Items
-
-abbrev pub added_in : CrateView → Filled → DeclaredItem → ModuleId → Visibility → Filled
-added_in c s x m v = defined_if s x m v (def_kind x.kind) (declared_variants c.options c.list c.files x)
 
 -- whom an item of the module m is shown to
 abbrev pub visibility_in : CrateView → Table → DeclaredItem → ModuleId → Visibility
 visibility_in c t x m =
     visibility_of (is_macro_root c x.«module») c.krate t.ids m (written_of c.list x) x.visibility
 
+-- whom its constructor is shown to, if it has one: no more than those who see each of its fields
+abbrev pub constructor_in : CrateView → Table → DeclaredItem → ModuleId → Visibility
+constructor_in c t x m =
+    let v = constructor_visibility c.options c.edition c.list c.files x in
+    visibility_of (is_macro_root c x.«module») c.krate t.ids m v.written v.shown
+
+abbrev pub added_in : CrateView → Filled → DeclaredItem → ModuleId → Filled
+added_in c s x m =
+    defined_if s x m (visibility_in c s.table x m) (constructor_in c s.table x m) (def_kind x.kind)
+    (declared_variants c.options c.list c.files x)
+
 -- an item of a module that was left out is, too
 abbrev pub added_if : CrateView → Filled → DeclaredItem → Option ModuleId → Filled
 added_if c s x None = s
-added_if c s x (Some m) = added_in c s x m (visibility_in c s.table x m)
+added_if c s x (Some m) = added_in c s x m
 
 abbrev pub with_declared : CrateView → Filled → DeclaredItem → Filled
 with_declared c s x = added_if c s x (id_at s.table.ids x.«module»)

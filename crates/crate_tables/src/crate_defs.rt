@@ -19,6 +19,7 @@ use crate::new_module::CrateView;
 use crate::raw_visibilities::set_fields;
 use crate::visibilities::known_visibility;
 use crate_items::files::source::Source;
+use crate_items::items::constructor::constructor_visibility;
 use crate_items::items::declared_item::DeclaredItem;
 use crate_items::items::declared_variant::{DeclaredVariant, declared_variants};
 use crate_items::modules::CrateModules;
@@ -31,7 +32,7 @@ use dm_maps::build_fault::BuildFault;
 use dm_maps::builder::WorldBuilder;
 use item_tree::items::visibility::{RawVisibility, raw_visibility};
 use item_tree::items::{Range, item_kind};
-use std::alloc::Global;
+use std::alloc::{AllocError, Global};
 
 /// The visibility that is written before the item of a number.
 fn written_in(source: &Source, number: usize) -> RawVisibility
@@ -145,6 +146,13 @@ fn add_variants_of(
     }
 }
 
+/// Who sees a definition, and its constructor if it has one.
+#[derive(Clone, Copy)]
+struct SeenBy {
+    definition: Visibility,
+    constructor: Visibility,
+}
+
 /// Who sees the constructor of a struct, if it has one.
 fn constructor_vis(shape: FieldsShape, visibility: Visibility) -> Option<Visibility>
     ensures { result ≡ spec.constructor_vis shape visibility }
@@ -162,30 +170,33 @@ fn define(
     table: &mut CrateTable,
     item: DeclaredItem,
     m: ModuleId,
-    visibility: Visibility,
+    seen: SeenBy,
     kind: ItemKind,
     variants: Vec<DeclaredVariant>,
 ) -> Result<(), BuildFault>
     requires { IsTrue (knows builder.old (held.Module m)) }
     ensures world { OnOk result (builder.new ≡ (spec.defined
-        (record { world = builder.old; table = table.old }) item m visibility kind variants.items).world) }
+        (record { world = builder.old; table = table.old }) item m seen.definition seen.constructor kind
+        variants.items).world) }
     ensures table { OnOk result (table.new ≡ (spec.defined
-        (record { world = builder.old; table = table.old }) item m visibility kind variants.items).table) }
-    ensures kept { (k : Crate) → IsTableOf builder.old k table.old → KnowsAll builder.old (vis_holds visibility)
-        → OnOk result (IsTableOf builder.new k table.new) }
+        (record { world = builder.old; table = table.old }) item m seen.definition seen.constructor kind
+        variants.items).table) }
+    ensures kept { (k : Crate) → IsTableOf builder.old k table.old → KnowsAll builder.old (vis_holds seen.definition)
+        → KnowsAll builder.old (vis_holds seen.constructor) → OnOk result (IsTableOf builder.new k table.new) }
     ensures grown { IsGrown builder.old builder.new }
     ensures fault { IfErr result (λ fault. is_shortage fault ≡ true) }
 {
     let def = builder.add_item(kind, m)?;
     add_variants_of(builder, def, variants)?;
-    let seen = constructor_vis(item.shape, visibility);
+    let constructor = constructor_vis(item.shape, seen.constructor);
     let place = DefPlace {
         def,
         home: m,
         file: item.file,
         item: item.item,
     };
-    table.push_named(m, item.name, PerNs::from_def(def, visibility, seen, None))?;
+    let items = PerNs::from_def(def, seen.definition, constructor, None);
+    table.push_named(m, item.name, items)?;
     table.push_def(place)?;
     Ok(())
 }
@@ -198,17 +209,19 @@ fn define_if(
     view: &CrateView<'_>,
     item: DeclaredItem,
     m: ModuleId,
-    visibility: Visibility,
+    seen: SeenBy,
 ) -> Result<(), BuildFault>
     requires { IsTrue (knows builder.old (held.Module m)) }
     ensures world { OnOk result (builder.new ≡ (spec.defined_if
-        (record { world = builder.old; table = table.old }) item m visibility (spec.def_kind item.kind)
+        (record { world = builder.old; table = table.old }) item m seen.definition seen.constructor
+        (spec.def_kind item.kind)
         (declared_variants view.now.options view.now.list view.now.files item)).world) }
     ensures table { OnOk result (table.new ≡ (spec.defined_if
-        (record { world = builder.old; table = table.old }) item m visibility (spec.def_kind item.kind)
+        (record { world = builder.old; table = table.old }) item m seen.definition seen.constructor
+        (spec.def_kind item.kind)
         (declared_variants view.now.options view.now.list view.now.files item)).table) }
-    ensures kept { (k : Crate) → IsTableOf builder.old k table.old → KnowsAll builder.old (vis_holds visibility)
-        → OnOk result (IsTableOf builder.new k table.new) }
+    ensures kept { (k : Crate) → IsTableOf builder.old k table.old → KnowsAll builder.old (vis_holds seen.definition)
+        → KnowsAll builder.old (vis_holds seen.constructor) → OnOk result (IsTableOf builder.new k table.new) }
     ensures grown { IsGrown builder.old builder.new }
     ensures fault { IfErr result (λ fault. is_shortage fault ≡ true) }
 {
@@ -216,7 +229,7 @@ fn define_if(
         None => Ok(()),
         Some(kind) => {
             let variants = declared_variants(alloc, view.options, view.list, view.files, &item)?;
-            define(builder, table, item, m, visibility, kind, variants)
+            define(builder, table, item, m, seen, kind, variants)
         }
     }
 }
@@ -247,6 +260,60 @@ pub(crate) fn item_visibility(
     )
 }
 
+/// Whom the constructor of an item of a module is shown to, if it has one.
+fn constructor_of(
+    builder: &WorldBuilder,
+    table: &CrateTable,
+    alloc: Global,
+    view: &CrateView<'_>,
+    item: &DeclaredItem,
+    m: ModuleId,
+) -> Result<Visibility, AllocError>
+    requires table { IsTableOf builder.now view.now.krate table.now }
+    requires home { IsTrue (knows builder.now (held.Module m)) }
+    ensures exact { IfOk result (λ seen. seen ≡ spec.constructor_in view.now table.now item.now m) }
+    ensures known { IfOk result (λ seen. KnowsAll builder.now (vis_holds seen)) }
+{
+    let (options, edition) = (view.options, view.edition);
+    let least = constructor_visibility(alloc, options, edition, view.list, view.files, item)?;
+    let is_closed = view.is_macro_root(item.module);
+    Ok(known_visibility(
+        builder,
+        is_closed,
+        view.krate,
+        table,
+        m,
+        least.written,
+        least.shown,
+    ))
+}
+
+/// Adds an item in its module, if it is a definition.
+fn add_in(
+    builder: &mut WorldBuilder,
+    table: &mut CrateTable,
+    alloc: Global,
+    view: &CrateView<'_>,
+    item: DeclaredItem,
+    m: ModuleId,
+) -> Result<(), BuildFault>
+    requires table { IsTableOf builder.old view.now.krate table.old }
+    requires home { IsTrue (knows builder.old (held.Module m)) }
+    ensures filled { OnOk result ((record { world = builder.new; table = table.new }) ≡
+        spec.added_in view.now (record { world = builder.old; table = table.old }) item m) }
+    ensures kept { OnOk result (IsTableOf builder.new view.now.krate table.new) }
+    ensures grown { IsGrown builder.old builder.new }
+    ensures fault { IfErr result (λ fault. is_shortage fault ≡ true) }
+{
+    let definition = item_visibility(builder, table, view, &item, m);
+    let constructor = constructor_of(builder, table, alloc, view, &item, m)?;
+    let seen = SeenBy {
+        definition,
+        constructor,
+    };
+    define_if(builder, table, alloc, view, item, m, seen)
+}
+
 /// Adds an item of a crate, if it is a definition, and unless its module was left out.
 fn add_item(
     builder: &mut WorldBuilder,
@@ -264,10 +331,7 @@ fn add_item(
 {
     match parent_id(builder, view.krate, table, item.module) {
         None => Ok(()),
-        Some(m) => {
-            let visibility = item_visibility(builder, table, view, &item, m);
-            define_if(builder, table, alloc, view, item, m, visibility)
-        }
+        Some(m) => add_in(builder, table, alloc, view, item, m),
     }
 }
 

@@ -79,7 +79,7 @@ fn is_named(kind: MemberKind, member: Member) -> bool
 }
 
 /// Whether the crate has a field.
-fn is_left(
+pub(crate) fn is_left(
     options: &CfgOptions,
     text: &[u8],
     source: &Source,
@@ -99,7 +99,7 @@ fn is_left(
 }
 
 /// The visibility of a field: that of all fields where it stands, or what is written before it.
-fn field_written(
+pub(crate) fn field_written(
     lexemes: &[Lexeme],
     outer: Option<visibility::RawVisibility>,
     member: Member,

@@ -11,7 +11,7 @@ use crate::items::lookups::{item_at, text_of};
 use crate::items::use_paths::path_of;
 use crate::modules::CrateModules;
 use dm_base::ids::UseTreeIdx;
-use dm_base::mod_path::ModPath;
+use dm_base::mod_path::{ModPath, PathKind};
 use dm_base::name::Name;
 use item_tree::ids::use_tree_idx;
 use item_tree::items::imports::{ImportKind, import_kind, import_path};
@@ -198,6 +198,30 @@ fn push_leaf(
     }
 }
 
+/// Whether an import is by `self` in a list.
+fn is_type_only(kind: ImportKind) -> bool
+    ensures { result ≡ spec.is_type_only kind }
+{
+    matches!(kind, ImportKind::TypeOnly)
+}
+
+/// The path of a leaf. `self` in a list of no path is the module that the `use` stands in.
+fn leaf_path(
+    alloc: Global,
+    text: &[u8],
+    lexemes: &[Lexeme],
+    kind: ImportKind,
+    places: &[usize],
+) -> Result<Option<ModPath>, AllocError>
+    ensures { IfOk result (λ path. path ≡ spec.leaf_path text.now lexemes.now kind places.now) }
+{
+    if is_type_only(kind) && places.is_empty() {
+        Ok(Some(ModPath::from_segments(PathKind::Super(0), Vec::new(alloc))))
+    } else {
+        path_of(alloc, text, lexemes, places)
+    }
+}
+
 /// Adds what the tree of a number imports.
 fn push_tree(
     found: &mut Vec<DeclaredImport>,
@@ -215,7 +239,7 @@ fn push_tree(
         None => Ok(()),
         Some(leaf) => {
             let places = import_path(alloc, lexemes, trees, number)?;
-            let path = path_of(alloc, text, lexemes, places.as_slice())?;
+            let path = leaf_path(alloc, text, lexemes, leaf.kind, places.as_slice())?;
             push_leaf(found, alloc, text, lexemes, leaf, path)?;
             Ok(())
         }

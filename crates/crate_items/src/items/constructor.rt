@@ -1,0 +1,239 @@
+//! Whom the constructors of structs are shown to.
+ghost use Rattle.std.specs.Prelude.{◌≡◌, ◌<◌, IfOk, fold, length, slice_get};
+ghost use Rattle.crate_items.specs.Constructors as spec;
+
+use crate::files::file_table::FileTable;
+use crate::files::source::Source;
+use crate::items::declared_field::{field_written, is_left};
+use crate::items::declared_item::{DeclaredItem, written};
+use crate::items::lookups::{item_at, text_of};
+use crate::modules::CrateModules;
+use crate::modules::module_visibility::DeclaredVisibility;
+use dm_base::source::Edition;
+use item_tree::cfg::CfgOptions;
+use item_tree::items::Item;
+use item_tree::items::fields::item_fields;
+use item_tree::items::item_kind::ItemKind;
+use item_tree::items::members::{Fields, FieldsShape, Member, MemberKind, members};
+use item_tree::items::visibility::RawVisibility;
+use std::alloc::{AllocError, Global};
+
+/// A visibility as it is written.
+#[derive(Clone, Copy, PartialEq, Eq, Debug)]
+pub struct WrittenVisibility {
+    pub written: RawVisibility,
+    /// Whom that shows to; none where it leads to no module around, which is an error.
+    pub shown: Option<DeclaredVisibility>,
+}
+
+/// Whether one visibility shows to fewer than another of the same module.
+fn shows_fewer(one: Option<DeclaredVisibility>, other: Option<DeclaredVisibility>) -> bool
+    ensures { result ≡ spec.shows_fewer one other }
+{
+    match (one, other) {
+        (Some(DeclaredVisibility::Within(_)), Some(DeclaredVisibility::Public)) => true,
+        (Some(DeclaredVisibility::Within(inner)), Some(DeclaredVisibility::Within(outer))) => {
+            outer < inner
+        }
+        _ => false,
+    }
+}
+
+/// The visibility that shows to fewer; the first where neither does.
+fn lesser(visibility: WrittenVisibility, field: WrittenVisibility) -> WrittenVisibility
+    ensures { result ≡ spec.lesser visibility field }
+{
+    if shows_fewer(field.shown, visibility.shown) {
+        field
+    } else {
+        visibility
+    }
+}
+
+/// A visibility, or that of a field, if the crate has it and it shows to fewer.
+fn with_field(
+    visibility: WrittenVisibility,
+    options: &CfgOptions,
+    edition: Edition,
+    list: &CrateModules,
+    text: &[u8],
+    source: &Source,
+    number: usize,
+    member: Member,
+) -> WrittenVisibility
+    requires { number < length list.now.modules }
+    ensures { result
+        ≡ spec.with_field options.now edition list.now text.now source.now number visibility member }
+{
+    if !is_left(options, text, source, MemberKind::TupleField, member) {
+        return visibility;
+    }
+    let written = field_written(source.lexemes(), None, member);
+    let shown = list.visibility(edition, text, number, written);
+    lesser(visibility, WrittenVisibility { written, shown })
+}
+
+/// The same with some fields.
+fn with_members(
+    visibility: WrittenVisibility,
+    options: &CfgOptions,
+    edition: Edition,
+    list: &CrateModules,
+    text: &[u8],
+    source: &Source,
+    number: usize,
+    members: &[Member],
+) -> WrittenVisibility
+    requires { number < length list.now.modules }
+    ensures { result ≡ fold (spec.with_field options.now edition list.now text.now source.now number) visibility members.now }
+{
+    let mut least = visibility;
+    for member in members {
+        least = with_field(least, options, edition, list, text, source, number, *member);
+    }
+    least
+}
+
+/// The same with the fields of a struct that stand in parentheses.
+fn with_fields(
+    alloc: Global,
+    visibility: WrittenVisibility,
+    options: &CfgOptions,
+    edition: Edition,
+    list: &CrateModules,
+    text: &[u8],
+    source: &Source,
+    number: usize,
+    fields: Fields,
+) -> Result<WrittenVisibility, AllocError>
+    requires { number < length list.now.modules }
+    ensures { IfOk result (λ least. least ≡ spec.with_fields options.now edition list.now text.now source.now number
+        visibility fields fields.shape) }
+{
+    match fields.shape {
+        FieldsShape::Tuple => {
+            let (lexemes, partners) = (source.lexemes(), source.partners());
+            let all = members(
+                alloc,
+                lexemes,
+                partners,
+                fields.range,
+                MemberKind::TupleField,
+            )?;
+            Ok(with_members(
+                visibility,
+                options,
+                edition,
+                list,
+                text,
+                source,
+                number,
+                all.as_slice(),
+            ))
+        }
+        _ => Ok(visibility),
+    }
+}
+
+/// The same of an item of a tree.
+fn of_item(
+    alloc: Global,
+    visibility: WrittenVisibility,
+    options: &CfgOptions,
+    edition: Edition,
+    list: &CrateModules,
+    text: &[u8],
+    source: &Source,
+    number: usize,
+    item: Item,
+) -> Result<WrittenVisibility, AllocError>
+    requires { number < length list.now.modules }
+    ensures { IfOk result (λ least. least ≡ spec.of_item options.now edition list.now text.now source.now number
+        visibility item item.kind) }
+{
+    match item.kind {
+        ItemKind::Struct => {
+            let fields = item_fields(alloc, source.lexemes(), source.partners(), item)?;
+            with_fields(
+                alloc, visibility, options, edition, list, text, source, number, fields,
+            )
+        }
+        _ => Ok(visibility),
+    }
+}
+
+/// The same of an item that is known, if it is there.
+fn of_known(
+    alloc: Global,
+    options: &CfgOptions,
+    edition: Edition,
+    list: &CrateModules,
+    text: &[u8],
+    source: &Source,
+    item: &DeclaredItem,
+) -> Result<WrittenVisibility, AllocError>
+    requires { item.now.«module» < length list.now.modules }
+    ensures { IfOk result (λ least. least ≡ spec.of_known options.now edition list.now text.now source.now
+        item.now.«module» item.now.visibility (slice_get source.now.items item.now.item)) }
+{
+    let shown = item.visibility;
+    match item_at(source, item.item) {
+        None => Ok(WrittenVisibility {
+            written: RawVisibility::Inherited,
+            shown,
+        }),
+        Some(read) => {
+            let written = written(source.lexemes(), read);
+            let own = WrittenVisibility { written, shown };
+            of_item(
+                alloc,
+                own,
+                options,
+                edition,
+                list,
+                text,
+                source,
+                item.module,
+                read,
+            )
+        }
+    }
+}
+
+/// Whom the constructor of a struct is shown to: those to whom the struct is shown, and each of its fields that the crate
+/// has, by its options. Of any other item that is its own visibility. It is the rule of the Rust Reference on tuple structs.
+///
+/// # Errors
+///
+/// Fails only where memory runs out.
+pub fn constructor_visibility(
+    alloc: Global,
+    options: &CfgOptions,
+    edition: Edition,
+    list: &CrateModules,
+    files: &FileTable,
+    item: &DeclaredItem,
+) -> Result<WrittenVisibility, AllocError>
+    ensures { IfOk result (λ least. least
+        ≡ spec.constructor_visibility options.now edition list.now files.now item.now) }
+{
+    let own = WrittenVisibility {
+        written: RawVisibility::Inherited,
+        shown: item.visibility,
+    };
+    if item.module >= list.modules().len() {
+        return Ok(own);
+    }
+    match list.sources().get(item.file) {
+        None => Ok(own),
+        Some(source) => of_known(
+            alloc,
+            options,
+            edition,
+            list,
+            text_of(files, item.file),
+            source,
+            item,
+        ),
+    }
+}
