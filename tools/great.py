@@ -60,7 +60,7 @@ def by(meaning, way):
 
 ITEMS = [
     ("Record", "pub struct {} {{ x: u8 }}", "type"),
-    ("Tuple", "pub struct {}(u8);", "type value"),
+    ("Tuple", "pub struct {}(pub u8);", "type value"),
     ("Union", "pub union {} {{ x: u8 }}", "type"),
     ("Enum", "pub enum {} {{ A, B(u8), C {{ x: u8 }} }}", "type"),
     ("Trait", "pub trait {} {{ fn f(&self); }}", "type"),

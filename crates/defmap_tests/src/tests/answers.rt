@@ -24,7 +24,7 @@ fn told(alloc: Global, text: &str) -> Result<Option<(bool, bool, bool, bool)>, A
 
 #[test]
 fn a_struct_is_imported(rt: HostRuntime) -> Result<(), Fail> {
-    let text = "use a::S;\nmod a {\n    pub struct S(u8);\n}\n";
+    let text = "use a::S;\nmod a {\n    pub struct S(pub u8);\n}\n";
     let found = told(rt.alloc(), text)?;
     same(&rt, &found, &Some((true, true, true, false)));
     Ok(())
