@@ -281,6 +281,11 @@ impl Crates for Settled {
         self.collected.world.bound_in(m, name)
     }
 
+    fn depends_on_order(&self, m: ModuleId, name: &Name, namespace: Namespace) -> bool {
+        let slots = &self.collected.order_dependent;
+        slots.get(m, name, namespace).is_some()
+    }
+
     fn textual_macro(&self, m: ModuleId, name: &Name) -> Option<MacroId> {
         self.collected.world.legacy_of(m, name)
     }

@@ -89,6 +89,9 @@ pub trait Crates {
     /// What a module binds under a name.
     fn bound_in(&self, m: ModuleId, name: &Name) -> PerNs;
 
+    /// Whether it depends on the order of imports what a name of a module means.
+    fn depends_on_order(&self, m: ModuleId, name: &Name, namespace: Namespace) -> bool;
+
     /// The last textual macro of a name in a module.
     fn textual_macro(&self, m: ModuleId, name: &Name) -> Option<MacroId>;
 

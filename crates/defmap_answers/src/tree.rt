@@ -90,17 +90,30 @@ impl<'s, 'l, 'f, C: Crates> Tree<'s, 'l, 'f, C> {
         self.out.push_str(")")
     }
 
+    /// Adds whether it depends on the order of imports what a name is.
+    fn add_order(&mut self, name: &Name, namespace: Namespace) -> Result<(), AllocError> {
+        let depends = self.crates.depends_on_order(self.home, name, namespace);
+        self.out.push_str(if depends {
+            " by the order of imports"
+        } else {
+            ""
+        })
+    }
+
     /// Adds the line of a name.
     fn add_name(&mut self, name: &Name, items: PerNs) -> Result<(), AllocError> {
         write!(self.out, "- {} :", name.as_str())?;
         if let Some(item) = items.types {
             self.add_item("type", item.vis, item.import)?;
+            self.add_order(name, Namespace::Types)?;
         }
         if let Some(item) = meant_in(items, Namespace::Values) {
             self.add_item("value", item.visibility, item.import)?;
+            self.add_order(name, Namespace::Values)?;
         }
         if let Some(item) = items.macros {
             self.add_item("macro", item.vis, item.import)?;
+            self.add_order(name, Namespace::Macros)?;
         }
         self.out
             .push_str(if items.is_none() { " _\n" } else { "\n" })

@@ -199,6 +199,7 @@ pub(crate) fn begin(
         globs: declared.globs,
         enums: declared.enums,
         ambiguous: Slots::new(alloc),
+        order_dependent: Slots::new(alloc),
         meanings: Vec::new(alloc),
         uses,
         is_supported: false,

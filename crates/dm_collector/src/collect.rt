@@ -8,6 +8,8 @@ ghost use Rattle.dm_collector.specs.MacroPreludes.{HasMacros};
 ghost use Rattle.dm_collector.specs.Steps.{Given as Imports, maps_with};
 ghost use Rattle.dm_collector.specs.UnnamedTraits.{HasBrought, HasImported};
 ghost use Rattle.dm_imports.specs.Asked.{meanings_of};
+ghost use Rattle.dm_imports.specs.Grounding.{slots_of};
+ghost use Rattle.dm_imports.specs.Marking.{AreThoseDependent};
 ghost use Rattle.dm_imports.specs.Rules.{AreImportsKnown};
 
 use crate::begin::begin;
@@ -42,6 +44,7 @@ fn ordered(alloc: Global, graph: &CrateGraph) -> Result<Vec<Crate>, CollectFault
 #[derive(Drop)]
 struct Imported {
     meanings: Vec<ImportMeanings>,
+    order_dependent: Slots<bool>,
     is_supported: bool,
     is_settled: bool,
 }
@@ -66,6 +69,8 @@ fn import(
         (record { world = world.old; flags = flags.old }) (record { world = world.new; flags = flags.new })) }
     ensures right { IfOk result
         (λ made. IsTrue made.is_supported ↔ spec.AreRight (maps_with given.now ambiguous.new world.new)) }
+    ensures dependent { IfOk result (λ made. AreImportsKnown (maps_with given.now ambiguous.new world.new)
+        → AreThoseDependent (maps_with given.now ambiguous.new world.new) (slots_of made.order_dependent)) }
     ensures meanings { IfOk result (λ made. AreImportsKnown (maps_with given.now ambiguous.new world.new)
         → made.meanings.items
         ≡ map (meanings_of (maps_with given.now ambiguous.new world.new)) given.now.imports.now) }
@@ -83,6 +88,7 @@ fn import(
     let support = find_support(alloc, world, given, ambiguous, steps.as_slice())?;
     Ok(Imported {
         meanings: support.meanings,
+        order_dependent: support.order_dependent,
         is_supported: support.is_right,
         is_settled,
     })
@@ -96,6 +102,8 @@ fn finish(made: &mut Collected, alloc: Global, order: &[Crate]) -> Result<(), Al
         (spec.given_in made.old) (spec.state_of made.old) (spec.state_of made.new)) }
     ensures right { OnOk result
         (IsTrue made.new.is_supported ↔ spec.AreRight (spec.maps_in made.new made.new.world)) }
+    ensures dependent { OnOk result (AreImportsKnown (spec.maps_in made.new made.new.world)
+        → AreThoseDependent (spec.maps_in made.new made.new.world) (slots_of made.new.order_dependent)) }
     ensures meanings { OnOk result (AreImportsKnown (spec.maps_in made.new made.new.world)
         → made.new.meanings.items
         ≡ map (meanings_of (spec.maps_in made.new made.new.world)) made.new.imports.items) }
@@ -122,6 +130,7 @@ fn finish(made: &mut Collected, alloc: Global, order: &[Crate]) -> Result<(), Al
         order,
     )?;
     made.meanings = found.meanings;
+    made.order_dependent = found.order_dependent;
     made.is_supported = found.is_supported;
     made.is_settled = found.is_settled;
     Ok(())
@@ -155,6 +164,11 @@ pub fn collect(
     // name is what its module declares, else what an import by name brings, else what globs bring together.
     ensures supported { IfOk result
         (λ made. IsTrue made.is_supported ↔ spec.AreRight (spec.maps_in made made.world)) }
+
+    // Of the slots of modules those are listed that have not what the rules give, or that some closed set lacks: which
+    // definition they have depends on the order in which imports were taken.
+    ensures dependent { IfOk result (λ made. AreImportsKnown (spec.maps_in made made.world)
+        → AreThoseDependent (spec.maps_in made made.world) (slots_of made.order_dependent)) }
 
     // What each import means, by the rules, where all that imports and globs name is the world's.
     ensures meanings { IfOk result (λ made. AreImportsKnown (spec.maps_in made made.world)

@@ -32,6 +32,8 @@ pub struct Collected {
     pub enums: IndexMap<EnumId, Visibility>,
     /// The slots that are ambiguous.
     pub ambiguous: Slots<bool>,
+    /// The slots whose meaning depends on the order of imports: none where `is_supported`.
+    pub order_dependent: Slots<bool>,
     /// What each import brings in each namespace, in the order of the imports.
     pub meanings: Vec<ImportMeanings>,
     /// The roots that each crate has macros from.
@@ -62,6 +64,7 @@ impl Drop for Collected {
             globs: _globs,
             enums: _enums,
             ambiguous: _ambiguous,
+            order_dependent: _order_dependent,
             meanings: _meanings,
             uses: _uses,
             is_supported: _is_supported,

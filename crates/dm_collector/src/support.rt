@@ -3,6 +3,8 @@ ghost use Rattle.std.specs.Prelude.{◌≡◌, ◌↔◌, IfOk, IsTrue, map};
 ghost use Rattle.dm_collector.specs.Collecting.{AreRight};
 ghost use Rattle.dm_collector.specs.Steps.{maps_with};
 ghost use Rattle.dm_imports.specs.Asked.{meanings_of};
+ghost use Rattle.dm_imports.specs.Grounding.{slots_of};
+ghost use Rattle.dm_imports.specs.Marking.{AreThoseDependent};
 ghost use Rattle.dm_imports.specs.Rules.{AreImportsKnown};
 
 use dm_imports::def_maps::DefMaps;
@@ -20,6 +22,8 @@ use std::alloc::{AllocError, Global};
 pub(crate) struct Support {
     /// Whether they are what the rules give of them, and follow from declarations.
     pub(crate) is_right: bool,
+    /// The slots that are not so, or do not follow.
+    pub(crate) order_dependent: Slots<bool>,
     /// What each import brings.
     pub(crate) meanings: Vec<ImportMeanings>,
 }
@@ -37,6 +41,8 @@ pub(crate) fn find_support(
 ) -> Result<Support, AllocError>
     ensures right { IfOk result
         (λ found. IsTrue found.is_right ↔ AreRight (maps_with given.now ambiguous.now world.now)) }
+    ensures dependent { IfOk result (λ found. AreImportsKnown (maps_with given.now ambiguous.now world.now)
+        → AreThoseDependent (maps_with given.now ambiguous.now world.now) (slots_of found.order_dependent)) }
     ensures meanings { IfOk result (λ found. AreImportsKnown (maps_with given.now ambiguous.now world.now)
         → found.meanings.items
         ≡ map (meanings_of (maps_with given.now ambiguous.now world.now)) given.now.imports.now) }
@@ -54,12 +60,14 @@ pub(crate) fn find_support(
     if !maps.are_imports_known() {
         return Ok(Support {
             is_right: false,
+            order_dependent: Slots::new(alloc),
             meanings: Vec::new(alloc),
         });
     }
     let found = examine(alloc, &maps, steps)?;
     Ok(Support {
         is_right: found.is_supported && found.is_grounded,
+        order_dependent: found.order_dependent,
         meanings: found.meanings,
     })
 }

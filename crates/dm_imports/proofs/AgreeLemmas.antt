@@ -18,7 +18,7 @@ use Rattle.dm_imports.specs.declared.glob_import.GlobImport.{GlobImport}
 use Rattle.dm_imports.specs.declared.named_import.NamedImport.{NamedImport}
 use Rattle.dm_imports.specs.Meanings.{is_declared, joined}
 use Rattle.dm_imports.specs.Paths.{DefMaps}
-use Rattle.dm_imports.specs.Rules.{IsSupported, all_imports, all_offers, glob_asks, import_brings, import_to, join_all, offer_from, offer_to, offered, offers_to, source_of}
+use Rattle.dm_imports.specs.Rules.{IsModule, IsSupported, all_imports, all_offers, glob_asks, import_brings, import_to, join_all, offer_from, offer_to, offered, offers_to, source_of}
 use Rattle.dm_imports.specs.Slots.{same_place}
 use Rattle.dm_imports.specs.Supporting.{Agrees, AllAgree, GlobAgrees, names_brought, source_names}
 use Rattle.dm_imports.proofs.ListLemmas.{name-absent, name-listed, none-of, some-of}
@@ -67,20 +67,29 @@ module _ (d : DefMaps) (m : ModuleId) (n : Name) where
       here ∙ sym ((λ j. option_or (keep is_declared (here j)) (option_or (no-import s d.imports i j) (option_map joined (no-offers s d.globs g j)))))
 
 module _ (d : DefMaps) where
-  pub supported-from : All (λ (i : NamedImport). Agrees d i.home i.name) d.imports → AllAgree d → All (GlobAgrees d) d.globs → IsSupported d
-  supported-from imports modules globs m is n =
+  -- What holds of each name that has what the rules give, that a module binds, or that an import or a glob brings, holds of
+  -- all names.
+  pub everywhere : (P : ModuleId → Name → Type 0) → ((m : ModuleId) (n : Name) → Agrees d m n → P m n)
+      → All (λ (i : NamedImport). P i.home i.name) d.imports
+      → ((m : ModuleId) → IsModule d m → (n : Name) → Contains (names_of (scope_of d.world m)) n → P m n)
+      → All (λ (g : GlobImport). (n : Name) → Contains (names_brought d g) n → P g.into n) d.globs
+      → (m : ModuleId) → IsModule d m → (n : Name) → P m n
+  everywhere P agrees imports modules globs m is n =
       by (list_any (same_name n) (names_of (scope_of d.world m))) (list_any (imports-it d m n) d.imports) (list_any (brings-it d m n) d.globs) refl refl refl
     where
-      by : (a b c : Bool) → list_any (same_name n) (names_of (scope_of d.world m)) ≡ a → list_any (imports-it d m n) d.imports ≡ b → list_any (brings-it d m n) d.globs ≡ c → Agrees d m n
+      by : (a b c : Bool) → list_any (same_name n) (names_of (scope_of d.world m)) ≡ a → list_any (imports-it d m n) d.imports ≡ b → list_any (brings-it d m n) d.globs ≡ c → P m n
       by true b c e f g = modules m is n (name-listed n (names_of (scope_of d.world m)) e)
       by false true c e f g =
           let i = some-of (imports-it d m n) d.imports f in
           let p = and_parts (same_module i.0.home m) (same_name i.0.name n) i.2 in
-          let here = All-contains (λ (x : NamedImport). Agrees d x.home x.name) d.imports i.0 imports i.1 in
-          subst (λ (k : ModuleId). Agrees d k n) (same_module-true i.0.home m p.0) (subst (Agrees d i.0.home) (name-same i.0.name n p.1) here)
+          let here = All-contains (λ (x : NamedImport). P x.home x.name) d.imports i.0 imports i.1 in
+          subst (λ (k : ModuleId). P k n) (same_module-true i.0.home m p.0) (subst (P i.0.home) (name-same i.0.name n p.1) here)
       by false false true e f g =
           let x = some-of (brings-it d m n) d.globs g in
           let p = and_parts (same_module x.0.into m) (list_any (same_name n) (names_brought d x.0)) x.2 in
-          let here = All-contains (GlobAgrees d) d.globs x.0 globs x.1 in
-          subst (λ (k : ModuleId). Agrees d k n) (same_module-true x.0.into m p.0) (here n (name-listed n (names_brought d x.0) p.1))
-      by false false false e f g = agrees-unbound d m n (name-absent n (names_of (scope_of d.world m)) e) f g
+          let here = All-contains (λ (y : GlobImport). (v : Name) → Contains (names_brought d y) v → P y.into v) d.globs x.0 globs x.1 in
+          subst (λ (k : ModuleId). P k n) (same_module-true x.0.into m p.0) (here n (name-listed n (names_brought d x.0) p.1))
+      by false false false e f g = agrees m n (agrees-unbound d m n (name-absent n (names_of (scope_of d.world m)) e) f g)
+
+  pub supported-from : All (λ (i : NamedImport). Agrees d i.home i.name) d.imports → AllAgree d → All (GlobAgrees d) d.globs → IsSupported d
+  supported-from imports modules globs = everywhere (Agrees d) (λ m n h. h) imports modules globs

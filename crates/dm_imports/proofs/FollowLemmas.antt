@@ -20,7 +20,7 @@ use Rattle.dm_imports.specs.declared.rules.grounded.following.Followed.{Followed
 use Rattle.dm_imports.specs.Brought.{AreAllNamed, alone, both, join}
 use Rattle.dm_imports.specs.Following.{AreOffered, Follows, IsOffered, IsSound, MayHaveOffers, known_list}
 use Rattle.dm_imports.specs.Grounded.{SlotSet, known_offer, known_offers}
-use Rattle.dm_imports.specs.Grounding.{AreCovered, AreSafeOffers, HasSources, IsMore, IsSafe, IsWay, IsWithin, MayOffer, Way, is_conflict, known_from, offers_in, slots_of}
+use Rattle.dm_imports.specs.Grounding.{AreCovered, AreSafeOffers, HasSource, IsMore, IsSafe, IsWay, IsWithin, MayOffer, Way, is_conflict, known_from, offers_in, slots_of}
 use Rattle.dm_imports.specs.Paths.{DefMaps}
 use Rattle.dm_imports.specs.Rules.{AreMapsKnown, IsGlobKnown, conflicts, join_all}
 use Rattle.dm_imports.specs.Slots.{Slots, no_slots, same_slot, slot_at}
@@ -108,19 +108,19 @@ module _ (d : DefMaps) where
       by (Some i) (Some x) e h = λ j is. subst (IsOffered d k m n s) (some-same (both d.world m i x) j is) (offered-both d k m n s g x has (known_offer-more d l k more m n s g x e) i (h i refl))
 
 -- a table in which what a glob offers of one slot by known slots was joined
-pub may-offer : (d : DefMaps) (k : SlotSet) (g : GlobImport) (p c : Container) → HasSources d k g (Some (p, c)) → (n : Name) (s : Namespace) (old new : Slots Joined)
-    → Written old new g.into n s (λ y. join d.world g.into y (known_from d k g p c n s)) → MayHaveOffers d k g old new
-may-offer d k g p c sources n s old new written m x t = by (same_slot g.into n s m x t) refl (written m x t)
+pub may-offer : (d : DefMaps) (k : SlotSet) (g : GlobImport) (c : Container) → HasSource d k g (Some c) → (n : Name) (s : Namespace) (old new : Slots Joined)
+    → Written old new g.into n s (λ y. join d.world g.into y (known_from d k g c n s)) → MayHaveOffers d k g old new
+may-offer d k g c source n s old new written m x t = by (same_slot g.into n s m x t) refl (written m x t)
   where
-    by : (b : Bool) → same_slot g.into n s m x t ≡ b → slot_at new m x t ≡ cond b (join d.world g.into (slot_at old m x t) (known_from d k g p c n s)) (slot_at old m x t)
+    by : (b : Bool) → same_slot g.into n s m x t ≡ b → slot_at new m x t ≡ cond b (join d.world g.into (slot_at old m x t) (known_from d k g c n s)) (slot_at old m x t)
         → (slot_at new m x t ≡ slot_at old m x t) ⊎ (slot_at new m x t ≡ join d.world m (slot_at old m x t) (known_offer d k m x t g))
     by false e h = inl h
     by true e h =
         let parts = and_parts _ _ e in
         let place = and_parts _ _ parts.1 in
-        let here : join d.world g.into (slot_at old m x t) (known_from d k g p c n s) ≡ join d.world m (slot_at old m x t) (known_from d k g p c x t) =
-        λ i. join d.world (same_module-true g.into m place.0 i) (slot_at old m x t) (known_from d k g p c (name-same n x place.1 i) (namespace-same s t parts.0 i)) in
-        let offer : known_from d k g p c x t ≡ known_offer d k m x t g = ap (λ b. cond b (known_from d k g p c x t) None) (sym place.0) ∙ known-at d k g p c sources m x t in
+        let here : join d.world g.into (slot_at old m x t) (known_from d k g c n s) ≡ join d.world m (slot_at old m x t) (known_from d k g c x t) =
+        λ i. join d.world (same_module-true g.into m place.0 i) (slot_at old m x t) (known_from d k g c (name-same n x place.1 i) (namespace-same s t parts.0 i)) in
+        let offer : known_from d k g c x t ≡ known_offer d k m x t g = ap (λ b. cond b (known_from d k g c x t) None) (sym place.0) ∙ known-at d k g c source m x t in
         inr (h ∙ here ∙ ap (join d.world m (slot_at old m x t)) offer)
 
 -- where a source is missing nothing is offered

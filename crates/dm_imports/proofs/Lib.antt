@@ -14,8 +14,11 @@ mod BoundLemmas
 mod ClearLemmas
 mod StepLemmas
 mod WayLemmas
+mod SourceLemmas
+mod ListingLemmas
 mod KnownOfferLemmas
 mod KnowingLemmas
 mod ListedLemmas
 mod PassLemmas
+mod MarkLemmas
 pub mod FollowLemmas

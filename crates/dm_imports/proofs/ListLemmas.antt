@@ -1,5 +1,5 @@
 -- Lists, as loops go over them, and what is in them.
-use Rattle.std.proofs.Common.{[], ◌≡◌, ◌∙◌, ◌+◌, ◌<◌, ◌||◌, ℕ, suc, List, ◌∷◌, add-one, ap, drop, drop-cons, get_or, length, refl, subst, sym, true, false, true≢false, Bool, Bor, Option, None, Some, IsSome, map}
+use Rattle.std.proofs.Common.{[], ◌≡◌, ◌∙◌, ◌+◌, ◌<◌, ◌≤◌, ◌||◌, ℕ, suc, List, ◌∷◌, add-one, ap, drop, drop-cons, get_or, length, refl, subst, sym, true, false, true≢false, Bool, Bor, Option, None, Some, IsSome, map}
 use Rattle.std.specs.Cmp.Lexicographic.{nat_list_eq_equiv}
 use Rattle.std.specs.List.{All, Contains, list_any}
 use Rattle.std.proofs.lemmas.List.Elements.{All-contains, All-map}
@@ -52,5 +52,8 @@ seen-all P ns n all has = All-contains P (seen ns) n (All-map P (λ (r : Bor Nam
 
 -- ---- A module that is not the world's
 
+pub past-scope : (w : World) (m : ModuleId) → length w.places ≤ m.0 → scope_of w m ≡ no_scope
+past-scope w m past = ap (λ o. option_map_or (λ (d : Module). d.scope) (option_and_then (placed_module w) o) no_scope) (slice_get_past w.places m.0 past)
+
 pub unknown-scope : (w : World) (m : ModuleId) → knows w (held.Module m) ≡ false → scope_of w m ≡ no_scope
-unknown-scope w m e = ap (λ o. option_map_or (λ (d : Module). d.scope) (option_and_then (placed_module w) o) no_scope) (slice_get_past w.places m.0 (ltb-false m.0 (length w.places) e))
+unknown-scope w m e = past-scope w m (ltb-false m.0 (length w.places) e)

@@ -1,8 +1,8 @@
 -- Meanings: when two are one, and which modules their visibilities name.
-use Rattle.std.proofs.Common.{◌≡◌, refl, subst, true, Option, None, Some}
+use Rattle.std.proofs.Common.{◌≡◌, refl, subst, true, Bool, Option, None, Some}
 use Rattle.std.proofs.lemmas.Bool.{and_parts}
 use Rattle.std.specs.Cmp.{booleans_Decides}
-use Rattle.std.specs.Option.{option_eq}
+use Rattle.std.specs.Option.{option_eq, option_map}
 use Rattle.dm_base.specs.contracts.value_eq.ModuleDefIdValueEq.TheImpl.Laws as def_value
 use Rattle.dm_base.specs.contracts.value_eq.VisibilityValueEq.TheImpl.Laws as visibility_value
 use Rattle.dm_base.specs.declared.imports.ImportOrExternCrate.{ImportOrExternCrate}
@@ -25,6 +25,7 @@ use Rattle.dm_imports.specs.contracts.meaning.MeaningPartialEq.TheImpl as meanin
 use Rattle.dm_imports.specs.contracts.meaning.SourceValueEq.TheImpl.Laws as source_value
 use Rattle.dm_imports.specs.declared.meaning.Meaning.{Meaning}
 use Rattle.dm_imports.specs.Meanings.{IsNamed, in_namespace, macro_meaning, type_meaning, value_meaning}
+use Rattle.dm_imports.specs.Paths.{marked}
 
 pub meaning-same : (x y : Meaning) → meaning_eq.ghosts.eq x y ≡ true → x ≡ y
 meaning-same x y e =
@@ -63,3 +64,8 @@ module _ (w : World) (x : PerNs) (k : KnowsAll w (res_holds x)) where
   namespace-named Types m is = type-named x.types refl m is
   namespace-named Values m is = value-named x.values refl m is
   namespace-named Macros m is = macro-named x.macros refl m is
+
+-- so is what is marked
+pub marked-named : (w : World) (b : Bool) (o : Option Meaning) → IsNamed w o → IsNamed w (option_map (marked b) o)
+marked-named w b None h m is = cc
+marked-named w b (Some x) h m is = let same : marked b x ≡ m = cc in subst (λ (y : Meaning). NamesKnown (tree_of w) y.vis) same (h x refl)

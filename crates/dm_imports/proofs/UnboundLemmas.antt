@@ -1,6 +1,6 @@
 -- Names that a module or an enum does not have mean nothing there.
-use Rattle.std.proofs.Common.{◌≡◌, ◌∙◌, ◌++◌, ap, refl, List, [], Option, None, Some, map}
-use Rattle.std.specs.List.{Contains}
+use Rattle.std.proofs.Common.{◌≡◌, ◌∙◌, ◌++◌, ap, refl, sym, true, false, true≢false, Bool, List, [], Option, None, Some, map}
+use Rattle.std.specs.List.{Contains, list_any}
 use Rattle.std.specs.Option.{option_and_then, option_map, option_map_or}
 use Rattle.std.proofs.lemmas.List.Elements.{Contains-append_left, Contains-append_right}
 use Rattle.dm_base.specs.declared.ids.EnumVariantId.{EnumVariantId}
@@ -9,8 +9,8 @@ use Rattle.dm_base.specs.declared.ids.ModuleId.{ModuleId}
 use Rattle.dm_base.specs.declared.item_ids.ModuleDefId.TheVariants as def
 use Rattle.dm_base.specs.declared.per_ns.Namespace.{Namespace}
 use Rattle.dm_base.specs.declared.per_ns.Namespace.TheVariants.{Types, Values, Macros}
-use Rattle.dm_base.specs.Names.{Name, find_name}
-use Rattle.dm_base.specs.PerNs.{nothing}
+use Rattle.dm_base.specs.Names.{Name, find_name, same_name}
+use Rattle.dm_base.specs.PerNs.{is_empty, nothing}
 use Rattle.dm_maps.specs.GoesOn.{variants_if_known}
 use Rattle.dm_maps.specs.World.{scope_of}
 use Rattle.dm_scope.specs.Scope.{Scope, bound_in}
@@ -20,7 +20,7 @@ use Rattle.dm_imports.specs.declared.container.Container.TheVariants as containe
 use Rattle.dm_imports.specs.Meanings.{in_namespace}
 use Rattle.dm_imports.specs.Paths.{Asking, DefMaps, at, marked, member, seen, variant_in, visible}
 use Rattle.dm_imports.specs.Supporting.{source_names}
-use Rattle.dm_imports.proofs.ListLemmas.{find-absent}
+use Rattle.dm_imports.proofs.ListLemmas.{find-absent, name-absent, name-listed}
 
 unbound : (s : Scope) (n : Name) → (Contains (names_of s) n → ⊥) → bound_in s n ≡ nothing
 unbound s n missing =
@@ -36,6 +36,14 @@ unbound s n missing =
       values = find-absent n s.values.items in_values i;
       macros = find-absent n s.macros.items in_macros i;
     }
+
+-- a name under which something is bound is one of the names
+pub bound-listed : (s : Scope) (n : Name) → is_empty (bound_in s n) ≡ false → Contains (names_of s) n
+bound-listed s n some = by (list_any (same_name n) (names_of s)) refl
+  where
+    by : (b : Bool) → list_any (same_name n) (names_of s) ≡ b → Contains (names_of s) n
+    by true e = name-listed n (names_of s) e
+    by false e = absurd (true≢false (sym (ap is_empty (unbound s n (name-absent n (names_of s) e))) ∙ some))
 
 nothing-in : (s : Namespace) → in_namespace s nothing ≡ None
 nothing-in Types = refl

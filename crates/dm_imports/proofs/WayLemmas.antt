@@ -16,7 +16,7 @@ use Rattle.dm_base.specs.Names.{Name, same_name}
 use Rattle.dm_base.specs.Tree.{same_module}
 use Rattle.dm_imports.specs.declared.meaning.Meaning.{Meaning}
 use Rattle.dm_imports.specs.declared.named_import.NamedImport.{NamedImport}
-use Rattle.dm_imports.specs.Grounded.{IsClosed, IsGrounded, Offers, SlotSet, is_glob_step, is_import_step, is_step, known_offers, leads_by}
+use Rattle.dm_imports.specs.Grounded.{IsClosed, Offers, SlotSet, is_glob_step, is_import_step, is_step, known_offers, leads_by}
 use Rattle.dm_imports.specs.Grounding.{AreCovered, AreSafeOffers, IsImportOf, IsMore, IsOpen, IsSafe, IsWay, Way, has_slot, is_way, means, slots_of}
 use Rattle.dm_imports.specs.Meanings.{is_declared}
 use Rattle.dm_imports.specs.Paths.{DefMaps, is_by}
@@ -64,7 +64,7 @@ module _ (old new : Slots Bool) (w : Way) (given : IsGiven old new w) where
   pub given-has : has_slot (slots_of new) w ≡ true
   given-has = ap is_some (given w.home w.name w.namespace ∙ ap (λ b. cond b (Some true) (slot_at old w.home w.name w.namespace)) (slot-refl w.home w.name w.namespace))
 
-  given-cases : (l : ModuleId) (x : Name) (t : Namespace) → slots_of new l x t ≡ true → (slots_of old l x t ≡ true) ⊎ (same_slot w.home w.name w.namespace l x t ≡ true)
+  pub given-cases : (l : ModuleId) (x : Name) (t : Namespace) → slots_of new l x t ≡ true → (slots_of old l x t ≡ true) ⊎ (same_slot w.home w.name w.namespace l x t ≡ true)
   given-cases l x t h = by (same_slot w.home w.name w.namespace l x t) refl (sym (ap is_some (given l x t)) ∙ h)
     where
       by : (b : Bool) → same_slot w.home w.name w.namespace l x t ≡ b → is_some (cond b (Some true) (slot_at old l x t)) ≡ true → (slots_of old l x t ≡ true) ⊎ (same_slot w.home w.name w.namespace l x t ≡ true)
@@ -94,6 +94,18 @@ given-safe d old new o w x given is found step offers safe c closed m n s h = el
   | inr e ↦
       let derived = step-more d (slots_of old) c (safe c closed) o (known_offers d c) (offers c closed) w.home w.name w.namespace x (way-step d (slots_of old) o w x is step) in
       sym (set-same c w.home w.name w.namespace m n s e) ∙ closed w.home is.home w.name w.namespace x found derived
+]
+
+-- so has one to which a slot was given that its module declares
+pub declared-safe : (d : DefMaps) (old new : Slots Bool) (w : Way) (x : Meaning) → IsGiven old new w → IsWay d w → means d w ≡ Some x → is_declared x ≡ true
+    → IsSafe d (slots_of old) → IsSafe d (slots_of new)
+declared-safe d old new w x given is found declared safe c closed m n s h = elim (given-cases old new w given m n s h) [
+  | inl e ↦ safe c closed m n s e
+  | inr e ↦
+      let globs = is_glob_step d (known_offers d c) w.home w.name w.namespace x in
+      let imports = list_any (is_import_step d c (known_offers d c) w.home w.name w.namespace x) d.imports in
+      let step : is_step d c (known_offers d c) w.home w.name w.namespace x ≡ true = or_left (is_declared x || globs) imports (or_left (is_declared x) globs declared) in
+      sym (set-same c w.home w.name w.namespace m n s e) ∙ closed w.home is.home w.name w.namespace x found step
 ]
 
 -- ---- Covered ways
@@ -158,20 +170,3 @@ module _ (d : DefMaps) (k : SlotSet) (ws : List Way) (covered : AreCovered d k w
           let own : IsImportOf d w i = record { listed = has; home = same_module-true i.home m p.0; name = name-same i.name n p.1 } in
           let import : ForSome (Some i) (IsImportOf d w) = λ j f. let same : i ≡ j = cc in subst (IsImportOf d w) same own in
           known-slot w x (record { home = is; import = import }) there e
-
-  -- so a way that is open keeps def maps from being grounded
-  pub stuck-not : (w : Way) → Contains ws w → IsWay d w → IsGrounded d → ⊥
-  stuck-not w has is grounded =
-      let this = All-contains (IsOpen d k (known_offers d k)) ws w stuck has in
-      absurd (true≢false (sym (grounded k stuck-closed w.home is.home w.name w.namespace (ap is_some this.there)) ∙ this.unknown))
-
--- where no way is left, def maps are grounded
-pub done-grounded : (d : DefMaps) (k : SlotSet) → AreCovered d k [] → IsSafe d k → IsGrounded d
-done-grounded d k covered safe c closed m is n s some =
-    elim (covered (record { home = m; name = n; namespace = s; import = None }) (record { home = is; import = λ i e. cc }) some) [
-      | inl h ↦ safe c closed m n s h
-      | inr h ↦ absurd (nothing h)
-    ]
-  where
-    nothing : {w : Way} → Contains [] w → ⊥
-    nothing h = let lt = h.1 in omega arith

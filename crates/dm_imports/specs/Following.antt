@@ -1,5 +1,5 @@
 -- What is known while steps are followed in an order that a search found: never more than follows from declarations.
-use Rattle.std.specs.Prelude.{◌≡◌, ◌⊎◌, All, Bool, true, List}
+use Rattle.std.specs.Prelude.{◌≡◌, ◌⊎◌, All, Contains, Bool, true, List, Some}
 use Rattle.std.specs.List.{filter_map, list_any}
 use Rattle.std.specs.Option.{ForSome}
 use Rattle.dm_base.specs.declared.ids.ModuleId.{ModuleId}
@@ -9,9 +9,10 @@ use Rattle.dm_imports.specs.declared.glob_import.GlobImport.{GlobImport}
 use Rattle.dm_imports.specs.declared.joined.Joined.{Joined}
 use Rattle.dm_imports.specs.declared.meaning.Meaning.{Meaning}
 use Rattle.dm_imports.specs.declared.rules.grounded.following.Followed.{Followed}
+use Rattle.dm_imports.specs.declared.rules.grounded.readers.Reader.{Reader}
 use Rattle.dm_imports.specs.Brought.{AreAllNamed, join}
 use Rattle.dm_imports.specs.Grounded.{IsClosed, SlotSet, known_offer, known_offers}
-use Rattle.dm_imports.specs.Grounding.{IsMore, IsSafe, IsWay, is_conflict, slots_of}
+use Rattle.dm_imports.specs.Grounding.{HasSource, IsMore, IsSafe, IsWay, is_conflict, slots_of}
 use Rattle.dm_imports.specs.Paths.{DefMaps}
 use Rattle.dm_imports.specs.Slots.{Slots, slot_at}
 
@@ -46,3 +47,8 @@ pub record IsSound (d : DefMaps) (f : Followed) : Type 0 where
 pub record Follows (d : DefMaps) (f g : Followed) : Type 0 where
   pub sound : IsSound d g
   pub more : IsMore (slots_of f.known) (slots_of g.known)
+
+-- a glob of def maps, with what its path leads to both in them and by known slots
+pub record IsReader (d : DefMaps) (k : SlotSet) (r : Reader) : Type 0 where
+  pub listed : Contains d.globs r.glob.now
+  pub source : HasSource d k r.glob.now (Some r.source)

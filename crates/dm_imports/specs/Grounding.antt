@@ -1,22 +1,23 @@
 -- How it is seen that def maps are grounded: by ways in which slots may be derived, of which fewer and fewer are open.
-use Rattle.std.specs.Prelude.{◌≡◌, ◌⊎◌, Contains, Bool, true, false, List, [], ◌∷◌, ◌||◌, Option, Some, None, cond, is_some, map}
+use Rattle.std.specs.Prelude.{◌≡◌, ◌⊎◌, All, Contains, Bool, true, false, List, ◌||◌, Option, Some, None, cond, is_some}
+use Rattle.std.specs.Borrow.{Bor}
 use Rattle.std.specs.Option.{ForSome, option_map_or}
 use Rattle.dm_base.specs.declared.ids.ModuleId.{ModuleId}
 use Rattle.dm_base.specs.declared.per_ns.Namespace.{Namespace}
-use Rattle.dm_base.specs.declared.per_ns.Namespace.TheVariants.{Types, Values, Macros}
 use Rattle.dm_base.specs.Names.{Name}
 use Rattle.dm_base.specs.Tree.{IsKnown}
 use Rattle.dm_base.specs.Visibility.{NamesKnown}
 use Rattle.dm_maps.specs.Trees.{tree_of}
-use Rattle.dm_maps.specs.World.{World, scope_of}
+use Rattle.dm_maps.specs.World.{scope_of}
 use Rattle.dm_scope.specs.Sorted.{names_of}
 use Rattle.dm_imports.specs.declared.container.Container.{Container}
+use Rattle.dm_imports.specs.declared.container.Container.TheVariants as container
 use Rattle.dm_imports.specs.declared.glob_import.GlobImport.{GlobImport}
 use Rattle.dm_imports.specs.declared.joined.Joined.{Joined}
 use Rattle.dm_imports.specs.declared.meaning.Meaning.{Meaning}
 use Rattle.dm_imports.specs.declared.named_import.NamedImport.{NamedImport}
 use Rattle.dm_imports.specs.Brought.{AreAllNamed, IsBrought}
-use Rattle.dm_imports.specs.Grounded.{IsClosed, Offers, SlotSet, is_clear, is_glob_step, is_import_step, known_offers, knowing}
+use Rattle.dm_imports.specs.Grounded.{IsClosed, Offers, SlotSet, is_glob_step, is_import_step, known_offers, knowing}
 use Rattle.dm_imports.specs.Meanings.{is_declared}
 use Rattle.dm_imports.specs.Paths.{AreEnumsNamed, DefMaps, at}
 use Rattle.dm_imports.specs.Rules.{AreMapsKnown, IsModule, offer_from, source_of}
@@ -39,10 +40,15 @@ pub record AreReady (d : DefMaps) (b : Slots Joined) : Type 0 where
   pub brought : IsBrought d b
   pub named : AreAllNamed d.world b
 
--- ---- What a glob offers by known slots: p is its source in def maps, and c is it to one who knows those slots alone
+-- ---- What a glob offers by known slots
 
-abbrev pub known_from : DefMaps → SlotSet → GlobImport → Container → Container → Name → Namespace → Option Meaning
-known_from d k g p c n s = cond (is_clear (offer_from (knowing d k) g c n s)) (offer_from d g p n s) None
+-- what a source has under a name is found by known slots; the names of an enum need none
+abbrev pub is_found : SlotSet → Container → Name → Namespace → Bool
+is_found k (container.Module m) n s = k m n s
+is_found k (container.Enum e) n s = true
+
+abbrev pub known_from : DefMaps → SlotSet → GlobImport → Container → Name → Namespace → Option Meaning
+known_from d k g c n s = cond (is_found k c n s) (offer_from d g c n s) None
 
 -- a glob of a module of the world's, whose visibility names such
 pub record MayOffer (d : DefMaps) (g : GlobImport) : Type 0 where
@@ -50,10 +56,10 @@ pub record MayOffer (d : DefMaps) (g : GlobImport) : Type 0 where
   pub vis : NamesKnown (tree_of d.world) g.vis
   pub enums : AreEnumsNamed d
 
--- both sources of a glob are these; without them one of the two is none
-abbrev pub HasSources : DefMaps → SlotSet → GlobImport → Option (Container × Container) → Type 0
-HasSources d k g None = (source_of d g ≡ None) ⊎ (source_of (knowing d k) g ≡ None)
-HasSources d k g (Some x) = (source_of d g ≡ Some x.0) × (source_of (knowing d k) g ≡ Some x.1)
+-- both sources of a glob are this one, or one of the two is none
+abbrev pub HasSource : DefMaps → SlotSet → GlobImport → Option Container → Type 0
+HasSource d k g None = (source_of d g ≡ None) ⊎ (source_of (knowing d k) g ≡ None)
+HasSource d k g (Some c) = (source_of d g ≡ Some c) × (source_of (knowing d k) g ≡ Some c)
 
 -- ---- Ways
 
@@ -63,19 +69,6 @@ pub record Way : Type 0 where
   pub name : Name
   pub namespace : Namespace
   pub import : Option NamedImport
-
-abbrev pub three_ways : ModuleId → Name → Option NamedImport → List Way
-three_ways m n i = map (λ s. record { home = m; name = n; namespace = s; import = i }) (Types ∷ Values ∷ Macros ∷ [])
-
-abbrev pub import_ways : NamedImport → List Way
-import_ways i = three_ways i.home i.name (Some i)
-
-abbrev pub slot_ways : ModuleId → Name → List Way
-slot_ways m n = three_ways m n None
-
--- a list has the ways of all names of a module
-abbrev pub HasWaysOf : World → ModuleId → List Way → Type 0
-HasWaysOf w m ws = (n : Name) → Contains (names_of (scope_of w m)) n → (s : Namespace) → Contains ws (record { home = m; name = n; namespace = s; import = None })
 
 -- what the slot of a way means
 abbrev pub means : DefMaps → Way → Option Meaning
@@ -139,3 +132,33 @@ AreCovered d k ws = (w : Way) → IsWay d w → is_some (means d w) ≡ true →
 -- no slot is lost
 abbrev pub IsMore : SlotSet → SlotSet → Type 0
 IsMore k l = (m : ModuleId) (n : Name) (s : Namespace) → k m n s ≡ true → l m n s ≡ true
+
+-- ---- Ways that are listed, while slots are made known
+
+-- slots were made known, and ways were added
+pub record HasMore (d : DefMaps) (old new : Slots Bool) (vs ws : List Way) : Type 0 where
+  pub more : IsMore (slots_of old) (slots_of new)
+  pub kept : (w : Way) → Contains vs w → Contains ws w
+  pub ways : All (IsWay d) vs → All (IsWay d) ws
+  pub safe : IsSafe d (slots_of old) → IsSafe d (slots_of new)
+
+abbrev pub way_of : ModuleId → Name → Option NamedImport → Namespace → Way
+way_of m n i s = record { home = m; name = n; namespace = s; import = i }
+
+-- they are ways in each namespace
+abbrev pub AreWays : DefMaps → ModuleId → Name → Option NamedImport → Type 0
+AreWays d m n i = (s : Namespace) → IsWay d (way_of m n i s)
+
+-- each whose slot means something is settled
+abbrev pub AreSettled : DefMaps → SlotSet → List Way → ModuleId → Name → Option NamedImport → Type 0
+AreSettled d k ws m n i = (s : Namespace) → is_some (means d (way_of m n i s)) ≡ true → IsSettled k ws (way_of m n i s)
+
+abbrev pub IsImportSettled : DefMaps → SlotSet → List Way → NamedImport → Type 0
+IsImportSettled d k ws i = AreSettled d k ws i.home i.name (Some i)
+
+abbrev pub IsNameSettled : DefMaps → SlotSet → List Way → ModuleId → Bor Name → Type 0
+IsNameSettled d k ws m n = AreSettled d k ws m n.now None
+
+-- so is each name of a module
+abbrev pub HasWaysOf : DefMaps → SlotSet → List Way → ModuleId → Type 0
+HasWaysOf d k ws m = (n : Name) → Contains (names_of (scope_of d.world m)) n → AreSettled d k ws m n None

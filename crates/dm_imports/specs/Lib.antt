@@ -13,3 +13,5 @@ pub mod Bound
 pub mod Rows
 pub mod GroundedRows
 pub mod Following
+pub mod OrderDependent
+pub mod Marking

@@ -87,7 +87,7 @@ fn macro_meaning(item: MacrosItem) -> Meaning
     }
 }
 
-fn type_in(item: Option<TypesItem>) -> Option<Meaning>
+pub(crate) fn type_in(item: Option<TypesItem>) -> Option<Meaning>
     ensures { result ≡ option_map spec.type_meaning item }
 {
     let item = item?;

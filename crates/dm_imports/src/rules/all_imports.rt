@@ -1,5 +1,5 @@
 //! What imports by name bring.
-ghost use Rattle.std.specs.Prelude.{◌≡◌, All, IfOk, OnOk, cond, fold};
+ghost use Rattle.std.specs.Prelude.{◌≡◌, ◌++◌, ◌∷◌, [], All, IfOk, OnOk, cond, fold, map};
 ghost use Rattle.std.specs.Option.{option_or};
 ghost use Rattle.dm_base.specs.declared.ids.ModuleId.{ModuleId};
 ghost use Rattle.dm_base.specs.declared.per_ns.Namespace.{Namespace};
@@ -7,6 +7,7 @@ ghost use Rattle.dm_base.specs.Names.{Name};
 ghost use Rattle.dm_base.specs.Tree.{IsKnown};
 ghost use Rattle.dm_base.specs.Visibility.{NamesKnown};
 ghost use Rattle.dm_maps.specs.Trees.{tree_of};
+ghost use Rattle.dm_imports.specs.Asked as asked;
 ghost use Rattle.dm_imports.specs.Brought.{AreAllNamed, IsBrought};
 ghost use Rattle.dm_imports.specs.Paths.{AreEnumsNamed};
 ghost use Rattle.dm_imports.specs.Rules as spec;
@@ -20,6 +21,7 @@ use crate::joined::Joined;
 use crate::meaning::{Meaning, Source};
 use crate::named_import::{ImportKind, NamedImport};
 use crate::paths::path_meaning;
+use crate::rules::meanings::{ImportMeanings, meanings_of};
 use crate::rules::visibilities::least;
 use crate::slots::Slots;
 use dm_base::ids::ModuleId;
@@ -109,9 +111,17 @@ fn put_if_vacant(
     }
 }
 
-/// Adds what an import brings, where no import before it brings anything.
+/// What imports by name bring: to each slot, and each import for itself.
+#[derive(Drop)]
+pub(crate) struct ByName {
+    pub(crate) slots: Slots<Meaning>,
+    /// In the order of the imports.
+    pub(crate) each: Vec<ImportMeanings>,
+}
+
+/// Adds what an import brings, to slots where no import before it brings anything.
 fn add_import(
-    all: &mut Slots<Meaning>,
+    all: &mut ByName,
     maps: &DefMaps<'_>,
     below: &Slots<Joined>,
     import: &NamedImport,
@@ -121,22 +131,23 @@ fn add_import(
     requires enums { AreEnumsNamed (of_tables maps.now) }
     requires home { IsKnown (tree_of maps.now.world) import.now.home }
     requires vis { NamesKnown (tree_of maps.now.world) import.now.vis }
-    ensures { OnOk result ((k : ModuleId) (x : Name) (t : Namespace) → slot_at all.new k x t
-        ≡ option_or (slot_at all.old k x t) (spec.import_to (of_tables maps.now) k x t import.now)) }
+    ensures slots { OnOk result ((k : ModuleId) (x : Name) (t : Namespace) → slot_at all.new.slots k x t
+        ≡ option_or (slot_at all.old.slots k x t) (spec.import_to (of_tables maps.now) k x t import.now)) }
+    ensures each { OnOk result
+        (all.new.each.items ≡ all.old.each.items ++ asked.meanings_of (of_tables maps.now) import.now ∷ []) }
 {
     let (home, name) = (import.home, &import.name);
-    let types = import_brings(maps, below, import, Namespace::Types);
-    put_if_vacant(all, home, name, Namespace::Types, types)?;
-    let values = import_brings(maps, below, import, Namespace::Values);
-    put_if_vacant(all, home, name, Namespace::Values, values)?;
-    let macros = import_brings(maps, below, import, Namespace::Macros);
-    put_if_vacant(all, home, name, Namespace::Macros, macros)?;
+    let found = meanings_of(maps, below, import);
+    put_if_vacant(&mut all.slots, home, name, Namespace::Types, found.types)?;
+    put_if_vacant(&mut all.slots, home, name, Namespace::Values, found.values)?;
+    put_if_vacant(&mut all.slots, home, name, Namespace::Macros, found.macros)?;
+    all.each.push(found)?;
     Ok(())
 }
 
 /// The same of some imports.
 fn add_imports(
-    all: &mut Slots<Meaning>,
+    all: &mut ByName,
     maps: &DefMaps<'_>,
     below: &Slots<Joined>,
     imports: &[NamedImport],
@@ -145,9 +156,11 @@ fn add_imports(
     requires named { AreAllNamed maps.now.world below.now }
     requires enums { AreEnumsNamed (of_tables maps.now) }
     requires imports { All (spec.IsImportKnown (of_tables maps.now)) imports.now }
-    ensures { OnOk result ((k : ModuleId) (x : Name) (t : Namespace) → slot_at all.new k x t
-        ≡ fold (λ y i. option_or y (spec.import_to (of_tables maps.now) k x t i)) (slot_at all.old k x t)
+    ensures slots { OnOk result ((k : ModuleId) (x : Name) (t : Namespace) → slot_at all.new.slots k x t
+        ≡ fold (λ y i. option_or y (spec.import_to (of_tables maps.now) k x t i)) (slot_at all.old.slots k x t)
         imports.now) }
+    ensures each { OnOk result
+        (all.new.each.items ≡ all.old.each.items ++ map (asked.meanings_of (of_tables maps.now)) imports.now) }
 {
     for import in imports {
         add_import(all, maps, below, import)?;
@@ -155,21 +168,25 @@ fn add_imports(
     Ok(())
 }
 
-/// What the imports by name of each module bring, where `below` is what globs bring.
+/// What the imports by name bring, to each slot and each for itself, where `below` is what globs bring.
 ///
 /// Fails only where memory runs out.
 pub(crate) fn all_imports(
     alloc: Global,
     maps: &DefMaps<'_>,
     below: &Slots<Joined>,
-) -> Result<Slots<Meaning>, AllocError>
+) -> Result<ByName, AllocError>
     requires known { AreMapsKnown (of_tables maps.now) }
     requires below { IsBrought (of_tables maps.now) below.now }
     requires named { AreAllNamed maps.now.world below.now }
-    ensures { IfOk result (λ all. (k : ModuleId) (x : Name) (t : Namespace) → slot_at all k x t
+    ensures slots { IfOk result (λ all. (k : ModuleId) (x : Name) (t : Namespace) → slot_at all.slots k x t
         ≡ spec.all_imports (of_tables maps.now) maps.now.imports k x t) }
+    ensures each { IfOk result (λ all. all.each.items ≡ map (asked.meanings_of (of_tables maps.now)) maps.now.imports) }
 {
-    let mut all = Slots::new(alloc);
+    let mut all = ByName {
+        slots: Slots::new(alloc),
+        each: Vec::new(alloc),
+    };
     add_imports(&mut all, maps, below, maps.imports)?;
     Ok(all)
 }

@@ -14,6 +14,7 @@ ghost use Rattle.dm_imports.specs.Paths.{AreEnumsNamed};
 ghost use Rattle.dm_imports.specs.Rules as spec;
 ghost use Rattle.dm_imports.specs.Rules.{AreMapsKnown};
 ghost use Rattle.dm_imports.specs.Slots.{same_place, same_slot, slot_at};
+ghost use Rattle.dm_imports.specs.Supporting.{IsListing};
 ghost use Rattle.dm_imports.specs.Tables.{of_tables};
 
 use crate::container::Container;
@@ -22,8 +23,8 @@ use crate::glob_import::GlobImport;
 use crate::joined::Joined;
 use crate::meaning::Meaning;
 use crate::rules::join::join;
-use crate::rules::offers::{offer_from, source_of};
-use crate::rules::source_names::source_names;
+use crate::rules::listing::{Listing, listed_names};
+use crate::rules::offers::{offers_from, source_of};
 use crate::slots::Slots;
 use dm_base::ids::ModuleId;
 use dm_base::name::Name;
@@ -48,6 +49,9 @@ pub(crate) fn add_offer(
         (slot_at all.old k x t)) }
     ensures named { OnOk result (brought.AreAllNamed world.now all.new) }
 {
+    if offer.is_none() {
+        return Ok(());
+    }
     let before = all.get(m, name, namespace);
     match join(world, m, before, offer) {
         None => Ok(()),
@@ -74,12 +78,11 @@ fn add_name(
         (slot_at all.old k x t)) }
     ensures named { OnOk result (brought.AreAllNamed maps.now.world all.new) }
 {
-    let types = offer_from(maps, glob, source, name, Namespace::Types);
-    add_offer(all, maps.world, glob.into, name, Namespace::Types, types)?;
-    let values = offer_from(maps, glob, source, name, Namespace::Values);
-    add_offer(all, maps.world, glob.into, name, Namespace::Values, values)?;
-    let macros = offer_from(maps, glob, source, name, Namespace::Macros);
-    add_offer(all, maps.world, glob.into, name, Namespace::Macros, macros)?;
+    let offers = offers_from(maps, glob, source, name);
+    let (world, into) = (maps.world, glob.into);
+    add_offer(all, world, into, name, Namespace::Types, offers.types)?;
+    add_offer(all, world, into, name, Namespace::Values, offers.values)?;
+    add_offer(all, world, into, name, Namespace::Macros, offers.macros)?;
     Ok(())
 }
 
@@ -109,8 +112,10 @@ fn add_glob(
     all: &mut Slots<Joined>,
     alloc: Global,
     maps: &DefMaps<'_>,
+    listing: &Listing<'_>,
     glob: &GlobImport,
 ) -> Result<(), AllocError>
+    requires listing { IsListing maps.now.world listing.now }
     requires into { IsKnown (tree_of maps.now.world) glob.now.into }
     requires vis { NamesKnown (tree_of maps.now.world) glob.now.vis }
     requires enums { AreEnumsNamed (of_tables maps.now) }
@@ -122,7 +127,7 @@ fn add_glob(
     match source_of(maps, glob) {
         None => Ok(()),
         Some(source) => {
-            let names = source_names(alloc, maps.world, source)?;
+            let names = listed_names(alloc, maps.world, listing, source)?;
             add_names(all, maps, glob, source, names.as_slice())?;
             Ok(())
         }
@@ -134,8 +139,10 @@ fn add_globs(
     all: &mut Slots<Joined>,
     alloc: Global,
     maps: &DefMaps<'_>,
+    listing: &Listing<'_>,
     globs: &[GlobImport],
 ) -> Result<(), AllocError>
+    requires listing { IsListing maps.now.world listing.now }
     requires enums { AreEnumsNamed (of_tables maps.now) }
     requires globs { All (spec.IsGlobKnown (of_tables maps.now)) globs.now }
     requires all { brought.AreAllNamed maps.now.world all.old }
@@ -145,7 +152,7 @@ fn add_globs(
     ensures named { OnOk result (brought.AreAllNamed maps.now.world all.new) }
 {
     for glob in globs {
-        add_glob(all, alloc, maps, glob)?;
+        add_glob(all, alloc, maps, listing, glob)?;
     }
     Ok(())
 }
@@ -153,13 +160,18 @@ fn add_globs(
 /// What the globs of each module bring together.
 ///
 /// Fails only where memory runs out.
-pub(crate) fn all_offers(alloc: Global, maps: &DefMaps<'_>) -> Result<Slots<Joined>, AllocError>
-    requires { AreMapsKnown (of_tables maps.now) }
+pub(crate) fn all_offers(
+    alloc: Global,
+    maps: &DefMaps<'_>,
+    listing: &Listing<'_>,
+) -> Result<Slots<Joined>, AllocError>
+    requires known { AreMapsKnown (of_tables maps.now) }
+    requires listing { IsListing maps.now.world listing.now }
     ensures value { IfOk result (λ all. (k : ModuleId) (x : Name) (t : Namespace) → slot_at all k x t
         ≡ spec.all_offers (of_tables maps.now) maps.now.globs k x t) }
     ensures named { IfOk result (brought.AreAllNamed maps.now.world) }
 {
     let mut all = Slots::new(alloc);
-    add_globs(&mut all, alloc, maps, maps.globs)?;
+    add_globs(&mut all, alloc, maps, listing, maps.globs)?;
     Ok(all)
 }

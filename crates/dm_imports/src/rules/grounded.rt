@@ -1,16 +1,19 @@
 //! Whether each meaning of def maps follows, step by step, from declarations and names around modules.
-ghost use Rattle.std.specs.Prelude.{◌≡◌, ◌↔◌, ◌≤◌, All, IfOk, IsFalse, IsTrue, OnOk, is_some, length, true};
+ghost use Rattle.std.specs.Prelude.{◌≡◌, ◌↔◌, ◌≤◌, All, IfOk, IsFalse, IsTrue, OnOk, false, is_some, length, true};
 ghost use Rattle.dm_imports.specs.Following.{IsSound};
 ghost use Rattle.dm_imports.specs.Grounded as spec;
 ghost use Rattle.dm_imports.specs.Grounded.{IsGrounded};
 ghost use Rattle.dm_imports.specs.Grounding as by;
 ghost use Rattle.dm_imports.specs.Grounding.{AreCovered, AreReady, AreSafeOffers, IsMore, IsOpen, IsSafe, IsWay, offers_in, slots_of};
+ghost use Rattle.dm_imports.specs.Marking.{AreUngrounded, HasUngrounded};
 ghost use Rattle.dm_imports.specs.Rules.{AreImportsKnown};
+ghost use Rattle.dm_imports.specs.Supporting.{IsListing};
 ghost use Rattle.dm_imports.specs.Tables.{of_tables};
 
 mod following;
 mod knowing;
 mod known_offers;
+mod readers;
 mod steps;
 pub(crate) mod ways;
 
@@ -22,12 +25,50 @@ use crate::rules::grounded::following::{Followed, follow};
 use crate::rules::grounded::known_offers::known_offers;
 use crate::rules::grounded::steps::derives;
 use crate::rules::grounded::ways::{Way, all_ways};
+use crate::rules::listing::{Listing, list};
 use crate::slots::Slots;
 use crate::step::Step;
 use std::alloc::{AllocError, Global};
 
-/// Makes the slot of a way known, if one step derives it so. Answers whether the way stays open.
-pub(crate) fn settle(
+/// Whether the slot of a way is known.
+pub(crate) fn is_known(known: &Slots<bool>, way: &Way<'_>) -> bool
+    ensures { result ≡ by.has_slot (slots_of known.now) way.now }
+{
+    known.get(way.home, way.name, way.namespace).is_some()
+}
+
+/// Makes the slot of a way known that is not, if one step derives it so. Answers whether the way stays open.
+pub(crate) fn settle_unknown(
+    known: &mut Slots<bool>,
+    maps: &DefMaps<'_>,
+    brought: &Slots<Joined>,
+    offered: &Slots<Joined>,
+    way: &Way<'_>,
+) -> Result<bool, AllocError>
+    requires ready { AreReady (of_tables maps.now) brought.now }
+    requires way { IsWay (of_tables maps.now) way.now }
+    requires unknown { by.has_slot (slots_of known.old) way.now ≡ false }
+    ensures same { IfOk result (λ stays. IsTrue stays → known.new ≡ known.old) }
+    ensures stuck { IfOk result (λ stays. IsTrue stays
+        → IsOpen (of_tables maps.now) (slots_of known.old) (offers_in offered.now) way.now) }
+    ensures done { IfOk result (λ stays. IsFalse stays → is_some (by.means (of_tables maps.now) way.now) ≡ true
+        → by.has_slot (slots_of known.new) way.now ≡ true) }
+    ensures more { OnOk result (IsMore (slots_of known.old) (slots_of known.new)) }
+    ensures safe { OnOk result (AreSafeOffers (of_tables maps.now) (offers_in offered.now)
+        → IsSafe (of_tables maps.now) (slots_of known.old) → IsSafe (of_tables maps.now) (slots_of known.new)) }
+{
+    let Some(meaning) = at(maps, way.home, way.name, way.namespace) else {
+        return Ok(false);
+    };
+    if !derives(maps, known, brought, offered, way, meaning) {
+        return Ok(true);
+    }
+    known.put(way.home, way.name, way.namespace, true)?;
+    Ok(false)
+}
+
+/// The same of any way: of one whose slot is known, nothing is left to do.
+fn settle(
     known: &mut Slots<bool>,
     maps: &DefMaps<'_>,
     brought: &Slots<Joined>,
@@ -45,17 +86,10 @@ pub(crate) fn settle(
     ensures safe { OnOk result (AreSafeOffers (of_tables maps.now) (offers_in offered.now)
         → IsSafe (of_tables maps.now) (slots_of known.old) → IsSafe (of_tables maps.now) (slots_of known.new)) }
 {
-    let Some(meaning) = at(maps, way.home, way.name, way.namespace) else {
-        return Ok(false);
-    };
-    if known.get(way.home, way.name, way.namespace).is_some() {
+    if is_known(known, way) {
         return Ok(false);
     }
-    if !derives(maps, known, brought, offered, way, meaning) {
-        return Ok(true);
-    }
-    known.put(way.home, way.name, way.namespace, true)?;
-    Ok(false)
+    settle_unknown(known, maps, brought, offered, way)
 }
 
 /// Does so with some ways, from the last to the first. Answers those that stay open, in the other order.
@@ -96,9 +130,11 @@ fn pass<'a>(
     alloc: Global,
     maps: &DefMaps<'_>,
     brought: &Slots<Joined>,
+    listing: &Listing<'_>,
     ways: Vec<Way<'a>>,
 ) -> Result<Vec<Way<'a>>, AllocError>
     requires ready { AreReady (of_tables maps.now) brought.now }
+    requires listing { IsListing maps.now.world listing.now }
     requires ways { All (IsWay (of_tables maps.now)) ways.items }
     requires safe { IsSafe (of_tables maps.now) (slots_of known.old) }
     ensures ways { IfOk result (λ left. All (IsWay (of_tables maps.now)) left.items) }
@@ -110,49 +146,53 @@ fn pass<'a>(
         → All (IsOpen (of_tables maps.now) (slots_of known.new)
         (spec.known_offers (of_tables maps.now) (slots_of known.new))) left.items) }
 {
-    let offered = known_offers(alloc, maps, known)?;
+    let offered = known_offers(alloc, maps, listing, known)?;
     let left = settle_all(known, alloc, maps, brought, &offered, ways)?;
     Ok(left)
 }
 
-/// Passes over ways, until none is open or one leaves all open that were. Answers whether none is open. Each pass goes
-/// over them in the other order than the one before, so that chains of imports take few passes.
-fn are_settled(
+/// Passes over ways, until none is open or one leaves all open that were. Answers with those that stay open. Each pass
+/// goes over them in the other order than the one before, so that chains of imports take few passes.
+fn settle_rest<'a>(
     known: &mut Slots<bool>,
     alloc: Global,
     maps: &DefMaps<'_>,
     brought: &Slots<Joined>,
-    ways: Vec<Way<'_>>,
-) -> Result<bool, AllocError>
+    listing: &Listing<'_>,
+    ways: Vec<Way<'a>>,
+) -> Result<Vec<Way<'a>>, AllocError>
     requires ready { AreReady (of_tables maps.now) brought.now }
+    requires listing { IsListing maps.now.world listing.now }
     requires ways { All (IsWay (of_tables maps.now)) ways.items }
     requires covered { AreCovered (of_tables maps.now) (slots_of known.old) ways.items }
     requires safe { IsSafe (of_tables maps.now) (slots_of known.old) }
-    ensures { IfOk result (λ yes. IsTrue yes ↔ IsGrounded (of_tables maps.now)) }
+    ensures each { IfOk result (λ left. AreUngrounded (of_tables maps.now) left.items) }
+    ensures all { IfOk result (λ left. HasUngrounded (of_tables maps.now) left.items) }
 {
     let mut waiting = ways;
     'passes: while !waiting.is_empty() {
         let before = waiting.len();
-        let left = pass(known, alloc, maps, brought, waiting)?;
+        let left = pass(known, alloc, maps, brought, listing, waiting)?;
         if left.len() == before {
-            return Ok(false);
+            return Ok(left);
         }
         waiting = left;
     }
-    Ok(true)
+    Ok(waiting)
 }
 
-/// Settles the ways that need no glob, then those that steps lead to, and again all that are left. Answers with those
-/// that stay open.
+/// Settles the ways that steps lead to, and then all that are left. Answers with those that stay open.
 fn settle_by_steps<'a>(
     followed: &mut Followed<'a>,
     alloc: Global,
     maps: &DefMaps<'a>,
     brought: &Slots<Joined>,
+    listing: &Listing<'a>,
     ways: Vec<Way<'a>>,
     steps: &[Step],
 ) -> Result<Vec<Way<'a>>, AllocError>
     requires ready { AreReady (of_tables maps.now) brought.now }
+    requires listing { IsListing maps.now.world listing.now }
     requires ways { All (IsWay (of_tables maps.now)) ways.items }
     requires covered { AreCovered (of_tables maps.now) (slots_of followed.old.known) ways.items }
     requires sound { IsSound (of_tables maps.now) followed.old }
@@ -160,7 +200,8 @@ fn settle_by_steps<'a>(
     ensures covered { IfOk result (λ left. AreCovered (of_tables maps.now) (slots_of followed.new.known) left.items) }
     ensures safe { OnOk result (IsSafe (of_tables maps.now) (slots_of followed.new.known)) }
 {
-    let open = settle_all(
+    follow(followed, alloc, maps, brought, listing, steps)?;
+    let left = settle_all(
         &mut followed.known,
         alloc,
         maps,
@@ -168,39 +209,41 @@ fn settle_by_steps<'a>(
         &followed.offered,
         ways,
     )?;
-    follow(followed, alloc, maps, brought, steps)?;
-    let left = settle_all(
-        &mut followed.known,
-        alloc,
-        maps,
-        brought,
-        &followed.offered,
-        open,
-    )?;
     Ok(left)
 }
 
-/// Whether the slots of all ways can be derived.
-pub(crate) fn are_derived<'a>(
+/// The ways in which no slot can be derived: all of the slots that are ungrounded.
+pub(crate) fn open_ways<'a>(
     alloc: Global,
     maps: &DefMaps<'a>,
     brought: &Slots<Joined>,
-    ways: Vec<Way<'a>>,
+    listing: &Listing<'a>,
     steps: &[Step],
-) -> Result<bool, AllocError>
+) -> Result<Vec<Way<'a>>, AllocError>
     requires ready { AreReady (of_tables maps.now) brought.now }
-    requires ways { All (IsWay (of_tables maps.now)) ways.items }
-    requires covered { AreCovered (of_tables maps.now) by.no_set ways.items }
-    ensures { IfOk result (λ yes. IsTrue yes ↔ IsGrounded (of_tables maps.now)) }
+    requires listing { IsListing maps.now.world listing.now }
+    ensures each { IfOk result (λ left. AreUngrounded (of_tables maps.now) left.items) }
+    ensures all { IfOk result (λ left. HasUngrounded (of_tables maps.now) left.items) }
 {
+    let mut known = Slots::new(alloc);
+    let ways = all_ways(&mut known, alloc, maps, listing)?;
     let mut followed = Followed {
-        known: Slots::new(alloc),
+        known,
         offered: Slots::new(alloc),
         fresh: Vec::new(alloc),
     };
-    let left = settle_by_steps(&mut followed, alloc, maps, brought, ways, steps)?;
-    let are_settled = are_settled(&mut followed.known, alloc, maps, brought, left)?;
-    Ok(are_settled)
+    let rest = settle_by_steps(&mut followed, alloc, maps, brought, listing, ways, steps)?;
+    let left = settle_rest(&mut followed.known, alloc, maps, brought, listing, rest)?;
+    Ok(left)
+}
+
+/// Whether no way stays open.
+pub(crate) fn none_open(maps: &DefMaps<'_>, left: &[Way<'_>]) -> bool
+    requires each { AreUngrounded (of_tables maps.now) left.now }
+    requires all { HasUngrounded (of_tables maps.now) left.now }
+    ensures { IsTrue result ↔ IsGrounded (of_tables maps.now) }
+{
+    left.is_empty()
 }
 
 /// Whether def maps are grounded: whether each meaning follows, step by step, from declarations and names around modules.
@@ -217,7 +260,8 @@ pub fn is_grounded(alloc: Global, maps: &DefMaps<'_>, steps: &[Step]) -> Result<
     requires { AreImportsKnown (of_tables maps.now) }
     ensures { IfOk result (λ yes. IsTrue yes ↔ IsGrounded (of_tables maps.now)) }
 {
-    let brought = all_offers(alloc, maps)?;
-    let ways = all_ways(alloc, maps)?;
-    are_derived(alloc, maps, &brought, ways, steps)
+    let listing = list(alloc, maps.world)?;
+    let brought = all_offers(alloc, maps, &listing)?;
+    let left = open_ways(alloc, maps, &brought, &listing, steps)?;
+    Ok(none_open(maps, left.as_slice()))
 }

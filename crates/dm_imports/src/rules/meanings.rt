@@ -13,8 +13,9 @@ use crate::def_maps::DefMaps;
 use crate::joined::Joined;
 use crate::meaning::Meaning;
 use crate::named_import::NamedImport;
-use crate::rules::all_imports::import_brings;
+use crate::rules::all_imports::{ByName, all_imports, import_brings};
 use crate::rules::all_offers::all_offers;
+use crate::rules::listing::list;
 use crate::slots::Slots;
 use dm_base::per_ns::Namespace;
 use std::alloc::{AllocError, Global};
@@ -28,7 +29,11 @@ pub struct ImportMeanings {
 }
 
 /// What an import brings.
-fn meanings_of(maps: &DefMaps<'_>, below: &Slots<Joined>, import: &NamedImport) -> ImportMeanings
+pub(crate) fn meanings_of(
+    maps: &DefMaps<'_>,
+    below: &Slots<Joined>,
+    import: &NamedImport,
+) -> ImportMeanings
     requires below { IsBrought (of_tables maps.now) below.now }
     requires named { AreAllNamed maps.now.world below.now }
     requires enums { AreEnumsNamed (of_tables maps.now) }
@@ -43,41 +48,6 @@ fn meanings_of(maps: &DefMaps<'_>, below: &Slots<Joined>, import: &NamedImport) 
     }
 }
 
-/// Adds what each of some imports brings.
-fn push_meanings(
-    all: &mut Vec<ImportMeanings>,
-    maps: &DefMaps<'_>,
-    below: &Slots<Joined>,
-    imports: &[NamedImport],
-) -> Result<(), AllocError>
-    requires below { IsBrought (of_tables maps.now) below.now }
-    requires named { AreAllNamed maps.now.world below.now }
-    requires enums { AreEnumsNamed (of_tables maps.now) }
-    requires imports { All (IsImportKnown (of_tables maps.now)) imports.now }
-    ensures { OnOk result (all.new.items ≡ all.old.items ++ map (spec.meanings_of (of_tables maps.now)) imports.now) }
-{
-    for import in imports {
-        all.push(meanings_of(maps, below, import))?;
-    }
-    Ok(())
-}
-
-/// The same of all imports, where `below` is what globs bring.
-pub(crate) fn all_meanings(
-    alloc: Global,
-    maps: &DefMaps<'_>,
-    below: &Slots<Joined>,
-) -> Result<Vec<ImportMeanings>, AllocError>
-    requires known { AreMapsKnown (of_tables maps.now) }
-    requires below { IsBrought (of_tables maps.now) below.now }
-    requires named { AreAllNamed maps.now.world below.now }
-    ensures { IfOk result (λ all. all.items ≡ map (spec.meanings_of (of_tables maps.now)) maps.now.imports) }
-{
-    let mut all = Vec::new(alloc);
-    push_meanings(&mut all, maps, below, maps.imports)?;
-    Ok(all)
-}
-
 /// What each import brings in each namespace, in the order of the imports.
 ///
 /// Imports and globs have to stand in modules of the world's, and so have those to be that their visibilities name:
@@ -90,7 +60,11 @@ pub fn import_meanings(alloc: Global, maps: &DefMaps<'_>) -> Result<Vec<ImportMe
     requires { AreImportsKnown (of_tables maps.now) }
     ensures { IfOk result (λ all. all.items ≡ map (spec.meanings_of (of_tables maps.now)) maps.now.imports) }
 {
-    let below = all_offers(alloc, maps)?;
-    let all = all_meanings(alloc, maps, &below)?;
-    Ok(all)
+    let listing = list(alloc, maps.world)?;
+    let below = all_offers(alloc, maps, &listing)?;
+    let ByName {
+        slots: _slots,
+        each,
+    } = all_imports(alloc, maps, &below)?;
+    Ok(each)
 }

@@ -63,7 +63,13 @@ pub fn module_names(alloc: Global, world: &World, m: ModuleId) -> Result<Vec<&Na
 }
 
 /// The names of the variants of an enum.
-fn variant_names(alloc: Global, world: &World, e: EnumId) -> Result<Vec<&Name>, AllocError>
+///
+/// Fails only where memory runs out.
+pub(crate) fn variant_names(
+    alloc: Global,
+    world: &World,
+    e: EnumId,
+) -> Result<Vec<&Name>, AllocError>
     ensures { IfOk result
         (λ names. (n : Name) → Contains (option_map_or (map (λ v. v.0)) (variants_if_known world.now e) []) n
         → Contains (seen names.items) n) }

@@ -3,6 +3,9 @@ use Rattle.dm_collector.specs.Collecting.{IsImported, given_in, state_of}
 use Rattle.dm_collector.specs.Steps.{MapsOf}
 use Rattle.dm_collector.specs.UnnamedTraits.{HasBrought}
 use Rattle.dm_collector.specs.declared.collected.Collected.{Collected}
+use Rattle.dm_imports.specs.Grounding.{slots_of}
+use Rattle.dm_imports.specs.Marking.{AreThoseDependent}
+use Rattle.dm_imports.specs.Rules.{AreImportsKnown}
 use Rattle.dm_imports.specs.Slots.{Slots}
 use Rattle.dm_imports.specs.Tables.{of_tables}
 use Rattle.dm_imports.specs.declared.glob_import.GlobImport.{GlobImport}
@@ -39,3 +42,9 @@ returns-clause-brought c = λ settled.
     let m = c.args.made.now in
     subst₂ (λ is gs. All (HasBrought (maps_of m c.import.new.ambiguous is gs c.import.new.world)) gs)
     c.as_slice.ensures.value c.as_slice-2.ensures.value (c.in_ok-found.ensures.brought settled)
+
+pub returns-clause-dependent : goal.returns-clause-dependent
+returns-clause-dependent c =
+    let m = c.args.made.now in
+    subst₂ (λ is gs. AreImportsKnown (maps_of m c.import.new.ambiguous is gs c.import.new.world) → AreThoseDependent (maps_of m c.import.new.ambiguous is gs c.import.new.world) (slots_of c.in_ok-found.found.order_dependent))
+    c.as_slice.ensures.value c.as_slice-2.ensures.value c.in_ok-found.ensures.dependent

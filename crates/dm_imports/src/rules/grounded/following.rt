@@ -1,27 +1,28 @@
 //! Steps, followed in an order that a search found, so that few slots are left for passes over all. Nothing rests on that
 //! order: a step that derives nothing is passed over.
-ghost use Rattle.std.specs.Prelude.{◌≡◌, Contains, OnOk};
+ghost use Rattle.std.specs.Prelude.{◌≡◌, All, Contains, OnOk, Some};
 ghost use Rattle.dm_imports.specs.Brought.{AreAllNamed};
-ghost use Rattle.dm_imports.specs.Following.{Follows, IsSound, MayHaveOffers};
-ghost use Rattle.dm_imports.specs.Grounding.{AreReady, IsWay, MayOffer, has_slot, slots_of};
-ghost use Rattle.dm_imports.specs.Rules.{IsModule};
+ghost use Rattle.dm_imports.specs.Following.{Follows, IsReader, IsSound, MayHaveOffers};
+ghost use Rattle.dm_imports.specs.Grounding as way;
+ghost use Rattle.dm_imports.specs.Grounding.{AreReady, HasSource, IsWay, MayOffer, slots_of};
+ghost use Rattle.dm_imports.specs.Supporting.{IsListing};
 ghost use Rattle.dm_imports.specs.Tables.{of_tables};
 
-use crate::container::Container;
 use crate::def_maps::DefMaps;
 use crate::glob_import::GlobImport;
 use crate::joined::Joined;
+use crate::named_import::NamedImport;
 use crate::rules::all_offers::add_offer;
-use crate::rules::grounded::known_offers::{add_glob, known_from, sources_of};
-use crate::rules::grounded::settle;
+use crate::rules::grounded::known_offers::{known_from, known_source};
+use crate::rules::grounded::readers::{Reader, Readers};
 use crate::rules::grounded::ways::Way;
-use crate::rules::source_names::source_names;
+use crate::rules::grounded::{is_known, settle_unknown};
+use crate::rules::listing::{Listing, listed_names};
 use crate::slots::Slots;
 use crate::step::Step;
 use dm_base::ids::ModuleId;
 use dm_base::name::Name;
 use dm_base::per_ns::Namespace;
-use indexmap::IndexMap;
 use std::alloc::{AllocError, Global};
 
 /// What is known while steps are followed.
@@ -44,118 +45,103 @@ impl<'a> Drop for Followed<'a> {
     }
 }
 
-/// The globs that read the names of each module, by their places.
-#[derive(Drop)]
-struct Readers {
-    of: IndexMap<ModuleId, Vec<usize>>,
-    alloc: Global,
-}
-
-impl Readers {
-    /// Adds a glob that reads a source. The names of an enum are known from the beginning.
-    fn add(&mut self, source: Container, place: usize) -> Result<(), AllocError> {
-        let Container::Module(m) = source else {
-            return Ok(());
-        };
-        match self.of.get_mut(&m) {
-            Some(places) => {
-                places.push(place)?;
-                Ok(())
-            }
-            None => self.add_first(m, place),
-        }
-    }
-
-    /// Adds the first glob that reads a module.
-    fn add_first(&mut self, m: ModuleId, place: usize) -> Result<(), AllocError> {
-        let mut places = Vec::new(self.alloc);
-        places.push(place)?;
-        self.of.insert(m, places)?;
-        Ok(())
-    }
-}
-
-fn is_known(known: &Slots<bool>, way: &Way<'_>) -> bool
-    ensures { result ≡ has_slot (slots_of known.now) way.now }
-{
-    known.get(way.home, way.name, way.namespace).is_some()
-}
-
-/// Makes the slot of a way known, if one step derives it so.
+/// Makes the slot of a way known, if one step derives it so. Answers whether the way is settled.
 fn learn<'a>(
     followed: &mut Followed<'a>,
     maps: &DefMaps<'a>,
     brought: &Slots<Joined>,
     way: Way<'a>,
-) -> Result<(), AllocError>
+) -> Result<bool, AllocError>
     requires ready { AreReady (of_tables maps.now) brought.now }
     requires way { IsWay (of_tables maps.now) way }
     requires sound { IsSound (of_tables maps.now) followed.old }
     ensures { OnOk result (Follows (of_tables maps.now) followed.old followed.new) }
 {
-    let was_known = is_known(&followed.known, &way);
-    settle(&mut followed.known, maps, brought, &followed.offered, &way)?;
-    if !was_known && is_known(&followed.known, &way) {
-        followed.fresh.push(way)?;
+    if is_known(&followed.known, &way) {
+        return Ok(true);
     }
-    Ok(())
+    if settle_unknown(&mut followed.known, maps, brought, &followed.offered, &way)? {
+        return Ok(false);
+    }
+    followed.fresh.push(way)?;
+    Ok(true)
 }
 
-/// Joins what a glob offers of a slot of its source, if that is found by known slots.
+/// Joins what a glob offers of a slot of its source, if that is found by known slots. Answers whether it offers anything.
 fn offer_on(
     offered: &mut Slots<Joined>,
     maps: &DefMaps<'_>,
     known: &Slots<bool>,
-    glob: &GlobImport,
+    reader: Reader<'_>,
     name: &Name,
     namespace: Namespace,
-) -> Result<(), AllocError>
-    requires glob { MayOffer (of_tables maps.now) glob.now }
+) -> Result<bool, AllocError>
+    requires glob { MayOffer (of_tables maps.now) reader.glob.now }
+    requires source { HasSource (of_tables maps.now) (slots_of known.now) reader.glob.now (Some reader.source) }
     requires named { AreAllNamed maps.now.world offered.old }
     ensures offered { OnOk result
-        (MayHaveOffers (of_tables maps.now) (slots_of known.now) glob.now offered.old offered.new) }
+        (MayHaveOffers (of_tables maps.now) (slots_of known.now) reader.entry.glob.now offered.old offered.new) }
     ensures named { OnOk result (AreAllNamed maps.now.world offered.new) }
 {
-    let Some(sources) = sources_of(maps, known, glob) else {
-        return Ok(());
-    };
-    let offer = known_from(maps, known, glob, sources, name, namespace);
+    let (glob, source) = (reader.glob, reader.source);
+    let offer = known_from(maps, known, glob, source, name, namespace);
+    if offer.is_none() {
+        return Ok(false);
+    }
     add_offer(offered, maps.world, glob.into, name, namespace, offer)?;
-    Ok(())
+    Ok(true)
 }
 
-/// Has a glob offer on a slot of its source that became known.
+/// Has a glob offer on a slot of its source, if that is known, and makes the slot of its module known if one step then
+/// derives it.
 fn tell<'a>(
     followed: &mut Followed<'a>,
     maps: &DefMaps<'a>,
     brought: &Slots<Joined>,
-    glob: &GlobImport,
-    slot: &Way<'a>,
+    reader: Reader<'a>,
+    name: &'a Name,
+    namespace: Namespace,
 ) -> Result<(), AllocError>
     requires ready { AreReady (of_tables maps.now) brought.now }
-    requires glob { Contains maps.now.globs glob.now }
+    requires reader { IsReader (of_tables maps.now) (slots_of followed.old.known) reader }
     requires sound { IsSound (of_tables maps.now) followed.old }
     ensures { OnOk result (Follows (of_tables maps.now) followed.old followed.new) }
 {
-    offer_on(
+    if offer_on(
         &mut followed.offered,
         maps,
         &followed.known,
-        glob,
-        slot.name,
-        slot.namespace,
-    )?;
-    learn(
-        followed,
-        maps,
-        brought,
-        Way {
-            home: glob.into,
-            name: slot.name,
-            namespace: slot.namespace,
+        reader,
+        name,
+        namespace,
+    )? {
+        let way = Way {
+            home: reader.glob.into,
+            name,
+            namespace,
             import: None,
-        },
-    )?;
+        };
+        learn(followed, maps, brought, way)?;
+    }
+    Ok(())
+}
+
+/// Has a glob offer on some slots of its source.
+fn tell_slots<'a>(
+    followed: &mut Followed<'a>,
+    maps: &DefMaps<'a>,
+    brought: &Slots<Joined>,
+    reader: Reader<'a>,
+    slots: &[Way<'a>],
+) -> Result<(), AllocError>
+    requires ready { AreReady (of_tables maps.now) brought.now }
+    requires reader { IsReader (of_tables maps.now) (slots_of followed.old.known) reader }
+    requires sound { IsSound (of_tables maps.now) followed.old }
+    ensures { OnOk result (Follows (of_tables maps.now) followed.old followed.new) }
+{
+    for slot in slots {
+        tell(followed, maps, brought, reader, slot.name, slot.namespace)?;
+    }
     Ok(())
 }
 
@@ -164,161 +150,224 @@ fn tell_all<'a>(
     followed: &mut Followed<'a>,
     maps: &DefMaps<'a>,
     brought: &Slots<Joined>,
+    readers: &[Reader<'a>],
     places: &[usize],
-    slot: &Way<'a>,
+    slots: &[Way<'a>],
 ) -> Result<(), AllocError>
     requires ready { AreReady (of_tables maps.now) brought.now }
+    requires readers { All (IsReader (of_tables maps.now) (slots_of followed.old.known)) readers.now }
     requires sound { IsSound (of_tables maps.now) followed.old }
     ensures { OnOk result (Follows (of_tables maps.now) followed.old followed.new) }
 {
     for place in places {
-        if let Some(glob) = maps.globs.get(*place) {
-            tell(followed, maps, brought, glob, slot)?;
+        if let Some(reader) = readers.get(*place) {
+            tell_slots(followed, maps, brought, *reader, slots)?;
         }
     }
     Ok(())
 }
 
-/// Has globs offer on all slots that they have yet to offer on.
+/// Takes from slots, from the last on, those of a module.
+fn take_of<'a>(
+    fresh: &mut Vec<Way<'a>>,
+    alloc: Global,
+    home: ModuleId,
+) -> Result<Vec<Way<'a>>, AllocError>
+    ensures { OnOk result ((w : way.Way) → Contains fresh.new.items w → Contains fresh.old.items w) }
+{
+    let mut taken = Vec::new(alloc);
+    for _slot in 0..u64::MAX {
+        let Some(slot) = fresh.pop() else {
+            return Ok(taken);
+        };
+        if slot.home != home {
+            fresh.push(slot)?;
+            return Ok(taken);
+        }
+        taken.push(slot)?;
+    }
+    Ok(taken)
+}
+
+/// Has globs offer on all slots that they have yet to offer on: on all at once that a module got last, so that few tables
+/// are gone over at a time.
 fn spread<'a>(
     followed: &mut Followed<'a>,
     maps: &DefMaps<'a>,
     brought: &Slots<Joined>,
-    readers: &Readers,
+    readers: &Readers<'a>,
 ) -> Result<(), AllocError>
     requires ready { AreReady (of_tables maps.now) brought.now }
+    requires readers { All (IsReader (of_tables maps.now) (slots_of followed.old.known)) readers.now.all.items }
     requires sound { IsSound (of_tables maps.now) followed.old }
     ensures { OnOk result (Follows (of_tables maps.now) followed.old followed.new) }
 {
+    let all = readers.all.as_slice();
     for _slot in 0..u64::MAX {
-        let Some(slot) = followed.fresh.pop() else {
+        let Some(last) = followed.fresh.last() else {
             return Ok(());
         };
-        if let Some(places) = readers.of.get(&slot.home) {
-            tell_all(followed, maps, brought, places.as_slice(), &slot)?;
+        let home = last.home;
+        let slots = take_of(&mut followed.fresh, readers.alloc, home)?;
+        if let Some(places) = readers.of.get(&home) {
+            tell_all(
+                followed,
+                maps,
+                brought,
+                all,
+                places.as_slice(),
+                slots.as_slice(),
+            )?;
         }
     }
     Ok(())
 }
 
-/// Makes the slots of a name known that one step derives without an import.
-fn learn_name<'a>(
+/// Has a glob offer on the slots of a name of its source.
+fn tell_name<'a>(
     followed: &mut Followed<'a>,
     maps: &DefMaps<'a>,
     brought: &Slots<Joined>,
-    home: ModuleId,
+    reader: Reader<'a>,
     name: &'a Name,
 ) -> Result<(), AllocError>
     requires ready { AreReady (of_tables maps.now) brought.now }
-    requires home { IsModule (of_tables maps.now) home }
+    requires reader { IsReader (of_tables maps.now) (slots_of followed.old.known) reader }
     requires sound { IsSound (of_tables maps.now) followed.old }
     ensures { OnOk result (Follows (of_tables maps.now) followed.old followed.new) }
 {
     for namespace in [Namespace::Types, Namespace::Values, Namespace::Macros] {
-        learn(
-            followed,
-            maps,
-            brought,
-            Way {
-                home,
-                name,
-                namespace,
-                import: None,
-            },
-        )?;
+        tell(followed, maps, brought, reader, name, namespace)?;
     }
     Ok(())
 }
 
 /// Does so with some names.
-fn learn_names<'a>(
+fn tell_names<'a>(
     followed: &mut Followed<'a>,
     maps: &DefMaps<'a>,
     brought: &Slots<Joined>,
-    home: ModuleId,
+    reader: Reader<'a>,
     names: &[&'a Name],
 ) -> Result<(), AllocError>
     requires ready { AreReady (of_tables maps.now) brought.now }
-    requires home { IsModule (of_tables maps.now) home }
+    requires reader { IsReader (of_tables maps.now) (slots_of followed.old.known) reader }
     requires sound { IsSound (of_tables maps.now) followed.old }
     ensures { OnOk result (Follows (of_tables maps.now) followed.old followed.new) }
 {
     for name in names {
-        learn_name(followed, maps, brought, home, *name)?;
+        tell_name(followed, maps, brought, reader, *name)?;
     }
     Ok(())
 }
 
-/// Has a glob offer all known slots of its source, if its path leads to one by known slots; from then on it is told of
-/// those that become known.
+/// Has a glob offer on all known slots of its source, if its path leads to one by known slots; from then on it is told of
+/// those that become known. Answers whether its path leads to one.
 fn read<'a>(
     followed: &mut Followed<'a>,
-    readers: &mut Readers,
+    readers: &mut Readers<'a>,
     maps: &DefMaps<'a>,
     brought: &Slots<Joined>,
-    place: usize,
-    glob: &GlobImport,
-) -> Result<(), AllocError>
+    listing: &Listing<'a>,
+    glob: &'a GlobImport,
+) -> Result<bool, AllocError>
     requires ready { AreReady (of_tables maps.now) brought.now }
+    requires listing { IsListing maps.now.world listing.now }
     requires glob { Contains maps.now.globs glob.now }
+    requires readers { All (IsReader (of_tables maps.now) (slots_of followed.old.known)) readers.old.all.items }
+    requires sound { IsSound (of_tables maps.now) followed.old }
+    ensures follows { OnOk result (Follows (of_tables maps.now) followed.old followed.new) }
+    ensures readers { OnOk result
+        (All (IsReader (of_tables maps.now) (slots_of followed.old.known)) readers.new.all.items) }
+{
+    let Some(source) = known_source(maps, &followed.known, glob) else {
+        return Ok(false);
+    };
+    let reader = Reader { glob, source };
+    readers.add(reader)?;
+    let names = listed_names(readers.alloc, maps.world, listing, source)?;
+    tell_names(followed, maps, brought, reader, names.as_slice())?;
+    Ok(true)
+}
+
+/// Makes the slot of an import known, if one step derives it by the import. Answers whether the import is settled.
+fn learn_import<'a>(
+    followed: &mut Followed<'a>,
+    maps: &DefMaps<'a>,
+    brought: &Slots<Joined>,
+    import: &'a NamedImport,
+    namespace: Namespace,
+) -> Result<bool, AllocError>
+    requires ready { AreReady (of_tables maps.now) brought.now }
+    requires import { Contains maps.now.imports import.now }
     requires sound { IsSound (of_tables maps.now) followed.old }
     ensures { OnOk result (Follows (of_tables maps.now) followed.old followed.new) }
 {
-    let Some(sources) = sources_of(maps, &followed.known, glob) else {
-        return Ok(());
+    let way = Way {
+        home: import.home,
+        name: &import.name,
+        namespace,
+        import: Some(import),
     };
-    readers.add(sources.known, place)?;
-    add_glob(
-        &mut followed.offered,
-        readers.alloc,
-        maps,
-        &followed.known,
-        glob,
-    )?;
-    let names = source_names(readers.alloc, maps.world, sources.known)?;
-    learn_names(followed, maps, brought, glob.into, names.as_slice())?;
-    Ok(())
+    learn(followed, maps, brought, way)
 }
 
-/// Follows a step.
+/// Follows a step. Answers whether nothing is left of it.
 fn follow_step<'a>(
     followed: &mut Followed<'a>,
-    readers: &mut Readers,
+    readers: &mut Readers<'a>,
     maps: &DefMaps<'a>,
     brought: &Slots<Joined>,
+    listing: &Listing<'a>,
     step: Step,
-) -> Result<(), AllocError>
+) -> Result<bool, AllocError>
     requires ready { AreReady (of_tables maps.now) brought.now }
+    requires listing { IsListing maps.now.world listing.now }
+    requires readers { All (IsReader (of_tables maps.now) (slots_of followed.old.known)) readers.old.all.items }
     requires sound { IsSound (of_tables maps.now) followed.old }
-    ensures { OnOk result (Follows (of_tables maps.now) followed.old followed.new) }
+    ensures follows { OnOk result (Follows (of_tables maps.now) followed.old followed.new) }
+    ensures readers { OnOk result
+        (All (IsReader (of_tables maps.now) (slots_of followed.old.known)) readers.new.all.items) }
 {
     match step {
         Step::Import(place, namespace) => match maps.imports.get(place) {
-            None => Ok(()),
-            Some(import) => {
-                let (home, name, import) = (import.home, &import.name, Some(import));
-                learn(
-                    followed,
-                    maps,
-                    brought,
-                    Way {
-                        home,
-                        name,
-                        namespace,
-                        import,
-                    },
-                )?;
-                Ok(())
-            }
+            None => Ok(true),
+            Some(import) => learn_import(followed, maps, brought, import, namespace),
         },
         Step::Glob(place) => match maps.globs.get(place) {
-            None => Ok(()),
-            Some(glob) => read(followed, readers, maps, brought, place, glob),
+            None => Ok(true),
+            Some(glob) => read(followed, readers, maps, brought, listing, glob),
         },
     }
 }
 
-/// Follows some steps, in order.
+/// Follows a step; where that leads to nothing yet, globs offer on first, and it is followed again.
+fn follow_surely<'a>(
+    followed: &mut Followed<'a>,
+    readers: &mut Readers<'a>,
+    maps: &DefMaps<'a>,
+    brought: &Slots<Joined>,
+    listing: &Listing<'a>,
+    step: Step,
+) -> Result<(), AllocError>
+    requires ready { AreReady (of_tables maps.now) brought.now }
+    requires listing { IsListing maps.now.world listing.now }
+    requires readers { All (IsReader (of_tables maps.now) (slots_of followed.old.known)) readers.old.all.items }
+    requires sound { IsSound (of_tables maps.now) followed.old }
+    ensures follows { OnOk result (Follows (of_tables maps.now) followed.old followed.new) }
+    ensures readers { OnOk result
+        (All (IsReader (of_tables maps.now) (slots_of followed.new.known)) readers.new.all.items) }
+{
+    let is_done = follow_step(followed, readers, maps, brought, listing, step)?;
+    if is_done || followed.fresh.is_empty() {
+        return Ok(());
+    }
+    spread(followed, maps, brought, readers)?;
+    follow_step(followed, readers, maps, brought, listing, step)?;
+    Ok(())
+}
+
+/// Follows some steps, in order. Globs offer on at the end, or before a step that needs it.
 ///
 /// Fails only where memory runs out.
 pub(crate) fn follow<'a>(
@@ -326,19 +375,18 @@ pub(crate) fn follow<'a>(
     alloc: Global,
     maps: &DefMaps<'a>,
     brought: &Slots<Joined>,
+    listing: &Listing<'a>,
     steps: &[Step],
 ) -> Result<(), AllocError>
     requires ready { AreReady (of_tables maps.now) brought.now }
+    requires listing { IsListing maps.now.world listing.now }
     requires sound { IsSound (of_tables maps.now) followed.old }
     ensures { OnOk result (Follows (of_tables maps.now) followed.old followed.new) }
 {
-    let mut readers = Readers {
-        of: IndexMap::new(alloc),
-        alloc,
-    };
+    let mut readers = Readers::new(alloc);
     for step in steps {
-        follow_step(followed, &mut readers, maps, brought, *step)?;
-        spread(followed, maps, brought, &readers)?;
+        follow_surely(followed, &mut readers, maps, brought, listing, *step)?;
     }
+    spread(followed, maps, brought, &readers)?;
     Ok(())
 }

@@ -1,17 +1,17 @@
 //! What globs offer by known slots.
 ghost use Rattle.std.specs.Prelude.{◌≡◌, All, IfOk, OnOk, cond, fold};
-ghost use Rattle.std.specs.Option.{option_map};
 ghost use Rattle.dm_base.specs.declared.ids.ModuleId.{ModuleId};
 ghost use Rattle.dm_base.specs.declared.per_ns.Namespace.{Namespace};
 ghost use Rattle.dm_base.specs.Names.{Name};
 ghost use Rattle.dm_scope.specs.Sorted.{seen};
 ghost use Rattle.dm_imports.specs.Brought as brought;
 ghost use Rattle.dm_imports.specs.Grounded as spec;
-ghost use Rattle.dm_imports.specs.Grounding.{HasSources, MayOffer, known_from, slots_of};
+ghost use Rattle.dm_imports.specs.Grounding.{HasSource, MayOffer, is_found, known_from, slots_of};
 ghost use Rattle.dm_imports.specs.Meanings.{IsNamed};
 ghost use Rattle.dm_imports.specs.Paths.{AreEnumsNamed};
 ghost use Rattle.dm_imports.specs.Rules.{AreMapsKnown, IsGlobKnown};
 ghost use Rattle.dm_imports.specs.Slots.{same_place, slot_at};
+ghost use Rattle.dm_imports.specs.Supporting.{IsListing};
 ghost use Rattle.dm_imports.specs.Tables.{of_tables};
 
 use crate::container::Container;
@@ -20,19 +20,22 @@ use crate::glob_import::GlobImport;
 use crate::joined::Joined;
 use crate::meaning::Meaning;
 use crate::rules::all_offers::add_offer;
-use crate::rules::grounded::knowing::{is_clear, knowing};
+use crate::rules::grounded::knowing::knowing;
+use crate::rules::listing::{Listing, listed_names};
 use crate::rules::offers::{offer_from, source_of};
-use crate::rules::source_names::source_names;
 use crate::slots::Slots;
 use dm_base::name::Name;
 use dm_base::per_ns::Namespace;
 use std::alloc::{AllocError, Global};
 
-/// What a glob's path means: in def maps, and to one who knows some slots alone.
-#[derive(Clone, Copy)]
-pub(crate) struct Sources {
-    pub(crate) own: Container,
-    pub(crate) known: Container,
+/// Whether what a source has under a name is found by known slots: the names of an enum need none.
+fn is_found(known: &Slots<bool>, source: Container, name: &Name, namespace: Namespace) -> bool
+    ensures { result ≡ is_found (slots_of known.now) source name.now namespace }
+{
+    match source {
+        Container::Module(m) => known.get(m, name, namespace).is_some(),
+        Container::Enum(_) => true,
+    }
 }
 
 /// What a glob offers of its source under a name, where that is found by known slots.
@@ -40,22 +43,19 @@ pub(crate) fn known_from(
     maps: &DefMaps<'_>,
     known: &Slots<bool>,
     glob: &GlobImport,
-    sources: Sources,
+    source: Container,
     name: &Name,
     namespace: Namespace,
 ) -> Option<Meaning>
     requires glob { MayOffer (of_tables maps.now) glob.now }
     ensures value { result
-        ≡ known_from (of_tables maps.now) (slots_of known.now) glob.now sources.own sources.known name.now namespace }
+        ≡ known_from (of_tables maps.now) (slots_of known.now) glob.now source name.now namespace }
     ensures named { IsNamed maps.now.world result }
 {
-    let by = knowing(maps, known);
-    let found = offer_from(&by, glob, sources.known, name, namespace);
-    if is_clear(found) {
-        offer_from(maps, glob, sources.own, name, namespace)
-    } else {
-        None
+    if !is_found(known, source, name, namespace) {
+        return None;
     }
+    offer_from(maps, glob, source, name, namespace)
 }
 
 /// Joins what a glob offers so under a name to the offers of other globs.
@@ -64,7 +64,7 @@ fn add_name(
     maps: &DefMaps<'_>,
     known: &Slots<bool>,
     glob: &GlobImport,
-    sources: Sources,
+    source: Container,
     name: &Name,
 ) -> Result<(), AllocError>
     requires glob { MayOffer (of_tables maps.now) glob.now }
@@ -72,15 +72,15 @@ fn add_name(
     ensures joined { OnOk result ((k : ModuleId) (x : Name) (t : Namespace) → slot_at all.new k x t
         ≡ cond (same_place glob.now.into name.now k x)
         (brought.join maps.now.world glob.now.into (slot_at all.old k x t)
-        (known_from (of_tables maps.now) (slots_of known.now) glob.now sources.own sources.known name.now t))
+        (known_from (of_tables maps.now) (slots_of known.now) glob.now source name.now t))
         (slot_at all.old k x t)) }
     ensures named { OnOk result (brought.AreAllNamed maps.now.world all.new) }
 {
-    let types = known_from(maps, known, glob, sources, name, Namespace::Types);
+    let types = known_from(maps, known, glob, source, name, Namespace::Types);
     add_offer(all, maps.world, glob.into, name, Namespace::Types, types)?;
-    let values = known_from(maps, known, glob, sources, name, Namespace::Values);
+    let values = known_from(maps, known, glob, source, name, Namespace::Values);
     add_offer(all, maps.world, glob.into, name, Namespace::Values, values)?;
-    let macros = known_from(maps, known, glob, sources, name, Namespace::Macros);
+    let macros = known_from(maps, known, glob, source, name, Namespace::Macros);
     add_offer(all, maps.world, glob.into, name, Namespace::Macros, macros)?;
     Ok(())
 }
@@ -91,45 +91,49 @@ fn add_names(
     maps: &DefMaps<'_>,
     known: &Slots<bool>,
     glob: &GlobImport,
-    sources: Sources,
+    source: Container,
     names: &[&Name],
 ) -> Result<(), AllocError>
     requires glob { MayOffer (of_tables maps.now) glob.now }
     requires all { brought.AreAllNamed maps.now.world all.old }
     ensures joined { OnOk result (brought.HasJoined maps.now.world glob.now.into
-        (known_from (of_tables maps.now) (slots_of known.now) glob.now sources.own sources.known)
+        (known_from (of_tables maps.now) (slots_of known.now) glob.now source)
         (seen names.now) all.old all.new) }
     ensures named { OnOk result (brought.AreAllNamed maps.now.world all.new) }
 {
     for name in names {
-        add_name(all, maps, known, glob, sources, *name)?;
+        add_name(all, maps, known, glob, source, *name)?;
     }
     Ok(())
 }
 
-/// What a glob's path means, if it means something both in def maps and to one who knows some slots alone.
-pub(crate) fn sources_of(
+/// What a glob's path means, if it means something both in def maps and to one who knows some slots alone. Then it means
+/// the same.
+pub(crate) fn known_source(
     maps: &DefMaps<'_>,
     known: &Slots<bool>,
     glob: &GlobImport,
-) -> Option<Sources>
+) -> Option<Container>
     requires { MayOffer (of_tables maps.now) glob.now }
-    ensures { HasSources (of_tables maps.now) (slots_of known.now) glob.now (option_map (λ s. (s.own, s.known)) result) }
+    ensures { HasSource (of_tables maps.now) (slots_of known.now) glob.now result }
 {
     let by = knowing(maps, known);
-    let known = source_of(&by, glob)?;
-    let own = source_of(maps, glob)?;
-    Some(Sources { own, known })
+    if source_of(&by, glob).is_none() {
+        return None;
+    }
+    source_of(maps, glob)
 }
 
 /// Joins what a glob offers by known slots to the offers of other globs.
-pub(crate) fn add_glob(
+fn add_glob(
     all: &mut Slots<Joined>,
     alloc: Global,
     maps: &DefMaps<'_>,
+    listing: &Listing<'_>,
     known: &Slots<bool>,
     glob: &GlobImport,
 ) -> Result<(), AllocError>
+    requires listing { IsListing maps.now.world listing.now }
     requires glob { MayOffer (of_tables maps.now) glob.now }
     requires all { brought.AreAllNamed maps.now.world all.old }
     ensures joined { OnOk result ((k : ModuleId) (x : Name) (t : Namespace) → slot_at all.new k x t
@@ -137,11 +141,11 @@ pub(crate) fn add_glob(
         (spec.known_offer (of_tables maps.now) (slots_of known.now) k x t glob.now)) }
     ensures named { OnOk result (brought.AreAllNamed maps.now.world all.new) }
 {
-    match sources_of(maps, known, glob) {
+    match known_source(maps, known, glob) {
         None => Ok(()),
-        Some(sources) => {
-            let names = source_names(alloc, maps.world, sources.known)?;
-            add_names(all, maps, known, glob, sources, names.as_slice())?;
+        Some(source) => {
+            let names = listed_names(alloc, maps.world, listing, source)?;
+            add_names(all, maps, known, glob, source, names.as_slice())?;
             Ok(())
         }
     }
@@ -152,9 +156,11 @@ fn add_globs(
     all: &mut Slots<Joined>,
     alloc: Global,
     maps: &DefMaps<'_>,
+    listing: &Listing<'_>,
     known: &Slots<bool>,
     globs: &[GlobImport],
 ) -> Result<(), AllocError>
+    requires listing { IsListing maps.now.world listing.now }
     requires enums { AreEnumsNamed (of_tables maps.now) }
     requires globs { All (IsGlobKnown (of_tables maps.now)) globs.now }
     requires all { brought.AreAllNamed maps.now.world all.old }
@@ -164,7 +170,7 @@ fn add_globs(
     ensures named { OnOk result (brought.AreAllNamed maps.now.world all.new) }
 {
     for glob in globs {
-        add_glob(all, alloc, maps, known, glob)?;
+        add_glob(all, alloc, maps, listing, known, glob)?;
     }
     Ok(())
 }
@@ -175,13 +181,15 @@ fn add_globs(
 pub(crate) fn known_offers(
     alloc: Global,
     maps: &DefMaps<'_>,
+    listing: &Listing<'_>,
     known: &Slots<bool>,
 ) -> Result<Slots<Joined>, AllocError>
-    requires { AreMapsKnown (of_tables maps.now) }
+    requires known { AreMapsKnown (of_tables maps.now) }
+    requires listing { IsListing maps.now.world listing.now }
     ensures { IfOk result (λ all. (k : ModuleId) (x : Name) (t : Namespace) → slot_at all k x t
         ≡ spec.known_offers (of_tables maps.now) (slots_of known.now) k x t) }
 {
     let mut all = Slots::new(alloc);
-    add_globs(&mut all, alloc, maps, known, maps.globs)?;
+    add_globs(&mut all, alloc, maps, listing, known, maps.globs)?;
     Ok(all)
 }

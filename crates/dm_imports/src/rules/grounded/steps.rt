@@ -86,7 +86,7 @@ fn is_glob_step(
 }
 
 /// Whether a module declares it.
-fn is_declared(meaning: Meaning) -> bool
+pub(crate) fn is_declared(meaning: Meaning) -> bool
     ensures { result ≡ is_declared meaning }
 {
     matches!(meaning.source, Source::Declaration)

@@ -1,22 +1,23 @@
 //! Ways in which slots of def maps may be derived.
-ghost use Rattle.std.specs.Prelude.{◌≡◌, ◌++◌, All, Contains, IfOk, List, OnOk};
-ghost use Rattle.std.specs.List.{flat_map};
+ghost use Rattle.std.specs.Prelude.{◌≡◌, All, Contains, IfOk, OnOk, is_some, true};
 ghost use Rattle.std.specs.Option.{option_copied};
 ghost use Rattle.dm_base.specs.declared.ids.ModuleId.{ModuleId};
-ghost use Rattle.dm_base.specs.Names.{Name};
 ghost use Rattle.dm_maps.specs.World.{scope_of};
-ghost use Rattle.dm_scope.specs.Sorted.{names_of, seen};
+ghost use Rattle.dm_scope.specs.Scope.{bound_in};
 ghost use Rattle.dm_imports.specs.Grounding as spec;
-ghost use Rattle.dm_imports.specs.Rules.{AreMapsKnown, IsModule};
+ghost use Rattle.dm_imports.specs.Rules.{AreMapsKnown, IsImportKnown, IsModule};
+ghost use Rattle.dm_imports.specs.Supporting.{IsListing};
 ghost use Rattle.dm_imports.specs.Tables.{of_tables};
 
 use crate::def_maps::DefMaps;
 use crate::named_import::NamedImport;
-use crate::rules::source_names::module_names;
+use crate::paths::shown::item_at;
+use crate::rules::grounded::steps::is_declared;
+use crate::rules::listing::{Listing, names_in};
+use crate::slots::Slots;
 use dm_base::ids::ModuleId;
 use dm_base::name::Name;
-use dm_base::per_ns::Namespace;
-use dm_maps::world::World;
+use dm_base::per_ns::{Namespace, PerNs};
 use dm_scope::scope_tables::ScopeTables;
 use std::alloc::{AllocError, Global};
 use std::marker::Model;
@@ -44,102 +45,170 @@ impl<'a> Model for Way<'a> {
     } };
 }
 
-/// Adds the ways of a name in each namespace.
-fn add_three<'a>(
+/// Makes the slot of a way known where its module declares it, and else adds the way, if the slot means something. The
+/// module binds `items` under the name.
+fn add_way<'a>(
     ways: &mut Vec<Way<'a>>,
+    known: &mut Slots<bool>,
+    maps: &DefMaps<'_>,
+    items: &PerNs,
+    way: Way<'a>,
+) -> Result<(), AllocError>
+    requires way { spec.IsWay (of_tables maps.now) way }
+    requires items { items.now ≡ bound_in (scope_of maps.now.world way.home) way.name }
+    ensures more { OnOk result (spec.HasMore (of_tables maps.now) known.old known.new ways.old.items ways.new.items) }
+    ensures settled { OnOk result (is_some (spec.means (of_tables maps.now) way.entry) ≡ true
+        → spec.IsSettled (spec.slots_of known.new) ways.new.items way.entry) }
+{
+    let Some(meaning) = item_at(maps, way.home, way.name, items, way.namespace) else {
+        return Ok(());
+    };
+    if is_declared(meaning) {
+        known.put(way.home, way.name, way.namespace, true)?;
+    } else {
+        ways.push(way)?;
+    }
+    Ok(())
+}
+
+/// Does so with the ways of a name in each namespace.
+fn add_name<'a>(
+    ways: &mut Vec<Way<'a>>,
+    known: &mut Slots<bool>,
+    maps: &DefMaps<'_>,
     home: ModuleId,
     name: &'a Name,
     import: Option<&'a NamedImport>,
 ) -> Result<(), AllocError>
-    ensures { OnOk result
-        (ways.new.items ≡ ways.old.items ++ spec.three_ways home name.now (option_copied import.entry)) }
+    requires { spec.AreWays (of_tables maps.now) home name.now (option_copied import) }
+    ensures more { OnOk result (spec.HasMore (of_tables maps.now) known.old known.new ways.old.items ways.new.items) }
+    ensures settled { OnOk result (spec.AreSettled (of_tables maps.now) (spec.slots_of known.new) ways.new.items
+        home name.now (option_copied import.entry)) }
 {
-    ways.push(Way {
+    let items = maps.world.bound_in(home, name);
+    let way = Way {
         home,
         name,
         namespace: Namespace::Types,
         import,
-    })?;
-    ways.push(Way {
+    };
+    add_way(ways, known, maps, &items, way)?;
+    let way = Way {
         home,
         name,
         namespace: Namespace::Values,
         import,
-    })?;
-    ways.push(Way {
+    };
+    add_way(ways, known, maps, &items, way)?;
+    let way = Way {
         home,
         name,
         namespace: Namespace::Macros,
         import,
-    })?;
+    };
+    add_way(ways, known, maps, &items, way)?;
     Ok(())
 }
 
-/// Adds the ways of some imports.
-fn add_imports<'a>(ways: &mut Vec<Way<'a>>, imports: &'a [NamedImport]) -> Result<(), AllocError>
-    ensures { OnOk result (ways.new.items ≡ ways.old.items ++ flat_map spec.import_ways imports.now) }
+/// Does so with those of some imports.
+fn add_imports<'a>(
+    ways: &mut Vec<Way<'a>>,
+    known: &mut Slots<bool>,
+    maps: &DefMaps<'_>,
+    imports: &'a [NamedImport],
+) -> Result<(), AllocError>
+    requires known { All (IsImportKnown (of_tables maps.now)) imports.now }
+    requires listed { All (Contains maps.now.imports) imports.now }
+    ensures more { OnOk result (spec.HasMore (of_tables maps.now) known.old known.new ways.old.items ways.new.items) }
+    ensures settled { OnOk result (All (spec.IsImportSettled (of_tables maps.now) (spec.slots_of known.new) ways.new.items)
+        imports.now) }
 {
     for import in imports {
-        add_three(ways, import.home, &import.name, Some(import))?;
+        add_name(ways, known, maps, import.home, &import.name, Some(import))?;
     }
     Ok(())
 }
 
-/// Adds the ways of some names of a module.
-fn add_names<'a>(ways: &mut Vec<Way<'a>>, m: ModuleId, names: &[&'a Name]) -> Result<(), AllocError>
-    ensures { OnOk result (ways.new.items ≡ ways.old.items ++ flat_map (spec.slot_ways m) (seen names.now)) }
+/// Does so with those of some names of a module.
+fn add_names<'a>(
+    ways: &mut Vec<Way<'a>>,
+    known: &mut Slots<bool>,
+    maps: &DefMaps<'_>,
+    m: ModuleId,
+    names: &[&'a Name],
+) -> Result<(), AllocError>
+    requires { IsModule (of_tables maps.now) m }
+    ensures more { OnOk result (spec.HasMore (of_tables maps.now) known.old known.new ways.old.items ways.new.items) }
+    ensures settled { OnOk result (All (spec.IsNameSettled (of_tables maps.now) (spec.slots_of known.new) ways.new.items m)
+        names.now) }
 {
     for name in names {
-        add_three(ways, m, *name, None)?;
+        add_name(ways, known, maps, m, *name, None)?;
     }
     Ok(())
 }
 
-/// Adds those of all names that a module binds.
+/// Does so with those of all names that a module binds.
 fn add_module<'a>(
     ways: &mut Vec<Way<'a>>,
+    known: &mut Slots<bool>,
     alloc: Global,
-    world: &'a World,
+    maps: &DefMaps<'_>,
+    listing: &Listing<'a>,
     m: ModuleId,
 ) -> Result<(), AllocError>
-    ensures listed { OnOk result (spec.HasWaysOf world.now m ways.new.items) }
-    ensures added { OnOk result ((ns : List Name) × (ways.new.items ≡ ways.old.items ++ flat_map (spec.slot_ways m) ns)) }
+    requires home { IsModule (of_tables maps.now) m }
+    requires listing { IsListing maps.now.world listing.now }
+    ensures more { OnOk result (spec.HasMore (of_tables maps.now) known.old known.new ways.old.items ways.new.items) }
+    ensures settled { OnOk result (spec.HasWaysOf (of_tables maps.now) (spec.slots_of known.new) ways.new.items m) }
 {
-    let names = module_names(alloc, world, m)?;
-    add_names(ways, m, names.as_slice())?;
+    let names = names_in(alloc, listing, m)?;
+    add_names(ways, known, maps, m, names.as_slice())?;
     Ok(())
 }
 
-/// Adds those of all modules.
+/// Does so with those of all modules.
 fn add_modules<'a>(
     ways: &mut Vec<Way<'a>>,
+    known: &mut Slots<bool>,
     alloc: Global,
-    maps: &DefMaps<'a>,
+    maps: &DefMaps<'_>,
+    listing: &Listing<'a>,
 ) -> Result<(), AllocError>
-    ensures listed { OnOk result ((m : ModuleId) → IsModule (of_tables maps.now) m → spec.HasWaysOf maps.now.world m ways.new.items) }
-    ensures kept { OnOk result ((w : spec.Way) → Contains ways.old.items w → Contains ways.new.items w) }
-    ensures ways { OnOk result (All (spec.IsWay (of_tables maps.now)) ways.old.items → All (spec.IsWay (of_tables maps.now)) ways.new.items) }
+    requires { IsListing maps.now.world listing.now }
+    ensures more { OnOk result (spec.HasMore (of_tables maps.now) known.old known.new ways.old.items ways.new.items) }
+    ensures settled { OnOk result ((m : ModuleId) → IsModule (of_tables maps.now) m
+        → spec.HasWaysOf (of_tables maps.now) (spec.slots_of known.new) ways.new.items m) }
 {
     for number in 0..u32::MAX {
         let m = ModuleId(number);
         if maps.world.scope_of(m).is_none() {
             return Ok(());
         }
-        add_module(ways, alloc, maps.world, m)?;
+        add_module(ways, known, alloc, maps, listing, m)?;
     }
     Ok(())
 }
 
-/// All ways in which slots may be derived: by each import, and in each module by declarations and globs.
+/// All ways in which slots may be derived that mean something, and are declared by no module: by each import, and in each
+/// module by globs. The slots that modules declare are made known.
 ///
 /// Fails only where memory runs out.
-pub(crate) fn all_ways<'a>(alloc: Global, maps: &DefMaps<'a>) -> Result<Vec<Way<'a>>, AllocError>
-    requires { AreMapsKnown (of_tables maps.now) }
+pub(crate) fn all_ways<'a>(
+    known: &mut Slots<bool>,
+    alloc: Global,
+    maps: &DefMaps<'a>,
+    listing: &Listing<'a>,
+) -> Result<Vec<Way<'a>>, AllocError>
+    requires maps { AreMapsKnown (of_tables maps.now) }
+    requires listing { IsListing maps.now.world listing.now }
+    requires safe { spec.IsSafe (of_tables maps.now) (spec.slots_of known.old) }
     ensures ways { IfOk result (λ ways. All (spec.IsWay (of_tables maps.now)) ways.items) }
-    ensures covered { IfOk result (λ ways. spec.AreCovered (of_tables maps.now) spec.no_set ways.items) }
+    ensures covered { IfOk result (λ ways. spec.AreCovered (of_tables maps.now) (spec.slots_of known.new) ways.items) }
+    ensures safe { OnOk result (spec.IsSafe (of_tables maps.now) (spec.slots_of known.new)) }
 {
     let mut ways = Vec::new(alloc);
-    add_imports(&mut ways, maps.imports)?;
-    add_modules(&mut ways, alloc, maps)?;
+    add_imports(&mut ways, known, maps, maps.imports)?;
+    add_modules(&mut ways, known, alloc, maps, listing)?;
     Ok(ways)
 }

@@ -19,9 +19,9 @@ returns-clause-joined c =
     let e = c.add_offer-2.new.all in
     let f = c.add_offer-3.new.all in
     three-slots a b e f g.into n (λ s y. join d.world g.into y (offer_from d g c.args.source n s))
-    (joined-written a b g.into n Types c.maps.inside.world.now d.world c.offer_from-types.result (offer_from d g c.args.source n Types) same c.offer_from-types.ensures.value c.in_ok-add_offer.ensures.joined)
-    (joined-written b e g.into n Values c.maps.inside.world.now d.world c.offer_from-values.result (offer_from d g c.args.source n Values) same c.offer_from-values.ensures.value c.in_ok-add_offer-2.ensures.joined)
-    (joined-written e f g.into n Macros c.maps.inside.world.now d.world c.offer_from-macros.result (offer_from d g c.args.source n Macros) same c.offer_from-macros.ensures.value c.in_ok-add_offer-3.ensures.joined)
+    (joined-written a b g.into n Types c.maps.inside.world.now d.world c.offers_from-offers.result.types (offer_from d g c.args.source n Types) same c.offers_from-offers.ensures.types c.in_ok-add_offer.ensures.joined)
+    (joined-written b e g.into n Values c.maps.inside.world.now d.world c.offers_from-offers.result.values (offer_from d g c.args.source n Values) same c.offers_from-offers.ensures.values c.in_ok-add_offer-2.ensures.joined)
+    (joined-written e f g.into n Macros c.maps.inside.world.now d.world c.offers_from-offers.result.macros (offer_from d g c.args.source n Macros) same c.offers_from-offers.ensures.macros c.in_ok-add_offer-3.ensures.joined)
 
 pub returns-clause-named : goal.returns-clause-named
 returns-clause-named c =

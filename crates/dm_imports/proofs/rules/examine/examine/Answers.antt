@@ -1,15 +1,14 @@
 use Rattle.std.proofs.Common.{ap, subst, sym}
+use Rattle.dm_maps.specs.World.{World}
 use Rattle.dm_imports.specs.Brought.{AreAllNamed, IsBrought}
-use Rattle.dm_imports.specs.Supporting.{GivenTables}
-use Rattle.dm_imports.specs.Tables.{of_tables}
+use Rattle.dm_imports.specs.Marking.{AreUngrounded, HasUngrounded}
+use Rattle.dm_imports.specs.Supporting.{GivenTables, IsListing}
+use Rattle.dm_imports.specs.Tables.{MapTables, of_tables}
 use Rattle.dm_imports.proofs.AskLemmas.{maps-known}
 use Rattle.dm_imports.proofs.rules.examine.examine.Goals as goal
 
-pub all_ways-requires : goal.all_ways-requires
-all_ways-requires c = maps-known c.args.maps.now c.requires
-
-pub are_derived-requires-clause-ready : goal.are_derived-requires-clause-ready
-are_derived-requires-clause-ready c =
+pub open_ways-requires-clause-ready : goal.open_ways-requires-clause-ready
+open_ways-requires-clause-ready c =
     let d = of_tables c.args.maps.now in
     let same = ap (λ (g : GivenTables). g.globs) (sym c.given.view_is) in
     record {
@@ -18,13 +17,26 @@ are_derived-requires-clause-ready c =
       named = subst (AreAllNamed d.world) same c.in_ok-given.ensures.named;
     }
 
-pub all_meanings-requires-clause-known : goal.all_meanings-requires-clause-known
-all_meanings-requires-clause-known c = maps-known c.args.maps.now c.requires
+pub agree-requires-clause-listing : goal.agree-requires-clause-listing
+agree-requires-clause-listing c = subst (λ (w : World). IsListing w c.in_ok-listing.listing) (ap (λ (t : MapTables). t.world) c.maps.view_is) c.in_ok-listing.ensures
 
-pub all_meanings-requires-clause-below : goal.all_meanings-requires-clause-below
-all_meanings-requires-clause-below c =
-    subst (IsBrought (of_tables c.args.maps.now)) (ap (λ (g : GivenTables). g.globs) (sym c.given.view_is)) c.in_ok-given.ensures.value.globs
+pub open_ways-requires-clause-listing : goal.open_ways-requires-clause-listing
+open_ways-requires-clause-listing c = subst (λ (w : World). IsListing w c.in_ok-listing.listing) (ap (λ (t : MapTables). t.world) c.maps.view_is) c.in_ok-listing.ensures
 
-pub all_meanings-requires-clause-named : goal.all_meanings-requires-clause-named
-all_meanings-requires-clause-named c =
-    subst (AreAllNamed (of_tables c.args.maps.now).world) (ap (λ (g : GivenTables). g.globs) (sym c.given.view_is)) c.in_ok-given.ensures.named
+pub order_dependent-requires-clause-listing : goal.order_dependent-requires-clause-listing
+order_dependent-requires-clause-listing c = subst (λ (w : World). IsListing w c.in_ok-listing.listing) (ap (λ (t : MapTables). t.world) c.maps.view_is) c.in_ok-listing.ensures
+
+pub order_dependent-requires-clause-known : goal.order_dependent-requires-clause-known
+order_dependent-requires-clause-known c = maps-known c.args.maps.now c.requires
+
+pub order_dependent-requires-clause-each : goal.order_dependent-requires-clause-each
+order_dependent-requires-clause-each c = subst (AreUngrounded (of_tables c.args.maps.now)) (sym c.as_slice-open.ensures.value) c.in_ok-left.ensures.each
+
+pub order_dependent-requires-clause-all : goal.order_dependent-requires-clause-all
+order_dependent-requires-clause-all c = subst (HasUngrounded (of_tables c.args.maps.now)) (sym c.as_slice-open.ensures.value) c.in_ok-left.ensures.all
+
+pub none_open-requires-clause-each : goal.none_open-requires-clause-each
+none_open-requires-clause-each c = subst (AreUngrounded (of_tables c.args.maps.now)) (sym c.as_slice-open.ensures.value) c.in_ok-left.ensures.each
+
+pub none_open-requires-clause-all : goal.none_open-requires-clause-all
+none_open-requires-clause-all c = subst (HasUngrounded (of_tables c.args.maps.now)) (sym c.as_slice-open.ensures.value) c.in_ok-left.ensures.all

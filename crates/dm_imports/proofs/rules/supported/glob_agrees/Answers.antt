@@ -21,4 +21,4 @@ returns-in_ok-names-in-Some-clause-yes c = λ yes n has.
     let same : c.maps.inside.world.now ≡ d.world = ap (λ (t : MapTables). t.world) c.maps.view_is in
     let own = subst (λ (o : Option Container). Contains (option_map_or (source_names d.world) o []) n) (sym c.source_of.ensures ∙ c.in-Some.is) has in
     let there = c.in_ok-names-in-Some.ensures n (subst (λ (w : World). Contains (source_names w source) n) (sym same) own) in
-    seen-all (Agrees d c.args.glob.now.into) c.as_slice.result.now n (c.all_agree.ensures.0 yes) (subst (λ (l : List (Bor Name)). Contains (seen l) n) (sym c.as_slice.ensures.value) there)
+    seen-all (Agrees d c.args.glob.now.into) c.as_slice.result.now n (c.all_agree_too.ensures.0 yes) (subst (λ (l : List (Bor Name)). Contains (seen l) n) (sym c.as_slice.ensures.value) there)

@@ -15,7 +15,7 @@ pub loop-name-preserved : goal.loop-name-preserved
 loop-name-preserved c =
     let d = of_tables c.args.maps.now in
     let g = c.args.glob.now in
-    let offer : Name → Namespace → Option Meaning = known_from d (slots_of c.args.known.now) g c.args.sources.own c.args.sources.known in
+    let offer : Name → Namespace → Option Meaning = known_from d (slots_of c.args.known.now) g c.args.source in
     let ns = c.args.names.now in
     let i = c.loop-name.name-index in
     let n = c.name-item.result in
@@ -31,7 +31,7 @@ pub returns-clause-joined : goal.returns-clause-joined
 returns-clause-joined c =
     let d = of_tables c.args.maps.now in
     let g = c.args.glob.now in
-    let offer : Name → Namespace → Option Meaning = known_from d (slots_of c.args.known.now) g c.args.sources.own c.args.sources.known in
+    let offer : Name → Namespace → Option Meaning = known_from d (slots_of c.args.known.now) g c.args.source in
     let ns = c.args.names.now in
     c.loop-name.invariant.offers c.loop-name.all
     (subst (λ (xs : List (Bor Name)). HasJoined d.world g.into offer (seen xs) c.loop-name.all c.loop-name.all) (sym (drop_all c.loop-name.name-index ns c.loop-name-test.false))

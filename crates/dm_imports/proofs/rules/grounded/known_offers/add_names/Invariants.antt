@@ -11,7 +11,7 @@ use Rattle.dm_imports.proofs.rules.grounded.known_offers.add_names.Given as goal
 abbrev pub invariant-loop-name : goal.invariant-loop-name
 invariant-loop-name l = record {
   offers : (new : Slots Joined) →
-      HasJoined l.maps.world l.glob.into (known_from (of_tables l.maps) (slots_of l.known) l.glob l.sources.own l.sources.known) (seen (drop l.name-index l.names)) l.all new
-      → HasJoined l.maps.world l.glob.into (known_from (of_tables l.maps) (slots_of l.known) l.glob l.sources.own l.sources.known) (seen l.names) l.fn.all new;
+      HasJoined l.maps.world l.glob.into (known_from (of_tables l.maps) (slots_of l.known) l.glob l.source) (seen (drop l.name-index l.names)) l.all new
+      → HasJoined l.maps.world l.glob.into (known_from (of_tables l.maps) (slots_of l.known) l.glob l.source) (seen l.names) l.fn.all new;
   named : AreAllNamed l.maps.world l.all;
 }

@@ -1,9 +1,12 @@
-use Rattle.std.proofs.Common.{◌≡◌, ◌++◌, drop}
-use Rattle.std.specs.List.{flat_map}
-use Rattle.dm_scope.specs.Sorted.{seen}
-use Rattle.dm_imports.specs.Grounding.{slot_ways}
+use Rattle.std.proofs.Common.{take}
+use Rattle.std.specs.List.{All}
+use Rattle.dm_imports.specs.Grounding.{HasMore, IsNameSettled, slots_of}
+use Rattle.dm_imports.specs.Tables.{of_tables}
 use Rattle.dm_imports.proofs.rules.grounded.ways.add_names.Given as goal
 
--- what is there, with the ways of the names that are left, is what the call began with, with those of all
+-- nothing was lost, and the ways of each name so far are settled
 abbrev pub invariant-loop-name : goal.invariant-loop-name
-invariant-loop-name l = l.ways.items ++ flat_map (slot_ways l.m) (seen (drop l.name-index l.names)) ≡ l.fn.ways.items ++ flat_map (slot_ways l.m) (seen l.names)
+invariant-loop-name l = record {
+  more : HasMore (of_tables l.maps) l.fn.known l.known l.fn.ways.items l.ways.items;
+  settled : All (IsNameSettled (of_tables l.maps) (slots_of l.known) l.ways.items l.m) (take l.name-index l.names);
+}
