@@ -10,7 +10,6 @@ INJECTED = "injected crates"
 BEHIND = "unknown names behind globs"
 ATTRIBUTES = "attributes of imports"
 # What is forgiven of a leaf that else means the same.
-CONSTRUCTORS = "constructors that fields hide"
 PROCEDURAL = "procedural macros by their crates alone"
 
 
@@ -84,11 +83,6 @@ def unresolved(found):
     return sorted(where for where, one in found.items() if not (one.meant or one.is_builtin or one.is_unknown))
 
 
-def without_constructors(meant, theirs):
-    """What `defmap` found, without constructors of structs that rustc lets those see alone who see the fields."""
-    return {it for it in meant if (it.namespace, it.kind) != ("value", "struct") or it in theirs}
-
-
 def by_crates(meant, procedural):
     """Procedural macros by their crates alone: of a derive rustc tells the function, and not the name."""
     return {replace(it, path=it.path.split("::")[0]) if it.kind == "macro" and it.path.split("::")[0] in procedural else it
@@ -139,21 +133,13 @@ def compare(leaves, ours, known, is_brought=lambda where, leaf: False):
     return outcome
 
 
-def count_forgiven(outcome, ours, seen, theirs):
-    """Counts what a leaf was forgiven: `seen` is what we say, without the constructors that fields hide."""
-    if ours != seen:
-        outcome.count(CONSTRUCTORS)
-    if seen != theirs:
-        outcome.count(PROCEDURAL)
-
-
 def compare_leaf(outcome, where, leaf, one, known):
     """Compares a leaf that is known."""
     outcome.compared += 1
-    seen = without_constructors(one.meant, leaf.meant) if one else set()
-    theirs, meant = (by_crates(it, known.procedural) for it in (leaf.meant, seen))
+    theirs, meant = (by_crates(it, known.procedural) for it in (leaf.meant, one.meant if one else set()))
     if one is not None and meant == theirs:
-        count_forgiven(outcome, one.meant, seen, leaf.meant)
+        if one.meant != leaf.meant:
+            outcome.count(PROCEDURAL)
         return
     if one is not None and one.has_more and is_part(meant, theirs):
         outcome.partly += 1

@@ -8,7 +8,7 @@ from dataclasses import asdict, dataclass, field
 
 from cargo_builds import PASSES, RUSTC, read_text
 from judging import ROOT
-from real_answers import ATTRIBUTES, BEHIND, CONSTRUCTORS, INJECTED, PROCEDURAL, TESTS
+from real_answers import ATTRIBUTES, BEHIND, INJECTED, PROCEDURAL, TESTS
 
 PAGE = f"{ROOT}/docs/REAL-CRATES.md"
 SHARES = f"{ROOT}/tools/real-crates/shares"
@@ -38,6 +38,7 @@ class Row:
     passes: dict = field(default_factory=dict)
     seconds: float = 0
     megabytes: int = 0
+    is_supported: bool = False
 
     def add_reasons(self, outcome):
         for reason, count in outcome.reasons.items():
@@ -66,7 +67,8 @@ class Row:
         return (f"{self.imports} imports, {self.globs} globs, {self.compared} compared, {self.unknown} unknown, "
                 f"{self.partly} partly, "
                 f"{self.brought} in modules of macros; {self.names} names of {self.modules} modules, {self.bound} bound, "
-                f"{self.unknown_names} unknown, {self.partly_names} partly{reasons}; {len(self.differing)} differ")
+                f"{self.unknown_names} unknown, {self.partly_names} partly{reasons}; "
+                f"{'supported' if self.is_supported else 'not supported'}; {len(self.differing)} differ")
 
 
 def sum_of(path):
@@ -132,11 +134,11 @@ def compared_table(rows):
 
 
 def time_table(rows):
-    heads = ["crate", "lines read", "modules", "rounds", "s", "MB", "parse ms", "expand ms", "imports ms", "MB"]
+    heads = ["crate", "lines read", "modules", "s", "MB", "parse ms", "expand ms", "imports ms", "MB"]
     cells = []
     for row in rows:
         passes = [row.passes.get(it, (0, 0)) for it in PASSES]
-        numbers = [row.statistics.get(it, 0) for it in ("lines", "modules", "rounds")]
+        numbers = [row.statistics.get(it, 0) for it in ("lines", "modules")]
         cells.append([row.name, *map(thousands, numbers), f"{row.seconds:.1f}", row.megabytes,
                       *(round(1000 * seconds) for seconds, _ in passes), max(size for _, size in passes)])
     return table(heads, cells)
@@ -144,7 +146,7 @@ def time_table(rows):
 
 def limits(rows):
     """What cannot be right without expansion, or is another thing by decision, with the number of places."""
-    reasons = (TESTS, INJECTED, BEHIND, ATTRIBUTES, CONSTRUCTORS, PROCEDURAL)
+    reasons = (TESTS, INJECTED, BEHIND, ATTRIBUTES, PROCEDURAL)
     places = {reason: sum(it.reasons.get(reason, 0) for it in rows) for reason in reasons}
     unknown, brought = sum(it.unknown for it in rows), sum(it.brought for it in rows)
     names, partly = sum(it.unknown_names for it in rows), sum(it.partly + it.partly_names for it in rows)
@@ -157,7 +159,6 @@ def limits(rows):
         ["names that a glob brings of an import that is unknown: told as absent", places[BEHIND]],
         ["names that a macro by attribute brings or takes, of a module where one stands at a `use` or an `extern` block", places[ATTRIBUTES]],
         ["names of the standard library that rustc binds in roots of edition 2015: absent", places[INJECTED]],
-        ["constructors that rustc lets those see alone who see the fields: bound, and not compared", places[CONSTRUCTORS]],
         ["procedural macros, of which the crates alone are compared, not the names", places[PROCEDURAL]]])
 
 
@@ -185,7 +186,7 @@ TIMES = """## Time and memory
 Of `defmap tree` the seconds of a processor are told, of rustc the time by the clock of its passes `parse_crate`,
 `macro_expand_crate` and `finalize_imports` (`-Ztime-passes`), of one run each, on a machine that others used too: no
 ratio is promised. `defmap` reads the sources of the crate, of all that it depends on and of `core`, `alloc` and `std`,
-and settles them together: lines and modules are those of all of these, rounds are of their imports. rustc reads one
+and settles them together: lines and modules are those of all of these. rustc reads one
 crate, and of the others what it kept when it compiled them. Its memory is the most that it held after one of the passes.
 """
 

@@ -56,7 +56,8 @@ impl Search {
         Ok(if_seen(maps, who.home, found))
     }
 
-    /// Crates and macros of preludes go before the standard prelude, and that before builtin types.
+    /// Crates and macros of preludes go before the standard prelude, and that before builtin types. Where it is not known
+    /// yet what the standard prelude has, as in the crate that it is of, a builtin type may be left.
     pub(crate) fn around<M: Maps>(
         &mut self,
         maps: &M,
@@ -68,8 +69,10 @@ impl Search {
         if first.is_some() {
             return Ok(certain(first));
         }
+        let builtin = builtin_in(maps, name, namespace);
         match self.in_prelude(maps, who, name, namespace)? {
-            Found::Nothing => Ok(builtin_in(maps, name, namespace)),
+            Found::Nothing => Ok(builtin),
+            Found::Waits(slot, _) => Ok(Found::Waits(slot, matches!(builtin, Found::Is(_, _)))),
             found => Ok(found),
         }
     }

@@ -30,6 +30,11 @@ fn extern_crate_in<M: Maps>(maps: &M, m: ModuleId, name: usize, namespace: Names
     }
 }
 
+/// Whether something is found, or may be yet.
+fn may_be(found: Found) -> bool {
+    !matches!(found, Found::Nothing)
+}
+
 impl Search {
     /// A name of a container, where it is seen.
     fn member<M: Maps>(
@@ -93,7 +98,16 @@ impl Search {
         }
     }
 
-    /// What globs bring to a slot of the module, where no name around that goes before it.
+    /// What globs bring to a slot of the module, as far as is known.
+    fn by_own_globs<M: Maps>(&self, maps: &M, home: ModuleId, slot: usize) -> Found {
+        match self.cell(slot) {
+            None => Found::Nothing,
+            Some(cell) => self.by_globs(maps, home, slot, &cell),
+        }
+    }
+
+    /// What globs bring to a slot of the module, where no name around that goes before it. While it is not known whether
+    /// one does, what globs bring may be left.
     fn around_or_globs<M: Maps>(
         &mut self,
         maps: &M,
@@ -101,11 +115,11 @@ impl Search {
         slot: usize,
         key: SlotKey,
     ) -> Result<Found, AllocError> {
-        match self.around(maps, who, key.name, key.namespace)? {
-            Found::Nothing => match self.cell(slot) {
-                None => Ok(Found::Nothing),
-                Some(cell) => Ok(self.by_globs(maps, who.home, slot, &cell)),
-            },
+        let found = self.around(maps, who, key.name, key.namespace)?;
+        let by_globs = self.by_own_globs(maps, who.home, slot);
+        match found {
+            Found::Nothing => Ok(by_globs),
+            Found::Waits(at, is_left) => Ok(Found::Waits(at, is_left || may_be(by_globs))),
             found => Ok(found),
         }
     }
@@ -119,7 +133,7 @@ impl Search {
         key: SlotKey,
     ) -> Result<Found, AllocError> {
         let around = self.around(maps, who, key.name, key.namespace)?;
-        Ok(Found::Waits(slot, matches!(around, Found::Is(_, _))))
+        Ok(Found::Waits(slot, may_be(around)))
     }
 
     /// The first segment: what the module declares or imports by name goes before the names around it, and those before
