@@ -178,7 +178,8 @@ Each leaf of each `use`, private ones and globs too, is compared in each namespa
 that `defmap tree` or rustc could bind there, or of more than 400 as many at even distances: a probe in a copy of the
 crate imports all of them, and both sides tell what each import means, so that a name that one side does not bind is
 absent on the other. *Unknown* is what leads nowhere and a macro may bring; how much of each crate that may be stands in
-`tools/real-crates/shares`. *By macros* are the imports in modules that a macro brings.
+`tools/real-crates/shares`. *By macros* are the imports in modules that a macro brings. The def maps of {supported}, with all that
+they depend on, are supported ([IMPORTS.md](IMPORTS.md)).
 """
 
 TIMES = """## Time and memory
@@ -199,11 +200,17 @@ def wrapped(text):
     return "\n\n".join(textwrap.fill(it, 118, break_on_hyphens=False, break_long_words=False) for it in text.split("\n\n"))
 
 
+def supported(rows):
+    """How many crates have supported def maps, and which have not."""
+    others = ", ".join(it.name for it in rows if not it.is_supported)
+    return f"{sum(it.is_supported for it in rows)} of these crates" + (f", all but {others}" if others else "")
+
+
 def write_page(rows):
     """Writes the page, and the shares."""
     rows = sorted(rows, key=lambda it: it.name)
     head = HEAD.format(version=version(), crates=len(rows), imports=thousands(sum(it.imports for it in rows)),
-                       globs=thousands(sum(it.globs for it in rows)))
+                       globs=thousands(sum(it.globs for it in rows)), supported=supported(rows))
     lines = [wrapped(head), "", *compared_table(rows), "", LIMITS, *limits(rows), "", wrapped(TIMES), "", *time_table([it for it in rows if it.seconds])]
     write(PAGE, "\n".join(lines) + "\n")
     write_shares(rows)

@@ -14,5 +14,4 @@ pub mod program;
 pub mod rounds;
 pub mod scopes;
 pub mod stays;
-pub mod text_to_answer;
 pub mod tree;

@@ -16,10 +16,8 @@ macro_rules! again {
     };
 }
 
-mod answers;
 mod base;
 mod imports;
-mod in_maps;
 mod listings;
 mod rounds;
 mod scopes;

@@ -11,11 +11,11 @@ ghost use Rattle.dm_maps.specs.World.{crate_map};
 ghost use Rattle.hir_def_map.specs.Paths.{answer, asked};
 ghost use Rattle.hir_def_map.specs.declared.path_resolution.result.ResolveMode.TheVariants.{Other};
 
-use crate::paths::meaning_in_root;
 use crate_items::files::crate_data::CrateData;
 use crate_items::files::crate_graph::CrateGraph;
 use crate_items::files::file_table::FileTable;
 use crate_tables::crate_filling::Reading;
+use defmap_callers::paths::meaning_in_root;
 use dm_base::ids::{Crate, FileId};
 use dm_base::mod_path::ModPath;
 use dm_base::per_ns::PerNs;
