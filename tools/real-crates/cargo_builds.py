@@ -1,4 +1,4 @@
-"""Crates of Debian's registry, built offline by Debian's cargo, and what `defmap` says of the same crates.
+"""Crates of Debian's registry, built offline by the cargo and rustc of the path, and what `defmap` says of the same crates.
 
 Each is built as the dependency of an empty package, with its default features; rustc prints what it says of it instead of
 compiling it. Nothing of the registry is written to.
@@ -17,11 +17,21 @@ from rustc_tree import read
 
 REGISTRY = "/usr/share/cargo/registry"
 SYSROOT = os.path.realpath("/usr/lib/rustlib/src/rust/library")
-CARGO, RUSTC = "/usr/bin/cargo", "/usr/bin/rustc"
+# Those of the version that Debian's sources of the standard library are of.
+DEBIAN_RUSTC = "/usr/bin/rustc"
 SECONDS = 1_800
 PASS = re.compile(r"^time: +([\d.]+); rss: +\d+MB -> +(\d+)MB .*?\t(\w+)$", re.M)
 PASSES = ("parse_crate", "macro_expand_crate", "finalize_imports")
 RUNNING = re.compile(r"Running `(.*?)`\n", re.S)
+
+
+def toolchain(name):
+    """A program of the toolchain that the rustc of the path is of: what chooses one takes time."""
+    root = subprocess.run(["rustc", "--print", "sysroot"], capture_output=True, text=True, check=True).stdout.strip()
+    return f"{root}/bin/{name}"
+
+
+CARGO, RUSTC = toolchain("cargo"), toolchain("rustc")
 
 
 @dataclass

@@ -8,7 +8,7 @@ import json
 import os
 from dataclasses import dataclass, field
 
-from cargo_builds import REGISTRY, RUSTC, SYSROOT, Build, compiled_with, passes, run, write
+from cargo_builds import DEBIAN_RUSTC, REGISTRY, SYSROOT, Build, compiled_with, passes, run, write
 
 LIBRARIES = ("core", "alloc", "std")
 LINKED = ("addr2line", "cfg_if", "hashbrown", "libc", "miniz_oxide", "object", "panic_unwind", "rustc_demangle",
@@ -88,7 +88,7 @@ def rustc_words(name, tree):
     """How rustc is run on a crate: of the crates that it needs it has what it kept."""
     linked = [word for it in PACKAGES[name].needs for word in ("--extern", it)]
     linked += [word for it in PACKAGES[name].options for word in ("--cfg", it)]
-    return [RUSTC, "--crate-name", name, "--edition=2021", root_of(name), "--crate-type", "lib", "--cap-lints", "allow",
+    return [DEBIAN_RUSTC, "--crate-name", name, "--edition=2021", root_of(name), "--crate-type", "lib", "--cap-lints", "allow",
             *linked, "-Zforce-unstable-if-unmarked", "-Zunpretty=hir-tree", "-Ztime-passes", "-o", tree]
 
 
@@ -102,7 +102,7 @@ def library(folder, name):
         return "rustc prints nothing of it"
     write(f"{folder}/metadata.json", metadata(name))
     write(f"{folder}/build.json", messages(name))
-    write(f"{folder}/cfgs", run([RUSTC, "--print", "cfg"], env={**os.environ, **env}).stdout)
+    write(f"{folder}/cfgs", run([DEBIAN_RUSTC, "--print", "cfg"], env={**os.environ, **env}).stdout)
     options = ["--metadata", f"{folder}/metadata.json", "--build", f"{folder}/build.json", "--cfg-file", f"{folder}/cfgs",
                *compiled_with(words)]
     return Build(name, SYSROOT, words, env, tree, passes(ran.stderr), options)

@@ -9,7 +9,10 @@ TESTS = "tests"
 INJECTED = "injected crates"
 BEHIND = "unknown names behind globs"
 ATTRIBUTES = "attributes of imports"
+SINCE = "names that the library has only since its sources"
 # What is forgiven of a leaf that else means the same.
+MOVED = "definitions of the library that stood elsewhere in its sources"
+LIBRARIES = ("core", "alloc", "std")
 PROCEDURAL = "procedural macros by their crates alone"
 
 
@@ -21,6 +24,7 @@ class Known:
     tests: set  # the paths of functions that attributes as `#[test]` take away
     injected: set  # what rustc binds in the root of a crate of edition 2015, though nothing there says so
     rewritten: set  # the modules with a `use` that an attribute macro may rewrite
+    is_library: bool = False  # whether the crate is of the standard library, and compared with the rustc of its version
     behind: set = field(default_factory=set)  # the probes of names that globs bring of unknown imports
 
 
@@ -89,6 +93,15 @@ def by_crates(meant, procedural):
             for it in meant}
 
 
+def is_of_library(meant):
+    return meant.path.split("::")[0] in LIBRARIES
+
+
+def by_names(meant):
+    """Definitions of the standard library by their names alone: rustc has a later one than the sources are of."""
+    return {replace(it, path=it.path.rpartition("::")[2]) if is_of_library(it) else it for it in meant}
+
+
 def reason_by_module(home, known):
     """Why a module has other names by rustc; None where that is not known. A probe stands within the module."""
     modules = {home, home.rpartition("::")[0]}
@@ -101,6 +114,8 @@ def reason_for(where, theirs, ours, known):
         return BEHIND
     if not ours and theirs and theirs <= known.injected:
         return INJECTED
+    if not ours and theirs and all(map(is_of_library, theirs)) and not known.is_library:
+        return SINCE
     return TESTS if theirs == {it for it in ours if it.kind != "fn" or it.path not in known.tests} else None
 
 
@@ -140,6 +155,9 @@ def compare_leaf(outcome, where, leaf, one, known):
     if one is not None and meant == theirs:
         if one.meant != leaf.meant:
             outcome.count(PROCEDURAL)
+        return
+    if one is not None and not known.is_library and by_names(meant) == by_names(theirs):
+        outcome.count(MOVED)
         return
     if one is not None and one.has_more and is_part(meant, theirs):
         outcome.partly += 1

@@ -6,9 +6,9 @@ import subprocess
 import textwrap
 from dataclasses import asdict, dataclass, field
 
-from cargo_builds import PASSES, RUSTC, read_text
+from cargo_builds import DEBIAN_RUSTC, PASSES, RUSTC, read_text
 from judging import ROOT
-from real_answers import ATTRIBUTES, BEHIND, INJECTED, PROCEDURAL, TESTS
+from real_answers import ATTRIBUTES, BEHIND, INJECTED, MOVED, PROCEDURAL, SINCE, TESTS
 
 PAGE = f"{ROOT}/docs/REAL-CRATES.md"
 SHARES = f"{ROOT}/tools/real-crates/shares"
@@ -146,7 +146,7 @@ def time_table(rows):
 
 def limits(rows):
     """What cannot be right without expansion, or is another thing by decision, with the number of places."""
-    reasons = (TESTS, INJECTED, BEHIND, ATTRIBUTES, PROCEDURAL)
+    reasons = (TESTS, INJECTED, BEHIND, ATTRIBUTES, PROCEDURAL, MOVED, SINCE)
     places = {reason: sum(it.reasons.get(reason, 0) for it in rows) for reason in reasons}
     unknown, brought = sum(it.unknown for it in rows), sum(it.brought for it in rows)
     names, partly = sum(it.unknown_names for it in rows), sum(it.partly + it.partly_names for it in rows)
@@ -159,18 +159,21 @@ def limits(rows):
         ["names that a glob brings of an import that is unknown: told as absent", places[BEHIND]],
         ["names that a macro by attribute brings or takes, of a module where one stands at a `use` or an `extern` block", places[ATTRIBUTES]],
         ["names of the standard library that rustc binds in roots of edition 2015: absent", places[INJECTED]],
-        ["procedural macros, of which the crates alone are compared, not the names", places[PROCEDURAL]]])
+        ["procedural macros, of which the crates alone are compared, not the names", places[PROCEDURAL]],
+        ["definitions of the standard library that stand elsewhere in rustc's than in the sources, compared by name", places[MOVED]],
+        ["names that rustc's standard library has, and that of the sources not yet", places[SINCE]]])
 
 
-def version():
-    return subprocess.run([RUSTC, "--version"], capture_output=True, text=True, check=False).stdout.strip()
+def version(rustc):
+    return subprocess.run([rustc, "--version"], capture_output=True, text=True, check=False).stdout.strip()
 
 
 HEAD = """# Compared with rustc over real crates
 
 `tools/real-crates/compare --page` wrote this page: what it ran, what agrees, and how long each side took. The crates are of
-Debian 12: of its packages, with their default features, and of its `rust-src`; it is {version} that they are compared
-with. {crates} crates have {imports} named imports and {globs} globs outside macros and bodies. Of which build the
+Debian 12: of its packages, with their default features, and of its `rust-src`. Those of packages are compared with
+{version}, though `defmap` is given the standard library of Debian's `rust-src`; `core`, `alloc` and `std` of that with
+{debian}. {crates} crates have {imports} named imports and {globs} globs outside macros and bodies. Of which build the
 program was, and what is proved of it, [PROGRAM.md](PROGRAM.md) tells.
 
 Each leaf of each `use`, private ones and globs too, is compared in each namespace by kind and path with what rustc found
@@ -209,7 +212,7 @@ def supported(rows):
 def write_page(rows):
     """Writes the page, and the shares."""
     rows = sorted(rows, key=lambda it: it.name)
-    head = HEAD.format(version=version(), crates=len(rows), imports=thousands(sum(it.imports for it in rows)),
+    head = HEAD.format(version=version(RUSTC), debian=version(DEBIAN_RUSTC), crates=len(rows), imports=thousands(sum(it.imports for it in rows)),
                        globs=thousands(sum(it.globs for it in rows)), supported=supported(rows))
     lines = [wrapped(head), "", *compared_table(rows), "", LIMITS, *limits(rows), "", wrapped(TIMES), "", *time_table([it for it in rows if it.seconds])]
     write(PAGE, "\n".join(lines) + "\n")

@@ -1,6 +1,8 @@
 """What rustc says of a crate (`-Zunpretty=hir-tree`): its modules, what each declares, and what its imports mean.
 
-Only what is written in the crate's files is read: what a macro brought has a span of another context than #0.
+Only what is written in the crate's files is read: what a macro brought has a span of another context than #0. Two forms
+are read: that of rustc 1.63, in which an item has its name before its number, and a `use` is an item for each namespace;
+and that of rustc 1.95, in which the number of an item comes first, and a `use` has what its path means in all namespaces.
 """
 import re
 from dataclasses import dataclass, field
@@ -17,7 +19,10 @@ TYPES = {"mod", "struct", "union", "enum", "variant", "trait", "type"}
 SPAN = re.compile(r"span: (.+?):(\d+):(\d+): (\d+):(\d+) \(#(\d+)\)")
 IDENT = re.compile(r"ident: (\S*?)#\d+,")
 OWN_ID = re.compile(r"def_id: DefId\(\d+:\d+ ~ \w+\[\w+\]([^)]*)\)")
-OWNER = re.compile(r"owner: DefId\(\d+:\d+ ~ \w+\[\w+\]([^)]*)\)")
+OWNER = re.compile(r"(?:owner: |HirId\()DefId\(\d+:\d+ ~ \w+\[\w+\]([^)]*)\)")
+OWNER_ID = re.compile(r"owner_id: DefId\(\d+:\d+ ~ \w+\[\w+\]([^)]*)\)")
+PER_NAMESPACE = re.compile(r"(?:value_ns|type_ns|macro_ns): ")
+BOUND_NAME = re.compile(r"Single\( (\S*?)#\d+,")
 KIND = re.compile(r"( *)kind: (\w+)")
 DEF_ID = re.compile(r"DefId\(\d+:\d+ ~ (\w+)\[\w+\]([^)]*)\)")
 # What paths have beyond names: the `extern` block or the constructor, and a number where a name stands twice.
@@ -123,25 +128,81 @@ def read_module(said, path, lines):
         said.modules[path] = Place(normpath(inner[1]), int(inner[4]), int(inner[5]))
 
 
-def read_item(said, lines):
-    """Reads an item, whose lines follow. Those within an `extern` block are of the module around it."""
-    name, owner, kind = IDENT.search(next(lines)), OWN_ID.search(next(lines)), KIND.match(next(lines))
-    if not name or not owner or not kind:
+def read_uses(said, path, body):
+    """Reads a leaf of a `use` with what its path means in all namespaces."""
+    home, span, text = path.rpartition("::")[0], SPAN.search(joined(body)), joined(body)
+    name, is_glob = BOUND_NAME.search(text), body[-1].strip() == "Glob,"
+    if home not in said.declared or not span or not (name or is_glob):
         return
-    name, path = without_raw(name[1]), f"crate{INSIDE.sub('', owner[1])}"
-    home = path.rpartition("::")[0]
-    if home in said.declared:
-        said.declared[home].add(name)
+    meant = {definition(it) for it in PER_NAMESPACE.split(text.partition("segments: [")[0])[1:]} - {None}
+    if is_glob:
+        said.globs.setdefault(home, set()).update(meant or {None})
+    if span[6] == "0":
+        where = (normpath(span[1]), int(span[2]), int(span[3]))
+        leaf = said.leaves.setdefault(where, Leaf(home, without_raw(name[1]) if name else "", is_glob))
+        leaf.meant |= meant
+
+
+def read_of_kind(said, name, path, kind, lines):
+    """Reads what follows of an item of a kind."""
     if kind[2] == "Macro":
         said.macros.add(name)
     elif kind[2] == "Mod":
         read_module(said, path, lines)
     elif kind[2] == "Enum":
         said.declared[path] = set()
-    elif kind[2] == "Use":
-        end = f"{kind[1]}),\n"
-        body = list(takewhile(lambda it: it != end, lines))
+
+
+def body_of(kind, lines):
+    """The lines of an item up to where its kind ends."""
+    end = f"{kind[1]}),\n"
+    return list(takewhile(lambda it: it != end, lines))
+
+
+def declare(said, path, name):
+    home = path.rpartition("::")[0]
+    if home in said.declared:
+        said.declared[home].add(name)
+
+
+def read_item(said, lines):
+    """Reads an item, whose lines follow. Those within an `extern` block are of the module around it."""
+    first, second = next(lines), next(lines)
+    name, owner = IDENT.search(first), OWN_ID.search(second)
+    if not name or not owner:
+        read_numbered(said, OWNER_ID.search(first), KIND.match(second), lines)
+        return
+    kind = KIND.match(next(lines))
+    if not kind:
+        return
+    name, path = without_raw(name[1]), f"crate{INSIDE.sub('', owner[1])}"
+    declare(said, path, name)
+    if kind[2] == "Use":
+        body = body_of(kind, lines)
         read_use(said, name, path, body[1:], body[-1].strip())
+    else:
+        read_of_kind(said, name, path, kind, lines)
+
+
+def read_numbered(said, owner, kind, lines):
+    """Reads an item that begins with its number, whose other lines follow."""
+    if not owner or not kind:
+        return
+    path = f"crate{INSIDE.sub('', owner[1])}"
+    name = without_raw(path.rpartition("::")[2])
+    if kind[2] == "Use":
+        read_uses(said, path, body_of(kind, lines))
+    elif not name.startswith("{"):
+        declare(said, path, name)
+        read_of_kind(said, name, path, kind, lines)
+
+
+def read_foreign(said, lines):
+    """Reads an item of an `extern` block, of which the number of its owner tells the module."""
+    name = IDENT.search(next(lines))
+    owner = next((it for it in map(OWNER_ID.search, lines) if it), None)
+    if name and owner:
+        declare(said, f"crate{INSIDE.sub('', owner[1])}", without_raw(name[1]))
 
 
 def read_variant(said, lines):
@@ -157,6 +218,8 @@ def read(lines):
     for line in lines:
         if line.endswith(" Item {\n"):
             read_item(said, lines)
+        elif line.endswith(" ForeignItem {\n"):
+            read_foreign(said, lines)
         elif line.endswith(" Variant {\n"):
             read_variant(said, lines)
         elif line.endswith(" node: Crate(\n"):
