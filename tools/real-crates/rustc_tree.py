@@ -137,6 +137,8 @@ def read_uses(said, path, body):
     meant = {definition(it) for it in PER_NAMESPACE.split(text.partition("segments: [")[0])[1:]} - {None}
     if is_glob:
         said.globs.setdefault(home, set()).update(meant or {None})
+    else:
+        said.declared[home].add(without_raw(name[1]))
     if span[6] == "0":
         where = (normpath(span[1]), int(span[2]), int(span[3]))
         leaf = said.leaves.setdefault(where, Leaf(home, without_raw(name[1]) if name else "", is_glob))
@@ -197,10 +199,10 @@ def read_numbered(said, owner, kind, lines):
         read_of_kind(said, name, path, kind, lines)
 
 
-def read_foreign(said, lines):
+def read_foreign(said, indent, lines):
     """Reads an item of an `extern` block, of which the number of its owner tells the module."""
-    name = IDENT.search(next(lines))
-    owner = next((it for it in map(OWNER_ID.search, lines) if it), None)
+    body = list(takewhile(lambda it: it != f"{indent}}},\n", lines))
+    name, owner = IDENT.search(body[0]), OWNER_ID.search("".join(body))
     if name and owner:
         declare(said, f"crate{INSIDE.sub('', owner[1])}", without_raw(name[1]))
 
@@ -219,7 +221,7 @@ def read(lines):
         if line.endswith(" Item {\n"):
             read_item(said, lines)
         elif line.endswith(" ForeignItem {\n"):
-            read_foreign(said, lines)
+            read_foreign(said, line[: -len(line.lstrip())], lines)
         elif line.endswith(" Variant {\n"):
             read_variant(said, lines)
         elif line.endswith(" node: Crate(\n"):
