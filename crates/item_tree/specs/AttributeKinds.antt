@@ -69,7 +69,8 @@ input_of text ls r =
     else if is_list (lexemes_in ls r) then InList (record { first = r.first + 1; behind = r.behind - 1 })
     else value_or_other (value_in text (lexemes_in ls r))
 
--- those that matter to names are malformed without what they take, and others are unknown
+-- those that matter to names are malformed without what they take, and others are unknown; `test` and `bench` with
+-- anything behind are those of some crate
 abbrev pub unfit_kind : Word → AttributeKind
 unfit_kind word.Cfg = says.Malformed
 unfit_kind word.CfgAttr = says.Malformed
@@ -88,6 +89,7 @@ unfit_kind word.ProcMacro = says.Malformed
 unfit_kind word.ProcMacroDerive = says.Malformed
 unfit_kind word.ProcMacroAttribute = says.Malformed
 unfit_kind word.RustcBuiltinMacro = says.Malformed
+unfit_kind word.NonExhaustive = says.Malformed
 unfit_kind _ = says.Unknown
 
 -- those that may stand alone
@@ -102,6 +104,9 @@ empty_kind word.RustcCoherenceIsCore = says.RustcCoherenceIsCore
 empty_kind word.ProcMacro = says.ProcMacro
 empty_kind word.ProcMacroAttribute = says.ProcMacroAttribute
 empty_kind word.RustcBuiltinMacro = says.RustcBuiltinMacro
+empty_kind word.NonExhaustive = says.NonExhaustive
+empty_kind word.Test = says.Test
+empty_kind word.Bench = says.Bench
 empty_kind w = unfit_kind w
 
 -- those that take a string

@@ -1,6 +1,6 @@
 -- What surely begins another item, where one that misses its end goes on.
 use Rattle.std.specs.Prelude.{◌==◌, ◌||◌, ◌&&◌, ℕ, Bool, true, false, not, List, [], ◌∷◌}
-use Rattle.item_tree.specs.Heads.{kind_at, is_mark, is_bracket, is_qualifier}
+use Rattle.item_tree.specs.Heads.{kind_at, is_mark, is_bracket, is_const, is_qualifier}
 use Rattle.item_tree.specs.ItemKinds.{is_name, is_mutable, takes}
 use Rattle.item_tree.specs.declared.items.item_kind.ItemKind.{ItemKind}
 use Rattle.item_tree.specs.declared.items.item_kind.ItemKind.TheVariants as item
@@ -15,6 +15,10 @@ abbrev pub is_crate : LexemeKind → Bool
 is_crate (Word word.Crate) = true
 is_crate _ = false
 
+abbrev pub is_constant_name : LexemeKind → Bool
+is_constant_name (Word word.Underscore) = true
+is_constant_name k = is_name k
+
 -- these begin an item wherever they stand: no header, type or expression has them between its groups. `fn` without a
 -- name is a type, `static` without a name a closure, and `use` without a path a bound
 abbrev pub word_begins : words.Word → List Tree → Bool
@@ -24,16 +28,12 @@ word_begins word.Struct behind = is_name (kind_at behind 0)
 word_begins word.Enum behind = is_name (kind_at behind 0)
 word_begins word.Fn behind = is_name (kind_at behind 0)
 word_begins word.Trait behind = is_name (kind_at behind 0)
-word_begins word.Type behind = is_name (kind_at behind 0)
+word_begins word.Type behind = is_name (kind_at behind 0) || (is_const (kind_at behind 0) && is_constant_name (kind_at behind 1))
 word_begins word.Use behind = takes Start (kind_at behind 0)
 word_begins word.Static behind = is_name (kind_at behind 0) || (is_mutable (kind_at behind 0) && is_name (kind_at behind 1))
 word_begins word.Extern behind = is_crate (kind_at behind 0)
 word_begins word.MacroRules behind = is_mark 33 (kind_at behind 0) && is_name (kind_at behind 1)
 word_begins _ behind = false
-
-abbrev pub is_constant_name : LexemeKind → Bool
-is_constant_name (Word word.Underscore) = true
-is_constant_name k = is_name k
 
 -- a constant has a name and one colon behind `const`; behind a star `const` is of a pointer, and behind an angle
 -- bracket or a comma of a parameter
@@ -51,9 +51,24 @@ impl_ends item.Union = true
 impl_ends item.Enum = true
 impl_ends _ = false
 
+abbrev pub is_where : LexemeKind → Bool
+is_where (Word word.Where) = true
+is_where _ = false
+
+-- a mark behind which an operand begins
+abbrev pub is_operator : LexemeKind → Bool
+is_operator (Mark b) = not (b == 62 || b == 63)
+is_operator _ = false
+
+-- an operand of a value may have attributes, and so may each predicate behind `where`, as in `where #[cfg(a)] T: A`
+abbrev pub takes_attribute : ItemKind → LexemeKind → Bool
+takes_attribute item.Const before = is_operator before
+takes_attribute item.Static before = is_operator before
+takes_attribute _ before = is_mark 44 before || is_where before
+
 -- and these begin one outside of angle brackets alone, where a parameter may have an attribute or `const`
 abbrev pub begins_outside : ItemKind → LexemeKind → LexemeKind → List Tree → Bool
-begins_outside kind before (Mark b) behind = (b == 35) && is_bracket (kind_at behind 0)
+begins_outside kind before (Mark b) behind = (b == 35) && is_bracket (kind_at behind 0) && not (takes_attribute kind before)
 begins_outside kind before (Word word.Const) behind = const_begins before behind
 begins_outside kind before (Word word.Impl) behind = impl_ends kind
 begins_outside kind before _ behind = false

@@ -43,6 +43,10 @@ abbrev pub is_trait : LexemeKind → Bool
 is_trait (Word word.Trait) = true
 is_trait _ = false
 
+abbrev pub is_const : LexemeKind → Bool
+is_const (Word word.Const) = true
+is_const _ = false
+
 abbrev pub is_extern : LexemeKind → Bool
 is_extern (Word word.Extern) = true
 is_extern _ = false
@@ -51,7 +55,7 @@ abbrev pub is_string : LexemeKind → Bool
 is_string Str = true
 is_string _ = false
 
--- the words that may stand behind `default` and `safe` where those are no names
+-- the words that may stand behind `default`, `final` and `safe` where those are no names
 abbrev pub goes_on_item : LexemeKind → Bool
 goes_on_item (Word word.Fn) = true
 goes_on_item (Word word.Type) = true
@@ -60,28 +64,36 @@ goes_on_item (Word word.Static) = true
 goes_on_item (Word word.Impl) = true
 goes_on_item (Word word.Trait) = true
 goes_on_item (Word word.Async) = true
+goes_on_item (Word word.Gen) = true
 goes_on_item (Word word.Unsafe) = true
 goes_on_item (Word word.Extern) = true
 goes_on_item _ = false
 
--- the words that may stand behind `const` where that begins no constant
-abbrev pub goes_on_const : LexemeKind → Bool
-goes_on_const (Word word.Fn) = true
-goes_on_const (Word word.Async) = true
-goes_on_const (Word word.Unsafe) = true
-goes_on_const (Word word.Extern) = true
-goes_on_const (Word word.Trait) = true
-goes_on_const (Word word.Impl) = true
-goes_on_const _ = false
+-- what may stand behind `const` where that begins no constant; `auto` may be the name of one
+abbrev pub goes_on_by : LexemeKind → LexemeKind → Bool
+goes_on_by (Word word.Fn) next = true
+goes_on_by (Word word.Async) next = true
+goes_on_by (Word word.Gen) next = true
+goes_on_by (Word word.Unsafe) next = true
+goes_on_by (Word word.Extern) next = true
+goes_on_by (Word word.Trait) next = true
+goes_on_by (Word word.Impl) next = true
+goes_on_by (Word word.Auto) next = is_trait next
+goes_on_by _ next = false
+
+abbrev pub goes_on_const : List Tree → Bool
+goes_on_const behind = goes_on_by (kind_at behind 0) (kind_at behind 1)
 
 -- a word is a qualifier of what goes on behind it; `extern` is one before `fn` and before a string and `fn`
 abbrev pub qualifies : words.Word → List Tree → Bool
 qualifies word.Unsafe behind = true
 qualifies word.Async behind = true
+qualifies word.Gen behind = true
 qualifies word.Default behind = goes_on_item (kind_at behind 0)
+qualifies word.Final behind = goes_on_item (kind_at behind 0)
 qualifies word.Safe behind = goes_on_item (kind_at behind 0)
 qualifies word.Auto behind = is_trait (kind_at behind 0)
-qualifies word.Const behind = goes_on_const (kind_at behind 0)
+qualifies word.Const behind = goes_on_const behind
 qualifies word.Extern behind = is_function (kind_at behind 0) || (is_string (kind_at behind 0) && is_function (kind_at behind 1))
 qualifies _ behind = false
 

@@ -2,7 +2,7 @@
 use Rattle.std.specs.Prelude.{◌==◌, ◌+◌, ◌-◌, ◌||◌, ◌&&◌, ℕ, Bool, true, false, not, List, [], ◌∷◌, Some, None, drop, if◌then◌else◌}
 use Rattle.item_tree.specs.Beginnings.{another_begins}
 use Rattle.item_tree.specs.Heads.{kind_at, is_mark, is_brace, nothing}
-use Rattle.item_tree.specs.ItemKinds.{path_len, is_group}
+use Rattle.item_tree.specs.ItemKinds.{path_len, is_group, is_segment}
 use Rattle.item_tree.specs.ItemNames.{words_len}
 use Rattle.item_tree.specs.declared.items.expected.Expected.{Expected}
 use Rattle.item_tree.specs.declared.items.expected.Expected.TheVariants as expected
@@ -25,9 +25,13 @@ may_have_body item.Static = false
 may_have_body item.TypeAlias = false
 may_have_body _ = true
 
--- a body is braces outside of angle brackets
-abbrev pub ends_item : ItemKind → ℕ → LexemeKind → Bool
-ends_item kind depth k = is_semicolon k || (is_brace k && (depth == 0) && may_have_body kind)
+-- the `!` of a macro stands behind the macro's path; that of the never type does not
+abbrev pub calls_macro : LexemeKind → LexemeKind → Bool
+calls_macro before k = is_mark 33 k && is_segment before
+
+-- a body is braces outside of angle brackets, but not those right behind the `!` of a macro
+abbrev pub ends_item : ItemKind → ℕ → Bool → LexemeKind → Bool
+ends_item kind depth calls k = is_semicolon k || (is_brace k && (depth == 0) && not calls && may_have_body kind)
 
 -- how many angle brackets are open behind a tree; that of an arrow closes none
 abbrev pub depth_behind : LexemeKind → ℕ → LexemeKind → ℕ
@@ -60,16 +64,16 @@ abbrev pub cut : ItemKind → ItemEnd
 cut kind = lacking 0 (awaited kind)
 
 -- an item goes on up to its semicolon or body, but not where another item begins, nor behind its level
-abbrev pub up_to_end : ItemKind → LexemeKind → ℕ → List Tree → ItemEnd
-up_to_end kind before depth [] = cut kind
-up_to_end kind before depth (t ∷ ts) =
+abbrev pub up_to_end : ItemKind → LexemeKind → ℕ → Bool → List Tree → ItemEnd
+up_to_end kind before depth calls [] = cut kind
+up_to_end kind before depth calls (t ∷ ts) =
     if another_begins kind depth before (t ∷ ts) then cut kind
-    else if ends_item kind depth t.kind then complete 1
-    else later 1 (up_to_end kind t.kind (depth_in kind before depth t.kind) ts)
+    else if ends_item kind depth calls t.kind then complete 1
+    else later 1 (up_to_end kind t.kind (depth_in kind before depth t.kind) (calls_macro before t.kind) ts)
 
 -- its own words stand before that
 abbrev pub behind_words : ItemKind → List Tree → ItemEnd
-behind_words kind ts = later (words_len kind ts) (up_to_end kind nothing 0 (drop (words_len kind ts) ts))
+behind_words kind ts = later (words_len kind ts) (up_to_end kind nothing 0 false (drop (words_len kind ts) ts))
 
 -- the group of a macro, and a semicolon behind it where it is not of braces
 abbrev pub group_end : List Tree → ItemEnd

@@ -1,6 +1,6 @@
 -- The kinds of items, and what tells them.
 use Rattle.std.specs.Prelude.{◌+◌, ◌-◌, ◌||◌, ◌&&◌, ℕ, Bool, true, false, List, [], ◌∷◌, nat_lt, if◌then◌else◌}
-use Rattle.item_tree.specs.Heads.{kind_at, is_mark, is_brace, is_string}
+use Rattle.item_tree.specs.Heads.{kind_at, is_mark, is_brace, is_const, is_string}
 use Rattle.item_tree.specs.declared.items.item_kind.ItemKind.{ItemKind}
 use Rattle.item_tree.specs.declared.items.item_kind.ItemKind.TheVariants as item
 use Rattle.item_tree.specs.declared.items.item_kind.PathPart.{PathPart}
@@ -42,6 +42,12 @@ may_be_name word.Move = false
 may_be_name word.Let = false
 may_be_name word.If = false
 may_be_name word.Else = false
+may_be_name word.Match = false
+may_be_name word.While = false
+may_be_name word.Return = false
+may_be_name word.Break = false
+may_be_name word.Gen = false
+may_be_name word.Final = false
 may_be_name word.Underscore = false
 may_be_name word.True = false
 may_be_name word.False = false
@@ -121,6 +127,14 @@ abbrev pub const_kind : LexemeKind → ItemKind
 const_kind (Word word.Underscore) = item.Const
 const_kind name = named item.Const name
 
+-- `type` begins an alias, or with `const` behind it a constant
+abbrev pub type_kind : List Tree → ItemKind
+type_kind ts = if is_const (kind_at ts 1) then const_kind (kind_at ts 2) else named item.TypeAlias (kind_at ts 1)
+
+abbrev pub is_type : LexemeKind → Bool
+is_type (Word word.Type) = true
+is_type _ = false
+
 abbrev pub is_mutable : LexemeKind → Bool
 is_mutable (Word word.Mut) = true
 is_mutable _ = false
@@ -144,7 +158,7 @@ word_kind word.Enum ts = named item.Enum (kind_at ts 1)
 word_kind word.Fn ts = named item.Function (kind_at ts 1)
 word_kind word.Const ts = const_kind (kind_at ts 1)
 word_kind word.Static ts = static_kind ts
-word_kind word.Type ts = named item.TypeAlias (kind_at ts 1)
+word_kind word.Type ts = type_kind ts
 word_kind word.Trait ts = named item.Trait (kind_at ts 1)
 word_kind word.Impl ts = item.Impl
 word_kind word.Extern ts = extern_kind ts

@@ -5,6 +5,7 @@ use Rattle.item_tree.specs.Heads.{nothing}
 use Rattle.item_tree.specs.Implementations.{names_trait}
 use Rattle.item_tree.specs.ItemParts.{first_item}
 use Rattle.item_tree.specs.Items.{level_of}
+use Rattle.item_tree.specs.Members.{before_comma, first_member, start}
 use Rattle.item_tree.specs.UseGrammar.{Nothing, Behind, Written, Name, Renamed, Glob, List_, WrittenList, Last, More}
 use Rattle.item_tree.specs.UseTrees.{use_trees_of}
 use Rattle.item_tree.specs.declared.cfg.cfg_if.LevelKind.TheVariants.{FirstArm}
@@ -17,6 +18,7 @@ use Rattle.item_tree.specs.declared.lexer.lexeme.Delimiter.TheVariants.{Parenthe
 use Rattle.item_tree.specs.declared.lexer.lexeme.Lexeme.{Lexeme}
 use Rattle.item_tree.specs.declared.lexer.lexeme.LexemeKind.{LexemeKind}
 use Rattle.item_tree.specs.declared.lexer.lexeme.LexemeKind.TheVariants.{Word, Open, Close, Mark, Lifetime, Str}
+use Rattle.item_tree.specs.declared.items.members.MemberKind.TheVariants.{RecordField}
 use Rattle.item_tree.specs.declared.lexer.trees.Tree.{Tree}
 use Rattle.item_tree.specs.declared.items.use_tree.UseTree.{UseTree}
 use Rattle.item_tree.specs.declared.items.use_tree.UseTreeKind.{UseTreeKind}
@@ -203,3 +205,88 @@ for_in_bounds =
 -- impl dyn name + for < 'a > name {..}
 abbrev pub for_behind_plus : Bool
 for_behind_plus = of_a_trait (Word word.Impl ∷ Word word.Dyn ∷ name ∷ Mark 43 ∷ Word word.For ∷ Mark 60 ∷ Lifetime ∷ Mark 62 ∷ name ∷ Open Brace ∷ [])
+
+-- impl a for a ! {..} {..} a, and fn a (..) - > a ! {..} where a ! {..} : a {..} a
+abbrev pub for_a_macro : ItemParts
+for_a_macro = first (Word word.Impl ∷ name ∷ Word word.For ∷ name ∷ Mark 33 ∷ Open Brace ∷ Open Brace ∷ name ∷ [])
+
+abbrev pub macros_in_header : ItemParts
+macros_in_header =
+    first
+    (Word word.Fn ∷ name ∷ Open Parenthesis ∷ Mark 45 ∷ Mark 62 ∷ name ∷ Mark 33 ∷ Open Brace ∷ Word word.Where ∷ name ∷ Mark 33 ∷ Open Brace ∷ Mark 58 ∷ name ∷ Open Brace ∷ name ∷ [])
+
+-- fn a (..) - > ! {..} {..}, and impl a for ! {..} {..}: the type that has no values
+abbrev pub never_returns : ItemParts
+never_returns = first (Word word.Fn ∷ name ∷ Open Parenthesis ∷ Mark 45 ∷ Mark 62 ∷ Mark 33 ∷ Open Brace ∷ Open Brace ∷ [])
+
+abbrev pub for_never : ItemParts
+for_never = first (Word word.Impl ∷ name ∷ Word word.For ∷ Mark 33 ∷ Open Brace ∷ Open Brace ∷ [])
+
+-- struct a where #[..] a : a , #[..] a : a {..}
+abbrev pub where_attributes : ItemParts
+where_attributes =
+    first
+    (Word word.Struct ∷ name ∷ Word word.Where ∷ Mark 35 ∷ Open Bracket ∷ name ∷ Mark 58 ∷ name ∷ Mark 44 ∷ Mark 35 ∷ Open Bracket ∷ name ∷ Mark 58 ∷ name ∷ Open Brace ∷ name ∷ [])
+
+-- const a : a = #[..] a + #[..] a ; a, and struct a where a : a #[..] fn a (..) ;
+abbrev pub value_attributes : ItemParts
+value_attributes =
+    first
+    (Word word.Const ∷ name ∷ Mark 58 ∷ name ∷ Mark 61 ∷ Mark 35 ∷ Open Bracket ∷ name ∷ Mark 43 ∷ Mark 35 ∷ Open Bracket ∷ name ∷ Mark 59 ∷ name ∷ [])
+
+abbrev pub cut_where : ItemParts
+cut_where =
+    first (Word word.Struct ∷ name ∷ Word word.Where ∷ name ∷ Mark 58 ∷ name ∷ Mark 35 ∷ Open Bracket ∷ Word word.Fn ∷ name ∷ Open Parenthesis ∷ Mark 59 ∷ [])
+
+-- type const a : a = a ; and final const async gen unsafe fn a (..) {..}
+abbrev pub type_const : ItemParts
+type_const = first (Word word.Type ∷ Word word.Const ∷ name ∷ Mark 58 ∷ name ∷ Mark 61 ∷ name ∷ Mark 59 ∷ [])
+
+abbrev pub all_qualifiers : ItemParts
+all_qualifiers =
+    first (Word word.Final ∷ Word word.Const ∷ Word word.Async ∷ Word word.Gen ∷ Word word.Unsafe ∷ Word word.Fn ∷ name ∷ Open Parenthesis ∷ Open Brace ∷ [])
+
+-- const auto trait a {..}, and const auto : a ;
+abbrev pub const_auto_trait : ItemParts
+const_auto_trait = first (Word word.Const ∷ Word word.Auto ∷ Word word.Trait ∷ name ∷ Open Brace ∷ [])
+
+abbrev pub const_auto : ItemParts
+const_auto = first (Word word.Const ∷ Word word.Auto ∷ Mark 58 ∷ name ∷ Mark 59 ∷ [])
+
+-- how many trees are before the comma that ends a member; marks of these trees are joint
+abbrev pub until_comma : List LexemeKind → ℕ
+until_comma ks = before_comma (lexemes_at 0 ks) start nothing (trees_at 0 ks)
+
+-- a = a :: < a , a > (..) , a, and a = < a as a < a , a >> :: a , a
+abbrev pub arguments : ℕ
+arguments =
+    until_comma (name ∷ Mark 61 ∷ name ∷ Mark 58 ∷ Mark 58 ∷ Mark 60 ∷ name ∷ Mark 44 ∷ name ∷ Mark 62 ∷ Open Parenthesis ∷ Mark 44 ∷ name ∷ [])
+
+abbrev pub qualified_path : ℕ
+qualified_path =
+    until_comma
+    (name ∷ Mark 61 ∷ Mark 60 ∷ name ∷ Word word.As ∷ name ∷ Mark 60 ∷ name ∷ Mark 44 ∷ name ∷ Mark 62 ∷ Mark 62 ∷ Mark 58 ∷ Mark 58 ∷ name ∷ Mark 44 ∷ name ∷ [])
+
+-- a = a as & a < a , a > - a < a , a
+abbrev pub cast : ℕ
+cast =
+    until_comma
+    (name ∷ Mark 61 ∷ name ∷ Word word.As ∷ Mark 38 ∷ name ∷ Mark 60 ∷ name ∷ Mark 44 ∷ name ∷ Mark 62 ∷ Mark 45 ∷ name ∷ Mark 60 ∷ name ∷ Mark 44 ∷ name ∷ [])
+
+-- a = a < a , a = a > a, and a = a << a , a >> a
+abbrev pub comparison : ℕ
+comparison = until_comma (name ∷ Mark 61 ∷ name ∷ Mark 60 ∷ name ∷ Mark 44 ∷ name ∷ Mark 61 ∷ name ∷ Mark 62 ∷ name ∷ [])
+
+abbrev pub shift : ℕ
+shift = until_comma (name ∷ Mark 61 ∷ name ∷ Mark 60 ∷ Mark 60 ∷ name ∷ Mark 44 ∷ name ∷ Mark 62 ∷ Mark 62 ∷ name ∷ [])
+
+-- a : a < a , a > = | a , a : a < a , a > | a , a
+abbrev pub closure : ℕ
+closure =
+    until_comma
+    (name ∷ Mark 58 ∷ name ∷ Mark 60 ∷ name ∷ Mark 44 ∷ name ∷ Mark 62 ∷ Mark 61 ∷ Mark 124 ∷ name ∷ Mark 44 ∷ name ∷ Mark 58 ∷ name ∷ Mark 60 ∷ name ∷ Mark 44 ∷ name ∷ Mark 62 ∷ Mark 124 ∷ name ∷ Mark 44 ∷ name ∷ [])
+
+-- where the name of `pub unsafe a : a` stands
+abbrev pub unsafe_field : ℕ
+unsafe_field =
+    (first_member RecordField (lexemes_at 0 (Word word.Pub ∷ Word word.Unsafe ∷ name ∷ Mark 58 ∷ name ∷ [])) (trees_at 0 (Word word.Pub ∷ Word word.Unsafe ∷ name ∷ Mark 58 ∷ name ∷ []))).name

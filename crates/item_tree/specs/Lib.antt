@@ -24,6 +24,7 @@ pub mod SyntaxErrors
 pub mod Children
 pub mod Visibilities
 pub mod UseTrees
+pub mod Values
 pub mod UseGrammar
 pub mod UseLeaves
 pub mod Implementations

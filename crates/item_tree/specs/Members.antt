@@ -1,11 +1,11 @@
 -- The fields of structs, unions and variants, and the variants of enums.
 use Rattle.std.specs.Prelude.{◌==◌, ◌+◌, ◌-◌, ◌&&◌, ℕ, zero, suc, Bool, true, false, not, List, [], ◌∷◌, Option, Some, None, length, drop, slice_get, nat_lt, if◌then◌else◌}
 use Rattle.item_tree.specs.Heads.{kind_at, is_mark, is_parenthesis, nothing, attributes_len}
-use Rattle.item_tree.specs.ItemEnds.{depth_behind}
 use Rattle.item_tree.specs.ItemKinds.{is_name}
 use Rattle.item_tree.specs.ItemParts.{bounded}
 use Rattle.item_tree.specs.Items.{place_at}
 use Rattle.item_tree.specs.Trees.{trees_of}
+use Rattle.item_tree.specs.Values.{is_joint, nested}
 use Rattle.item_tree.specs.Visibilities.{lexeme_at}
 use Rattle.item_tree.specs.declared.items.Range.{Range}
 use Rattle.item_tree.specs.declared.lexer.lexeme.Delimiter.TheVariants.{Parenthesis, Brace}
@@ -18,6 +18,8 @@ use Rattle.item_tree.specs.declared.items.members.Member.{Member}
 use Rattle.item_tree.specs.declared.items.members.MemberKind.{MemberKind}
 use Rattle.item_tree.specs.declared.items.members.MemberKind.TheVariants.{Variant, RecordField, TupleField}
 use Rattle.item_tree.specs.declared.items.members.MemberParts.{MemberParts}
+use Rattle.item_tree.specs.declared.items.values.MemberPart.TheVariants.{Declared}
+use Rattle.item_tree.specs.declared.items.values.Nesting.{Nesting}
 use Rattle.item_tree.specs.declared.lexer.trees.Tree.{Tree}
 use Rattle.item_tree.specs.declared.lexer.word.Word.TheVariants as word
 
@@ -63,19 +65,22 @@ visibility_of _ restricted = 0
 abbrev pub visibility_len : List Lexeme → List Tree → ℕ
 visibility_len ls ts = visibility_of (kind_at ts 0) (is_parenthesis (kind_at ts 1) && restricts_at ls (place_at ts 1 0))
 
--- angle brackets are counted in fields; in a variant's value they may be comparisons
-abbrev pub depth_in : MemberKind → LexemeKind → ℕ → LexemeKind → ℕ
-depth_in Variant before depth k = depth
-depth_in RecordField before depth k = depth_behind before depth k
-depth_in TupleField before depth k = depth_behind before depth k
+-- a field in braces may have `unsafe` before its name; elsewhere that begins a type
+abbrev pub is_unsafe : MemberKind → LexemeKind → Bool
+is_unsafe RecordField (Word word.Unsafe) = true
+is_unsafe kind k = false
 
--- a comma outside of angle brackets ends a member
+-- a comma outside of angle brackets and of a closure's bars ends a member
 abbrev pub ends_member : ℕ → LexemeKind → Bool
 ends_member depth k = is_mark 44 k && (depth == 0)
 
-abbrev pub before_comma : MemberKind → LexemeKind → ℕ → List Tree → ℕ
-before_comma kind before depth [] = 0
-before_comma kind before depth (t ∷ ts) = if not (ends_member depth t.kind) then 1 + before_comma kind t.kind (depth_in kind before depth t.kind) ts else 0
+-- how a member begins: with a name, or a type
+abbrev pub start : Nesting
+start = record { part = Declared; depth = 0 }
+
+abbrev pub before_comma : List Lexeme → Nesting → LexemeKind → List Tree → ℕ
+before_comma ls n before [] = 0
+before_comma ls n before (t ∷ ts) = if not (ends_member n.depth t.kind) then 1 + before_comma ls (nested n before (is_joint ls t.first) t.kind) t.kind ts else 0
 
 -- variants and fields in braces have names
 abbrev pub is_named : MemberKind → LexemeKind → Bool
@@ -89,13 +94,16 @@ member_fields Variant ts name = fields_at ts (name + 1)
 member_fields RecordField ts name = no_fields 0
 member_fields TupleField ts name = no_fields 0
 
-abbrev pub behind_attributes : MemberKind → ℕ → List Lexeme → List Tree → MemberParts
-behind_attributes kind attributes ls ts =
+abbrev pub behind_visibility : MemberKind → ℕ → ℕ → List Lexeme → List Tree → MemberParts
+behind_visibility kind attributes shown ls ts =
     record {
       attributes = attributes;
-      name = attributes + visibility_len ls (drop attributes ts);
-      len = bounded (before_comma kind nothing 0 ts + 1) (length ts);
+      name = if is_unsafe kind (kind_at ts shown) then shown + 1 else shown;
+      len = bounded (before_comma ls start nothing ts + 1) (length ts);
     }
+
+abbrev pub behind_attributes : MemberKind → ℕ → List Lexeme → List Tree → MemberParts
+behind_attributes kind attributes ls ts = behind_visibility kind attributes (attributes + visibility_len ls (drop attributes ts)) ls ts
 
 -- the member that begins the trees: attributes, a visibility, a name or a type, and all up to a comma
 unfoldable pub first_member : MemberKind → List Lexeme → List Tree → MemberParts

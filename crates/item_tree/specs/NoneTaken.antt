@@ -14,4 +14,4 @@ NoneBegins (suc n) (t ∷ ts) = (begins_anywhere t.kind ts ≡ false) × NoneBeg
 
 -- so it is with the trees that an item takes behind its own words, with an end or without
 abbrev pub ItemsTakeNoOther : Type 0
-ItemsTakeNoOther = (kind : ItemKind) (ts : List Tree) → NoneBegins (up_to_end kind nothing 0 ts).len ts
+ItemsTakeNoOther = (kind : ItemKind) (ts : List Tree) → NoneBegins (up_to_end kind nothing 0 false ts).len ts

@@ -30,6 +30,11 @@ since_2018 Edition2018 = true
 since_2018 Edition2021 = true
 since_2018 Edition2024 = true
 
+-- the editions with `gen` as a keyword
+abbrev pub since_2024 : Edition → Bool
+since_2024 Edition2024 = true
+since_2024 _ = false
+
 -- punctuation of ASCII, but no backslash and no backtick
 abbrev pub is_mark : ℕ → Bool
 is_mark b = is_ascii_punctuation b && not (b == 92) && not (b == 96)

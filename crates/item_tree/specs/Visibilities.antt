@@ -1,5 +1,5 @@
 -- The visibility that is written before an item or a field.
-use Rattle.std.specs.Prelude.{◌==◌, ◌+◌, ◌-◌, ℕ, List, Option, Some, None, slice_get, nat_le, nat_lt, if◌then◌else◌}
+use Rattle.std.specs.Prelude.{◌==◌, ◌+◌, ◌-◌, ◌&&◌, ℕ, Bool, true, false, List, Option, Some, None, slice_get, nat_le, nat_lt, if◌then◌else◌}
 use Rattle.item_tree.specs.declared.items.Range.{Range}
 use Rattle.item_tree.specs.declared.lexer.lexeme.Delimiter.TheVariants.{Parenthesis}
 use Rattle.item_tree.specs.declared.lexer.lexeme.Lexeme.{Lexeme}
@@ -31,9 +31,20 @@ restricted (Word word.In) next path = raw.In path
 restricted _ next path = raw.Error
 
 -- a visibility is `pub`, or that and parentheses; the path stands behind `pub`, `(` and `in`, and before `)`
-abbrev pub raw_visibility : List Lexeme → Range → RawVisibility
-raw_visibility ls r =
+abbrev pub visibility_in : List Lexeme → Range → RawVisibility
+visibility_in ls r =
     if nat_le r.behind r.first then raw.Inherited
     else if r.behind - r.first == 1 then raw.Public
     else if nat_lt (r.behind - r.first) 4 then raw.Error
     else restricted (lexeme_at ls (r.first + 2)) (lexeme_at ls (r.first + 3)) (record { first = r.first + 3; behind = r.behind - 1 })
+
+abbrev pub is_unsafe : LexemeKind → Bool
+is_unsafe (Word word.Unsafe) = true
+is_unsafe _ = false
+
+-- between the visibility and the name of a field there may be `unsafe`
+abbrev pub before_unsafe : List Lexeme → Range → Range
+before_unsafe ls r = if nat_lt r.first r.behind && is_unsafe (lexeme_at ls (r.behind - 1)) then record { first = r.first; behind = r.behind - 1 } else r
+
+abbrev pub raw_visibility : List Lexeme → Range → RawVisibility
+raw_visibility ls r = visibility_in ls (before_unsafe ls r)

@@ -2,17 +2,19 @@
 use Rattle.std.specs.Prelude.{◌&&◌, ℕ, List, codes, if◌then◌else◌}
 use Rattle.std.specs.Str.{bytes_eq}
 use Rattle.dm_base.specs.declared.edition.Edition.{Edition}
-use Rattle.item_tree.specs.Openings.{since_2018}
+use Rattle.item_tree.specs.Openings.{since_2018, since_2024}
 use Rattle.item_tree.specs.declared.lexer.word.Word.{Word}
 use Rattle.item_tree.specs.declared.lexer.word.Word.TheVariants as word
 
--- the names of attributes of macros
+-- the names of attributes that macros are, or make macros of functions
 unfoldable pub builtin_word : List ℕ → Word
 builtin_word text =
     if bytes_eq text (codes "proc_macro") then word.ProcMacro
     else if bytes_eq text (codes "proc_macro_derive") then word.ProcMacroDerive
     else if bytes_eq text (codes "proc_macro_attribute") then word.ProcMacroAttribute
     else if bytes_eq text (codes "rustc_builtin_macro") then word.RustcBuiltinMacro
+    else if bytes_eq text (codes "test") then word.Test
+    else if bytes_eq text (codes "bench") then word.Bench
     else word.Other
 
 -- the names of attributes
@@ -29,6 +31,7 @@ attribute_word text =
     else if bytes_eq text (codes "recursion_limit") then word.RecursionLimit
     else if bytes_eq text (codes "feature") then word.Feature
     else if bytes_eq text (codes "rustc_coherence_is_core") then word.RustcCoherenceIsCore
+    else if bytes_eq text (codes "non_exhaustive") then word.NonExhaustive
     else builtin_word text
 
 -- those of `cfg`
@@ -42,6 +45,7 @@ predicate_word text =
     else if bytes_eq text (codes "cfg") then word.Cfg
     else if bytes_eq text (codes "cfg_attr") then word.CfgAttr
     else if bytes_eq text (codes "cfg_if") then word.CfgIf
+    else if bytes_eq text (codes "cfg_select") then word.CfgSelect
     else attribute_word text
 
 -- those of types, patterns and expressions
@@ -56,6 +60,10 @@ type_word text =
     else if bytes_eq text (codes "let") then word.Let
     else if bytes_eq text (codes "if") then word.If
     else if bytes_eq text (codes "else") then word.Else
+    else if bytes_eq text (codes "match") then word.Match
+    else if bytes_eq text (codes "while") then word.While
+    else if bytes_eq text (codes "return") then word.Return
+    else if bytes_eq text (codes "break") then word.Break
     else predicate_word text
 
 -- those that stand before them
@@ -63,9 +71,11 @@ unfoldable pub qualifier_word : Edition → List ℕ → Word
 qualifier_word edition text =
     if bytes_eq text (codes "unsafe") then word.Unsafe
     else if since_2018 edition && bytes_eq text (codes "async") then word.Async
+    else if since_2024 edition && bytes_eq text (codes "gen") then word.Gen
     else if bytes_eq text (codes "default") then word.Default
     else if bytes_eq text (codes "auto") then word.Auto
     else if bytes_eq text (codes "safe") then word.Safe
+    else if bytes_eq text (codes "final") then word.Final
     else type_word text
 
 -- those of visibilities and paths
@@ -80,7 +90,8 @@ path_word edition text =
     else if bytes_eq text (codes "_") then word.Underscore
     else qualifier_word edition text
 
--- the word that a name is: the words that an item is told by, and the others; `async` is a name in the edition 2015
+-- the word that a name is: the words that an item is told by, and the others; `async` is a name in the edition
+-- 2015, and `gen` before 2024
 unfoldable pub word_of : Edition → List ℕ → Word
 word_of edition text =
     if bytes_eq text (codes "mod") then word.Mod

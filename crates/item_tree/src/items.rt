@@ -19,6 +19,7 @@ pub mod members;
 pub mod openings;
 pub mod paths;
 pub mod use_tree;
+pub(crate) mod values;
 pub mod visibility;
 
 use crate::cfg::cfg_if::{LevelKind, first_in, kind_behind, level_kind};

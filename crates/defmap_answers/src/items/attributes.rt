@@ -35,6 +35,9 @@ fn word_for(kind: AttributeKind, holds: bool) -> &'static str {
         AttributeKind::ProcMacroAttribute => "proc_macro_attribute",
         AttributeKind::RustcBuiltinMacro => "rustc_builtin_macro",
         AttributeKind::RustcBuiltinMacroOf(_) => "rustc_builtin_macro of",
+        AttributeKind::NonExhaustive => "non_exhaustive",
+        AttributeKind::Test => "test",
+        AttributeKind::Bench => "bench",
         AttributeKind::Malformed => "malformed",
         AttributeKind::Unknown => "unknown",
     }

@@ -52,6 +52,9 @@ pub enum AttributeKind {
     RustcBuiltinMacro,
     /// With the name and the helpers, as in `ProcMacroDerive`.
     RustcBuiltinMacroOf(Range),
+    NonExhaustive,
+    Test,
+    Bench,
     /// An attribute of those above that has not what it takes.
     Malformed,
     /// Any other attribute.
@@ -156,6 +159,9 @@ fn empty_kind(name: Word) -> AttributeKind
         Word::ProcMacro => AttributeKind::ProcMacro,
         Word::ProcMacroAttribute => AttributeKind::ProcMacroAttribute,
         Word::RustcBuiltinMacro => AttributeKind::RustcBuiltinMacro,
+        Word::NonExhaustive => AttributeKind::NonExhaustive,
+        Word::Test => AttributeKind::Test,
+        Word::Bench => AttributeKind::Bench,
         _ => unfit_kind(name),
     }
 }
@@ -186,7 +192,8 @@ fn list_kind(name: Word, list: Range) -> AttributeKind
     }
 }
 
-/// An attribute that has not what it takes, where it is one that is known.
+/// An attribute that has not what it takes, where it is one that is known. `test` and `bench` with anything behind are
+/// those of some crate.
 fn unfit_kind(name: Word) -> AttributeKind
     ensures { result ≡ spec.unfit_kind name }
 {
@@ -197,7 +204,7 @@ fn unfit_kind(name: Word) -> AttributeKind
         Word::RecursionLimit | Word::Feature => AttributeKind::Malformed,
         Word::RustcCoherenceIsCore | Word::ProcMacro => AttributeKind::Malformed,
         Word::ProcMacroDerive | Word::ProcMacroAttribute => AttributeKind::Malformed,
-        Word::RustcBuiltinMacro => AttributeKind::Malformed,
+        Word::RustcBuiltinMacro | Word::NonExhaustive => AttributeKind::Malformed,
         _ => AttributeKind::Unknown,
     }
 }

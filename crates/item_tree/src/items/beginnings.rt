@@ -2,7 +2,7 @@
 ghost use Rattle.std.specs.Prelude.{◌≡◌};
 ghost use Rattle.item_tree.specs.Beginnings as spec;
 
-use crate::items::head::{is_bracket, is_mark, kind_at};
+use crate::items::head::{is_bracket, is_const, is_mark, kind_at};
 use crate::items::item_kind::{ItemKind, PathPart, is_mutable, is_name, takes};
 use crate::lexer::lexeme::LexemeKind;
 use crate::lexer::trees::Tree;
@@ -21,9 +21,8 @@ fn word_begins(word: Word, behind: &[Tree]) -> bool
     let next = kind_at(behind, 0);
     match word {
         Word::Pub => true,
-        Word::Mod | Word::Struct | Word::Enum | Word::Fn | Word::Trait | Word::Type => {
-            is_name(next)
-        }
+        Word::Mod | Word::Struct | Word::Enum | Word::Fn | Word::Trait => is_name(next),
+        Word::Type => is_name(next) || (is_const(next) && is_constant_name(kind_at(behind, 1))),
         Word::Use => takes(PathPart::Start, next),
         Word::Static => is_name(next) || (is_mutable(next) && is_name(kind_at(behind, 1))),
         Word::Extern => is_crate(next),
@@ -66,12 +65,34 @@ fn impl_ends(kind: ItemKind) -> bool
     )
 }
 
+/// Whether a tree is a mark behind which an operand of a value begins.
+fn is_operator(kind: LexemeKind) -> bool
+    ensures { result ≡ spec.is_operator kind }
+{
+    match kind {
+        LexemeKind::Mark(mark) => mark != b'>' && mark != b'?',
+        _ => false,
+    }
+}
+
+/// Whether an attribute behind a tree is that of a parameter or an operand, and of no other item.
+fn takes_attribute(item: ItemKind, before: LexemeKind) -> bool
+    ensures { result ≡ spec.takes_attribute item before }
+{
+    match item {
+        ItemKind::Const | ItemKind::Static => is_operator(before),
+        _ => is_mark(b',', before) || matches!(before, LexemeKind::Word(Word::Where)),
+    }
+}
+
 /// Whether a tree begins an item outside of angle brackets.
 fn begins_outside(item: ItemKind, before: LexemeKind, kind: LexemeKind, behind: &[Tree]) -> bool
     ensures { result ≡ spec.begins_outside item before kind behind.now }
 {
     match kind {
-        LexemeKind::Mark(mark) => mark == b'#' && is_bracket(kind_at(behind, 0)),
+        LexemeKind::Mark(mark) => {
+            mark == b'#' && is_bracket(kind_at(behind, 0)) && !takes_attribute(item, before)
+        }
         LexemeKind::Word(Word::Const) => const_begins(before, behind),
         LexemeKind::Word(Word::Impl) => impl_ends(item),
         _ => false,

@@ -56,6 +56,12 @@ fn is_trait(kind: LexemeKind) -> bool
     matches!(kind, LexemeKind::Word(Word::Trait))
 }
 
+pub(crate) fn is_const(kind: LexemeKind) -> bool
+    ensures { result ≡ spec.is_const kind }
+{
+    matches!(kind, LexemeKind::Word(Word::Const))
+}
+
 fn is_extern(kind: LexemeKind) -> bool
     ensures { result ≡ spec.is_extern kind }
 {
@@ -68,7 +74,7 @@ pub(crate) fn is_string(kind: LexemeKind) -> bool
     matches!(kind, LexemeKind::Str)
 }
 
-/// Whether a word goes on what `default` or `safe` begin.
+/// Whether a word goes on what `default`, `final` or `safe` begin.
 fn goes_on_item(kind: LexemeKind) -> bool
     ensures { result ≡ spec.goes_on_item kind }
 {
@@ -82,6 +88,7 @@ fn goes_on_item(kind: LexemeKind) -> bool
                 | Word::Impl
                 | Word::Trait
                 | Word::Async
+                | Word::Gen
                 | Word::Unsafe
                 | Word::Extern
         ),
@@ -89,15 +96,17 @@ fn goes_on_item(kind: LexemeKind) -> bool
     }
 }
 
-/// Whether a word goes on what `const` begins where that is no constant.
-fn goes_on_const(kind: LexemeKind) -> bool
-    ensures { result ≡ spec.goes_on_const kind }
+/// Whether what stands behind `const` goes on an item that is no constant.
+fn goes_on_const(behind: &[Tree]) -> bool
+    ensures { result ≡ spec.goes_on_const behind.now }
 {
-    match kind {
-        LexemeKind::Word(word) => matches!(
-            word,
-            Word::Fn | Word::Async | Word::Unsafe | Word::Extern | Word::Trait | Word::Impl
-        ),
+    match kind_at(behind, 0) {
+        LexemeKind::Word(word) => match word {
+            Word::Fn | Word::Async | Word::Gen | Word::Unsafe | Word::Extern => true,
+            Word::Trait | Word::Impl => true,
+            Word::Auto => is_trait(kind_at(behind, 1)),
+            _ => false,
+        },
         _ => false,
     }
 }
@@ -107,10 +116,10 @@ fn qualifies(word: Word, behind: &[Tree]) -> bool
     ensures { result ≡ spec.qualifies word behind.now }
 {
     match word {
-        Word::Unsafe | Word::Async => true,
-        Word::Default | Word::Safe => goes_on_item(kind_at(behind, 0)),
+        Word::Unsafe | Word::Async | Word::Gen => true,
+        Word::Default | Word::Final | Word::Safe => goes_on_item(kind_at(behind, 0)),
         Word::Auto => is_trait(kind_at(behind, 0)),
-        Word::Const => goes_on_const(kind_at(behind, 0)),
+        Word::Const => goes_on_const(behind),
         Word::Extern => {
             is_function(kind_at(behind, 0))
                 || (is_string(kind_at(behind, 0)) && is_function(kind_at(behind, 1)))

@@ -22,7 +22,7 @@ fn begins_type(before: LexemeKind) -> bool
     }
 }
 
-fn is_for(kind: LexemeKind) -> bool
+pub(crate) fn is_for(kind: LexemeKind) -> bool
     ensures { result ≡ spec.is_for kind }
 {
     matches!(kind, LexemeKind::Word(Word::For))

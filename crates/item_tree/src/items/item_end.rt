@@ -1,12 +1,12 @@
 //! Where items end.
-ghost use Rattle.std.specs.Prelude.{◌≡◌, ◌+◌, ◌<◌, ◌≤◌, ◌^◌, length, if◌then◌else◌};
+ghost use Rattle.std.specs.Prelude.{◌≡◌, ◌+◌, ◌<◌, ◌≤◌, ◌^◌, false, length, if◌then◌else◌};
 ghost use Rattle.item_tree.specs.ItemEnds as spec;
 ghost use Rattle.item_tree.specs.Heads.{nothing};
 
 use crate::items::beginnings::begins_another;
 use crate::items::expected::Expected;
 use crate::items::head::{is_brace, is_mark, is_qualifier, kind_at};
-use crate::items::item_kind::{ItemKind, behind, is_group, path_len};
+use crate::items::item_kind::{ItemKind, behind, is_group, is_segment, path_len};
 use crate::items::item_name::words_len;
 use crate::lexer::lexeme::LexemeKind;
 use crate::lexer::trees::Tree;
@@ -40,11 +40,18 @@ fn may_have_body(kind: ItemKind) -> bool
     )
 }
 
-/// Whether a tree ends an item: a body stands outside of angle brackets.
-fn ends_item(item: ItemKind, depth: usize, kind: LexemeKind) -> bool
-    ensures { result ≡ spec.ends_item item depth kind }
+/// Whether a tree ends an item: a body stands outside of angle brackets, and is not the group of a macro.
+fn ends_item(item: ItemKind, depth: usize, calls: bool, kind: LexemeKind) -> bool
+    ensures { result ≡ spec.ends_item item depth calls kind }
 {
-    is_semicolon(kind) || (is_brace(kind) && depth == 0 && may_have_body(item))
+    is_semicolon(kind) || (is_brace(kind) && depth == 0 && !calls && may_have_body(item))
+}
+
+/// Whether a tree is the `!` of a macro, which has the macro's path before it. That of the never type has not.
+fn calls_macro(before: LexemeKind, kind: LexemeKind) -> bool
+    ensures { result ≡ spec.calls_macro before kind }
+{
+    is_mark(b'!', kind) && is_segment(before)
 }
 
 /// How many angle brackets are open behind one more tree. That of an arrow closes none.
@@ -120,10 +127,11 @@ fn own_behind(own: usize, at: usize, qualifies: bool) -> usize
 /// The end of an item, in the trees behind its own words: its semicolon or body, or where another item begins.
 fn up_to_end(item: ItemKind, trees: &[Tree]) -> ItemEnd
     ensures in_range { result.len ≤ length trees.now }
-    ensures exact { result ≡ spec.up_to_end item nothing 0 trees.now }
+    ensures exact { result ≡ spec.up_to_end item nothing 0 false trees.now }
 {
     let mut before = LexemeKind::Error;
     let mut depth: usize = 0;
+    let mut calls = false;
     let mut own: usize = 0;
     let mut at: usize = 0;
     while at < trees.len() {
@@ -131,11 +139,12 @@ fn up_to_end(item: ItemKind, trees: &[Tree]) -> ItemEnd
         if begins_another(item, depth, before, kind, &trees[at + 1..]) {
             return lacking(own, awaited(item));
         }
-        if ends_item(item, depth, kind) {
+        if ends_item(item, depth, calls, kind) {
             return complete(at + 1);
         }
         own = own_behind(own, at, is_qualifier(before, kind, &trees[at + 1..]));
         depth = depth_in(item, before, depth, kind);
+        calls = calls_macro(before, kind);
         before = kind;
         at += 1;
     }

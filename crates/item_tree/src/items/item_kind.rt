@@ -3,7 +3,9 @@ ghost use Rattle.std.specs.Prelude.{◌≡◌, ◌≤◌, length, drop};
 ghost use Rattle.item_tree.specs.ItemKinds as spec;
 ghost use Rattle.item_tree.specs.declared.items.item_kind.PathPart.TheVariants as part;
 
-use crate::items::head::{is_brace, is_bracket, is_mark, is_parenthesis, is_string, kind_at};
+use crate::items::head::{
+    is_brace, is_bracket, is_const, is_mark, is_parenthesis, is_string, kind_at,
+};
 use crate::lexer::lexeme::LexemeKind;
 use crate::lexer::trees::Tree;
 use crate::lexer::word::Word;
@@ -99,6 +101,12 @@ fn may_be_name(word: Word) -> bool
         | Word::Let
         | Word::If
         | Word::Else
+        | Word::Match
+        | Word::While
+        | Word::Return
+        | Word::Break
+        | Word::Gen
+        | Word::Final
         | Word::Underscore
         | Word::True
         | Word::False => false,
@@ -116,7 +124,7 @@ pub(crate) fn is_name(kind: LexemeKind) -> bool
 }
 
 /// Whether a tree may be a segment of a path.
-fn is_segment(kind: LexemeKind) -> bool
+pub(crate) fn is_segment(kind: LexemeKind) -> bool
     ensures { result ≡ spec.is_segment kind }
 {
     match kind {
@@ -261,6 +269,23 @@ fn const_kind(name: LexemeKind) -> ItemKind
     }
 }
 
+/// `type` begins an alias, or a constant where `const` follows.
+fn type_kind(trees: &[Tree]) -> ItemKind
+    ensures { result ≡ spec.type_kind trees.now }
+{
+    if is_const(kind_at(trees, 1)) {
+        const_kind(kind_at(trees, 2))
+    } else {
+        named(ItemKind::TypeAlias, kind_at(trees, 1))
+    }
+}
+
+pub(crate) fn is_type(kind: LexemeKind) -> bool
+    ensures { result ≡ spec.is_type kind }
+{
+    matches!(kind, LexemeKind::Word(Word::Type))
+}
+
 pub(crate) fn is_mutable(kind: LexemeKind) -> bool
     ensures { result ≡ spec.is_mutable kind }
 {
@@ -316,7 +341,7 @@ pub(crate) fn item_kind(trees: &[Tree]) -> ItemKind
             Word::Fn => named(ItemKind::Function, next),
             Word::Const => const_kind(next),
             Word::Static => static_kind(trees),
-            Word::Type => named(ItemKind::TypeAlias, next),
+            Word::Type => type_kind(trees),
             Word::Trait => named(ItemKind::Trait, next),
             Word::Impl => ItemKind::Impl,
             Word::Extern => extern_kind(trees),

@@ -3,7 +3,7 @@ ghost use Rattle.std.specs.Prelude.{◌≡◌, ◌≤◌, IfSome};
 ghost use Rattle.item_tree.specs.ItemNames as spec;
 
 use crate::items::head::kind_at;
-use crate::items::item_kind::{ItemKind, is_mutable};
+use crate::items::item_kind::{ItemKind, is_mutable, is_type};
 use crate::lexer::trees::Tree;
 
 /// Where the name of an item stands, from its own word on.
@@ -15,6 +15,13 @@ pub(crate) fn name_place(kind: ItemKind, trees: &[Tree]) -> Option<usize>
         ItemKind::MacroRules | ItemKind::ExternCrate => Some(2),
         ItemKind::Static => {
             if is_mutable(kind_at(trees, 1)) {
+                Some(2)
+            } else {
+                Some(1)
+            }
+        }
+        ItemKind::Const => {
+            if is_type(kind_at(trees, 0)) {
                 Some(2)
             } else {
                 Some(1)

@@ -21,6 +21,32 @@ pub fn difficult_items()
     ensures attributes_alone { rows.attributes_alone ≡ rows.parts item.Error 2 2 2 None 2 }
 {}
 
+/// Items with braces that are no body, attributes within, and qualifiers that are new.
+pub fn items_with_more_within()
+    ensures for_a_macro { rows.for_a_macro ≡ rows.parts item.Impl 0 0 0 None 7 }
+    ensures macros_in_header { rows.macros_in_header ≡ rows.parts item.Function 0 0 0 (Some 1) 15 }
+    ensures never_returns { rows.never_returns ≡ rows.parts item.Function 0 0 0 (Some 1) 7 }
+    ensures for_never { rows.for_never ≡ rows.parts item.Impl 0 0 0 None 5 }
+    ensures where_attributes { rows.where_attributes ≡ rows.parts item.Struct 0 0 0 (Some 1) 15 }
+    ensures value_attributes { rows.value_attributes ≡ rows.parts item.Const 0 0 0 (Some 1) 13 }
+    ensures cut_where { rows.cut_where ≡ rows.cut item.Struct (Some 1) 6 expected.Body }
+    ensures type_const { rows.type_const ≡ rows.parts item.Const 0 0 0 (Some 2) 8 }
+    ensures all_qualifiers { rows.all_qualifiers ≡ rows.parts item.Function 0 0 5 (Some 6) 9 }
+    ensures const_auto_trait { rows.const_auto_trait ≡ rows.parts item.Trait 0 0 2 (Some 3) 5 }
+    ensures const_auto { rows.const_auto ≡ rows.parts item.Const 0 0 0 (Some 1) 5 }
+{}
+
+/// Where members end, whose values have commas and angle brackets.
+pub fn difficult_members()
+    ensures arguments { rows.arguments ≡ 11 }
+    ensures qualified_path { rows.qualified_path ≡ 15 }
+    ensures cast { rows.cast ≡ 15 }
+    ensures comparison { rows.comparison ≡ 5 }
+    ensures shift { rows.shift ≡ 6 }
+    ensures closure { rows.closure ≡ 22 }
+    ensures unsafe_field { rows.unsafe_field ≡ 2 }
+{}
+
 /// Implementations with a `for` that stands between a trait and its type, or begins a type.
 pub fn difficult_implementations()
     ensures for_a_function { rows.for_a_function ≡ true }

@@ -1,12 +1,12 @@
 //! The fields of structs, unions and variants, and the variants of enums.
-ghost use Rattle.std.specs.Prelude.{◌≡◌, ◌+◌, ◌<◌, ◌≤◌, ◌^◌, ◌++◌, IfOk, OnOk, length};
+ghost use Rattle.std.specs.Prelude.{◌≡◌, ◌+◌, ◌<◌, ◌≤◌, ◌^◌, IfOk, length};
 ghost use Rattle.item_tree.specs.Members as spec;
 ghost use Rattle.item_tree.specs.Heads.{nothing};
 
 use crate::items::head::{attributes_len, is_brace, is_mark, is_parenthesis, kind_at};
-use crate::items::item_end::depth_behind;
 use crate::items::item_kind::{behind, is_name};
 use crate::items::item_parts::bounded;
+use crate::items::values::{MemberPart, Nesting, is_joint, nested};
 use crate::items::visibility::lexeme_at;
 use crate::items::{Range, place_at};
 use crate::lexer::lexeme::{Delimiter, Lexeme, LexemeKind};
@@ -148,19 +148,17 @@ fn visibility_len(lexemes: &[Lexeme], trees: &[Tree]) -> usize
     }
 }
 
-/// How many angle brackets are open behind one more tree: in a variant's value those are none.
-fn depth_in(kind: MemberKind, before: LexemeKind, depth: usize, tree: LexemeKind) -> usize
-    requires { depth < 2 ^ 63 }
-    ensures small { result ≤ depth + 1 }
-    ensures exact { result ≡ spec.depth_in kind before depth tree }
+/// Whether a field has `unsafe` before its name.
+fn is_unsafe(kind: MemberKind, tree: LexemeKind) -> bool
+    ensures { result ≡ spec.is_unsafe kind tree }
 {
     match kind {
-        MemberKind::Variant => depth,
-        MemberKind::RecordField | MemberKind::TupleField => depth_behind(before, depth, tree),
+        MemberKind::RecordField => matches!(tree, LexemeKind::Word(Word::Unsafe)),
+        MemberKind::Variant | MemberKind::TupleField => false,
     }
 }
 
-/// Whether a tree is a comma outside of angle brackets.
+/// Whether a tree is a comma outside of angle brackets and bars.
 fn ends_member(depth: usize, tree: LexemeKind) -> bool
     ensures { result ≡ spec.ends_member depth tree }
 {
@@ -168,16 +166,20 @@ fn ends_member(depth: usize, tree: LexemeKind) -> bool
 }
 
 /// How many trees stand before the comma that ends a member.
-fn before_comma(kind: MemberKind, trees: &[Tree]) -> usize
+fn before_comma(lexemes: &[Lexeme], trees: &[Tree]) -> usize
     ensures in_range { result ≤ length trees.now }
-    ensures exact { result ≡ spec.before_comma kind nothing 0 trees.now }
+    ensures exact { result ≡ spec.before_comma lexemes.now spec.start nothing trees.now }
 {
+    let mut nesting = Nesting {
+        part: MemberPart::Declared,
+        depth: 0,
+    };
     let mut before = LexemeKind::Error;
-    let mut depth: usize = 0;
     let mut at: usize = 0;
-    while at < trees.len() && !ends_member(depth, trees[at].kind) {
-        depth = depth_in(kind, before, depth, trees[at].kind);
-        before = trees[at].kind;
+    while at < trees.len() && !ends_member(nesting.depth, trees[at].kind) {
+        let tree = trees[at];
+        nesting = nested(nesting, before, is_joint(lexemes, tree.first), tree.kind);
+        before = tree.kind;
         at += 1;
     }
     at
@@ -217,14 +219,15 @@ fn first_member(kind: MemberKind, lexemes: &[Lexeme], trees: &[Tree]) -> MemberP
     ensures exact { result ≡ spec.first_member kind lexemes.now trees.now }
     ensures some { 0 < result.len }
     ensures within { result.len ≤ length trees.now }
-    ensures low { result.name ≤ length trees.now + 2 }
+    ensures low { result.name ≤ length trees.now + 3 }
 {
     let attributes = attributes_len(trees);
-    let name = attributes + visibility_len(lexemes, behind(trees, attributes));
+    let shown = attributes + visibility_len(lexemes, behind(trees, attributes));
+    let is_unsafe = is_unsafe(kind, kind_at(trees, shown));
     MemberParts {
         attributes,
-        name,
-        len: bounded(before_comma(kind, trees) + 1, trees.len()),
+        name: if is_unsafe { shown + 1 } else { shown },
+        len: bounded(before_comma(lexemes, trees) + 1, trees.len()),
     }
 }
 

@@ -87,6 +87,13 @@ pub(crate) fn since_2018(edition: Edition) -> bool
     }
 }
 
+/// Whether `gen` is a keyword of the edition.
+pub(crate) fn since_2024(edition: Edition) -> bool
+    ensures { result ≡ spec.since_2024 edition }
+{
+    matches!(edition, Edition::Edition2024)
+}
+
 /// Whether the text begins with a byte order mark.
 pub(crate) fn begins_order_mark(text: &[u8]) -> bool
     ensures { result ≡ spec.begins_order_mark text.now }

@@ -58,9 +58,34 @@ fn restricted(first: LexemeKind, next: LexemeKind, path: Range) -> RawVisibility
     }
 }
 
-/// The visibility that the lexemes of a range are: none, `pub`, or that and parentheses.
+/// The lexemes of a range without the `unsafe` of a field, which stands before its name.
+fn before_unsafe(lexemes: &[Lexeme], range: Range) -> Range
+    ensures { result ≡ spec.before_unsafe lexemes.now range }
+{
+    if range.first < range.behind
+        && matches!(
+            lexeme_at(lexemes, range.behind - 1),
+            LexemeKind::Word(Word::Unsafe)
+        )
+    {
+        Range {
+            first: range.first,
+            behind: range.behind - 1,
+        }
+    } else {
+        range
+    }
+}
+
+/// The visibility that the lexemes of a range are: none, `pub`, or that and parentheses. An `unsafe` may stand behind it.
 pub fn raw_visibility(lexemes: &[Lexeme], range: Range) -> RawVisibility
     ensures { result ≡ spec.raw_visibility lexemes.now range }
+{
+    visibility_in(lexemes, before_unsafe(lexemes, range))
+}
+
+fn visibility_in(lexemes: &[Lexeme], range: Range) -> RawVisibility
+    ensures { result ≡ spec.visibility_in lexemes.now range }
 {
     if range.behind <= range.first {
         RawVisibility::Inherited

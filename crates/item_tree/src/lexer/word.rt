@@ -2,7 +2,7 @@
 ghost use Rattle.std.specs.Prelude.{◌≡◌, codes};
 ghost use Rattle.item_tree.specs.Words as spec;
 
-use crate::items::openings::since_2018;
+use crate::items::openings::{since_2018, since_2024};
 use dm_base::edition::Edition;
 
 /// A word of the grammar of items, or of the attributes that matter to names. Whether it is one is told by the place
@@ -35,9 +35,12 @@ pub enum Word {
     Unsafe,
     /// `async`, a name in the edition 2015.
     Async,
+    /// `gen`, a name before the edition 2024.
+    Gen,
     Default,
     Auto,
     Safe,
+    Final,
     For,
     Where,
     Dyn,
@@ -47,6 +50,10 @@ pub enum Word {
     Let,
     If,
     Else,
+    Match,
+    While,
+    Return,
+    Break,
     /// `_`
     Underscore,
     True,
@@ -57,6 +64,7 @@ pub enum Word {
     Cfg,
     CfgAttr,
     CfgIf,
+    CfgSelect,
     Path,
     MacroUse,
     MacroExport,
@@ -72,11 +80,14 @@ pub enum Word {
     ProcMacroDerive,
     ProcMacroAttribute,
     RustcBuiltinMacro,
+    NonExhaustive,
+    Test,
+    Bench,
     /// Any other identifier, and each raw one.
     Other,
 }
 
-/// The names of attributes of macros.
+/// The names of attributes that macros are, or make macros of functions.
 #[tactic(auto, unfolding(crate::specs::Words::builtin_word))]
 fn builtin_word(text: &[u8]) -> Word
     ensures { result ≡ spec.builtin_word text.now }
@@ -89,6 +100,10 @@ fn builtin_word(text: &[u8]) -> Word
         Word::ProcMacroAttribute
     } else if text == b"rustc_builtin_macro".as_slice() {
         Word::RustcBuiltinMacro
+    } else if text == b"test".as_slice() {
+        Word::Test
+    } else if text == b"bench".as_slice() {
+        Word::Bench
     } else {
         Word::Other
     }
@@ -121,6 +136,8 @@ fn attribute_word(text: &[u8]) -> Word
         Word::Feature
     } else if text == b"rustc_coherence_is_core".as_slice() {
         Word::RustcCoherenceIsCore
+    } else if text == b"non_exhaustive".as_slice() {
+        Word::NonExhaustive
     } else {
         builtin_word(text)
     }
@@ -147,6 +164,8 @@ fn predicate_word(text: &[u8]) -> Word
         Word::CfgAttr
     } else if text == b"cfg_if".as_slice() {
         Word::CfgIf
+    } else if text == b"cfg_select".as_slice() {
+        Word::CfgSelect
     } else {
         attribute_word(text)
     }
@@ -175,6 +194,14 @@ fn type_word(text: &[u8]) -> Word
         Word::If
     } else if text == b"else".as_slice() {
         Word::Else
+    } else if text == b"match".as_slice() {
+        Word::Match
+    } else if text == b"while".as_slice() {
+        Word::While
+    } else if text == b"return".as_slice() {
+        Word::Return
+    } else if text == b"break".as_slice() {
+        Word::Break
     } else {
         predicate_word(text)
     }
@@ -189,12 +216,16 @@ fn qualifier_word(text: &[u8], edition: Edition) -> Word
         Word::Unsafe
     } else if since_2018(edition) && text == b"async".as_slice() {
         Word::Async
+    } else if since_2024(edition) && text == b"gen".as_slice() {
+        Word::Gen
     } else if text == b"default".as_slice() {
         Word::Default
     } else if text == b"auto".as_slice() {
         Word::Auto
     } else if text == b"safe".as_slice() {
         Word::Safe
+    } else if text == b"final".as_slice() {
+        Word::Final
     } else {
         type_word(text)
     }

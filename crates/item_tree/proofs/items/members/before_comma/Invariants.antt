@@ -1,13 +1,13 @@
 use Rattle.std.proofs.Common.{◌≡◌, ◌+◌, ◌-◌, ◌≤◌, length, drop}
 use Rattle.item_tree.specs.Heads.{nothing}
-use Rattle.item_tree.specs.Members.{before_comma}
+use Rattle.item_tree.specs.Members.{before_comma, start}
 use Rattle.item_tree.proofs.items.members.before_comma.Given as goal
 
 abbrev pub invariant-loop-at : goal.invariant-loop-at
 invariant-loop-at l = record {
   in_range : l.at ≤ length l.trees;
-  small : l.depth ≤ l.at;
-  counted : l.at + before_comma l.kind l.before l.depth (drop l.at l.trees) ≡ before_comma l.kind nothing 0 l.trees;
+  small : l.nesting.depth ≤ l.at;
+  counted : l.at + before_comma l.lexemes l.nesting l.before (drop l.at l.trees) ≡ before_comma l.lexemes start nothing l.trees;
 }
 
 abbrev pub decreases-loop-at : goal.decreases-loop-at
