@@ -25,3 +25,4 @@ pub mod UseHeads
 pub mod UseWritten
 pub mod UseLaw
 pub mod ImportPaths
+mod StringValues

@@ -1,6 +1,7 @@
 -- Predicates and attributes that are easy to read wrongly, and how they are read.
 use Rattle.std.specs.Prelude.{◌≡◌, ℕ, Bool, true, false, List, [], ◌∷◌, Option, Some, None, Ok, Err, codes}
 use Rattle.item_tree.specs.Spans.{bare, contents}
+use Rattle.item_tree.specs.Strings.{value_from}
 use Rattle.item_tree.specs.Cfg.{value_of}
 use Rattle.item_tree.specs.CfgReading as predicate
 use Rattle.item_tree.specs.AttributeReading as attribute
@@ -100,3 +101,30 @@ abbrev pub two_items : Type 0
 two_items =
     items_of (name 0 ∷ byte (Mark 44) 1 ∷ byte (Open Parenthesis) 2 ∷ name 3 ∷ byte (Mark 44) 4 ∷ name 5 ∷ byte (Close Parenthesis) 6 ∷ byte (Mark 44) 7 ∷ []) (record { first = 0; behind = 8 })
     ≡ record { first = 0; behind = 1 } ∷ record { first = 2; behind = 7 } ∷ []
+
+-- `a\x62\u{6_3}\n`, `\u{20AC}` and `\'\0\\`, in a string
+abbrev pub escapes : Type 0
+escapes = value_from false 0 (97 ∷ 92 ∷ 120 ∷ 54 ∷ 50 ∷ 92 ∷ 117 ∷ 123 ∷ 54 ∷ 95 ∷ 51 ∷ 125 ∷ 92 ∷ 110 ∷ []) ≡ 97 ∷ 98 ∷ 99 ∷ 10 ∷ []
+
+abbrev pub character : Type 0
+character = value_from false 0 (92 ∷ 117 ∷ 123 ∷ 50 ∷ 48 ∷ 65 ∷ 67 ∷ 125 ∷ []) ≡ 226 ∷ 130 ∷ 172 ∷ []
+
+abbrev pub simple_escapes : Type 0
+simple_escapes = value_from false 0 (92 ∷ 39 ∷ 92 ∷ 48 ∷ 92 ∷ 92 ∷ []) ≡ 39 ∷ 0 ∷ 92 ∷ []
+
+-- a line end behind a backslash, with blanks and line ends behind it; and one without a backslash
+abbrev pub line_ends : Type 0
+line_ends = value_from false 0 (97 ∷ 92 ∷ 13 ∷ 10 ∷ 32 ∷ 9 ∷ 10 ∷ 98 ∷ 13 ∷ 10 ∷ 32 ∷ []) ≡ 97 ∷ 98 ∷ 10 ∷ 32 ∷ []
+
+-- `\x62` in a raw string, and `\x80`, `\u{D800}` and `\q`, which are no escapes
+abbrev pub raw_escape : Type 0
+raw_escape = value_from true 0 (92 ∷ 120 ∷ 54 ∷ 50 ∷ []) ≡ 92 ∷ 120 ∷ 54 ∷ 50 ∷ []
+
+abbrev pub great_byte : Type 0
+great_byte = value_from false 0 (92 ∷ 120 ∷ 56 ∷ 48 ∷ []) ≡ 92 ∷ 120 ∷ 56 ∷ 48 ∷ []
+
+abbrev pub surrogate : Type 0
+surrogate = value_from false 0 (92 ∷ 117 ∷ 123 ∷ 68 ∷ 56 ∷ 48 ∷ 48 ∷ 125 ∷ []) ≡ 92 ∷ 117 ∷ 123 ∷ 68 ∷ 56 ∷ 48 ∷ 48 ∷ 125 ∷ []
+
+abbrev pub no_escape : Type 0
+no_escape = value_from false 0 (92 ∷ 113 ∷ []) ≡ 92 ∷ 113 ∷ []

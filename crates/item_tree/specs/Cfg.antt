@@ -2,7 +2,8 @@
 use Rattle.std.specs.Prelude.{◌+◌, ◌&&◌, ℕ, Bool, true, false, not, List, [], ◌∷◌, ◌++◌, Option, Some, None, nat_le, option_map, if◌then◌else◌}
 use Rattle.std.specs.List.{list_any}
 use Rattle.std.specs.Str.{bytes_eq}
-use Rattle.item_tree.specs.Spans.{name_text, string_text}
+use Rattle.item_tree.specs.Spans.{name_text}
+use Rattle.item_tree.specs.Strings.{string_value}
 use Rattle.item_tree.specs.declared.lexer.span.Span.{Span}
 use Rattle.item_tree.specs.declared.cfg.CfgNode.{CfgNode}
 use Rattle.item_tree.specs.declared.cfg.CfgNode.TheVariants as node
@@ -33,7 +34,7 @@ is_flag name (atom.KeyValue key value) = false
 -- an option that is this name with this value
 abbrev pub is_key_value : List ℕ → List ℕ → CfgAtom → Bool
 is_key_value name value (atom.Flag flag) = false
-is_key_value name value (atom.KeyValue k v) = bytes_eq k name && bytes_eq v value
+is_key_value name value (atom.KeyValue k v) = bytes_eq k name && bytes_eq value v
 
 abbrev pub has_flag : List CfgAtom → List ℕ → Bool
 has_flag options name = list_any (is_flag name) options
@@ -56,7 +57,7 @@ abbrev mutual
   fold options text True = Some true
   fold options text False = Some false
   fold options text (Flag s) = Some (has_flag options (name_text text s))
-  fold options text (KeyValue k v) = Some (has_key_value options (name_text text k) (string_text text v))
+  fold options text (KeyValue k v) = Some (has_key_value options (name_text text k) (string_value text v))
   fold options text (Not e) = option_map not (fold options text e)
   fold options text (All es) = all_of options text es
   fold options text (Any es) = any_of options text es
@@ -106,7 +107,7 @@ value_behind options text v node.Invalid = None
 value_behind options text v node.True = Some true
 value_behind options text v node.False = Some false
 value_behind options text v (node.Flag s) = Some (has_flag options (name_text text s))
-value_behind options text v (node.KeyValue key value) = Some (has_key_value options (name_text text key) (string_text text value))
+value_behind options text v (node.KeyValue key value) = Some (has_key_value options (name_text text key) (string_value text value))
 value_behind options text v (node.Not d) = option_map not v
 value_behind options text v (node.All d) = v
 value_behind options text v (node.Any d) = v

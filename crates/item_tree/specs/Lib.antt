@@ -37,6 +37,7 @@ pub mod ItemRows
 pub mod Paths
 pub mod Lists
 pub mod Spans
+pub mod Strings
 pub mod Cfg
 pub mod CfgReading
 pub mod CfgGrammar

@@ -2,12 +2,14 @@
 ghost use Rattle.std.specs.Prelude.{◌≡◌, ◌++◌, ◌∷◌, ℕ, [], OnOk, OnErr, None, option_map, not};
 ghost use Rattle.item_tree.specs.Cfg as spec;
 ghost use Rattle.item_tree.specs.Cfg.{CfgExpr};
+ghost use Rattle.item_tree.specs.Strings.{string_value};
 ghost use Rattle.item_tree.specs.declared.cfg.CfgAtom.TheVariants as atom;
 
 pub mod cfg_if;
 pub mod cfg_parser;
 
-use crate::lexer::span::{Span, name_text, string_text};
+use crate::lexer::span::{Span, name_text};
+use crate::lexer::strings::string_is;
 use dm_base::symbol::Symbol;
 use std::alloc::{AllocError, Global};
 use std::marker::Model;
@@ -92,7 +94,20 @@ impl CfgAtom {
         match self {
             CfgAtom::Flag(_) => false,
             CfgAtom::KeyValue { key, value } => {
-                key.as_str().as_bytes() == name && value.as_str().as_bytes() == wanted
+                key.as_str().as_bytes() == name && wanted == value.as_str().as_bytes()
+            }
+        }
+    }
+
+    /// The same of the value that a string of a text stands for.
+    fn is_key_string(&self, name: &[u8], text: &[u8], string: Span) -> bool
+        ensures { result ≡ spec.is_key_value name.now (string_value text.now string) self.now }
+    {
+        match self {
+            CfgAtom::Flag(_) => false,
+            CfgAtom::KeyValue { key, value } => {
+                key.as_str().as_bytes() == name
+                    && string_is(text, string, value.as_str().as_bytes())
             }
         }
     }
@@ -150,6 +165,15 @@ impl CfgOptions {
             .any(|atom| atom.is_key_value(name, value))
     }
 
+    /// Whether a name is an option with the value that a string of a text stands for, with its escapes.
+    fn has_key_string(&self, name: &[u8], text: &[u8], string: Span) -> bool
+        ensures { result ≡ spec.has_key_value self.now name.now (string_value text.now string) }
+    {
+        self.enabled
+            .iter()
+            .any(|atom| atom.is_key_string(name, text, string))
+    }
+
     fn value_behind(&self, text: &[u8], value: Option<bool>, node: CfgNode) -> Option<bool>
         ensures { result ≡ spec.value_behind self.now text.now value node }
     {
@@ -159,7 +183,7 @@ impl CfgOptions {
             CfgNode::False => Some(false),
             CfgNode::Flag(name) => Some(self.has_flag(name_text(text, name))),
             CfgNode::KeyValue { key, value } => {
-                Some(self.has_key_value(name_text(text, key), string_text(text, value)))
+                Some(self.has_key_string(name_text(text, key), text, value))
             }
             CfgNode::Not(_) => negated(value),
             CfgNode::All(_) | CfgNode::Any(_) => value,

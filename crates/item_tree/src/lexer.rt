@@ -7,6 +7,7 @@ pub mod children;
 pub mod delimiters;
 pub mod lexeme;
 pub mod span;
+pub mod strings;
 pub mod syntax_error;
 pub mod token;
 pub mod trees;

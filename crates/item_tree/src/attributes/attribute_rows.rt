@@ -18,3 +18,15 @@ pub fn predicates_and_attributes()
     ensures seen_through { rows.seen_through }
     ensures two_items { rows.two_items }
 {}
+
+/// Strings with escapes, and what they stand for.
+pub fn strings_with_escapes()
+    ensures escapes { rows.escapes }
+    ensures character { rows.character }
+    ensures simple_escapes { rows.simple_escapes }
+    ensures line_ends { rows.line_ends }
+    ensures raw_escape { rows.raw_escape }
+    ensures great_byte { rows.great_byte }
+    ensures surrogate { rows.surrogate }
+    ensures no_escape { rows.no_escape }
+{}

@@ -39,7 +39,7 @@ pub fn string_text(text: &[u8], span: Span) -> &[u8]
 }
 
 /// How many bytes stand before the first quote.
-fn before_quote(literal: &[u8]) -> usize
+pub(crate) fn before_quote(literal: &[u8]) -> usize
     ensures in_range { result ≤ length literal.now }
     ensures exact { result ≡ spec.before_quote literal.now }
 {
