@@ -16,3 +16,4 @@ pub mod StandingLemmas
 pub mod ItemLemmas
 pub mod NumberLemmas
 pub mod TableLemmas
+pub mod LeadingLemmas

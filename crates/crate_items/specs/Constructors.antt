@@ -25,8 +25,9 @@ use Rattle.item_tree.specs.declared.items.members.MemberKind.TheVariants.{TupleF
 use Rattle.item_tree.specs.declared.items.visibility.RawVisibility.TheVariants.{Inherited}
 
 -- One visibility shows to fewer than another. Both are those of one module, so that the modules which they name stand in
--- each other: the inner one is listed behind the outer. One that leads nowhere is an error, and shows to no fewer.
+-- each other: the inner one is listed behind the outer. One that leads nowhere shows to all.
 abbrev pub shows_fewer : Option DeclaredVisibility → Option DeclaredVisibility → Bool
+shows_fewer (Some (Within inner)) None = true
 shows_fewer (Some (Within inner)) (Some Public) = true
 shows_fewer (Some (Within inner)) (Some (Within outer)) = nat_lt outer inner
 shows_fewer _ _ = false

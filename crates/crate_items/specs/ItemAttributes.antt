@@ -4,6 +4,7 @@ use Rattle.std.specs.List.{flat_map}
 use Rattle.crate_items.specs.declared.items.declared_item.DeclaredItem.{DeclaredItem}
 use Rattle.crate_items.specs.Modules.{Listing}
 use Rattle.crate_items.specs.Sources.{Source, source_at}
+use Rattle.crate_items.specs.Standings.{body_attributes}
 use Rattle.item_tree.specs.Attributes.{is_active}
 use Rattle.item_tree.specs.ItemAttributes.{attributes_in, inner_range, outer_range}
 use Rattle.item_tree.specs.declared.attributes.attribute_kind.AttributeKind.{AttributeKind}
@@ -26,6 +27,15 @@ kinds_of s (Some x) = kinds_in s (outer_range x)
 abbrev pub kinds_from : Option Source → ℕ → List AttributeKind
 kinds_from None n = []
 kinds_from (Some s) n = kinds_of s (slice_get s.items n)
+
+-- those that the body of the item of a number begins with
+abbrev pub body_kinds : Source → ℕ → Option Item → List AttributeKind
+body_kinds s n None = []
+body_kinds s n (Some x) = kinds_in s (body_attributes s.items n x.body)
+
+abbrev pub body_kinds_from : Option Source → ℕ → List AttributeKind
+body_kinds_from None n = []
+body_kinds_from (Some s) n = body_kinds s n (slice_get s.items n)
 
 -- those that stand before an item
 abbrev pub item_attributes : Listing → DeclaredItem → List AttributeKind

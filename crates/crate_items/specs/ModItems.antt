@@ -2,7 +2,7 @@
 use Rattle.std.specs.Prelude.{◌+◌, ◌&&◌, ℕ, Bool, true, false, List, [], ◌∷◌, ◌++◌, Option, Some, None, is_none, option_map, slice_get, if◌then◌else◌}
 use Rattle.std.specs.List.Sorted.{IsPermutation, IsSortedByKey, IsStableByKey}
 use Rattle.std.specs.Ordering.{nat_cmp}
-use Rattle.crate_items.specs.Standings.{View}
+use Rattle.crate_items.specs.Standings.{View, body_attributes}
 use Rattle.crate_items.specs.declared.modules.mod_items.ModItem.{ModItem}
 use Rattle.crate_items.specs.declared.modules.standing.Standing.{Standing}
 use Rattle.item_tree.specs.Attributes.{is_active}
@@ -14,6 +14,7 @@ use Rattle.item_tree.specs.declared.attributes.Attribute.{Attribute}
 use Rattle.item_tree.specs.declared.items.item_kind.ItemKind.{ItemKind}
 use Rattle.item_tree.specs.declared.items.item_kind.ItemKind.TheVariants as item
 use Rattle.item_tree.specs.declared.items.Item.{Item}
+use Rattle.item_tree.specs.declared.items.Range.{Range}
 use Rattle.item_tree.specs.declared.lexer.lexeme.Lexeme.{Lexeme}
 use Rattle.item_tree.specs.declared.lexer.span.Span.{Span}
 
@@ -42,9 +43,14 @@ abbrev pub path_behind : List Bool → Option Span → List Attribute → Option
 path_behind active found [] = found
 path_behind active found (a ∷ rest) = path_behind active (or_else found (path_in active a)) rest
 
--- that of an item
-abbrev pub path_of : View → Item → Option Span
-path_of v x = path_behind v.active None (attributes_in (outer_range x) v.attributes.attributes)
+abbrev pub path_in_range : View → Range → Option Span
+path_in_range v r = path_behind v.active None (attributes_in r v.attributes.attributes)
+
+-- that of the item of a number: the first of those before it, or else of those that its body begins
+-- with
+abbrev pub path_of : View → ℕ → Item → Option Span
+path_of v n x =
+    or_else (path_in_range v (outer_range x)) (path_in_range v (body_attributes v.items n x.body))
 
 abbrev pub is_mod : ItemKind → Bool
 is_mod item.Mod = true
@@ -58,7 +64,7 @@ mod_item lexemes v n x around name =
       home = around;
       name = name;
       visibility = raw_visibility lexemes (record { first = x.visibility; behind = x.qualifiers });
-      path = path_of v x;
+      path = path_of v n x;
       is_outline = is_none x.body;
     }
 

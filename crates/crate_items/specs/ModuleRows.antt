@@ -3,6 +3,7 @@ use Rattle.std.specs.Prelude.{◌≡◌, ◌+◌, ℕ, Bool, true, false, List, 
 use Rattle.crate_items.specs.DeclaredModules.{Module}
 use Rattle.crate_items.specs.Files.{SourceFile, file_at, id_of}
 use Rattle.crate_items.specs.ModDirs as dirs
+use Rattle.crate_items.specs.ModItems.{path_of}
 use Rattle.crate_items.specs.ModuleVisibilities.{Standpoint, shown}
 use Rattle.crate_items.specs.Modules.{faulty, found_as, inline, outline, root_module}
 use Rattle.crate_items.specs.Standings.{standings}
@@ -12,7 +13,7 @@ use Rattle.crate_items.specs.declared.modules.mod_items.ModItem.{ModItem}
 use Rattle.crate_items.specs.declared.modules.module_visibility.DeclaredVisibility.TheVariants as seen
 use Rattle.crate_items.specs.declared.modules.standing.Standing.{Standing}
 use Rattle.dm_base.specs.declared.edition.Edition.TheVariants.{Edition2015, Edition2021}
-use Rattle.item_tree.specs.declared.attributes.attribute_kind.AttributeKind.TheVariants.{Cfg}
+use Rattle.item_tree.specs.declared.attributes.attribute_kind.AttributeKind.TheVariants.{Cfg, Path}
 use Rattle.item_tree.specs.declared.attributes.Attribute.{Attribute}
 use Rattle.item_tree.specs.declared.cfg.CfgNode.TheVariants.{False}
 use Rattle.item_tree.specs.declared.items.item_kind.ItemKind.{ItemKind}
@@ -137,6 +138,8 @@ Arms =
     standings (record {
       options = [];
       text = [];
+      lexemes = [];
+      partners = [];
       attributes = record {
         attributes = cfg_false ∷ [];
         conditions = [];
@@ -184,3 +187,61 @@ Shown =
 
 abbrev pub ShownIn2015 : Type 0
 ShownIn2015 = shown (record within_c { edition = Edition2015 }) lexemes (in_path 5 6) ≡ Some (seen.Within 1)
+
+-- `::crate::c::super`
+abbrev pub global_lexemes : List Lexeme
+global_lexemes =
+    colon_at 5 ∷ colon_at 6 ∷ word_at word.Crate 0 5
+    ∷ colon_at 5 ∷ colon_at 6 ∷ word_at word.Other 7 1
+    ∷ colon_at 5 ∷ colon_at 6 ∷ word_at word.Super 9 5 ∷ []
+
+-- `pub(in crate::c)` shows it to the module; `pub(in crate::c::super)`, `pub(in ::crate::c)` and
+-- `pub(in ::c)` are errors
+abbrev pub Wrong : Type 0
+Wrong =
+    map (shown within_c global_lexemes) (in_path 2 6 ∷ in_path 2 9 ∷ in_path 0 6 ∷ in_path 3 6 ∷ [])
+    ≡ Some (seen.Within 1) ∷ None ∷ None ∷ None ∷ []
+
+-- but for `pub(in ::c)` in the edition 2015
+abbrev pub WrongIn2015 : Type 0
+WrongIn2015 =
+    map (shown (record within_c { edition = Edition2015 }) global_lexemes)
+    (in_path 0 6 ∷ in_path 3 6 ∷ [])
+    ≡ None ∷ Some (seen.Within 1) ∷ []
+
+abbrev pub path_at : ℕ → ℕ → ℕ → Attribute
+path_at start first behind =
+    record {
+      kind = Path (record { start = start; len = 3 });
+      inner = false;
+      condition = None;
+      input = record { first = first; behind = behind };
+    }
+
+-- a module with braces that begin with `#![path = ".."]`, and the attribute
+abbrev pub braces : Item
+braces = record (item_of item.Mod None 0 6) { body = Some (record { first = 9; behind = 20 }) }
+
+abbrev pub within_braces : Item
+within_braces = item_of item.InnerAttribute (Some 0) 9 16
+
+-- with a `#[path = ".."]` before it, or another attribute alone
+abbrev pub path_by : List Attribute → Option Span
+path_by attributes =
+    path_of (record {
+      options = [];
+      text = [];
+      lexemes = [];
+      partners = [];
+      attributes = record { attributes = attributes; conditions = []; nodes = []; errors = [] };
+      active = [];
+      items = braces ∷ within_braces ∷ [];
+      is_enabled = true;
+    }) 0 braces
+
+-- the path before the module goes before the one within its braces
+abbrev pub PathWithin : Type 0
+PathWithin =
+    map path_by
+    ((path_at 40 13 15 ∷ []) ∷ (path_at 30 3 5 ∷ path_at 40 13 15 ∷ []) ∷ (path_at 40 18 20 ∷ []) ∷ [])
+    ≡ Some (record { start = 40; len = 3 }) ∷ Some (record { start = 30; len = 3 }) ∷ None ∷ []

@@ -2,13 +2,14 @@
 use Rattle.std.specs.Prelude.{◌==◌, ℕ, Bool, false, zero, suc, List, [], ◌∷◌, Option, Some, None, option_map, slice_get, if◌then◌else◌}
 use Rattle.std.specs.Str.{bytes_eq}
 use Rattle.crate_items.specs.DeclaredModules.{Module}
+use Rattle.crate_items.specs.LexemeNames.{names_nothing}
 use Rattle.crate_items.specs.Modules.{Listing}
 use Rattle.crate_items.specs.Sources.{Source, source_at}
 use Rattle.crate_items.specs.declared.modules.declared_module.Declaration.{Declaration}
 use Rattle.crate_items.specs.declared.modules.module_visibility.DeclaredVisibility.{DeclaredVisibility}
 use Rattle.crate_items.specs.declared.modules.module_visibility.DeclaredVisibility.TheVariants.{Public, Within}
 use Rattle.crate_items.specs.declared.modules.module_visibility.Reach.{Reach}
-use Rattle.crate_items.specs.declared.modules.module_visibility.Reach.TheVariants.{Start, At, Nowhere}
+use Rattle.crate_items.specs.declared.modules.module_visibility.Reach.TheVariants.{Start, Global, Up, At, Nowhere}
 use Rattle.dm_base.specs.declared.edition.Edition.{Edition}
 use Rattle.dm_base.specs.declared.edition.Edition.TheVariants.{Edition2015}
 use Rattle.item_tree.specs.AttributeKinds.{lexemes_in}
@@ -48,7 +49,7 @@ below (suc k) ms outer n (Some p) = if p == outer then Some n else below k ms ou
 
 abbrev pub up_to : Option ℕ → Reach
 up_to None = Nowhere
-up_to (Some p) = At p
+up_to (Some p) = Up p
 
 -- a name leads to the module of that name which the path stands in, too
 abbrev pub down_by : List Module → List ℕ → Option ℕ → Reach
@@ -58,34 +59,47 @@ down_by ms name (Some n) = if is_named name (declaration_of (slice_get ms n)) th
 abbrev pub down : Standpoint → ℕ → List ℕ → Reach
 down s outer name = down_by s.modules name (below s.number s.modules outer s.number (parent_of s.modules s.number))
 
--- a path begins with `crate`, `self` or `super`; in the edition 2015 with a name in the root, too
-abbrev pub first_name : Standpoint → Edition → List ℕ → Reach
-first_name s Edition2015 name = down s 0 name
-first_name s _ name = Nowhere
+-- `self`, `super` and `crate` are no names
+abbrev pub down_word : Standpoint → ℕ → Word → List ℕ → Reach
+down_word s outer w name = if names_nothing w then Nowhere else down s outer name
 
+-- in the edition 2015 a name leads down from the root, behind two colons too; since then it is that
+-- of another crate
+abbrev pub first_name : Standpoint → Edition → Word → List ℕ → Reach
+first_name s Edition2015 w name = down_word s 0 w name
+first_name s _ w name = Nowhere
+
+-- a path begins with `crate`, `self` or `super`, or with a name
 abbrev pub first_word : Standpoint → Word → List ℕ → Reach
 first_word s word.Crate name = At 0
-first_word s word.SelfValue name = At s.number
+first_word s word.SelfValue name = Up s.number
 first_word s word.Super name = up_to (parent_of s.modules s.number)
-first_word s _ name = first_name s s.edition name
+first_word s w name = first_name s s.edition w name
 
--- `super` leads to the parent, and a name down
-abbrev pub next_word : Standpoint → ℕ → Word → List ℕ → Reach
-next_word s at word.Super name = up_to (parent_of s.modules at)
-next_word s at _ name = down s at name
+-- `super` leads to the parent behind `self` and `super`s alone
+abbrev pub upper_word : Standpoint → ℕ → Word → List ℕ → Reach
+upper_word s at word.Super name = up_to (parent_of s.modules at)
+upper_word s at w name = down_word s at w name
 
 abbrev pub is_colon : LexemeKind → Bool
 is_colon (kind.Mark b) = b == 58
 is_colon _ = false
 
+-- two colons before its first word make a path global, and others part its words
+abbrev pub behind_colon : Reach → Reach
+behind_colon Start = Global
+behind_colon r = r
+
 abbrev pub word_behind : Standpoint → Reach → Word → List ℕ → Reach
 word_behind s Start w name = first_word s w name
-word_behind s (At n) w name = next_word s n w name
+word_behind s Global w name = first_name s s.edition w name
+word_behind s (Up n) w name = upper_word s n w name
+word_behind s (At n) w name = down_word s n w name
 word_behind s Nowhere w name = Nowhere
 
 abbrev pub kind_behind : Standpoint → Reach → LexemeKind → List ℕ → Reach
 kind_behind s r (kind.Word w) name = word_behind s r w name
-kind_behind s r k name = if is_colon k then r else Nowhere
+kind_behind s r k name = if is_colon k then behind_colon r else Nowhere
 
 -- where a path leads behind one more of its lexemes
 abbrev pub behind_lexeme : Standpoint → Reach → Lexeme → Reach
@@ -96,12 +110,13 @@ reached s r [] = r
 reached s r (l ∷ ls) = reached s (behind_lexeme s r l) ls
 
 abbrev pub within : Reach → Option DeclaredVisibility
-within Start = None
-within Nowhere = None
+within (Up n) = Some (Within n)
 within (At n) = Some (Within n)
+within _ = None
 
--- whom a visibility shows what stands in the module of a number: all, or that module, the root, the parent, or the
--- module around that the path leads to. None where that leads to no module around
+-- whom a visibility shows what stands in the module of a number: all, or that module, the root, the
+-- parent, or the module around that the path leads to. None where that leads to no module around:
+-- rustc refuses it, and shows to all
 abbrev pub shown : Standpoint → List Lexeme → RawVisibility → Option DeclaredVisibility
 shown s ls raw.Inherited = Some (Within s.number)
 shown s ls raw.Public = Some Public

@@ -1,6 +1,7 @@
 -- The modules that a crate declares.
-use Rattle.std.specs.Prelude.{◌≡◌, ◌==◌, ◌<◌, ◌+◌, ◌++◌, ℕ, All, Bool, true, false, List, [], ◌∷◌, Option, Some, None, IsSome, length, option_map, slice_get, take, if◌then◌else◌}
-use Rattle.std.specs.List.{flat_map, list_any}
+use Rattle.std.specs.Prelude.{◌≡◌, ◌==◌, ◌<◌, ◌+◌, ◌++◌, ℕ, All, Bool, true, false, List, [], ◌∷◌, Option, Some, None, IsSome, length, option_map, slice_get, take, chars, encode_utf8_all, if◌then◌else◌}
+use Rattle.std.specs.Char.{is_ascii}
+use Rattle.std.specs.List.{flat_map, list_all, list_any}
 use Rattle.std.specs.Str.{is_utf8}
 use Rattle.crate_items.specs.Files.{SourceFile, file_at, path_of, text_of}
 use Rattle.crate_items.specs.ModDirs as dirs
@@ -19,6 +20,7 @@ use Rattle.dm_base.specs.declared.ids.FileId.{FileId}
 use Rattle.dm_base.specs.declared.edition.Edition.{Edition}
 use Rattle.item_tree.specs.Spans.{name_text, string_text}
 use Rattle.item_tree.specs.declared.cfg.CfgAtom.{CfgAtom}
+use Rattle.unicode_normalization.specs.Forms.{nfc}
 
 -- the root of a crate
 abbrev pub root_module : List SourceFile → FileId → Module
@@ -82,9 +84,13 @@ abbrev pub by_kind : List SourceFile → Module → Bool → Declaration → Opt
 by_kind files m is_outline d path =
     if is_outline then in_file files m d (dirs.candidates m.dir d.name path) else Declared (inline m d path)
 
+-- a name is its text in Normalization Form C; a text of ASCII is in that form
+abbrev pub normalized : List ℕ → Name
+normalized text = if list_all is_ascii text then text else encode_utf8_all (nfc (chars text))
+
 -- a name that is no UTF-8 is none, and what has no name is no module
 abbrev pub as_name : List ℕ → Option Name
-as_name bytes = if is_utf8 bytes then Some bytes else None
+as_name bytes = if is_utf8 bytes then Some (normalized bytes) else None
 
 abbrev pub found_as : List SourceFile → ℕ → Module → ModItem → Option Name → Found
 found_as files n m x None = Nothing

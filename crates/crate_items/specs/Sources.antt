@@ -35,6 +35,8 @@ abbrev pub view_of : List CfgAtom → List ℕ → Source → View
 view_of options text s = record {
   options = options;
   text = text;
+  lexemes = s.lexemes;
+  partners = s.partners;
   attributes = s.attributes;
   active = s.active;
   items = s.items;

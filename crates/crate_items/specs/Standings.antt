@@ -4,18 +4,24 @@ use Rattle.crate_items.specs.declared.modules.standing.Standing.{Standing}
 use Rattle.item_tree.specs.Attributes.{Table}
 use Rattle.item_tree.specs.CfgIfs.{is_arm}
 use Rattle.item_tree.specs.Children.{children_of}
+use Rattle.item_tree.specs.Heads.{is_bracket, is_mark}
 use Rattle.item_tree.specs.ItemAttributes.{inner_range, is_cfg_enabled, outer_range}
+use Rattle.item_tree.specs.Trees.{trees_of}
 use Rattle.item_tree.specs.declared.cfg.CfgAtom.{CfgAtom}
 use Rattle.item_tree.specs.declared.items.item_kind.ItemKind.{ItemKind}
 use Rattle.item_tree.specs.declared.items.item_kind.ItemKind.TheVariants as item
 use Rattle.item_tree.specs.declared.items.Item.{Item}
 use Rattle.item_tree.specs.declared.items.Range.{Range}
+use Rattle.item_tree.specs.declared.lexer.lexeme.Lexeme.{Lexeme}
+use Rattle.item_tree.specs.declared.lexer.trees.Tree.{Tree}
 
--- a file as a crate reads it: the crate's options, the text, the attributes, their active conditions, the items, and
--- whether each `cfg` may hold that the file begins with
+-- a file as a crate reads it: the crate's options, the text, its lexemes with their partners, the
+-- attributes, their active conditions, the items, and whether each `cfg` may hold that it begins with
 pub record View : Type 0 where
   pub options : List CfgAtom
   pub text : List ℕ
+  pub lexemes : List Lexeme
+  pub partners : List ℕ
   pub attributes : Table
   pub active : List Bool
   pub items : List Item
@@ -25,14 +31,44 @@ pub record View : Type 0 where
 abbrev pub may_stand : View → Range → Bool
 may_stand v r = is_cfg_enabled v.options v.text v.active r v.attributes
 
--- so may the inner ones that a body begins with, which is that of the item of a number
-abbrev pub inner_may_stand : View → ℕ → Option Range → Bool
-inner_may_stand v n None = true
-inner_may_stand v n (Some body) = may_stand v (inner_range body.first (children_of n v.items))
+-- the inner attributes that the body of the item of a number begins with
+abbrev pub body_attributes : List Item → ℕ → Option Range → Range
+body_attributes items n None = record { first = 0; behind = 0 }
+body_attributes items n (Some body) = inner_range body.first (children_of n items)
+
+-- where the inner attributes end that some trees begin with: each is `#`, `!` and what brackets hold
+abbrev pub leading_end : ℕ → List Tree → ℕ
+leading_end end (a ∷ b ∷ c ∷ ts) =
+    if is_mark 35 a.kind && is_mark 33 b.kind && is_bracket c.kind
+    then leading_end c.behind ts
+    else end
+leading_end end _ = end
+
+abbrev pub leading_range : ℕ → List Tree → Range
+leading_range first ts = record { first = first; behind = leading_end first ts }
+
+abbrev pub end_of : Option Tree → ℕ → ℕ
+end_of None end = end
+end_of (Some t) end = t.behind
+
+abbrev pub begins_with_hash : Option Lexeme → Bool
+begins_with_hash None = false
+begins_with_hash (Some l) = is_mark 35 l.kind
+
+-- those that the body of a function begins with, of which no items are read
+abbrev pub function_attributes : List Lexeme → List ℕ → Range → Range
+function_attributes ls ps body =
+    if begins_with_hash (slice_get ls body.first)
+    then leading_range body.first (trees_of ls ps body.first body.behind)
+    else leading_range body.first []
+
+abbrev pub inner_of : View → ℕ → ItemKind → Option Range → Range
+inner_of v n item.Function (Some body) = function_attributes v.lexemes v.partners body
+inner_of v n _ body = body_attributes v.items n body
 
 -- an item's own `cfg`s may hold: its outer ones, and the inner ones that its body begins with
 abbrev pub holds : View → ℕ → Item → Bool
-holds v n x = may_stand v (outer_range x) && inner_may_stand v n x.body
+holds v n x = may_stand v (outer_range x) && may_stand v (inner_of v n x.kind x.body)
 
 -- a `cfg_if!` and its arms: what is in them stands in the module around
 abbrev pub is_part_of_cfg_if : ItemKind → Bool

@@ -2,7 +2,7 @@
 use Rattle.std.specs.Prelude.{◌++◌, ◌&&◌, ◌||◌, ℕ, Bool, true, false, List, [], ◌∷◌, Option, Some, None, map, nat_lt, reverse, slice_get, slice_set, if◌then◌else◌}
 use Rattle.std.specs.List.{find, list_any}
 use Rattle.std.specs.Option.{option_map, option_map_or}
-use Rattle.crate_items.specs.ItemAttributes.{file_attributes, item_attributes}
+use Rattle.crate_items.specs.ItemAttributes.{body_kinds_from, file_attributes, item_attributes}
 use Rattle.crate_items.specs.TextualOrders.{declaring, textual_from, textual_order}
 use Rattle.crate_items.specs.declared.items.declared_item.DeclaredItem.{DeclaredItem}
 use Rattle.crate_items.specs.declared.macros.textual_order.TextEvent.{TextEvent}
@@ -32,7 +32,7 @@ leaves_by l None = false
 leaves_by l (Some x) = list_any is_macro_use (item_attributes l x)
 
 abbrev pub begins_so : Listing → FileId → Option ℕ → Bool
-begins_so l f (Some n) = false
+begins_so l f (Some n) = list_any is_macro_use (body_kinds_from (source_at l.sources f) n)
 begins_so l f None = list_any is_macro_use (file_attributes (source_at l.sources f))
 
 -- the number of the item that declares a module
@@ -40,7 +40,8 @@ abbrev pub declared_at : List TextualItem → Option Declaration → Option ℕ
 declared_at ts None = None
 declared_at ts (Some d) = declaring ts d
 
--- an active `macro_use` stands before the item that declares the module, or its own file begins with one
+-- an active `macro_use` stands before the item that declares the module, or its own file or its
+-- braces begin with one
 abbrev pub leaves : Listing → List DeclaredItem → Module → ℕ → Bool
 leaves l xs m n = leaves_by l (slice_get xs n) || begins_so l m.file m.item
 

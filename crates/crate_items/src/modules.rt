@@ -100,7 +100,7 @@ impl CrateModules {
     }
 
     /// Whom a visibility, as it is written in the module of a number, shows what it stands before, by the text of that
-    /// module's file; none where it leads to no module around. Then it is an error, and rustc shows it to that module.
+    /// module's file; none where it leads to no module around. Then rustc shows it to all.
     pub fn visibility(
         &self,
         edition: Edition,

@@ -39,7 +39,7 @@ loc_of item.Macro2 e = Some (loc.Macro2 e)
 loc_of _ e = None
 
 abbrev pub macro_loc : CrateView → DeclaredItem → Option MacroLoc
-macro_loc c x = loc_of x.kind (macro_expander c.list x)
+macro_loc c x = loc_of x.kind (macro_expander c.list c.files x)
 
 -- one by `macro_rules!` that is exported is declared in the root of its crate, as what is public there; others of that
 -- kind are declared nowhere

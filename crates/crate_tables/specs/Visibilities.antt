@@ -44,8 +44,8 @@ within k m written = Module m (explicitness written)
 abbrev pub public_in : Bool → Crate → Visibility
 public_in is_closed k = if is_closed then PubCrate k else Public
 
--- The visibility of what is written so in a module: what leads nowhere is the module's own.
+-- The visibility of what is written so in a module: all see what leads nowhere.
 abbrev pub visibility_of : Bool → Crate → Ids → ModuleId → RawVisibility → Option DeclaredVisibility → Visibility
-visibility_of is_closed k ids m written None = Module m (explicitness written)
+visibility_of is_closed k ids m written None = public_in is_closed k
 visibility_of is_closed k ids m written (Some shown.Public) = public_in is_closed k
 visibility_of is_closed k ids m written (Some (shown.Within n)) = within k (unwrap_or (id_at ids n) m) written

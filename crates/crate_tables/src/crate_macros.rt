@@ -60,7 +60,7 @@ fn macro_loc(
     ensures { IfOk result (λ loc. loc ≡ spec.macro_loc view.now item.now) }
 {
     if is_macro(item.kind) {
-        let expander = macro_expander(alloc, view.list, item)?;
+        let expander = macro_expander(alloc, view.list, view.files, item)?;
         Ok(loc_of(item.kind, expander))
     } else {
         Ok(None)

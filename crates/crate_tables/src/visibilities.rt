@@ -80,7 +80,7 @@ pub(crate) fn known_public(
     public_in(is_closed, krate)
 }
 
-/// The visibility of what is written so in a module. Where it leads nowhere, the module alone sees it.
+/// The visibility of what is written so in a module. Where it leads nowhere, all see it.
 fn visibility_of(
     is_closed: bool,
     krate: Crate,
@@ -92,8 +92,7 @@ fn visibility_of(
     ensures { result ≡ spec.visibility_of is_closed krate ids.now m written shown }
 {
     match shown {
-        None => Visibility::Module(m, explicitness(written)),
-        Some(DeclaredVisibility::Public) => public_in(is_closed, krate),
+        None | Some(DeclaredVisibility::Public) => public_in(is_closed, krate),
         Some(DeclaredVisibility::Within(number)) => within(krate, id_or(ids, number, m), written),
     }
 }

@@ -6,6 +6,7 @@ ghost use Rattle.std.specs.Option.{option_copied};
 ghost use Rattle.crate_items.specs.Modules as spec;
 
 use crate::files::file_table::FileTable;
+use crate::items::lexeme_names::as_name;
 use crate::modules::declared_module::{Declaration, DeclaredModule, ModuleFault};
 use crate::modules::mod_items::ModItem;
 use crate::modules::mod_resolution::Candidate;
@@ -27,19 +28,6 @@ pub(crate) enum Found {
     Nothing,
     Declared(DeclaredModule),
     Faulty(ModuleFault),
-}
-
-/// A name of these bytes, if they are text.
-fn as_name(alloc: Global, bytes: &[u8]) -> Result<Option<Name>, AllocError>
-    ensures { IfOk result (λ name. name ≡ spec.as_name bytes.now) }
-{
-    match std::str::from_utf8(bytes) {
-        Err(_) => Ok(None),
-        Ok(text) => {
-            let name = Name::new(alloc, text)?;
-            Ok(Some(name))
-        }
-    }
 }
 
 /// How a module is declared by an item in the one of a number.

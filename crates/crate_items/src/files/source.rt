@@ -90,19 +90,15 @@ impl Source {
         let view = View {
             options,
             text,
+            lexemes: lexemes.as_slice(),
+            partners: partners.as_slice(),
             attributes: &attributes,
             active: active.as_slice(),
             items: tree.items.as_slice(),
             is_enabled,
         };
         let standings = standings(alloc, &view)?;
-        let mods = mod_items(
-            alloc,
-            lexemes.as_slice(),
-            &view,
-            standings.as_slice(),
-            tree.items.as_slice(),
-        )?;
+        let mods = mod_items(alloc, lexemes.as_slice(), &view, standings.as_slice())?;
         Ok(Source {
             lexemes,
             partners,

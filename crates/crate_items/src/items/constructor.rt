@@ -22,7 +22,7 @@ use std::alloc::{AllocError, Global};
 #[derive(Clone, Copy, PartialEq, Eq, Debug)]
 pub struct WrittenVisibility {
     pub written: RawVisibility,
-    /// Whom that shows to; none where it leads to no module around, which is an error.
+    /// Whom that shows to; none where it leads to no module around: then it shows to all.
     pub shown: Option<DeclaredVisibility>,
 }
 
@@ -31,7 +31,7 @@ fn shows_fewer(one: Option<DeclaredVisibility>, other: Option<DeclaredVisibility
     ensures { result ≡ spec.shows_fewer one other }
 {
     match (one, other) {
-        (Some(DeclaredVisibility::Within(_)), Some(DeclaredVisibility::Public)) => true,
+        (Some(DeclaredVisibility::Within(_)), None | Some(DeclaredVisibility::Public)) => true,
         (Some(DeclaredVisibility::Within(inner)), Some(DeclaredVisibility::Within(outer))) => {
             outer < inner
         }

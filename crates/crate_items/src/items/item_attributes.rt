@@ -1,5 +1,5 @@
 //! The attributes of items, and of a crate, that are active.
-ghost use Rattle.std.specs.Prelude.{◌≡◌, ◌++◌, IfOk, OnOk};
+ghost use Rattle.std.specs.Prelude.{◌≡◌, ◌++◌, IfOk, OnOk, slice_get};
 ghost use Rattle.std.specs.List.{flat_map};
 ghost use Rattle.crate_items.specs.ItemAttributes as spec;
 ghost use Rattle.crate_items.specs.Sources.{source_at};
@@ -8,6 +8,7 @@ use crate::files::source::Source;
 use crate::items::declared_item::DeclaredItem;
 use crate::items::lookups::item_at;
 use crate::modules::CrateModules;
+use crate::modules::standing::body_attributes;
 use dm_base::ids::FileId;
 use item_tree::attributes::attribute_kind::AttributeKind;
 use item_tree::attributes::item_attributes::{inner_attributes, outer_attributes};
@@ -73,6 +74,47 @@ pub fn attributes_at(
             None => Ok(Vec::new(alloc)),
             Some(read) => kinds_in(alloc, source, outer_attributes(read)),
         },
+    }
+}
+
+/// What the active attributes say that the body of the item of a number begins with.
+fn body_kinds(
+    alloc: Global,
+    source: &Source,
+    number: usize,
+) -> Result<Vec<AttributeKind>, AllocError>
+    ensures { IfOk result (λ kinds. kinds.items ≡
+        spec.body_kinds source.now number (slice_get source.now.items number)) }
+{
+    let items = source.items();
+    if number < items.len() {
+        kinds_in(
+            alloc,
+            source,
+            body_attributes(items, number, items[number].body),
+        )
+    } else {
+        Ok(Vec::new(alloc))
+    }
+}
+
+/// What the active attributes say, in order, that the body of the item of a number begins with.
+///
+/// # Errors
+///
+/// Fails only where memory runs out.
+pub fn body_attributes_at(
+    alloc: Global,
+    list: &CrateModules,
+    file: FileId,
+    item: usize,
+) -> Result<Vec<AttributeKind>, AllocError>
+    ensures { IfOk result (λ kinds. kinds.items ≡
+        spec.body_kinds_from (source_at list.now.sources file) item) }
+{
+    match list.sources().get(file) {
+        None => Ok(Vec::new(alloc)),
+        Some(source) => body_kinds(alloc, source, item),
     }
 }
 

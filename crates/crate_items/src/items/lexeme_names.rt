@@ -1,30 +1,51 @@
 //! What lexemes name.
 ghost use Rattle.std.specs.Prelude.{◌≡◌, ◌++◌, IfOk, OnOk};
-ghost use Rattle.std.specs.List.{flat_map};
+ghost use Rattle.std.specs.Char.{is_ascii};
+ghost use Rattle.std.specs.List.{flat_map, list_all};
 ghost use Rattle.crate_items.specs.LexemeNames as spec;
-ghost use Rattle.crate_items.specs.Modules.{as_name};
+ghost use Rattle.crate_items.specs.Modules as names;
 
 use dm_base::name::Name;
 use item_tree::lexer::lexeme::{Lexeme, LexemeKind};
 use item_tree::lexer::span::{Span, name_text};
 use item_tree::lexer::word::Word;
 use std::alloc::{AllocError, Global};
+use unicode_normalization::to_nfc;
+
+fn is_plain(bytes: &[u8]) -> bool
+    ensures { result ≡ list_all is_ascii bytes.now }
+{
+    bytes.iter().all(|byte| byte.is_ascii())
+}
+
+/// The name that a text is: in NFC, as ASCII is.
+fn normalized(alloc: Global, text: &str) -> Result<Name, AllocError>
+    ensures { IfOk result (λ name. name ≡ names.normalized text.now) }
+{
+    if is_plain(text.as_bytes()) {
+        Name::new(alloc, text)
+    } else {
+        let composed = to_nfc(alloc, text)?;
+        let name = Name::new(alloc, composed.as_str())?;
+        Ok(name)
+    }
+}
 
 /// A name of these bytes, if they are text.
-fn as_name(alloc: Global, bytes: &[u8]) -> Result<Option<Name>, AllocError>
-    ensures { IfOk result (λ name. name ≡ as_name bytes.now) }
+pub(crate) fn as_name(alloc: Global, bytes: &[u8]) -> Result<Option<Name>, AllocError>
+    ensures { IfOk result (λ name. name ≡ names.as_name bytes.now) }
 {
     match std::str::from_utf8(bytes) {
         Err(_) => Ok(None),
         Ok(text) => {
-            let name = Name::new(alloc, text)?;
+            let name = normalized(alloc, text)?;
             Ok(Some(name))
         }
     }
 }
 
 /// Whether a word is one that names nothing: `_`, and those that begin paths.
-fn names_nothing(word: Word) -> bool
+pub(crate) fn names_nothing(word: Word) -> bool
     ensures { result ≡ spec.names_nothing word }
 {
     matches!(

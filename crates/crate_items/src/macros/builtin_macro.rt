@@ -1,31 +1,37 @@
 //! Macros of the compiler: those that `rustc_builtin_macro` stands before.
 ghost use Rattle.std.specs.Prelude.{◌≡◌, IfOk};
-ghost use Rattle.std.specs.List.{list_any};
+ghost use Rattle.std.specs.List.{find};
+ghost use Rattle.std.specs.Option.{option_copied};
 ghost use Rattle.crate_items.specs.BuiltinMacros as spec;
 
+use crate::files::file_table::FileTable;
 use crate::items::declared_item::DeclaredItem;
 use crate::items::item_attributes::item_attributes;
+use crate::items::lookups::{lexemes_of, text_of};
+use crate::macros::procedural_macro::first_name;
 use crate::modules::CrateModules;
 use dm_base::macros::{MacroCallStyles, MacroExpander};
 use dm_base::name::Name;
-use item_tree::attributes::attribute_kind::AttributeKind;
+use item_tree::attributes::attribute_kind::{AttributeKind, lexemes_in};
 use item_tree::items::item_kind::ItemKind;
+use item_tree::lexer::lexeme::Lexeme;
 use std::alloc::{AllocError, Global};
 
-fn is_builtin(kind: AttributeKind) -> bool
-    ensures { result ≡ spec.is_builtin kind }
+fn is_builtin(kind: &AttributeKind) -> bool
+    ensures { result ≡ spec.is_builtin kind.now }
 {
-    match kind {
+    match *kind {
         AttributeKind::RustcBuiltinMacro => true,
         AttributeKind::RustcBuiltinMacroOf(_) => true,
         _ => false,
     }
 }
 
-fn any_builtin(kinds: &[AttributeKind]) -> bool
-    ensures { result ≡ list_any spec.is_builtin kinds.now }
+/// The first attribute that makes a macro one of the compiler.
+fn first_builtin(kinds: &[AttributeKind]) -> Option<&AttributeKind>
+    ensures { option_copied result ≡ find spec.is_builtin kinds.now }
 {
-    kinds.iter().any(|kind| is_builtin(*kind))
+    kinds.iter().find(|kind| is_builtin(kind))
 }
 
 /// Whether the compiler has a derive of a name.
@@ -65,45 +71,79 @@ fn is_attribute_name(name: &[u8]) -> bool
         || name == b"define_opaque".as_slice()
 }
 
-/// The expander of a macro of the compiler that `macro` declares under a name.
-fn expander_named(name: &[u8]) -> MacroExpander
-    ensures { result ≡ spec.expander_named name.now }
+/// The expander of a macro of the compiler that is neither a derive nor an attribute.
+fn other_expander(kind: ItemKind) -> MacroExpander
+    ensures { result ≡ spec.other_expander kind }
+{
+    match kind {
+        ItemKind::Macro2 => MacroExpander::UnimplementedBuiltIn,
+        _ => MacroExpander::BuiltIn,
+    }
+}
+
+/// The expander of the macro of the compiler that has a name.
+fn expander_named(kind: ItemKind, name: &[u8]) -> MacroExpander
+    ensures { result ≡ spec.expander_named kind name.now }
 {
     if is_derive_name(name) {
         MacroExpander::BuiltInDerive
     } else if is_attribute_name(name) {
         MacroExpander::BuiltInAttr
     } else {
-        MacroExpander::UnimplementedBuiltIn
+        other_expander(kind)
     }
 }
 
 /// The same of one that may have no name.
-fn expander_if_named(name: &Option<Name>) -> MacroExpander
-    ensures { result ≡ spec.expander_if_named name.now }
+fn expander_if_named(kind: ItemKind, name: &Option<Name>) -> MacroExpander
+    ensures { result ≡ spec.expander_if_named kind name.now }
 {
     match name {
-        None => MacroExpander::UnimplementedBuiltIn,
-        Some(name) => {
-            let bytes = name.as_str().as_bytes();
-            expander_named(bytes)
-        }
+        None => other_expander(kind),
+        Some(name) => expander_named(kind, name.as_str().as_bytes()),
     }
 }
 
-/// The expander of a macro of the compiler.
-fn builtin_expander(item: &DeclaredItem) -> MacroExpander
-    ensures { result ≡ spec.builtin_expander item.now.kind item.now.name }
+/// The name that an attribute has in parentheses, before helpers.
+fn name_within(
+    alloc: Global,
+    text: &[u8],
+    lexemes: &[Lexeme],
+    kind: AttributeKind,
+) -> Result<Option<Name>, AllocError>
+    ensures { IfOk result (λ name. name ≡ spec.name_within text.now lexemes.now kind) }
 {
-    match item.kind {
-        ItemKind::Macro2 => expander_if_named(&item.name),
-        _ => MacroExpander::BuiltIn,
+    match kind {
+        AttributeKind::RustcBuiltinMacroOf(range) => {
+            first_name(alloc, text, lexemes_in(lexemes, range))
+        }
+        _ => Ok(None),
     }
 }
 
-/// How a macro is expanded, by the active attributes before it. One without `rustc_builtin_macro` is read by its rules,
-/// and called as a function. One of the compiler by `macro_rules!` is called as a function, too; one by `macro` is a
-/// derive or an attribute by its name, and any other may be called in each way.
+/// The expander of the macro of the compiler that an attribute makes of an item.
+fn builtin_expander(
+    alloc: Global,
+    list: &CrateModules,
+    files: &FileTable,
+    item: &DeclaredItem,
+    kind: AttributeKind,
+) -> Result<MacroExpander, AllocError>
+    ensures { IfOk result
+        (λ expander. expander ≡ spec.builtin_expander list.now files.now item.now kind) }
+{
+    let lexemes = lexemes_of(list, item.file);
+    let within = name_within(alloc, text_of(files, item.file), lexemes, kind)?;
+    match within {
+        None => Ok(expander_if_named(item.kind, &item.name)),
+        Some(name) => Ok(expander_named(item.kind, name.as_str().as_bytes())),
+    }
+}
+
+/// How a macro is expanded, by the active attributes before it. One without `rustc_builtin_macro`
+/// is read by its rules, and called as a function. One under it is the macro of the compiler of the
+/// name in its parentheses, or of its own name: a derive or an attribute by that name. Any other is
+/// called as a function, if `macro_rules!` declares it; one by `macro` may be called in each way.
 ///
 /// # Errors
 ///
@@ -111,16 +151,16 @@ fn builtin_expander(item: &DeclaredItem) -> MacroExpander
 pub fn macro_expander(
     alloc: Global,
     list: &CrateModules,
+    files: &FileTable,
     item: &DeclaredItem,
 ) -> Result<MacroExpander, AllocError>
-    ensures { IfOk result (λ expander. expander ≡ spec.macro_expander list.now item.now) }
+    ensures { IfOk result (λ expander. expander ≡ spec.macro_expander list.now files.now item.now) }
 {
     let kinds = item_attributes(alloc, list, item)?;
-    if any_builtin(kinds.as_slice()) {
-        Ok(builtin_expander(item))
-    } else {
-        Ok(MacroExpander::Declarative {
+    match first_builtin(kinds.as_slice()) {
+        Some(kind) => builtin_expander(alloc, list, files, item, *kind),
+        None => Ok(MacroExpander::Declarative {
             styles: MacroCallStyles::FN_LIKE,
-        })
+        }),
     }
 }

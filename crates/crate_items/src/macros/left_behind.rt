@@ -4,7 +4,7 @@ ghost use Rattle.std.specs.List.{list_any};
 ghost use Rattle.crate_items.specs.TextualScopes as spec;
 
 use crate::items::declared_item::DeclaredItem;
-use crate::items::item_attributes::{file_attributes, item_attributes};
+use crate::items::item_attributes::{body_attributes_at, file_attributes, item_attributes};
 use crate::macros::textual_order::{TextualItem, declaring, textual_items};
 use crate::modules::CrateModules;
 use crate::modules::declared_module::DeclaredModule;
@@ -45,7 +45,7 @@ fn is_under_at(
     }
 }
 
-/// Whether the file of a module begins with an active `macro_use`.
+/// Whether a module begins with an active `macro_use`, in its file or in its braces.
 fn begins_so(
     alloc: Global,
     list: &CrateModules,
@@ -54,13 +54,11 @@ fn begins_so(
     ensures { IfOk result (λ begins. begins ≡
         spec.begins_so list.now declared.now.file declared.now.item) }
 {
-    match declared.item() {
-        Some(_item) => Ok(false),
-        None => {
-            let kinds = file_attributes(alloc, list, declared.file())?;
-            Ok(any_macro_use(kinds.as_slice()))
-        }
-    }
+    let kinds = match declared.item() {
+        Some(item) => body_attributes_at(alloc, list, declared.file(), item)?,
+        None => file_attributes(alloc, list, declared.file())?,
+    };
+    Ok(any_macro_use(kinds.as_slice()))
 }
 
 /// Whether a module leaves its macros, which the item of a number declares.

@@ -73,7 +73,11 @@ fn ends_name(rest: &[Lexeme]) -> bool
 }
 
 /// The name that a list begins with.
-fn first_name(alloc: Global, text: &[u8], list: &[Lexeme]) -> Result<Option<Name>, AllocError>
+pub(crate) fn first_name(
+    alloc: Global,
+    text: &[u8],
+    list: &[Lexeme],
+) -> Result<Option<Name>, AllocError>
     ensures { IfOk result (λ name. name ≡ spec.first_name text.now list.now) }
 {
     match list.split_first() {

@@ -1,8 +1,9 @@
 //! The modules that a file declares, as a crate reads it.
-ghost use Rattle.std.specs.Prelude.{◌≡◌, ◌++◌, IfOk, OnOk, slice_get};
+ghost use Rattle.std.specs.Prelude.{◌≡◌, ◌<◌, ◌++◌, IfOk, OnOk, length, slice_get};
 ghost use Rattle.crate_items.specs.ModItems as spec;
+ghost use Rattle.item_tree.specs.Children.{ByParent};
 
-use crate::modules::standing::{Standing, View};
+use crate::modules::standing::{Standing, View, body_attributes};
 use item_tree::attributes::attribute_kind::AttributeKind;
 use item_tree::attributes::item_attributes::outer_attributes;
 use item_tree::attributes::{Attribute, is_active};
@@ -86,12 +87,23 @@ fn first_path(active: &[bool], attributes: &[Attribute]) -> Option<Span>
     found
 }
 
-/// The string of the `#[path]` of an item.
-fn path_of(view: &View<'_>, item: Item) -> Option<Span>
-    ensures { result ≡ spec.path_of view.now item }
+/// The string of the first active `#[path]` that begins in a range.
+fn path_in_range(view: &View<'_>, range: Range) -> Option<Span>
+    ensures { result ≡ spec.path_in_range view.now range }
 {
-    let own = view.attributes.attributes_in(outer_attributes(item));
-    first_path(view.active, own)
+    first_path(view.active, view.attributes.attributes_in(range))
+}
+
+/// The string of the `#[path]` of the item of a number: before it, or first within its braces.
+fn path_of(view: &View<'_>, number: usize, item: Item) -> Option<Span>
+    requires by_parent { ByParent view.now.items }
+    requires there { number < length view.now.items }
+    ensures { result ≡ spec.path_of view.now number item }
+{
+    or_else(
+        path_in_range(view, outer_attributes(item)),
+        path_in_range(view, body_attributes(view.items, number, item.body)),
+    )
 }
 
 fn is_mod(kind: ItemKind) -> bool
@@ -109,6 +121,8 @@ fn mod_item(
     home: Option<usize>,
     name: Span,
 ) -> ModItem
+    requires by_parent { ByParent view.now.items }
+    requires there { number < length view.now.items }
     ensures { result ≡ spec.mod_item lexemes.now view.now number item home name }
 {
     let written = Range {
@@ -120,7 +134,7 @@ fn mod_item(
         home,
         name,
         visibility: raw_visibility(lexemes, written),
-        path: path_of(view, item),
+        path: path_of(view, number, item),
         is_outline: item.body.is_none(),
     }
 }
@@ -134,6 +148,8 @@ fn push_mod(
     item: Item,
     standing: Option<Standing>,
 ) -> Result<(), AllocError>
+    requires by_parent { ByParent view.now.items }
+    requires there { number < length view.now.items }
     ensures { OnOk result
         (mods.new.items ≡ mods.old.items ++ spec.mod_if lexemes.now view.now number item standing) }
 {
@@ -167,6 +183,8 @@ fn push_item(
     number: usize,
     item: Item,
 ) -> Result<(), AllocError>
+    requires by_parent { ByParent view.now.items }
+    requires there { number < length view.now.items }
     ensures { OnOk result (mods.new.items ≡ mods.old.items
         ++ spec.mod_if lexemes.now view.now number item (slice_get standings.now number)) }
 {
@@ -181,13 +199,13 @@ fn mods_in_tree(
     lexemes: &[Lexeme],
     view: &View<'_>,
     standings: &[Standing],
-    items: &[Item],
 ) -> Result<Vec<ModItem>, AllocError>
+    requires { ByParent view.now.items }
     ensures { IfOk result
-        (λ mods. mods.items ≡ spec.mods_from lexemes.now view.now standings.now 0 items.now) }
+        (λ mods. mods.items ≡ spec.mods_of lexemes.now view.now standings.now) }
 {
     let mut mods = Vec::new(alloc);
-    for (number, item) in items.iter().enumerate() {
+    for (number, item) in view.items.iter().enumerate() {
         push_item(&mut mods, lexemes, view, standings, number, *item)?;
     }
     Ok(mods)
@@ -203,12 +221,12 @@ pub(crate) fn mod_items(
     lexemes: &[Lexeme],
     view: &View<'_>,
     standings: &[Standing],
-    items: &[Item],
 ) -> Result<Vec<ModItem>, AllocError>
+    requires { ByParent view.now.items }
     ensures { IfOk result (λ mods. spec.IsInTextOrder
-        (spec.mods_from lexemes.now view.now standings.now 0 items.now) mods.items) }
+        (spec.mods_of lexemes.now view.now standings.now) mods.items) }
 {
-    let mut mods = mods_in_tree(alloc, lexemes, view, standings, items)?;
+    let mut mods = mods_in_tree(alloc, lexemes, view, standings)?;
     mods.sort_by_key(|declared| declared.name.start)?;
     Ok(mods)
 }

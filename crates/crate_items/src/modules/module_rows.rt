@@ -1,7 +1,7 @@
 //! Modules of small crates, how items stand, and whom visibilities show: worked rows.
 ghost use Rattle.crate_items.specs.ModuleRows as rows;
 
-/// Files that are there or not, arms of a `cfg_if!`, and paths of visibilities.
+/// Files that are there or not, arms of a `cfg_if!`, and paths of visibilities and of modules.
 pub fn modules_of_small_crates()
     ensures file_by_path { rows.FileByPath }
     ensures one_file { rows.OneFile }
@@ -12,4 +12,7 @@ pub fn modules_of_small_crates()
     ensures arms { rows.Arms }
     ensures shown { rows.Shown }
     ensures shown_in_2015 { rows.ShownIn2015 }
+    ensures wrong { rows.Wrong }
+    ensures wrong_in_2015 { rows.WrongIn2015 }
+    ensures path_within { rows.PathWithin }
 {}

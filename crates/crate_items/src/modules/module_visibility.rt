@@ -3,6 +3,7 @@ ghost use Rattle.std.specs.Prelude.{◌≡◌, slice_get};
 ghost use Rattle.crate_items.specs.ModuleVisibilities as spec;
 ghost use Rattle.crate_items.specs.declared.modules.module_visibility.Reach.TheVariants.{Start};
 
+use crate::items::lexeme_names::names_nothing;
 use crate::modules::declared_module::DeclaredModule;
 use dm_base::edition::Edition;
 use item_tree::attributes::attribute_kind::lexemes_in;
@@ -24,6 +25,10 @@ pub enum DeclaredVisibility {
 #[derive(Clone, Copy)]
 pub(crate) enum Reach {
     Start,
+    /// It begins with two colons.
+    Global,
+    /// To the module of this number, by `self` and `super` alone.
+    Up(usize),
     /// To the module of this number.
     At(usize),
     Nowhere,
@@ -100,7 +105,7 @@ fn up_to(parent: Option<usize>) -> Reach
 {
     match parent {
         None => Reach::Nowhere,
-        Some(parent) => Reach::At(parent),
+        Some(parent) => Reach::Up(parent),
     }
 }
 
@@ -110,12 +115,22 @@ fn is_colon(kind: LexemeKind) -> bool
     matches!(kind, LexemeKind::Mark(b':'))
 }
 
+/// Where a path leads behind a colon.
+fn behind_colon(reach: Reach) -> Reach
+    ensures { result ≡ spec.behind_colon reach }
+{
+    match reach {
+        Reach::Start => Reach::Global,
+        _ => reach,
+    }
+}
+
 fn within(reach: Reach) -> Option<DeclaredVisibility>
     ensures { result ≡ spec.within reach }
 {
     match reach {
-        Reach::At(number) => Some(DeclaredVisibility::Within(number)),
-        Reach::Start | Reach::Nowhere => None,
+        Reach::Up(number) | Reach::At(number) => Some(DeclaredVisibility::Within(number)),
+        Reach::Start | Reach::Global | Reach::Nowhere => None,
     }
 }
 
@@ -136,11 +151,23 @@ impl<'a> Standpoint<'a> {
         }
     }
 
-    fn first_name(&self, edition: Edition, name: &[u8]) -> Reach
-        ensures { result ≡ spec.first_name self.now edition name.now }
+    /// Where a word leads down from a module, if it is a name.
+    fn down_word(&self, outer: usize, word: Word, name: &[u8]) -> Reach
+        ensures { result ≡ spec.down_word self.now outer word name.now }
+    {
+        if names_nothing(word) {
+            Reach::Nowhere
+        } else {
+            self.down(outer, name)
+        }
+    }
+
+    /// Where a name leads that a path begins with.
+    fn first_name(&self, edition: Edition, word: Word, name: &[u8]) -> Reach
+        ensures { result ≡ spec.first_name self.now edition word name.now }
     {
         match edition {
-            Edition::Edition2015 => self.down(0, name),
+            Edition::Edition2015 => self.down_word(0, word, name),
             _ => Reach::Nowhere,
         }
     }
@@ -151,19 +178,19 @@ impl<'a> Standpoint<'a> {
     {
         match word {
             Word::Crate => Reach::At(0),
-            Word::SelfValue => Reach::At(self.number),
+            Word::SelfValue => Reach::Up(self.number),
             Word::Super => up_to(parent_of(self.modules, self.number)),
-            _ => self.first_name(self.edition, name),
+            _ => self.first_name(self.edition, word, name),
         }
     }
 
-    /// Where a further word leads from a module.
-    fn next_word(&self, at: usize, word: Word, name: &[u8]) -> Reach
-        ensures { result ≡ spec.next_word self.now at word name.now }
+    /// Where a word leads behind `self` and `super`s.
+    fn upper_word(&self, at: usize, word: Word, name: &[u8]) -> Reach
+        ensures { result ≡ spec.upper_word self.now at word name.now }
     {
         match word {
             Word::Super => up_to(parent_of(self.modules, at)),
-            _ => self.down(at, name),
+            _ => self.down_word(at, word, name),
         }
     }
 
@@ -172,7 +199,9 @@ impl<'a> Standpoint<'a> {
     {
         match reach {
             Reach::Start => self.first_word(word, name),
-            Reach::At(number) => self.next_word(number, word, name),
+            Reach::Global => self.first_name(self.edition, word, name),
+            Reach::Up(number) => self.upper_word(number, word, name),
+            Reach::At(number) => self.down_word(number, word, name),
             Reach::Nowhere => Reach::Nowhere,
         }
     }
@@ -187,7 +216,7 @@ impl<'a> Standpoint<'a> {
             LexemeKind::Word(word) => self.word_behind(reach, word, name),
             kind => {
                 if is_colon(kind) {
-                    reach
+                    behind_colon(reach)
                 } else {
                     Reach::Nowhere
                 }

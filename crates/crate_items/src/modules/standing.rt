@@ -1,8 +1,10 @@
 //! Which items of a file a crate has, and in which module each stands.
-ghost use Rattle.std.specs.Prelude.{◌≡◌, ◌<◌, IfOk, length};
+ghost use Rattle.std.specs.Prelude.{◌≡◌, ◌<◌, IfOk, drop, length, slice_get};
 ghost use Rattle.crate_items.specs.Standings as spec;
 ghost use Rattle.item_tree.specs.CfgIfs as arms;
 ghost use Rattle.item_tree.specs.Children.{ByParent};
+ghost use Rattle.item_tree.specs.Heads as heads;
+ghost use Rattle.item_tree.specs.ItemParts.{begins_inner_attribute};
 
 use item_tree::attributes::Attributes;
 use item_tree::attributes::item_attributes::{inner_attributes, outer_attributes};
@@ -10,6 +12,8 @@ use item_tree::cfg::CfgOptions;
 use item_tree::items::item_kind::ItemKind;
 use item_tree::items::{Item, Range};
 use item_tree::lexer::children::children_of;
+use item_tree::lexer::lexeme::{Delimiter, Lexeme, LexemeKind};
+use item_tree::lexer::trees::{Tree, trees};
 use std::alloc::{AllocError, Global};
 use std::marker::Model;
 
@@ -29,6 +33,8 @@ pub struct Standing {
 pub(crate) struct View<'a> {
     pub(crate) options: &'a CfgOptions,
     pub(crate) text: &'a [u8],
+    pub(crate) lexemes: &'a [Lexeme],
+    pub(crate) partners: &'a [usize],
     pub(crate) attributes: &'a Attributes,
     /// The conditions that are active, by the options.
     pub(crate) active: &'a [bool],
@@ -45,11 +51,112 @@ impl<'a> Model for View<'a> {
     ghost view = { λ v. record {
       options = v.options.now;
       text = v.text.now;
+      lexemes = v.lexemes.now;
+      partners = v.partners.now;
       attributes = v.attributes.now;
       active = v.active.now;
       items = v.items.now;
       is_enabled = v.is_enabled;
     } };
+}
+
+/// The inner attributes that the body of the item of a number begins with.
+pub(crate) fn body_attributes(items: &[Item], number: usize, body: Option<Range>) -> Range
+    requires by_parent { ByParent items.now }
+    requires there { number < length items.now }
+    ensures { result ≡ spec.body_attributes items.now number body }
+{
+    match body {
+        None => Range {
+            first: 0,
+            behind: 0,
+        },
+        Some(body) => inner_attributes(body.first, children_of(items, number)),
+    }
+}
+
+/// The kind of the tree at a place; `Error` past the last.
+fn kind_at(trees: &[Tree], at: usize) -> LexemeKind
+    ensures { result ≡ heads.kind_at trees.now at }
+{
+    match trees.get(at) {
+        None => LexemeKind::Error,
+        Some(tree) => tree.kind,
+    }
+}
+
+/// Whether the first of some trees are an inner attribute.
+fn begins_attribute(trees: &[Tree]) -> bool
+    ensures { result ≡ begins_inner_attribute trees.now }
+{
+    matches!(kind_at(trees, 0), LexemeKind::Mark(b'#'))
+        && matches!(kind_at(trees, 1), LexemeKind::Mark(b'!'))
+        && matches!(kind_at(trees, 2), LexemeKind::Open(Delimiter::Bracket))
+}
+
+/// Where the tree at a place ends; a given end past the last.
+fn end_at(trees: &[Tree], at: usize, end: usize) -> usize
+    ensures { result ≡ spec.end_of (slice_get trees.now at) end }
+{
+    match trees.get(at) {
+        None => end,
+        Some(tree) => tree.behind,
+    }
+}
+
+/// The trees behind the first so many.
+fn behind(trees: &[Tree], count: usize) -> &[Tree]
+    ensures { result.now ≡ drop count trees.now }
+{
+    if count < trees.len() {
+        &trees[count..]
+    } else {
+        &[]
+    }
+}
+
+/// Where the inner attributes end that some trees begin with.
+fn leading_end(first: usize, trees: &[Tree]) -> usize
+    ensures { result ≡ spec.leading_end first trees.now }
+{
+    let mut end = first;
+    let mut rest = trees;
+    while begins_attribute(rest) {
+        end = end_at(rest, 2, end);
+        rest = behind(rest, 3);
+    }
+    end
+}
+
+fn begins_with_hash(lexemes: &[Lexeme], at: usize) -> bool
+    ensures { result ≡ spec.begins_with_hash (slice_get lexemes.now at) }
+{
+    match lexemes.get(at) {
+        None => false,
+        Some(lexeme) => matches!(lexeme.kind, LexemeKind::Mark(b'#')),
+    }
+}
+
+/// The inner attributes that the body of a function begins with.
+fn function_attributes(
+    alloc: Global,
+    lexemes: &[Lexeme],
+    partners: &[usize],
+    body: Range,
+) -> Result<Range, AllocError>
+    ensures { IfOk result (λ range. range ≡
+        spec.function_attributes lexemes.now partners.now body) }
+{
+    let first = body.first;
+    if !begins_with_hash(lexemes, first) {
+        return Ok(Range {
+            first,
+            behind: first,
+        });
+    }
+    let all = trees(alloc, lexemes, partners, first, body.behind)?;
+    let behind = leading_end(first, all.as_slice());
+    Ok(Range { first, behind })
 }
 
 impl<'a> View<'a> {
@@ -61,28 +168,29 @@ impl<'a> View<'a> {
             .is_cfg_enabled(self.options, self.text, self.active, range)
     }
 
-    /// Whether those may hold that the body of an item begins with.
-    fn inner_may_stand(&self, number: usize, body: Option<Range>) -> bool
+    /// The inner attributes that an item begins with, which is the one of a number.
+    fn inner_of(&self, alloc: Global, number: usize, item: Item) -> Result<Range, AllocError>
         requires by_parent { ByParent self.now.items }
         requires there { number < length self.now.items }
-        ensures { result ≡ spec.inner_may_stand self.now number body }
+        ensures { IfOk result
+            (λ range. range ≡ spec.inner_of self.now number item.kind item.body) }
     {
-        match body {
-            None => true,
-            Some(body) => {
-                let inner = inner_attributes(body.first, children_of(self.items, number));
-                self.may_stand(inner)
+        match (item.kind, item.body) {
+            (ItemKind::Function, Some(body)) => {
+                function_attributes(alloc, self.lexemes, self.partners, body)
             }
+            _ => Ok(body_attributes(self.items, number, item.body)),
         }
     }
 
     /// Whether an item's own `cfg`s may hold.
-    fn holds(&self, number: usize, item: Item) -> bool
+    fn holds(&self, alloc: Global, number: usize, item: Item) -> Result<bool, AllocError>
         requires by_parent { ByParent self.now.items }
         requires there { number < length self.now.items }
-        ensures { result ≡ spec.holds self.now number item }
+        ensures { IfOk result (λ holds. holds ≡ spec.holds self.now number item) }
     {
-        self.may_stand(outer_attributes(item)) && self.inner_may_stand(number, item.body)
+        let inner = self.inner_of(alloc, number, item)?;
+        Ok(self.may_stand(outer_attributes(item)) && self.may_stand(inner))
     }
 }
 
@@ -184,7 +292,7 @@ pub(crate) fn standings(alloc: Global, view: &View<'_>) -> Result<Vec<Standing>,
     let mut found: Vec<Standing> = Vec::new(alloc);
     let mut chosen = None;
     for (number, item) in view.items.iter().enumerate() {
-        let holds = view.holds(number, *item);
+        let holds = view.holds(alloc, number, *item)?;
         let outer = around(view, found.as_slice(), item.parent);
         found.push(standing_of(chosen, number, *item, holds, outer))?;
         chosen = chosen_behind(chosen, *item, holds);

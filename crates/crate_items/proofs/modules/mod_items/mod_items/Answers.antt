@@ -8,7 +8,7 @@ use Rattle.crate_items.proofs.modules.mod_items.mod_items.Goals as goal
 pub returns : goal.returns
 returns c =
     let sorted = c.sort_by_key.new.self.items in
-    let all : c.in_ok-mods.mods.items ≡ mods_from c.args.lexemes.now c.args.view.now c.args.standings.now 0 c.args.items.now = search rules in
+    let all : c.in_ok-mods.mods.items ≡ mods_from c.args.lexemes.now c.args.view.now c.args.standings.now 0 c.args.view.now.items = search rules in
     record {
       each_once = subst (λ (xs : List ModItem). IsPermutation xs sorted) all c.in_ok-sort_by_key.ensures.permutation;
       in_order = c.in_ok-sort_by_key.ensures.sorted place (answers_always _ _ _ (λ f a r g h. search rules));

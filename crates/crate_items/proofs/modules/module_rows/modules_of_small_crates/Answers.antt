@@ -14,4 +14,7 @@ returns c = record {
   arms = refl;
   shown = refl;
   shown_in_2015 = refl;
+  wrong = refl;
+  wrong_in_2015 = refl;
+  path_within = refl;
 }
