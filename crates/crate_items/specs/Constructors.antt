@@ -1,5 +1,6 @@
 -- Whom the constructors of structs are shown to.
-use Rattle.std.specs.Prelude.{ℕ, Bool, true, false, List, Option, Some, None, fold, length, nat_lt, slice_get, if◌then◌else◌}
+use Rattle.std.specs.Prelude.{ℕ, Bool, true, false, List, Option, Some, None, fold, length, nat_lt, slice_get, ◌&&◌, if◌then◌else◌}
+use Rattle.std.specs.List.{list_any}
 use Rattle.crate_items.specs.DeclaredFields.{field_written, is_left}
 use Rattle.crate_items.specs.DeclaredItems.{written}
 use Rattle.crate_items.specs.declared.items.constructor.WrittenVisibility.{WrittenVisibility}
@@ -7,12 +8,15 @@ use Rattle.crate_items.specs.declared.items.declared_item.DeclaredItem.{Declared
 use Rattle.crate_items.specs.declared.modules.module_visibility.DeclaredVisibility.{DeclaredVisibility}
 use Rattle.crate_items.specs.declared.modules.module_visibility.DeclaredVisibility.TheVariants.{Public, Within}
 use Rattle.crate_items.specs.Files.{SourceFile, text_of}
+use Rattle.crate_items.specs.ItemAttributes.{item_attributes}
 use Rattle.crate_items.specs.ModuleVisibilities.{visibility_in}
 use Rattle.crate_items.specs.Modules.{Listing}
 use Rattle.crate_items.specs.Sources.{Source, source_at}
 use Rattle.dm_base.specs.declared.edition.Edition.{Edition}
 use Rattle.item_tree.specs.Fields.{item_fields}
 use Rattle.item_tree.specs.Members.{members_of}
+use Rattle.item_tree.specs.declared.attributes.attribute_kind.AttributeKind.{AttributeKind}
+use Rattle.item_tree.specs.declared.attributes.attribute_kind.AttributeKind.TheVariants as says
 use Rattle.item_tree.specs.declared.cfg.CfgAtom.{CfgAtom}
 use Rattle.item_tree.specs.declared.items.item_kind.ItemKind.{ItemKind}
 use Rattle.item_tree.specs.declared.items.item_kind.ItemKind.TheVariants as item
@@ -22,7 +26,7 @@ use Rattle.item_tree.specs.declared.items.members.FieldsShape.{FieldsShape}
 use Rattle.item_tree.specs.declared.items.members.FieldsShape.TheVariants as shape
 use Rattle.item_tree.specs.declared.items.members.Member.{Member}
 use Rattle.item_tree.specs.declared.items.members.MemberKind.TheVariants.{TupleField}
-use Rattle.item_tree.specs.declared.items.visibility.RawVisibility.TheVariants.{Inherited}
+use Rattle.item_tree.specs.declared.items.visibility.RawVisibility.TheVariants.{Inherited, PubCrate}
 
 -- One visibility shows to fewer than another. Both are those of one module, so that the modules which they name stand in
 -- each other: the inner one is listed behind the outer. One that leads nowhere shows to all.
@@ -67,10 +71,28 @@ abbrev pub of_source : List CfgAtom → Edition → Listing → List ℕ → Opt
 of_source options edition l text None i n shown = record { written = Inherited; shown = shown }
 of_source options edition l text (Some s) i n shown = of_known options edition l text s n shown (slice_get s.items i)
 
--- The constructor of a struct is shown to those to whom the struct is shown, and each of its fields that the crate has. What
--- is no struct with fields in parentheses has its own visibility.
-abbrev pub constructor_visibility : List CfgAtom → Edition → Listing → List SourceFile → DeclaredItem → WrittenVisibility
-constructor_visibility options edition l files x =
+-- by the item and its fields alone
+abbrev pub by_fields : List CfgAtom → Edition → Listing → List SourceFile → DeclaredItem → WrittenVisibility
+by_fields options edition l files x =
     if nat_lt x.«module» (length l.modules)
     then of_source options edition l (text_of files x.file) (source_at l.sources x.file) x.item x.«module» x.visibility
     else record { written = Inherited; shown = x.visibility }
+
+abbrev pub is_non_exhaustive : AttributeKind → Bool
+is_non_exhaustive says.NonExhaustive = true
+is_non_exhaustive _ = false
+
+abbrev pub is_struct : ItemKind → Bool
+is_struct item.Struct = true
+is_struct _ = false
+
+abbrev pub within_crate : WrittenVisibility
+within_crate = record { written = PubCrate; shown = Some (Within 0) }
+
+-- The constructor of a struct is shown to those to whom the struct is shown, and each of its fields that the crate has; under
+-- `#[non_exhaustive]` within the crate alone. What is no struct has its own visibility.
+abbrev pub constructor_visibility : List CfgAtom → Edition → Listing → List SourceFile → DeclaredItem → WrittenVisibility
+constructor_visibility options edition l files x =
+    if is_struct x.kind && list_any is_non_exhaustive (item_attributes l x)
+    then lesser (by_fields options edition l files x) within_crate
+    else by_fields options edition l files x

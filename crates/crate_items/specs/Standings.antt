@@ -1,12 +1,18 @@
 -- Which items of a file a crate has, and in which module each stands.
-use Rattle.std.specs.Prelude.{◌==◌, ◌+◌, ◌&&◌, ℕ, Bool, true, false, not, List, [], ◌∷◌, ◌++◌, Option, Some, None, slice_get, if◌then◌else◌}
+use Rattle.std.specs.Prelude.{◌==◌, ◌+◌, ◌&&◌, ℕ, Bool, true, false, not, List, [], ◌∷◌, ◌++◌, ◌||◌, Option, Some, None, codes, slice_get, if◌then◌else◌}
+use Rattle.std.specs.List.{list_any}
+use Rattle.std.specs.Option.{option_map_or}
 use Rattle.crate_items.specs.declared.modules.standing.Standing.{Standing}
-use Rattle.item_tree.specs.Attributes.{Table}
+use Rattle.item_tree.specs.Attributes.{Table, is_active}
+use Rattle.item_tree.specs.Cfg.{has_flag}
 use Rattle.item_tree.specs.CfgIfs.{is_arm}
 use Rattle.item_tree.specs.Children.{children_of}
 use Rattle.item_tree.specs.Heads.{is_bracket, is_mark}
-use Rattle.item_tree.specs.ItemAttributes.{inner_range, is_cfg_enabled, outer_range}
+use Rattle.item_tree.specs.ItemAttributes.{attributes_in, inner_range, is_cfg_enabled, outer_range}
 use Rattle.item_tree.specs.Trees.{trees_of}
+use Rattle.item_tree.specs.declared.attributes.attribute_kind.AttributeKind.{AttributeKind}
+use Rattle.item_tree.specs.declared.attributes.attribute_kind.AttributeKind.TheVariants as says
+use Rattle.item_tree.specs.declared.attributes.Attribute.{Attribute}
 use Rattle.item_tree.specs.declared.cfg.CfgAtom.{CfgAtom}
 use Rattle.item_tree.specs.declared.items.item_kind.ItemKind.{ItemKind}
 use Rattle.item_tree.specs.declared.items.item_kind.ItemKind.TheVariants as item
@@ -66,9 +72,52 @@ abbrev pub inner_of : View → ℕ → ItemKind → Option Range → Range
 inner_of v n item.Function (Some body) = function_attributes v.lexemes v.partners body
 inner_of v n _ body = body_attributes v.items n body
 
--- an item's own `cfg`s may hold: its outer ones, and the inner ones that its body begins with
+-- ---- Tests
+
+abbrev pub is_test_kind : AttributeKind → Bool
+is_test_kind says.Test = true
+is_test_kind says.Bench = true
+is_test_kind _ = false
+
+-- an attribute that is active makes a test of a function
+abbrev pub makes_test : List Bool → Attribute → Bool
+makes_test active a = is_active active a.condition && is_test_kind a.kind
+
+abbrev pub has_test : View → Range → Bool
+has_test v r = list_any (makes_test v.active) (attributes_in r v.attributes.attributes)
+
+-- these have members, of which none is a test
+abbrev pub has_members : ItemKind → Bool
+has_members item.Trait = true
+has_members item.Impl = true
+has_members item.ExternBlock = true
+has_members _ = false
+
+abbrev pub is_member : List Item → Option ℕ → Bool
+is_member items None = false
+is_member items (Some p) = option_map_or (λ (o : Item). has_members o.kind) (slice_get items p) false
+
+abbrev pub is_function : ItemKind → Bool
+is_function item.Function = true
+is_function _ = false
+
+-- A function under `#[test]` or `#[bench]`, or whose body begins with such a one, is a test. On what is no function of a
+-- module these are errors, and it stays.
+abbrev pub is_test : View → Item → Range → Bool
+is_test v x inner =
+    is_function x.kind && not (is_member v.items x.parent) && (has_test v (outer_range x) || has_test v inner)
+
+-- a crate has its tests where it is built with the option `test`
+abbrev pub is_built : View → Item → Range → Bool
+is_built v x inner = not (is_test v x inner) || has_flag v.options (codes "test")
+
+-- an item's own `cfg`s may hold: its outer ones, and the inner ones that its body begins with; and it is no test of a crate
+-- that is built without
+abbrev pub holds_with : View → Item → Range → Bool
+holds_with v x inner = may_stand v (outer_range x) && may_stand v inner && is_built v x inner
+
 abbrev pub holds : View → ℕ → Item → Bool
-holds v n x = may_stand v (outer_range x) && may_stand v (inner_of v n x.kind x.body)
+holds v n x = holds_with v x (inner_of v n x.kind x.body)
 
 -- a `cfg_if!` and its arms: what is in them stands in the module around
 abbrev pub is_part_of_cfg_if : ItemKind → Bool

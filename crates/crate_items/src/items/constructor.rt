@@ -1,15 +1,19 @@
 //! Whom the constructors of structs are shown to.
-ghost use Rattle.std.specs.Prelude.{◌≡◌, ◌<◌, IfOk, fold, length, slice_get};
+ghost use Rattle.std.specs.Prelude.{◌≡◌, ◌<◌, ◌&&◌, IfOk, fold, length, slice_get};
+ghost use Rattle.std.specs.List.{list_any};
+ghost use Rattle.crate_items.specs.ItemAttributes.{item_attributes};
 ghost use Rattle.crate_items.specs.Constructors as spec;
 
 use crate::files::file_table::FileTable;
 use crate::files::source::Source;
 use crate::items::declared_field::{field_written, is_left};
 use crate::items::declared_item::{DeclaredItem, written};
+use crate::items::item_attributes::item_attributes;
 use crate::items::lookups::{item_at, text_of};
 use crate::modules::CrateModules;
 use crate::modules::module_visibility::DeclaredVisibility;
 use dm_base::source::Edition;
+use item_tree::attributes::attribute_kind::AttributeKind;
 use item_tree::cfg::CfgOptions;
 use item_tree::items::Item;
 use item_tree::items::fields::item_fields;
@@ -200,13 +204,8 @@ fn of_known(
     }
 }
 
-/// Whom the constructor of a struct is shown to: those to whom the struct is shown, and each of its fields that the crate
-/// has, by its options. Of any other item that is its own visibility. It is the rule of the Rust Reference on tuple structs.
-///
-/// # Errors
-///
-/// Fails only where memory runs out.
-pub fn constructor_visibility(
+/// Whom the constructor of a struct is shown to, by the struct and its fields alone.
+fn by_fields(
     alloc: Global,
     options: &CfgOptions,
     edition: Edition,
@@ -214,8 +213,8 @@ pub fn constructor_visibility(
     files: &FileTable,
     item: &DeclaredItem,
 ) -> Result<WrittenVisibility, AllocError>
-    ensures { IfOk result (λ least. least
-        ≡ spec.constructor_visibility options.now edition list.now files.now item.now) }
+    ensures { IfOk result
+        (λ least. least ≡ spec.by_fields options.now edition list.now files.now item.now) }
 {
     let own = WrittenVisibility {
         written: RawVisibility::Inherited,
@@ -235,5 +234,59 @@ pub fn constructor_visibility(
             source,
             item,
         ),
+    }
+}
+
+fn is_non_exhaustive(kind: AttributeKind) -> bool
+    ensures { result ≡ spec.is_non_exhaustive kind }
+{
+    matches!(kind, AttributeKind::NonExhaustive)
+}
+
+/// Whether an item is a struct under `#[non_exhaustive]`.
+fn is_open_struct(
+    alloc: Global,
+    list: &CrateModules,
+    item: &DeclaredItem,
+) -> Result<bool, AllocError>
+    ensures { IfOk result (λ is_so. is_so ≡
+        (spec.is_struct item.now.kind && list_any spec.is_non_exhaustive (item_attributes list.now item.now))) }
+{
+    match item.kind {
+        ItemKind::Struct => {
+            let kinds = item_attributes(alloc, list, item)?;
+            Ok(kinds.iter().any(|kind| is_non_exhaustive(*kind)))
+        }
+        _ => Ok(false),
+    }
+}
+
+/// Whom the constructor of a struct is shown to: those to whom the struct is shown, and each of its fields that the crate
+/// has, by its options; under `#[non_exhaustive]` the crate alone. Of any other item that is its own visibility. These are
+/// the rules of the Rust Reference on tuple structs, and on that attribute.
+///
+/// # Errors
+///
+/// Fails only where memory runs out.
+pub fn constructor_visibility(
+    alloc: Global,
+    options: &CfgOptions,
+    edition: Edition,
+    list: &CrateModules,
+    files: &FileTable,
+    item: &DeclaredItem,
+) -> Result<WrittenVisibility, AllocError>
+    ensures { IfOk result (λ least. least
+        ≡ spec.constructor_visibility options.now edition list.now files.now item.now) }
+{
+    let visibility = by_fields(alloc, options, edition, list, files, item)?;
+    if is_open_struct(alloc, list, item)? {
+        let crate_alone = WrittenVisibility {
+            written: RawVisibility::PubCrate,
+            shown: Some(DeclaredVisibility::Within(0)),
+        };
+        Ok(lesser(visibility, crate_alone))
+    } else {
+        Ok(visibility)
     }
 }

@@ -1,13 +1,15 @@
 //! Which items of a file a crate has, and in which module each stands.
 ghost use Rattle.std.specs.Prelude.{◌≡◌, ◌<◌, IfOk, drop, length, slice_get};
+ghost use Rattle.std.specs.List.{list_any};
 ghost use Rattle.crate_items.specs.Standings as spec;
 ghost use Rattle.item_tree.specs.CfgIfs as arms;
 ghost use Rattle.item_tree.specs.Children.{ByParent};
 ghost use Rattle.item_tree.specs.Heads as heads;
 ghost use Rattle.item_tree.specs.ItemParts.{begins_inner_attribute};
 
-use item_tree::attributes::Attributes;
+use item_tree::attributes::attribute_kind::AttributeKind;
 use item_tree::attributes::item_attributes::{inner_attributes, outer_attributes};
+use item_tree::attributes::{Attribute, Attributes, is_active};
 use item_tree::cfg::CfgOptions;
 use item_tree::items::item_kind::ItemKind;
 use item_tree::items::{Item, Range};
@@ -159,7 +161,74 @@ fn function_attributes(
     Ok(Range { first, behind })
 }
 
+fn is_test_kind(kind: AttributeKind) -> bool
+    ensures { result ≡ spec.is_test_kind kind }
+{
+    matches!(kind, AttributeKind::Test | AttributeKind::Bench)
+}
+
+/// Whether an attribute, if it is active, makes a test of a function.
+fn makes_test(active: &[bool], attribute: Attribute) -> bool
+    ensures { result ≡ spec.makes_test active.now attribute }
+{
+    is_active(active, attribute.condition) && is_test_kind(attribute.kind)
+}
+
+/// Whether one of some attributes does.
+fn any_makes_test(active: &[bool], attributes: &[Attribute]) -> bool
+    ensures { result ≡ list_any (spec.makes_test active.now) attributes.now }
+{
+    attributes
+        .iter()
+        .any(|attribute| makes_test(active, *attribute))
+}
+
+fn has_members(kind: ItemKind) -> bool
+    ensures { result ≡ spec.has_members kind }
+{
+    matches!(
+        kind,
+        ItemKind::Trait | ItemKind::Impl | ItemKind::ExternBlock
+    )
+}
+
+/// Whether what is in an item, if it is in one, is a member of that.
+fn is_member(items: &[Item], parent: Option<usize>) -> bool
+    ensures { result ≡ spec.is_member items.now parent }
+{
+    match parent {
+        None => false,
+        Some(place) => match items.get(place) {
+            None => false,
+            Some(outer) => has_members(outer.kind),
+        },
+    }
+}
+
 impl<'a> View<'a> {
+    /// Whether an active `test` or `bench` begins in a range.
+    fn has_test(&self, range: Range) -> bool
+        ensures { result ≡ spec.has_test self.now range }
+    {
+        any_makes_test(self.active, self.attributes.attributes_in(range))
+    }
+
+    /// Whether an item is a test, whose body begins with the attributes of a range.
+    fn is_test(&self, item: Item, inner: Range) -> bool
+        ensures { result ≡ spec.is_test self.now item inner }
+    {
+        matches!(item.kind, ItemKind::Function)
+            && !is_member(self.items, item.parent)
+            && (self.has_test(outer_attributes(item)) || self.has_test(inner))
+    }
+
+    /// Whether the crate is built with the item, if it is a test.
+    fn is_built(&self, item: Item, inner: Range) -> bool
+        ensures { result ≡ spec.is_built self.now item inner }
+    {
+        !self.is_test(item, inner) || self.options.has_flag(b"test".as_slice())
+    }
+
     /// Whether each `cfg` that begins in a range may hold.
     pub(crate) fn may_stand(&self, range: Range) -> bool
         ensures { result ≡ spec.may_stand self.now range }
@@ -183,14 +252,18 @@ impl<'a> View<'a> {
         }
     }
 
-    /// Whether an item's own `cfg`s may hold.
+    /// Whether an item's own `cfg`s may hold, and it is no test of a crate that is built without.
     fn holds(&self, alloc: Global, number: usize, item: Item) -> Result<bool, AllocError>
         requires by_parent { ByParent self.now.items }
         requires there { number < length self.now.items }
         ensures { IfOk result (λ holds. holds ≡ spec.holds self.now number item) }
     {
         let inner = self.inner_of(alloc, number, item)?;
-        Ok(self.may_stand(outer_attributes(item)) && self.may_stand(inner))
+        Ok(
+            self.may_stand(outer_attributes(item))
+                && self.may_stand(inner)
+                && self.is_built(item, inner),
+        )
     }
 }
 
