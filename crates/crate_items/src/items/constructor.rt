@@ -243,6 +243,12 @@ fn is_non_exhaustive(kind: AttributeKind) -> bool
     matches!(kind, AttributeKind::NonExhaustive)
 }
 
+fn any_non_exhaustive(kinds: &[AttributeKind]) -> bool
+    ensures { result ≡ list_any spec.is_non_exhaustive kinds.now }
+{
+    kinds.iter().any(|kind| is_non_exhaustive(*kind))
+}
+
 /// Whether an item is a struct under `#[non_exhaustive]`.
 fn is_open_struct(
     alloc: Global,
@@ -255,7 +261,7 @@ fn is_open_struct(
     match item.kind {
         ItemKind::Struct => {
             let kinds = item_attributes(alloc, list, item)?;
-            Ok(kinds.iter().any(|kind| is_non_exhaustive(*kind)))
+            Ok(any_non_exhaustive(kinds.as_slice()))
         }
         _ => Ok(false),
     }
