@@ -11,6 +11,7 @@ BEHIND = "unknown names behind globs"
 ATTRIBUTES = "attributes of imports"
 SINCE = "names that the library has only since its sources"
 # What is forgiven of a leaf that else means the same.
+BRACED = "variants with braces, which the older rustc has as values"
 MOVED = "definitions of the library that stood elsewhere in its sources"
 LIBRARIES = ("core", "alloc", "std")
 PROCEDURAL = "procedural macros by their crates alone"
@@ -102,6 +103,12 @@ def by_names(meant):
     return {replace(it, path=it.path.rpartition("::")[2]) if is_of_library(it) else it for it in meant}
 
 
+def without_braced(theirs, ours):
+    """What rustc found, without the values of variants that are types alone: rustc 1.63 has such of those with braces."""
+    return {it for it in theirs if it in ours or (it.namespace, it.kind) != ("value", "variant")
+            or replace(it, namespace="type") not in ours}
+
+
 def reason_by_module(home, known):
     """Why a module has other names by rustc; None where that is not known. A probe stands within the module."""
     modules = {home, home.rpartition("::")[0]}
@@ -155,6 +162,9 @@ def compare_leaf(outcome, where, leaf, one, known):
     if one is not None and meant == theirs:
         if one.meant != leaf.meant:
             outcome.count(PROCEDURAL)
+        return
+    if one is not None and known.is_library and meant == without_braced(theirs, meant):
+        outcome.count(BRACED)
         return
     if one is not None and not known.is_library and by_names(meant) == by_names(theirs):
         outcome.count(MOVED)

@@ -8,7 +8,7 @@ from dataclasses import asdict, dataclass, field
 
 from cargo_builds import DEBIAN_RUSTC, PASSES, RUSTC, read_text
 from judging import ROOT
-from real_answers import ATTRIBUTES, BEHIND, INJECTED, MOVED, PROCEDURAL, SINCE, TESTS
+from real_answers import ATTRIBUTES, BEHIND, BRACED, INJECTED, MOVED, PROCEDURAL, SINCE, TESTS
 
 PAGE = f"{ROOT}/docs/REAL-CRATES.md"
 SHARES = f"{ROOT}/tools/real-crates/shares"
@@ -146,7 +146,7 @@ def time_table(rows):
 
 def limits(rows):
     """What cannot be right without expansion, or is another thing by decision, with the number of places."""
-    reasons = (TESTS, INJECTED, BEHIND, ATTRIBUTES, PROCEDURAL, MOVED, SINCE)
+    reasons = (TESTS, INJECTED, BEHIND, ATTRIBUTES, PROCEDURAL, MOVED, SINCE, BRACED)
     places = {reason: sum(it.reasons.get(reason, 0) for it in rows) for reason in reasons}
     unknown, brought = sum(it.unknown for it in rows), sum(it.brought for it in rows)
     names, partly = sum(it.unknown_names for it in rows), sum(it.partly + it.partly_names for it in rows)
@@ -161,7 +161,8 @@ def limits(rows):
         ["names of the standard library that rustc binds in roots of edition 2015: absent", places[INJECTED]],
         ["procedural macros, of which the crates alone are compared, not the names", places[PROCEDURAL]],
         ["definitions of the standard library that stand elsewhere in rustc's than in the sources, compared by name", places[MOVED]],
-        ["names that rustc's standard library has, and that of the sources not yet", places[SINCE]]])
+        ["names that rustc's standard library has, and that of the sources not yet", places[SINCE]],
+        ["variants with braces in the libraries, which rustc 1.63 has as values and rustc 1.95 has not", places[BRACED]]])
 
 
 def version(rustc):
