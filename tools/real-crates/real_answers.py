@@ -9,7 +9,7 @@ TESTS = "tests"
 INJECTED = "injected crates"
 BEHIND = "unknown names behind globs"
 ATTRIBUTES = "attributes of imports"
-SINCE = "names that the library has only since its sources"
+SINCE = "names that one of two standard libraries has"
 # What is forgiven of a leaf that else means the same.
 BRACED = "variants with braces, which the older rustc has as values"
 MOVED = "definitions of the library that stood elsewhere in its sources"
@@ -98,9 +98,14 @@ def is_of_library(meant):
     return meant.path.split("::")[0] in LIBRARIES
 
 
-def by_names(meant):
-    """Definitions of the standard library by their names alone: rustc has a later one than the sources are of."""
-    return {replace(it, path=it.path.rpartition("::")[2]) if is_of_library(it) else it for it in meant}
+def without_library(meant):
+    """What is meant outside of the standard library, of which rustc has a later one than the sources are of."""
+    return {it for it in meant if not is_of_library(it)}
+
+
+def library_names(meant):
+    """The definitions of the standard library by their names alone, as they moved, or became types of their own."""
+    return {(it.namespace, it.path.rpartition("::")[2]) for it in meant if is_of_library(it)}
 
 
 def without_braced(theirs, ours):
@@ -121,8 +126,6 @@ def reason_for(where, theirs, ours, known):
         return BEHIND
     if not ours and theirs and theirs <= known.injected:
         return INJECTED
-    if not ours and theirs and all(map(is_of_library, theirs)) and not known.is_library:
-        return SINCE
     return TESTS if theirs == {it for it in ours if it.kind != "fn" or it.path not in known.tests} else None
 
 
@@ -166,8 +169,8 @@ def compare_leaf(outcome, where, leaf, one, known):
     if one is not None and known.is_library and meant == without_braced(theirs, meant):
         outcome.count(BRACED)
         return
-    if one is not None and not known.is_library and by_names(meant) == by_names(theirs):
-        outcome.count(MOVED)
+    if one is not None and not known.is_library and without_library(meant) == without_library(theirs):
+        outcome.count(MOVED if library_names(meant) == library_names(theirs) else SINCE)
         return
     if one is not None and one.has_more and is_part(meant, theirs):
         outcome.partly += 1

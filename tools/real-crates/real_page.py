@@ -160,8 +160,8 @@ def limits(rows):
         ["names that a macro by attribute brings or takes, of a module where one stands at a `use` or an `extern` block", places[ATTRIBUTES]],
         ["names of the standard library that rustc binds in roots of edition 2015: absent", places[INJECTED]],
         ["procedural macros, of which the crates alone are compared, not the names", places[PROCEDURAL]],
-        ["definitions of the standard library that stand elsewhere in rustc's than in the sources, compared by name", places[MOVED]],
-        ["names that rustc's standard library has, and that of the sources not yet", places[SINCE]],
+        ["definitions of the standard library that stand elsewhere in rustc's than in the sources, or are of another kind there: compared by name", places[MOVED]],
+        ["names of the standard library that rustc's has and that of the sources has not, or the other way", places[SINCE]],
         ["variants with braces in the libraries, which rustc 1.63 has as values and rustc 1.95 has not", places[BRACED]]])
 
 
