@@ -27,6 +27,7 @@ class Row:
     unknown: int = 0
     partly: int = 0
     brought: int = 0
+    alone: int = 0  # of what `defmap` lists, and rustc prints no leaf
     modules: int = 0
     names: int = 0
     bound: int = 0
@@ -66,7 +67,7 @@ class Row:
         reasons = "".join(f", {count} of {reason}" for reason, count in sorted(self.reasons.items()))
         return (f"{self.imports} imports, {self.globs} globs, {self.compared} compared, {self.unknown} unknown, "
                 f"{self.partly} partly, "
-                f"{self.brought} in modules of macros; {self.names} names of {self.modules} modules, {self.bound} bound, "
+                f"{self.brought} in modules of macros, {self.alone} of `defmap` alone; {self.names} names of {self.modules} modules, {self.bound} bound, "
                 f"{self.unknown_names} unknown, {self.partly_names} partly{reasons}; "
                 f"{'supported' if self.is_supported else 'not supported'}; {len(self.differing)} differ")
 
@@ -153,6 +154,7 @@ def limits(rows):
     return table(["what", "places"], [
         ["imports that lead nowhere, where a macro that is called may bring what they name: `unknown`", unknown],
         ["imports in modules that a macro brings, as those of `cfg_if!`, or in the text of its call, or in what `include!` reads: not read", brought],
+        ["imports that `defmap` lists, and rustc prints nothing of, as those in bodies: not compared", sum(it.alone for it in rows)],
         ["names of the modules asked about that a macro may bring: `unknown`", names],
         ["imports and names that mean more in another namespace, by a macro: `more unknown`", partly],
         ["functions that an attribute as `#[test]` takes away, which are bound", places[TESTS]],
