@@ -15,7 +15,8 @@ abbrev pub is_item : ItemKind → Bool
 is_item item.Error = false
 is_item item.InnerAttribute = false
 is_item item.CfgIf = false
-is_item item.CfgIfArm = false
+is_item item.CfgSelect = false
+is_item item.CfgArm = false
 is_item _ = true
 
 abbrev pub is_block_kind : ItemKind → Bool

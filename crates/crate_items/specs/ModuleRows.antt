@@ -15,6 +15,8 @@ use Rattle.crate_items.specs.declared.modules.standing.Standing.{Standing}
 use Rattle.dm_base.specs.declared.edition.Edition.TheVariants.{Edition2015, Edition2021}
 use Rattle.item_tree.specs.declared.attributes.attribute_kind.AttributeKind.TheVariants.{Cfg, Path}
 use Rattle.item_tree.specs.declared.attributes.Attribute.{Attribute}
+use Rattle.item_tree.specs.declared.cfg.CfgAtom.{CfgAtom}
+use Rattle.item_tree.specs.declared.cfg.CfgAtom.TheVariants.{Flag}
 use Rattle.item_tree.specs.declared.cfg.CfgNode.TheVariants.{False}
 use Rattle.item_tree.specs.declared.items.item_kind.ItemKind.{ItemKind}
 use Rattle.item_tree.specs.declared.items.item_kind.ItemKind.TheVariants as item
@@ -111,9 +113,9 @@ abbrev pub arms : List Item
 arms =
     item_of item.CfgIf None 0 0
     ∷ item_of item.Mod None 30 30
-    ∷ item_of item.CfgIfArm (Some 0) 2 9
-    ∷ item_of item.CfgIfArm (Some 0) 12 12
-    ∷ item_of item.CfgIfArm (Some 0) 20 20
+    ∷ item_of item.CfgArm (Some 0) 2 9
+    ∷ item_of item.CfgArm (Some 0) 12 12
+    ∷ item_of item.CfgArm (Some 0) 20 20
     ∷ item_of item.Function (Some 1) 31 31
     ∷ item_of item.Function (Some 2) 10 10
     ∷ item_of item.Function (Some 3) 13 13
@@ -169,6 +171,31 @@ word_at w start len = record { kind = kind.Word w; start = start; len = len }
 
 abbrev pub colon_at : ℕ → Lexeme
 colon_at start = record { kind = kind.Mark 58; start = start; len = 1 }
+
+-- a `cfg_select!` with arms under `a`, `b` and `_`
+abbrev pub select_arm : ℕ → Item
+select_arm n = record (item_of item.CfgArm (Some 0) n n) { qualifiers = n; word = n + 1 }
+
+abbrev pub select_arms : List CfgAtom → List Standing
+select_arms options =
+    standings (record {
+      options = options;
+      text = codes "a b _";
+      lexemes = word_at word.Other 0 1 ∷ word_at word.Other 2 1 ∷ word_at word.Underscore 4 1 ∷ [];
+      partners = [];
+      attributes = record { attributes = []; conditions = []; nodes = []; errors = [] };
+      active = [];
+      items = item_of item.CfgSelect None 0 0 ∷ select_arm 0 ∷ select_arm 1 ∷ select_arm 2 ∷ [];
+      is_enabled = true;
+    })
+
+-- the first is taken that holds
+abbrev pub SelectArms : Type 0
+SelectArms =
+    map select_arms ((Flag (codes "b") ∷ []) ∷ [] ∷ [])
+    ≡ (stands None None true ∷ stands None None false ∷ stands None None true ∷ stands None None false ∷ [])
+    ∷ (stands None None true ∷ stands None None false ∷ stands None None false ∷ stands None None true ∷ [])
+    ∷ []
 
 abbrev pub lexemes : List Lexeme
 lexemes =

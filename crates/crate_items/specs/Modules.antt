@@ -18,7 +18,8 @@ use Rattle.crate_items.specs.declared.modules.ModulesError.TheVariants.{TooManyM
 use Rattle.dm_base.specs.Names.{Name}
 use Rattle.dm_base.specs.declared.ids.FileId.{FileId}
 use Rattle.dm_base.specs.declared.edition.Edition.{Edition}
-use Rattle.item_tree.specs.Spans.{name_text, string_text}
+use Rattle.item_tree.specs.Spans.{name_text}
+use Rattle.item_tree.specs.Strings.{string_value}
 use Rattle.item_tree.specs.declared.cfg.CfgAtom.{CfgAtom}
 use Rattle.unicode_normalization.specs.Forms.{nfc}
 
@@ -92,10 +93,11 @@ normalized text = if list_all is_ascii text then text else encode_utf8_all (nfc 
 abbrev pub as_name : List ℕ → Option Name
 as_name bytes = if is_utf8 bytes then Some (normalized bytes) else None
 
+-- a `#[path]` is what its string stands for
 abbrev pub found_as : List SourceFile → ℕ → Module → ModItem → Option Name → Found
 found_as files n m x None = Nothing
 found_as files n m x (Some name) =
-    by_kind files m x.is_outline (declared_by n m x name) (option_map (string_text (text_of files m.file)) x.path)
+    by_kind files m x.is_outline (declared_by n m x name) (option_map (string_value (text_of files m.file)) x.path)
 
 -- what an item leads to that stands in the module of a number
 abbrev pub found_of : List SourceFile → ℕ → Module → ModItem → Found

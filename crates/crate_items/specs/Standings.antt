@@ -1,10 +1,11 @@
 -- Which items of a file a crate has, and in which module each stands.
-use Rattle.std.specs.Prelude.{◌==◌, ◌+◌, ◌&&◌, ℕ, Bool, true, false, not, List, [], ◌∷◌, ◌++◌, ◌||◌, Option, Some, None, codes, slice_get, if◌then◌else◌}
+use Rattle.std.specs.Prelude.{◌==◌, ◌+◌, ◌&&◌, ℕ, Bool, true, false, not, List, [], ◌∷◌, ◌++◌, ◌||◌, Option, Some, None, codes, length, nat_lt, slice_get, if◌then◌else◌}
 use Rattle.std.specs.List.{list_any}
 use Rattle.std.specs.Option.{option_map_or}
 use Rattle.crate_items.specs.declared.modules.standing.Standing.{Standing}
-use Rattle.item_tree.specs.Attributes.{Table, is_active}
-use Rattle.item_tree.specs.Cfg.{has_flag}
+use Rattle.item_tree.specs.AttributeKinds.{lexemes_in}
+use Rattle.item_tree.specs.Attributes.{Table, is_active, may_hold, nodes_of, read}
+use Rattle.item_tree.specs.Cfg.{has_flag, value_of}
 use Rattle.item_tree.specs.CfgIfs.{is_arm}
 use Rattle.item_tree.specs.Children.{children_of}
 use Rattle.item_tree.specs.Heads.{is_bracket, is_mark}
@@ -19,7 +20,10 @@ use Rattle.item_tree.specs.declared.items.item_kind.ItemKind.TheVariants as item
 use Rattle.item_tree.specs.declared.items.Item.{Item}
 use Rattle.item_tree.specs.declared.items.Range.{Range}
 use Rattle.item_tree.specs.declared.lexer.lexeme.Lexeme.{Lexeme}
+use Rattle.item_tree.specs.declared.lexer.lexeme.LexemeKind.{LexemeKind}
+use Rattle.item_tree.specs.declared.lexer.lexeme.LexemeKind.TheVariants.{Word}
 use Rattle.item_tree.specs.declared.lexer.trees.Tree.{Tree}
+use Rattle.item_tree.specs.declared.lexer.word.Word.TheVariants as word
 
 -- a file as a crate reads it: the crate's options, the text, its lexemes with their partners, the
 -- attributes, their active conditions, the items, and whether each `cfg` may hold that it begins with
@@ -111,23 +115,42 @@ is_test v x inner =
 abbrev pub is_built : View → Item → Range → Bool
 is_built v x inner = not (is_test v x inner) || has_flag v.options (codes "test")
 
--- an item's own `cfg`s may hold: its outer ones, and the inner ones that its body begins with; and it is no test of a crate
--- that is built without
+-- ---- Arms of `cfg_select!`
+
+abbrev pub is_underscore : LexemeKind → Bool
+is_underscore (Word word.Underscore) = true
+is_underscore _ = false
+
+-- `_`, which always holds
+abbrev pub is_wildcard : List Lexeme → Bool
+is_wildcard ls = length ls == 1 && option_map_or (λ (l : Lexeme). is_underscore l.kind) (slice_get ls 0) false
+
+-- some lexemes are a predicate that may hold, as that of a `cfg` does
+abbrev pub predicate_holds : View → Range → Bool
+predicate_holds v r = is_wildcard (lexemes_in v.lexemes r) || may_hold (value_of v.options v.text None None (nodes_of (read v.text v.lexemes r)))
+
+-- an arm of `cfg_select!` has its predicate before its word; one of `cfg_if!` has none there
+abbrev pub arm_holds : View → Item → Bool
+arm_holds v x = not (is_arm x.kind && nat_lt x.qualifiers x.word) || predicate_holds v (record { first = x.qualifiers; behind = x.word })
+
+-- an item's own `cfg`s may hold: its outer ones, and the inner ones that its body begins with; so may what an arm asks; and it
+-- is no test of a crate that is built without
 abbrev pub holds_with : View → Item → Range → Bool
-holds_with v x inner = may_stand v (outer_range x) && may_stand v inner && is_built v x inner
+holds_with v x inner = may_stand v (outer_range x) && may_stand v inner && is_built v x inner && arm_holds v x
 
 abbrev pub holds : View → ℕ → Item → Bool
 holds v n x = holds_with v x (inner_of v n x.kind x.body)
 
--- a `cfg_if!` and its arms: what is in them stands in the module around
-abbrev pub is_part_of_cfg_if : ItemKind → Bool
-is_part_of_cfg_if item.CfgIf = true
-is_part_of_cfg_if item.CfgIfArm = true
-is_part_of_cfg_if _ = false
+-- a `cfg_if!` or a `cfg_select!` and their arms: what is in them stands in the module around
+abbrev pub is_choice : ItemKind → Bool
+is_choice item.CfgIf = true
+is_choice item.CfgSelect = true
+is_choice item.CfgArm = true
+is_choice _ = false
 
 -- where what is in an item of a number stands, that stands so itself: in that item, or in the module around
 abbrev pub inner_module : ItemKind → ℕ → Option ℕ → Option ℕ
-inner_module kind n around = if is_part_of_cfg_if kind then around else Some n
+inner_module kind n around = if is_choice kind then around else Some n
 
 -- how the item stands that an item is in; the module of the file has all at the top level, and a file that begins with a
 -- `cfg` that does not hold has nothing
@@ -142,16 +165,16 @@ abbrev pub around : View → List Standing → Option ℕ → Standing
 around v before None = of_file v
 around v before (Some p) = or_of_file v (slice_get before p)
 
--- two arms of one `cfg_if!`
+-- two arms of one call
 abbrev pub are_same : Option ℕ → Option ℕ → Bool
 are_same (Some a) (Some b) = a == b
 are_same _ _ = false
 
--- an arm is passed over where one before it holds: the `cfg_if!` that was chosen from is its own
+-- an arm is passed over where one before it holds: the call that was chosen from is its own
 abbrev pub is_passed : Option ℕ → Item → Bool
 is_passed chosen x = is_arm x.kind && are_same chosen x.parent
 
--- the `cfg_if!` of the last arm that holds, behind an item; the arms of one stand together
+-- the call of the last arm that holds, behind an item; the arms of one stand together
 abbrev pub chosen_behind : Option ℕ → Item → Bool → Option ℕ
 chosen_behind chosen x h = if is_arm x.kind && h then x.parent else chosen
 

@@ -15,9 +15,9 @@ use Rattle.item_tree.specs.declared.items.item_kind.ItemKind.{ItemKind}
 use Rattle.item_tree.specs.declared.items.item_kind.ItemKind.TheVariants as item
 use Rattle.item_tree.specs.declared.items.Item.{Item}
 
--- an arm of `cfg_if!` that is not chosen is not told of, nor is what stands in it
+-- an arm of `cfg_if!` or `cfg_select!` that is not chosen is not told of, nor is what stands in it
 abbrev pub is_told : ItemKind → Bool
-is_told item.CfgIfArm = false
+is_told item.CfgArm = false
 is_told item.InnerAttribute = false
 is_told item.Error = false
 is_told _ = true

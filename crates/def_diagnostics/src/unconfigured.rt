@@ -16,12 +16,13 @@ use item_tree::items::Item;
 use item_tree::items::item_kind::ItemKind;
 use std::alloc::{AllocError, Global};
 
-/// Whether items of a kind are told of. An arm of `cfg_if!` that is not chosen is not, nor is what stands in it.
+/// Whether items of a kind are told of. An arm of `cfg_if!` or `cfg_select!` that is not chosen is not, nor is what
+/// stands in it.
 fn is_told(kind: ItemKind) -> bool
     ensures { result ≡ spec.is_told kind }
 {
     match kind {
-        ItemKind::CfgIfArm | ItemKind::InnerAttribute | ItemKind::Error => false,
+        ItemKind::CfgArm | ItemKind::InnerAttribute | ItemKind::Error => false,
         _ => true,
     }
 }

@@ -9,11 +9,12 @@ use Rattle.std.proofs.lemmas.Option.{slice_get-get_or}
 use Rattle.std.proofs.lemmas.List.{drop-append-le, take-append-le, take_more, take_all, length-take-le, append-nil}
 use Rattle.item_tree.specs.Heads.{nothing, attributes_len, visibility_len, qualifiers_len}
 use Rattle.item_tree.specs.ItemParts.{first_item, bounded, begins_inner_attribute, inner_attribute, behind_attributes, parts_by}
+use Rattle.item_tree.specs.CfgSelects as select
 use Rattle.item_tree.specs.CfgIfs.{arm_head, arm_by, first_in, kind_behind, level_kind}
 use Rattle.item_tree.specs.ItemKinds.{item_kind}
 use Rattle.item_tree.specs.ItemEnds.{item_end}
 use Rattle.item_tree.specs.declared.cfg.cfg_if.LevelKind.{LevelKind}
-use Rattle.item_tree.specs.declared.cfg.cfg_if.LevelKind.TheVariants.{Items, FirstArm, OtherArm, NoArm}
+use Rattle.item_tree.specs.declared.cfg.cfg_if.LevelKind.TheVariants.{Items, FirstArm, OtherArm, NoArm, SelectArm}
 use Rattle.item_tree.specs.declared.items.item_kind.ItemKind.{ItemKind}
 use Rattle.item_tree.specs.declared.items.item_kind.ItemKind.TheVariants as item
 use Rattle.item_tree.specs.Items.{placed, body_of, body_at, body_of_tree, items_from, level_of, within, level_in, inner_level, inner_level_of, inner_level_at, contains_items, children_from, top_level_of}
@@ -167,11 +168,26 @@ first_within ts h = by (begins_inner_attribute ts)
 arm_within : (head : ℕ) (ts : List Tree) → 0 < length ts → Within (arm_by head ts).len (length ts)
 arm_within head ts h = bounded_within (head + 1) (length ts) h
 
+select_within : (ts : List Tree) → 0 < length ts → Within (select.select_arm ts).len (length ts)
+select_within ts h = by (select.is_arm_at n (drop c ts)) (select.is_comma_alone ts)
+  where
+    c : ℕ
+    c = select.comma_len ts
+
+    n : ℕ
+    n = select.before_arrow nothing (drop c ts)
+
+    by : (a b : Bool) → Within (cond a (select.parts_by item.CfgArm c (c + n - 1) (c + n + 2) ts) (cond b (select.parts_by item.CfgArm 1 1 1 ts) (select.parts_by item.Error 0 0 1 ts))).len (length ts)
+    by true b = bounded_within (c + n + 2) (length ts) h
+    by false true = bounded_within 1 (length ts) h
+    by false false = bounded_within 1 (length ts) h
+
 pub level_within : (kind : LevelKind) (ts : List Tree) → 0 < length ts → Within (first_in kind ts).len (length ts)
 level_within Items ts h = first_within ts h
 level_within FirstArm ts h = arm_within (arm_head FirstArm ts) ts h
 level_within OtherArm ts h = arm_within (arm_head OtherArm ts) ts h
 level_within NoArm ts h = arm_within (arm_head NoArm ts) ts h
+level_within SelectArm ts h = select_within ts h
 
 -- the items of a level weigh no more than its trees
 items_weigh : (kind : LevelKind) (parent : Option ℕ) (end n : ℕ) (ts : List Tree) → AllByRecursion IsSized ts → sum_by weight (items_from kind parent end n ts) ≤ sum_by size (drop n ts)

@@ -1,9 +1,10 @@
--- The arms of `cfg_if!`, which has items under predicates.
+-- The arms of `cfg_if!`, which has items under predicates, and the levels that items and arms stand in.
 use Rattle.std.specs.Prelude.{◌==◌, ◌+◌, ◌&&◌, ℕ, Bool, true, false, not, List, None, length, drop, if◌then◌else◌}
+use Rattle.item_tree.specs.CfgSelects.{select_arm}
 use Rattle.item_tree.specs.Heads.{kind_at, is_mark, is_bracket, is_brace}
 use Rattle.item_tree.specs.ItemParts.{bounded, first_item}
 use Rattle.item_tree.specs.declared.cfg.cfg_if.LevelKind.{LevelKind}
-use Rattle.item_tree.specs.declared.cfg.cfg_if.LevelKind.TheVariants.{Items, FirstArm, OtherArm, NoArm}
+use Rattle.item_tree.specs.declared.cfg.cfg_if.LevelKind.TheVariants.{Items, FirstArm, OtherArm, NoArm, SelectArm}
 use Rattle.item_tree.specs.declared.items.item_kind.ItemKind.{ItemKind}
 use Rattle.item_tree.specs.declared.items.item_kind.ItemKind.TheVariants as item
 use Rattle.item_tree.specs.declared.items.item_parts.ItemParts.{ItemParts}
@@ -43,7 +44,7 @@ arm_head _ ts = 0
 abbrev pub arm_by : ℕ → List Tree → ItemParts
 arm_by head ts =
     record {
-      kind = if head == 0 then item.Error else item.CfgIfArm;
+      kind = if head == 0 then item.Error else item.CfgArm;
       attributes = head;
       visibility = head;
       word = head;
@@ -55,10 +56,11 @@ arm_by head ts =
 -- what begins the trees of a level of a kind
 abbrev pub first_in : LevelKind → List Tree → ItemParts
 first_in Items ts = first_item ts
+first_in SelectArm ts = select_arm ts
 first_in kind ts = arm_by (arm_head kind ts) ts
 
 abbrev pub is_arm : ItemKind → Bool
-is_arm item.CfgIfArm = true
+is_arm item.CfgArm = true
 is_arm _ = false
 
 -- what kind of level goes on behind it
@@ -67,8 +69,10 @@ kind_behind Items p = Items
 kind_behind FirstArm p = if is_arm p.kind then OtherArm else FirstArm
 kind_behind OtherArm p = if p.word == 1 then NoArm else OtherArm
 kind_behind NoArm p = NoArm
+kind_behind SelectArm p = SelectArm
 
--- what stands in the body of an item: items, or the arms of a `cfg_if!`
+-- what stands in the body of an item: items, or the arms of a `cfg_if!` or a `cfg_select!`
 abbrev pub level_kind : ItemKind → LevelKind
 level_kind item.CfgIf = FirstArm
+level_kind item.CfgSelect = SelectArm
 level_kind _ = Items

@@ -41,7 +41,8 @@ mod_item_id item.Union n = Some (id.Union n)
 mod_item_id item.Use n = Some (id.Use n)
 mod_item_id item.InnerAttribute n = None
 mod_item_id item.CfgIf n = None
-mod_item_id item.CfgIfArm n = None
+mod_item_id item.CfgSelect n = None
+mod_item_id item.CfgArm n = None
 mod_item_id item.Error n = None
 
 abbrev pub ast_id : ModItemId → FileAstId

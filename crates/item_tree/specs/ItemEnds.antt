@@ -91,6 +91,7 @@ call_end ts = later (path_len Start ts) (group_end (drop (path_len Start ts) ts)
 unfoldable pub item_end : ItemKind → List Tree → ItemEnd
 item_end item.MacroCall ts = call_end ts
 item_end item.CfgIf ts = call_end ts
+item_end item.CfgSelect ts = call_end ts
 item_end item.MacroRules ts = later 3 (group_end (drop 3 ts))
 item_end item.InnerAttribute ts = complete 3
 item_end item.Error ts = complete (path_len Start ts)

@@ -93,10 +93,14 @@ abbrev pub is_group : LexemeKind → Bool
 is_group (Open d) = true
 is_group _ = false
 
--- a call of `cfg_if` with braces is read, whatever its path
+-- a call of `cfg_if` or `cfg_select` with braces is read, whatever its path
+abbrev pub braced_kind : LexemeKind → ItemKind
+braced_kind (Word word.CfgIf) = item.CfgIf
+braced_kind (Word word.CfgSelect) = item.CfgSelect
+braced_kind _ = item.MacroCall
+
 abbrev pub group_kind : LexemeKind → LexemeKind → ItemKind
-group_kind (Word word.CfgIf) group = if is_brace group then item.CfgIf else item.MacroCall
-group_kind _ group = item.MacroCall
+group_kind name group = if is_brace group then braced_kind name else item.MacroCall
 
 -- a macro call is a path, its `!`, and a group
 abbrev pub call_of : ℕ → List Tree → ItemKind

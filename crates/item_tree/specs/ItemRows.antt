@@ -8,12 +8,14 @@ use Rattle.item_tree.specs.Items.{level_of}
 use Rattle.item_tree.specs.Members.{before_comma, first_member, start}
 use Rattle.item_tree.specs.UseGrammar.{Nothing, Behind, Written, Name, Renamed, Glob, List_, WrittenList, Last, More}
 use Rattle.item_tree.specs.UseTrees.{use_trees_of}
-use Rattle.item_tree.specs.declared.cfg.cfg_if.LevelKind.TheVariants.{FirstArm}
+use Rattle.item_tree.specs.declared.cfg.cfg_if.LevelKind.{LevelKind}
+use Rattle.item_tree.specs.declared.cfg.cfg_if.LevelKind.TheVariants.{FirstArm, SelectArm}
 use Rattle.item_tree.specs.declared.items.expected.Expected.{Expected}
 use Rattle.item_tree.specs.declared.items.item_kind.ItemKind.{ItemKind}
 use Rattle.item_tree.specs.declared.items.item_kind.ItemKind.TheVariants as item
 use Rattle.item_tree.specs.declared.items.item_parts.ItemParts.{ItemParts}
 use Rattle.item_tree.specs.declared.items.Item.{Item}
+use Rattle.item_tree.specs.declared.items.Range.{Range}
 use Rattle.item_tree.specs.declared.lexer.lexeme.Delimiter.TheVariants.{Parenthesis, Bracket, Brace}
 use Rattle.item_tree.specs.declared.lexer.lexeme.Lexeme.{Lexeme}
 use Rattle.item_tree.specs.declared.lexer.lexeme.LexemeKind.{LexemeKind}
@@ -125,13 +127,13 @@ cut_call = first (name ∷ Mark 33 ∷ Open Parenthesis ∷ name ∷ [])
 abbrev pub cut_rules : ItemParts
 cut_rules = first (Word word.MacroRules ∷ Mark 33 ∷ name ∷ Word word.Mod ∷ name ∷ Mark 59 ∷ [])
 
-abbrev pub arms_in : List Lexeme → List Item
-arms_in ls = level_of ls (partners_of ls) (Some 0) (record { kind = FirstArm; range = record { first = 0; behind = length ls } })
+abbrev pub arms_in : LevelKind → List Lexeme → List Item
+arms_in kind ls = level_of ls (partners_of ls) (Some 0) (record { kind = kind; range = record { first = 0; behind = length ls } })
 
 abbrev pub arm : ℕ → ℕ → ℕ → Item
 arm first_at braces behind_at =
     record {
-      kind = item.CfgIfArm;
+      kind = item.CfgArm;
       parent = Some 0;
       first = first_at;
       visibility = braces;
@@ -149,8 +151,37 @@ no_arm i = record { kind = item.Error; parent = Some 0; first = i; visibility = 
 -- if # [ ] { a } else if # [ ] { } else { } else
 abbrev pub arms : List Item
 arms =
-    arms_in
+    arms_in FirstArm
     (lexemes_at 0 (Word word.If ∷ Mark 35 ∷ Open Bracket ∷ Close Bracket ∷ Open Brace ∷ name ∷ Close Brace ∷ Word word.Else ∷ Word word.If ∷ Mark 35 ∷ Open Bracket ∷ Close Bracket ∷ Open Brace ∷ Close Brace ∷ Word word.Else ∷ Open Brace ∷ Close Brace ∷ Word word.Else ∷ []))
+
+-- an arm with these places of its predicate and its arrow
+abbrev pub select_arm : ℕ → ℕ → ℕ → ℕ → Option Range → Item
+select_arm first_at predicate arrow behind_at body_at =
+    record {
+      kind = item.CfgArm;
+      parent = Some 0;
+      first = first_at;
+      visibility = predicate;
+      qualifiers = predicate;
+      word = arrow;
+      name = None;
+      behind = behind_at;
+      body = body_at;
+      missing = None;
+    }
+
+abbrev pub between : ℕ → ℕ → Option Range
+between from end = Some (record { first = from; behind = end })
+
+-- a = ".." = > { a } , _ = > { } ,
+abbrev pub select_arms : List Item
+select_arms =
+    arms_in SelectArm
+    (lexemes_at 0 (name ∷ Mark 61 ∷ Str ∷ Mark 61 ∷ Mark 62 ∷ Open Brace ∷ name ∷ Close Brace ∷ Mark 44 ∷ Word word.Underscore ∷ Mark 61 ∷ Mark 62 ∷ Open Brace ∷ Close Brace ∷ Mark 44 ∷ []))
+
+-- a = > a
+abbrev pub no_select_arms : List Item
+no_select_arms = arms_in SelectArm (lexemes_at 0 (name ∷ Mark 61 ∷ Mark 62 ∷ name ∷ []))
 
 -- { ( ] { } ) [ }
 abbrev pub partners : List ℕ

@@ -73,14 +73,15 @@ items_of kind parent end ts = items_from kind parent end 0 ts
 abbrev pub level_of : List Lexeme → List ℕ → Option ℕ → Level → List Item
 level_of lexemes partners parent level = items_of level.kind parent level.range.behind (trees_of lexemes partners level.range.first level.range.behind)
 
--- modules, traits, implementations and extern blocks have items in their bodies, and a `cfg_if!` and its arms
+-- modules, traits, implementations and extern blocks have items in their bodies, and so have a `cfg_if!`, a `cfg_select!` and their arms
 abbrev pub contains_items : ItemKind → Bool
 contains_items item.Mod = true
 contains_items item.Trait = true
 contains_items item.Impl = true
 contains_items item.ExternBlock = true
 contains_items item.CfgIf = true
-contains_items item.CfgIfArm = true
+contains_items item.CfgSelect = true
+contains_items item.CfgArm = true
 contains_items _ = false
 
 abbrev pub level_in : LevelKind → Option Range → Option Level

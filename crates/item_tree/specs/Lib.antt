@@ -17,6 +17,7 @@ pub mod Beginnings
 pub mod ItemEnds
 pub mod NoneTaken
 pub mod ItemParts
+pub mod CfgSelects
 pub mod CfgIfs
 pub mod Items
 pub mod ExpectedTexts

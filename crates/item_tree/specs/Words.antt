@@ -45,6 +45,7 @@ predicate_word text =
     else if bytes_eq text (codes "cfg") then word.Cfg
     else if bytes_eq text (codes "cfg_attr") then word.CfgAttr
     else if bytes_eq text (codes "cfg_if") then word.CfgIf
+    else if bytes_eq text (codes "cfg_select") then word.CfgSelect
     else attribute_word text
 
 -- those of types, patterns and expressions

@@ -7,6 +7,7 @@ ghost use Rattle.item_tree.specs.declared.cfg.CfgAtom.TheVariants as atom;
 
 pub mod cfg_if;
 pub mod cfg_parser;
+pub(crate) mod cfg_select;
 
 use crate::lexer::span::{Span, name_text};
 use crate::lexer::strings::string_is;

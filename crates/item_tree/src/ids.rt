@@ -94,7 +94,7 @@ pub fn mod_item_id(kind: ItemKind, id: FileAstId) -> Option<ModItemId>
         ItemKind::TypeAlias => Some(ModItemId::TypeAlias(id)),
         ItemKind::Union => Some(ModItemId::Union(id)),
         ItemKind::Use => Some(ModItemId::Use(id)),
-        ItemKind::CfgIf | ItemKind::CfgIfArm => None,
+        ItemKind::CfgIf | ItemKind::CfgSelect | ItemKind::CfgArm => None,
         ItemKind::InnerAttribute | ItemKind::Error => None,
     }
 }

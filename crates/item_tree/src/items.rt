@@ -1,4 +1,4 @@
-//! The items of a text, with those in modules, traits, implementations, extern blocks and the arms of `cfg_if!`.
+//! The items of a text, with those in modules, traits, implementations, extern blocks and the arms of `cfg_if!` and `cfg_select!`.
 ghost use Rattle.std.specs.Prelude.{◌≡◌, ◌<◌, ◌≤◌, ◌++◌, ℕ, IfOk, IfSome, OnOk, Some, None, length, take, vec_len};
 ghost use Rattle.item_tree.specs.Children.{ByParent};
 ghost use Rattle.item_tree.specs.Items as spec;
@@ -37,7 +37,7 @@ pub struct Range {
     pub behind: usize,
 }
 
-/// Lexemes that are cut into items, or into the arms of a `cfg_if!`.
+/// Lexemes that are cut into items, or into the arms of a `cfg_if!` or a `cfg_select!`.
 #[derive(Clone, Copy, PartialEq, Eq, Debug)]
 pub struct Level {
     pub kind: LevelKind,
@@ -45,7 +45,8 @@ pub struct Level {
 }
 
 /// An item, an error or an inner attribute, by the places of its lexemes. An arm of a `cfg_if!` has its attribute and the
-/// words around it before its visibility, and its braces in the place of that.
+/// words around it before its visibility, and its braces in the place of that; one of a `cfg_select!` has its predicate from
+/// its qualifiers up to its word, which is its arrow.
 #[derive(Clone, Copy)]
 pub struct Item {
     pub kind: ItemKind,
@@ -229,7 +230,8 @@ fn contains_items(kind: ItemKind) -> bool
             | ItemKind::Impl
             | ItemKind::ExternBlock
             | ItemKind::CfgIf
-            | ItemKind::CfgIfArm
+            | ItemKind::CfgSelect
+            | ItemKind::CfgArm
     )
 }
 

@@ -1,7 +1,7 @@
 //! What the declarations in a module lead to.
 ghost use Rattle.std.specs.Prelude.{◌≡◌, ◌++◌, ◌<◌, All, List, IfOk, OnOk, length, option_map, slice_get};
 ghost use Rattle.crate_items.specs.Files.{SourceFile};
-ghost use Rattle.item_tree.specs.Spans.{string_text};
+ghost use Rattle.item_tree.specs.Strings.{string_value};
 ghost use Rattle.std.specs.Option.{option_copied};
 ghost use Rattle.crate_items.specs.Modules as spec;
 
@@ -12,7 +12,8 @@ use crate::modules::mod_items::ModItem;
 use crate::modules::mod_resolution::Candidate;
 use dm_base::ids::FileId;
 use dm_base::name::Name;
-use item_tree::lexer::span::{name_text, string_text};
+use item_tree::lexer::span::{Span, name_text};
+use item_tree::lexer::strings::string_value;
 use std::alloc::{AllocError, Global};
 
 /// A candidate by its number, and the file at its path.
@@ -221,12 +222,26 @@ fn by_kind(
     }
 }
 
-fn path_of(text: &[u8], item: ModItem) -> Option<&[u8]>
-    ensures { option_copied result ≡ option_map (string_text text.now) item.path }
+/// What the string of a `#[path]` stands for, if there is one.
+fn path_value(alloc: Global, text: &[u8], path: Option<Span>) -> Result<Option<Vec<u8>>, AllocError>
+    ensures { IfOk result
+        (λ value. option_map (λ v. v.items) value ≡ option_map (string_value text.now) path) }
 {
-    match item.path {
+    match path {
+        None => Ok(None),
+        Some(path) => {
+            let value = string_value(alloc, text, path)?;
+            Ok(Some(value))
+        }
+    }
+}
+
+fn as_bytes(value: &Option<Vec<u8>>) -> Option<&[u8]>
+    ensures { option_copied result ≡ option_map (λ v. v.items) value.now }
+{
+    match value {
         None => None,
-        Some(path) => Some(string_text(text, path)),
+        Some(value) => Some(value.as_slice()),
     }
 }
 
@@ -248,7 +263,8 @@ fn found_of(
         None => Ok(Found::Nothing),
         Some(name) => {
             let declaration = declared_by(number, outer, item, name);
-            let path = path_of(text, item);
+            let value = path_value(alloc, text, item.path)?;
+            let path = as_bytes(&value);
             by_kind(alloc, files, outer, item.is_outline, declaration, path)
         }
     }

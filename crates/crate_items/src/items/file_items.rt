@@ -30,7 +30,7 @@ fn is_item(kind: ItemKind) -> bool
 {
     match kind {
         ItemKind::Error | ItemKind::InnerAttribute => false,
-        ItemKind::CfgIf | ItemKind::CfgIfArm => false,
+        ItemKind::CfgIf | ItemKind::CfgSelect | ItemKind::CfgArm => false,
         _ => true,
     }
 }

@@ -1,7 +1,7 @@
 //! Modules of small crates, how items stand, and whom visibilities show: worked rows.
 ghost use Rattle.crate_items.specs.ModuleRows as rows;
 
-/// Files that are there or not, arms of a `cfg_if!`, and paths of visibilities and of modules.
+/// Files that are there or not, arms of a `cfg_if!` and a `cfg_select!`, and paths of visibilities and of modules.
 pub fn modules_of_small_crates()
     ensures file_by_path { rows.FileByPath }
     ensures one_file { rows.OneFile }
@@ -10,6 +10,7 @@ pub fn modules_of_small_crates()
     ensures within_itself { rows.WithinItself }
     ensures inline { rows.Inline }
     ensures arms { rows.Arms }
+    ensures select_arms { rows.SelectArms }
     ensures shown { rows.Shown }
     ensures shown_in_2015 { rows.ShownIn2015 }
     ensures wrong { rows.Wrong }

@@ -7,22 +7,24 @@ ghost use Rattle.item_tree.specs.Children.{ByParent};
 ghost use Rattle.item_tree.specs.Heads as heads;
 ghost use Rattle.item_tree.specs.ItemParts.{begins_inner_attribute};
 
-use item_tree::attributes::attribute_kind::AttributeKind;
+use item_tree::attributes::attribute_kind::{AttributeKind, lexemes_in};
 use item_tree::attributes::item_attributes::{inner_attributes, outer_attributes};
-use item_tree::attributes::{Attribute, Attributes, is_active};
+use item_tree::attributes::{Attribute, Attributes, is_active, may_hold};
 use item_tree::cfg::CfgOptions;
+use item_tree::cfg::cfg_parser::{CfgParse, parse_cfg};
 use item_tree::items::item_kind::ItemKind;
 use item_tree::items::{Item, Range};
 use item_tree::lexer::children::children_of;
 use item_tree::lexer::lexeme::{Delimiter, Lexeme, LexemeKind};
 use item_tree::lexer::trees::{Tree, trees};
+use item_tree::lexer::word::Word;
 use std::alloc::{AllocError, Global};
 use std::marker::Model;
 
 /// How an item stands in its file, as a crate reads that.
 #[derive(Clone, Copy, PartialEq, Eq, Debug)]
 pub struct Standing {
-    /// The item of the inline module that it stands in, in an arm of `cfg_if!` too; none, where that is the file's.
+    /// The item of the inline module that it stands in, in an arm of `cfg_if!` or `cfg_select!` too; none, where that is the file's.
     pub home: Option<usize>,
     /// The same of what stands in it.
     pub inner: Option<usize>,
@@ -161,6 +163,19 @@ fn function_attributes(
     Ok(Range { first, behind })
 }
 
+fn is_underscore(kind: LexemeKind) -> bool
+    ensures { result ≡ spec.is_underscore kind }
+{
+    matches!(kind, LexemeKind::Word(Word::Underscore))
+}
+
+/// Whether lexemes are `_` alone, which always holds.
+fn is_wildcard(lexemes: &[Lexeme]) -> bool
+    ensures { result ≡ spec.is_wildcard lexemes.now }
+{
+    lexemes.len() == 1 && is_underscore(lexemes[0].kind)
+}
+
 fn is_test_kind(kind: AttributeKind) -> bool
     ensures { result ≡ spec.is_test_kind kind }
 {
@@ -252,38 +267,73 @@ impl<'a> View<'a> {
         }
     }
 
-    /// Whether an item's own `cfg`s may hold, and it is no test of a crate that is built without.
+    /// Whether lexemes are `_`, or a predicate that may hold.
+    fn predicate_holds(&self, alloc: Global, range: Range) -> Result<bool, AllocError>
+        ensures { IfOk result (λ holds. holds ≡ spec.predicate_holds self.now range) }
+    {
+        let lexemes = lexemes_in(self.lexemes, range);
+        if is_wildcard(lexemes) {
+            return Ok(true);
+        }
+        match parse_cfg(alloc, self.text, lexemes)? {
+            CfgParse::Predicate(nodes) => {
+                Ok(may_hold(self.options.check(self.text, nodes.as_slice())))
+            }
+            CfgParse::Malformed(_at) => Ok(true),
+        }
+    }
+
+    /// Whether what an item asks may hold, if it is an arm of `cfg_select!`.
+    fn arm_holds(&self, alloc: Global, item: Item) -> Result<bool, AllocError>
+        ensures { IfOk result (λ holds. holds ≡ spec.arm_holds self.now item) }
+    {
+        if !is_arm(item.kind) || item.word <= item.qualifiers {
+            return Ok(true);
+        }
+        let predicate = Range {
+            first: item.qualifiers,
+            behind: item.word,
+        };
+        self.predicate_holds(alloc, predicate)
+    }
+
+    /// Whether an item's own `cfg`s may hold, and what it asks as an arm, and it is no test of a crate that is built without.
     fn holds(&self, alloc: Global, number: usize, item: Item) -> Result<bool, AllocError>
         requires by_parent { ByParent self.now.items }
         requires there { number < length self.now.items }
         ensures { IfOk result (λ holds. holds ≡ spec.holds self.now number item) }
     {
         let inner = self.inner_of(alloc, number, item)?;
+        let is_asked_for = self.arm_holds(alloc, item)?;
         Ok(
             self.may_stand(outer_attributes(item))
                 && self.may_stand(inner)
-                && self.is_built(item, inner),
+                && self.is_built(item, inner)
+                && is_asked_for,
         )
     }
 }
 
-fn is_part_of_cfg_if(kind: ItemKind) -> bool
-    ensures { result ≡ spec.is_part_of_cfg_if kind }
+fn is_choice(kind: ItemKind) -> bool
+    ensures { result ≡ spec.is_choice kind }
 {
-    matches!(kind, ItemKind::CfgIf | ItemKind::CfgIfArm)
+    matches!(
+        kind,
+        ItemKind::CfgIf | ItemKind::CfgSelect | ItemKind::CfgArm
+    )
 }
 
 fn is_arm(kind: ItemKind) -> bool
     ensures { result ≡ arms.is_arm kind }
 {
-    matches!(kind, ItemKind::CfgIfArm)
+    matches!(kind, ItemKind::CfgArm)
 }
 
 /// Where what is in an item stands.
 fn inner_module(kind: ItemKind, number: usize, around: Option<usize>) -> Option<usize>
     ensures { result ≡ spec.inner_module kind number around }
 {
-    if is_part_of_cfg_if(kind) {
+    if is_choice(kind) {
         around
     } else {
         Some(number)
@@ -308,7 +358,7 @@ fn around(view: &View<'_>, before: &[Standing], parent: Option<usize>) -> Standi
     }
 }
 
-/// Whether two arms are of one `cfg_if!`.
+/// Whether two arms are of one call.
 fn are_same(one: Option<usize>, other: Option<usize>) -> bool
     ensures { result ≡ spec.are_same one other }
 {
@@ -325,7 +375,7 @@ fn is_passed(chosen: Option<usize>, item: Item) -> bool
     is_arm(item.kind) && are_same(chosen, item.parent)
 }
 
-/// The `cfg_if!` of the last arm that holds.
+/// The call of the last arm that holds.
 fn chosen_behind(chosen: Option<usize>, item: Item, holds: bool) -> Option<usize>
     ensures { result ≡ spec.chosen_behind chosen item holds }
 {

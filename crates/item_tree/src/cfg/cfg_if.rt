@@ -1,7 +1,8 @@
-//! The arms of `cfg_if!`, which has items under predicates.
+//! The arms of `cfg_if!`, which has items under predicates, and the levels that items and arms stand in.
 ghost use Rattle.std.specs.Prelude.{◌≡◌, ◌<◌, ◌≤◌, ◌^◌, length};
 ghost use Rattle.item_tree.specs.CfgIfs as spec;
 
+use crate::cfg::cfg_select::select_arm;
 use crate::items::head::{is_brace, is_bracket, is_mark, kind_at};
 use crate::items::item_kind::{ItemKind, behind};
 use crate::items::item_parts::{ItemParts, bounded, first_item};
@@ -19,6 +20,8 @@ pub enum LevelKind {
     OtherArm,
     /// Nothing, behind its last one.
     NoArm,
+    /// The arms of a `cfg_select!`.
+    SelectArm,
 }
 
 fn is_if(kind: LexemeKind) -> bool
@@ -67,7 +70,7 @@ fn arm_head(level: LevelKind, trees: &[Tree]) -> usize
     match level {
         LevelKind::FirstArm => { if is_if_arm(trees) { 3 } else { 0 } }
         LevelKind::OtherArm => else_len(trees),
-        LevelKind::Items | LevelKind::NoArm => 0,
+        LevelKind::Items | LevelKind::NoArm | LevelKind::SelectArm => 0,
     }
 }
 
@@ -81,7 +84,7 @@ fn arm_by(head: usize, trees: &[Tree]) -> ItemParts
     let kind = if head == 0 {
         ItemKind::Error
     } else {
-        ItemKind::CfgIfArm
+        ItemKind::CfgArm
     };
     ItemParts {
         kind,
@@ -106,13 +109,14 @@ pub(crate) fn first_in(level: LevelKind, trees: &[Tree]) -> ItemParts
         LevelKind::FirstArm | LevelKind::OtherArm | LevelKind::NoArm => {
             arm_by(arm_head(level, trees), trees)
         }
+        LevelKind::SelectArm => select_arm(trees),
     }
 }
 
 fn is_arm(kind: ItemKind) -> bool
     ensures { result ≡ spec.is_arm kind }
 {
-    matches!(kind, ItemKind::CfgIfArm)
+    matches!(kind, ItemKind::CfgArm)
 }
 
 /// What the rest of a level consists of, behind an item or an arm.
@@ -136,6 +140,7 @@ pub(crate) fn kind_behind(level: LevelKind, parts: ItemParts) -> LevelKind
             }
         }
         LevelKind::NoArm => LevelKind::NoArm,
+        LevelKind::SelectArm => LevelKind::SelectArm,
     }
 }
 
@@ -145,6 +150,7 @@ pub(crate) fn level_kind(kind: ItemKind) -> LevelKind
 {
     match kind {
         ItemKind::CfgIf => LevelKind::FirstArm,
+        ItemKind::CfgSelect => LevelKind::SelectArm,
         _ => LevelKind::Items,
     }
 }

@@ -193,7 +193,7 @@ pub(crate) fn item_end(kind: ItemKind, trees: &[Tree]) -> ItemEnd
     ensures exact { result ≡ spec.item_end kind trees.now }
 {
     match kind {
-        ItemKind::MacroCall | ItemKind::CfgIf => call_end(trees),
+        ItemKind::MacroCall | ItemKind::CfgIf | ItemKind::CfgSelect => call_end(trees),
         ItemKind::MacroRules => later(3, group_end(behind(trees, 3))),
         ItemKind::InnerAttribute => complete(3),
         ItemKind::Error => complete(path_len(trees)),

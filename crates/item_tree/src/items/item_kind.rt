@@ -30,8 +30,10 @@ pub enum ItemKind {
     MacroCall,
     /// A call of `cfg_if!` with braces.
     CfgIf,
-    /// One of the groups of items that a `cfg_if!` chooses among.
-    CfgIfArm,
+    /// A call of `cfg_select!` with braces.
+    CfgSelect,
+    /// One of the groups of items that a `cfg_if!` or a `cfg_select!` chooses among.
+    CfgArm,
     MacroRules,
     /// `macro`
     Macro2,
@@ -201,14 +203,12 @@ pub(crate) fn is_group(kind: LexemeKind) -> bool
 fn group_kind(name: LexemeKind, group: LexemeKind) -> ItemKind
     ensures { result ≡ spec.group_kind name group }
 {
+    if !is_brace(group) {
+        return ItemKind::MacroCall;
+    }
     match name {
-        LexemeKind::Word(Word::CfgIf) => {
-            if is_brace(group) {
-                ItemKind::CfgIf
-            } else {
-                ItemKind::MacroCall
-            }
-        }
+        LexemeKind::Word(Word::CfgIf) => ItemKind::CfgIf,
+        LexemeKind::Word(Word::CfgSelect) => ItemKind::CfgSelect,
         _ => ItemKind::MacroCall,
     }
 }

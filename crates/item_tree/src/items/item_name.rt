@@ -32,7 +32,8 @@ pub(crate) fn name_place(kind: ItemKind, trees: &[Tree]) -> Option<usize>
         | ItemKind::Impl
         | ItemKind::MacroCall
         | ItemKind::CfgIf
-        | ItemKind::CfgIfArm
+        | ItemKind::CfgSelect
+        | ItemKind::CfgArm
         | ItemKind::InnerAttribute
         | ItemKind::Error => None,
         _ => Some(1),

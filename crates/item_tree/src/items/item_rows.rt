@@ -74,6 +74,14 @@ pub fn arms_of_cfg_if()
     ensures { rows.arms ≡ rows.arm 0 4 7 ∷ rows.arm 7 12 14 ∷ rows.arm 14 15 17 ∷ rows.no_arm 17 ∷ [] }
 {}
 
+/// The arms of a `cfg_select!` with commas, and what is none.
+pub fn arms_of_cfg_select()
+    ensures arms { rows.select_arms ≡ rows.select_arm 0 0 3 8 (rows.between 6 7)
+        ∷ rows.select_arm 8 9 10 14 (rows.between 13 13) ∷ rows.select_arm 14 15 15 15 None ∷ [] }
+    ensures no_braces { rows.no_select_arms ≡ rows.no_arm 0 ∷ rows.no_arm 1 ∷ rows.no_arm 2
+        ∷ rows.no_arm 3 ∷ [] }
+{}
+
 /// Partners of delimiters that are closed by another kind, or not at all.
 pub fn difficult_groups()
     ensures partners { rows.partners ≡ 7 ∷ 5 ∷ 2 ∷ 4 ∷ 3 ∷ 1 ∷ 6 ∷ 0 ∷ [] }

@@ -64,6 +64,7 @@ pub enum Word {
     Cfg,
     CfgAttr,
     CfgIf,
+    CfgSelect,
     Path,
     MacroUse,
     MacroExport,
@@ -163,6 +164,8 @@ fn predicate_word(text: &[u8]) -> Word
         Word::CfgAttr
     } else if text == b"cfg_if".as_slice() {
         Word::CfgIf
+    } else if text == b"cfg_select".as_slice() {
+        Word::CfgSelect
     } else {
         attribute_word(text)
     }

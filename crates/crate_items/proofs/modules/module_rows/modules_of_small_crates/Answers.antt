@@ -12,6 +12,7 @@ returns c = record {
   within_itself = refl;
   inline = refl;
   arms = refl;
+  select_arms = refl;
   shown = refl;
   shown_in_2015 = refl;
   wrong = refl;
