@@ -166,7 +166,14 @@ module _ (d : DefMaps) (k l : SlotSet) (more : IsMore k l) (home : ModuleId) (im
   from_module-same ns s (Some m) = from_container-same ns s (container.Module m)
 
   from_first-same : (t : Option MacroId) (is_abs : Bool) (ns : List Name) (s : Namespace) → Same (from_first (knowing d k) one t is_abs ns s) (from_first (knowing d l) two t is_abs ns s)
-  from_first-same t is_abs [] s = λ i. refl
+  from_first-same t is_abs [] s = by (is_2015 (knowing d k) one)
+    where
+      root : Option ModuleId
+      root = root_of d.world (crate_of (tree_of d.world) home)
+
+      by : (p : Bool) → Same (cond p (from_module (knowing d k) one [] s root) None) (cond p (from_module (knowing d l) two [] s root) None)
+      by true = from_module-same [] s root
+      by false = λ i. refl
   from_first-same t is_abs (n ∷ []) s = (first-clearer t is_abs n s).1
   from_first-same t is_abs (n ∷ next ∷ rest) s =
       led-same (first (knowing d k) one t is_abs n Types) (first (knowing d l) two t is_abs n Types) (first-clearer t is_abs n Types).1

@@ -229,8 +229,12 @@ from_container d a (n ∷ rest) s c = through d a c n rest s
 abbrev pub from_module : DefMaps → Asking → List Name → Namespace → Option ModuleId → Option Meaning
 from_module d a ns s o = option_and_then (λ m. from_container d a ns s (container.Module m)) o
 
+-- in edition 2015 a path without a name is the crate's root, as in `use *;` and `use ::*;`; since then it is nothing
+abbrev pub of_no_name : DefMaps → Asking → Namespace → Option Meaning
+of_no_name d a s = if is_2015 d a then from_module d a [] s (root_of d.world (crate_of (tree_of d.world) a.home)) else None
+
 abbrev pub from_first : DefMaps → Asking → Option MacroId → Bool → List Name → Namespace → Option Meaning
-from_first d a t is_abs [] s = None
+from_first d a t is_abs [] s = of_no_name d a s
 from_first d a t is_abs (n ∷ []) s = first d a t is_abs n s
 from_first d a t is_abs (n ∷ next ∷ rest) s = option_and_then (λ k. through d a k next rest s) (option_and_then leads (first d a t is_abs n Types))
 

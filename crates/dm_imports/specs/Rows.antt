@@ -10,8 +10,9 @@ use Rattle.dm_maps.specs.ItemHomes.{homes_of}
 use Rattle.dm_maps.specs.Trees.{tree_of}
 use Rattle.dm_imports.specs.declared.meaning.Source.TheVariants as source
 use Rattle.dm_imports.specs.Paths.{DefMaps}
+use Rattle.dm_maps.specs.World.{World}
 use Rattle.dm_imports.specs.Rules.{given}
-use Rattle.dm_imports.specs.Written.{a_function, a_macro, a_module, a_struct, a_type, a_value, behind, crate_id, glob, import, leaf, meant, number, star, types_and_values, with_macros, within, world_of}
+use Rattle.dm_imports.specs.Written.{a_function, a_macro, a_module, a_struct, a_type, a_value, behind, crate_id, glob, import, in_2015, leaf, meant, number, star, types_and_values, with_macros, within, world_of}
 
 -- ---- An import by name goes before a glob, also where the glob was there first.
 --
@@ -124,3 +125,26 @@ exported = refl
 pub exported_before : given textual_macros (number 0) (codes "g") Macros ≡ meant (def.MacroId (a_macro 2)) (PubCrate crate_id.krate) (source.Import (leaf 2))
 unfolding tree_of homes_of
 exported_before = refl
+
+-- ---- In edition 2015 a path without a name is the root.
+--
+-- pub struct S {}  mod m { pub use *; }
+abbrev glob_of_no_name : (World → World) → DefMaps
+glob_of_no_name edition = record {
+  world = edition (world_of (
+      (0, types_and_values ((codes "S", a_type (a_struct 0) Public None) ∷ (codes "m", a_type (a_module 1) (within 0) None) ∷ []) [])
+      ∷ (1, types_and_values [] [])
+      ∷ []));
+  imports = [];
+  globs = glob 0 1 Public [] ∷ [];
+  enum_vis = λ e. Public;
+  is_ambiguous = λ m n s. false;
+}
+
+pub the_root_in_2015 : given (glob_of_no_name in_2015) (number 1) (codes "S") Types ≡ meant (a_struct 0) Public (source.Glob (star 0))
+unfolding tree_of homes_of
+the_root_in_2015 = refl
+
+pub nothing_since : given (glob_of_no_name (λ w. w)) (number 1) (codes "S") Types ≡ None
+unfolding tree_of homes_of
+nothing_since = refl

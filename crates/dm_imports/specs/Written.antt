@@ -1,6 +1,6 @@
--- Short forms for example def maps: one crate of edition 2021, whose modules are in the root.
+-- Short forms for example def maps: one crate, of edition 2021 where nothing else is said, whose modules are in the root.
 use Rattle.std.specs.Prelude.{ℕ, zero, suc, false, List, [], ◌∷◌, Option, Some, None, map}
-use Rattle.dm_base.specs.declared.edition.Edition.TheVariants.{Edition2021}
+use Rattle.dm_base.specs.declared.edition.Edition.TheVariants.{Edition2015, Edition2021}
 use Rattle.dm_base.specs.declared.ids.MapId.{MapId}
 use Rattle.dm_base.specs.declared.ids.ModuleId.{ModuleId}
 use Rattle.dm_base.specs.declared.imports.GlobId.{GlobId}
@@ -135,3 +135,7 @@ glob u m v ns = record { into = number m; path = plain ns; vis = v; import = sta
 
 abbrev pub meant : ModuleDefId → Visibility → Source → Option Meaning
 meant d v s = Some (record { def = d; vis = v; source = s; is_ambiguous = false })
+
+-- the same world, of edition 2015
+abbrev pub in_2015 : World → World
+in_2015 w = record w { crate_maps = map (λ (m : maps.Map). record m { edition = Edition2015 }) w.crate_maps }

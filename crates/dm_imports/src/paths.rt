@@ -74,6 +74,20 @@ fn from_module(
     }
 }
 
+/// What a path without a name means: in edition 2015 the crate's root.
+fn of_no_name(maps: &DefMaps<'_>, asking: &Asking<'_>, namespace: Namespace) -> Option<Meaning>
+    requires { MayAsk (of_tables maps.now) (asks asking.now) }
+    ensures value { result ≡ spec.of_no_name (of_tables maps.now) (asks asking.now) namespace }
+    ensures named { IsNamed maps.now.world result }
+{
+    let krate = maps.world.krate(asking.home);
+    if maps.world.is_2015(krate) {
+        from_module(maps, asking, &[], namespace, maps.world.root_of(krate))
+    } else {
+        None
+    }
+}
+
 /// What segments mean of which the first is looked up.
 fn from_first(
     maps: &DefMaps<'_>,
@@ -87,7 +101,9 @@ fn from_first(
     ensures value { result ≡ spec.from_first (of_tables maps.now) (asks asking.now) textual is_abs segments.now namespace }
     ensures named { IsNamed maps.now.world result }
 {
-    let (name, rest) = segments.split_first()?;
+    let Some((name, rest)) = segments.split_first() else {
+        return of_no_name(maps, asking, namespace);
+    };
     match rest.split_first() {
         None => first(maps, asking, textual, is_abs, name, namespace),
         Some((next, others)) => {

@@ -22,6 +22,14 @@ fn itself(m: ModuleId, namespace: Namespace) -> Found {
     }
 }
 
+/// What a path without a name means: in edition 2015 the crate's root.
+fn of_no_name<M: Maps>(maps: &M, home: ModuleId, namespace: Namespace) -> Found {
+    match maps.start(home, PathKind::Crate) {
+        Some(root) if maps.is_2015(home) => itself(root, namespace),
+        _ => Found::Nothing,
+    }
+}
+
 /// An extern crate, where a type is asked for.
 fn extern_crate_in<M: Maps>(maps: &M, m: ModuleId, name: usize, namespace: Namespace) -> Found {
     match namespace {
@@ -205,7 +213,7 @@ impl Search {
         namespace: Namespace,
     ) -> Result<Found, AllocError> {
         let Some((name, rest)) = path.segments.split_first() else {
-            return Ok(Found::Nothing);
+            return Ok(of_no_name(maps, who.home, namespace));
         };
         if rest.is_empty() {
             return self.first(maps, who, path, *name, namespace);
