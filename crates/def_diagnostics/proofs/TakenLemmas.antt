@@ -11,6 +11,7 @@ use Rattle.def_diagnostics.specs.TakenLaws.{TakenByItems}
 use Rattle.def_diagnostics.specs.TakenNames.{namespace_place, names_of, same_taken, with_name}
 use Rattle.def_diagnostics.specs.declared.taken_names.TakenName.{TakenName}
 use Rattle.crate_items.specs.declared.items.declared_item.DeclaredItem.{DeclaredItem}
+use Rattle.crate_items.specs.Files.{SourceFile}
 use Rattle.crate_items.specs.Modules.{Listing}
 
 or_true : (b : Bool) → (b || true) ≡ true
@@ -45,14 +46,14 @@ any_taken (n ∷ ns) ks k =
     ∙ ap (λ b. b || list_any (same_taken k) ns) (any_inserted ks n k)
     ∙ or_assoc (list_any (same_taken k) ks) (same_taken k n) (list_any (same_taken k) ns)
 
-any_behind : (l : Listing) (mods : List (ℕ × ℕ)) (ys : List DeclaredItem) (ks : List TakenName) (k : TakenName)
-    → list_any (same_taken k) (fold (taken_with l mods) ks ys) ≡ (list_any (same_taken k) ks || list_any (λ (y : DeclaredItem). list_any (same_taken k) (names_of l mods y)) ys)
-any_behind l mods [] ks k = sym (or_false (list_any (same_taken k) ks))
-any_behind l mods (y ∷ ys) ks k =
-    let more = list_any (λ (z : DeclaredItem). list_any (same_taken k) (names_of l mods z)) ys in
-    any_behind l mods ys (taken_with l mods ks y) k
-    ∙ ap (λ b. b || more) (any_taken (names_of l mods y) ks k)
-    ∙ or_assoc (list_any (same_taken k) ks) (list_any (same_taken k) (names_of l mods y)) more
+any_behind : (l : Listing) (files : List SourceFile) (mods : List (ℕ × ℕ)) (ys : List DeclaredItem) (ks : List TakenName) (k : TakenName)
+    → list_any (same_taken k) (fold (taken_with l files mods) ks ys) ≡ (list_any (same_taken k) ks || list_any (λ (y : DeclaredItem). list_any (same_taken k) (names_of l files mods y)) ys)
+any_behind l files mods [] ks k = sym (or_false (list_any (same_taken k) ks))
+any_behind l files mods (y ∷ ys) ks k =
+    let more = list_any (λ (z : DeclaredItem). list_any (same_taken k) (names_of l files mods z)) ys in
+    any_behind l files mods ys (taken_with l files mods ks y) k
+    ∙ ap (λ b. b || more) (any_taken (names_of l files mods y) ks k)
+    ∙ or_assoc (list_any (same_taken k) ks) (list_any (same_taken k) (names_of l files mods y)) more
 
 pub taken_by_items : TakenByItems
-taken_by_items l mods ys k = any_behind l mods ys [] k
+taken_by_items l files mods ys k = any_behind l files mods ys [] k

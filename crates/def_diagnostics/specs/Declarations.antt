@@ -15,4 +15,4 @@ use Rattle.crate_items.specs.declared.files.dependency.Dependency.{Dependency}
 abbrev pub declaration_faults : Listing → List SourceFile → List Dependency → List DeclaredItem → List Diagnostic
 declaration_faults l files ds xs =
     ((map unresolved_module l.faults ++ flat_map (unresolved_extern_crate l files ds) xs)
-    ++ flat_map unresolved_visibility xs) ++ duplicates l xs
+    ++ flat_map unresolved_visibility xs) ++ duplicates l files xs

@@ -1,11 +1,14 @@
 -- The names that items take, each in a namespace of a module.
-use Rattle.std.specs.Prelude.{◌&&◌, ◌==◌, ℕ, Bool, true, List, [], ◌∷◌, Option, None, Some, fold, map, if◌then◌else◌}
+use Rattle.std.specs.Prelude.{◌&&◌, ◌++◌, ◌==◌, ℕ, Bool, true, List, [], ◌∷◌, Option, None, Some, fold, map, if◌then◌else◌}
 use Rattle.std.specs.List.{list_any}
 use Rattle.def_diagnostics.specs.DeclaredMods.{has}
 use Rattle.def_diagnostics.specs.declared.taken_names.TakenName.{TakenName}
 use Rattle.crate_items.specs.DeclaredMacros.{is_macro_exported}
 use Rattle.crate_items.specs.declared.items.declared_item.DeclaredItem.{DeclaredItem}
+use Rattle.crate_items.specs.declared.macros.procedural_macro.ProceduralMacro.{ProceduralMacro}
+use Rattle.crate_items.specs.Files.{SourceFile}
 use Rattle.crate_items.specs.Modules.{Listing}
+use Rattle.crate_items.specs.ProceduralMacros.{procedural_macro}
 use Rattle.dm_base.specs.declared.per_ns.Namespace.{Namespace}
 use Rattle.dm_base.specs.declared.per_ns.Namespace.TheVariants.{Macros, Types, Values}
 use Rattle.dm_base.specs.Kinds.{has_constructor}
@@ -53,9 +56,15 @@ abbrev pub names_if : Bool → DeclaredItem → Option Name → List TakenName
 names_if takes x None = []
 names_if takes x (Some n) = if takes then names_by_kind x x.kind n else []
 
+-- a procedural macro takes its name, which a derive has in its attribute, among the macros
+abbrev pub name_of_macro : ℕ → Option ProceduralMacro → List TakenName
+name_of_macro m None = []
+name_of_macro m (Some p) = taken_in m p.name Macros ∷ []
+
 -- the names that an item takes
-abbrev pub names_of : Listing → List (ℕ × ℕ) → DeclaredItem → List TakenName
-names_of l mods x = names_if (takes_name l mods x x.kind) x x.name
+abbrev pub names_of : Listing → List SourceFile → List (ℕ × ℕ) → DeclaredItem → List TakenName
+names_of l files mods x =
+    names_if (takes_name l mods x x.kind) x x.name ++ name_of_macro x.«module» (procedural_macro l files x)
 
 abbrev pub namespace_place : Namespace → ℕ
 namespace_place Types = 0
@@ -70,6 +79,6 @@ same_taken a b =
 abbrev pub with_name : List TakenName → TakenName → List TakenName
 with_name taken n = insert_key same_taken taken n
 
--- one of some names is among those that are taken
-abbrev pub is_taken : List TakenName → List TakenName → Bool
-is_taken taken names = list_any (λ (n : TakenName). list_any (same_taken n) taken) names
+-- a name is among those that are taken
+abbrev pub is_taken : List TakenName → TakenName → Bool
+is_taken taken n = list_any (same_taken n) taken

@@ -44,7 +44,7 @@ pub fn declaration_faults(
     push_all(&mut found, crates)?;
     let visibilities = unresolved_visibilities(alloc, items)?;
     push_all(&mut found, visibilities)?;
-    let second = duplicates(alloc, list, items)?;
+    let second = duplicates(alloc, list, files, items)?;
     push_all(&mut found, second)?;
     Ok(found)
 }

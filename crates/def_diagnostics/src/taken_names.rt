@@ -1,11 +1,14 @@
 //! The names that items take, each in a namespace of a module.
 ghost use Rattle.std.specs.Prelude.{◌≡◌, ◌++◌, IfOk, OnOk, fold, map};
+ghost use Rattle.std.specs.List.{find};
 ghost use Rattle.std.specs.Option.{option_copied};
 ghost use Rattle.def_diagnostics.specs.TakenNames as spec;
 
 use crate::declared_mods::DeclaredMods;
+use crate_items::files::file_table::FileTable;
 use crate_items::items::declared_item::DeclaredItem;
 use crate_items::macros::declared_macro::is_macro_exported;
+use crate_items::macros::procedural_macro::{ProceduralMacro, procedural_macro};
 use crate_items::modules::CrateModules;
 use dm_base::fields_shape::FieldsShape;
 use dm_base::name::Name;
@@ -108,14 +111,15 @@ fn names_by_kind(
     }
 }
 
-/// The names that an item takes.
-pub(crate) fn names_of(
+/// The names that an item takes by its own name.
+fn own_names(
     alloc: Global,
     list: &CrateModules,
     mods: &DeclaredMods,
     item: &DeclaredItem,
 ) -> Result<Vec<TakenName>, AllocError>
-    ensures { IfOk result (λ names. names.items ≡ spec.names_of list.now mods.now item.now) }
+    ensures { IfOk result (λ names. names.items ≡
+        spec.names_if (spec.takes_name list.now mods.now item.now item.now.kind) item.now item.now.name) }
 {
     let takes = takes_name(alloc, list, mods, item)?;
     match (takes, item.name.as_ref()) {
@@ -124,11 +128,58 @@ pub(crate) fn names_of(
     }
 }
 
-/// Whether one of some names is taken.
-pub(crate) fn is_taken(taken: &IndexSet<TakenName>, names: &[TakenName]) -> bool
-    ensures { result ≡ spec.is_taken taken.now.keys names.now }
+/// Adds the name that a procedural macro takes in a module, if there is one.
+fn push_macro(
+    names: &mut Vec<TakenName>,
+    home: usize,
+    made: Option<ProceduralMacro>,
+) -> Result<(), AllocError>
+    ensures { OnOk result (names.new.items ≡ names.old.items ++ spec.name_of_macro home made) }
 {
-    names.iter().any(|name| taken.contains(name))
+    match made {
+        None => Ok(()),
+        Some(made) => {
+            names.push(TakenName {
+                module: home,
+                namespace: Namespace::Macros,
+                name: made.name,
+            })?;
+            Ok(())
+        }
+    }
+}
+
+/// The names that an item takes.
+pub(crate) fn names_of(
+    alloc: Global,
+    list: &CrateModules,
+    files: &FileTable,
+    mods: &DeclaredMods,
+    item: &DeclaredItem,
+) -> Result<Vec<TakenName>, AllocError>
+    ensures { IfOk result (λ names. names.items ≡
+        spec.names_of list.now files.now mods.now item.now) }
+{
+    let mut names = own_names(alloc, list, mods, item)?;
+    let made = procedural_macro(alloc, list, files, item)?;
+    push_macro(&mut names, item.module, made)?;
+    Ok(names)
+}
+
+fn is_taken(taken: &IndexSet<TakenName>, name: &TakenName) -> bool
+    ensures { result ≡ spec.is_taken taken.now.keys name.now }
+{
+    taken.contains(name)
+}
+
+/// The first of some names that is taken.
+pub(crate) fn first_taken<'a>(
+    taken: &IndexSet<TakenName>,
+    names: &'a [TakenName],
+) -> Option<&'a TakenName>
+    ensures { option_copied result ≡ find (spec.is_taken taken.now.keys) names.now }
+{
+    names.iter().find(|name| is_taken(taken, name))
 }
 
 /// Takes a name.
