@@ -6,6 +6,8 @@ import os
 import re
 import subprocess
 
+from rustc_parts import place, rustc_parts
+
 # The kinds of items, by their names here, in `item_tree` and in rustc.
 KINDS = (
     ("use", "Use", "Use"),
@@ -25,7 +27,8 @@ KINDS = (
     ("mod", "Mod", "Mod"),
     ("call", "MacroCall", "MacCall"),
     ("cfg_if", "CfgIf", ""),
-    ("arm", "CfgIfArm", ""),
+    ("cfg_select", "CfgSelect", ""),
+    ("arm", "CfgArm", ""),
     ("macro_rules", "MacroRules", "MacroDef"),
     ("macro", "Macro2", ""),
     ("inner", "InnerAttribute", ""),
@@ -41,14 +44,6 @@ SPAN = re.compile(rb":(\d+):(\d+): (\d+):(\d+) \(#\d+\),$")
 TYPE = re.compile(rb"kind: (\w+)")
 NAME = re.compile(rb"((?:r#)?\w+|\{\{root\}\})#\d+,$")
 STRING = re.compile(rb'"(.*)",$')
-
-
-def place(lines, line, first, behind):
-    """The number of the first such line, or `behind`."""
-    try:
-        return lines.index(line, first, behind)
-    except ValueError:
-        return behind
 
 
 def named(lines, first, behind, lead):
@@ -82,7 +77,7 @@ def path_in(lines, first, behind, depth):
 
 
 def read_items(lines, first, behind, depth, level, found):
-    """Adds each item whose line stands at that depth: its kind, name, level and span in lines."""
+    """Adds each item whose line stands at that depth: its kind, name, level, span in lines, and parts."""
     opening, closing = b" " * depth + b"Item {", b" " * depth + b"},"
     at = place(lines, opening, first, behind)
     while at < behind:
@@ -119,7 +114,9 @@ def read_item(lines, first, behind, depth, level, found):
     of_macro = b" " * (depth + 12) + b"macro_rules: false,"
     if theirs == "MacroDef" and place(lines, of_macro, kind_at, behind) < behind:
         kind = "macro"
-    found.append((kind, name_in(lines, kind_at + 1, behind, depth, theirs), level, span))
+    name = name_in(lines, kind_at + 1, behind, depth, theirs)
+    parts = rustc_parts(kind, lines, first, kind_at, behind, depth)
+    found.append((kind, name, level, span, parts))
     if theirs in ("Mod", "Trait", "Impl", "ForeignMod"):
         read_items(lines, kind_at, behind, depth + 16, level + 1, found)
 
@@ -139,10 +136,10 @@ def byte_of(content, places, line, column):
     return start + len(content[start:end].decode()[:column - 1].encode())
 
 
-def wanted_items(path, content, edition):
-    """The items of a file as rustc has them, or nothing where it does not parse the file."""
-    words = ["rustc", "-Zunpretty=ast-tree", "--edition", edition, "--crate-name", "it", path]
-    run = subprocess.run(words, capture_output=True, check=False,
+def wanted_items(content, edition):
+    """The items of a text as rustc has them, or nothing where it does not parse the text."""
+    words = ["rustc", "-Zunpretty=ast-tree", "--edition", edition, "--crate-name", "it", "-"]
+    run = subprocess.run(words, input=content, capture_output=True, check=False,
                          env={**os.environ, "RUSTC_BOOTSTRAP": "1"})
     if run.returncode != 0:
         return None
@@ -151,4 +148,4 @@ def wanted_items(path, content, edition):
     read_items(lines, 0, len(lines), 8, 0, found)
     places = places_of(content)
     return sorted((byte_of(content, places, *span[:2]), byte_of(content, places, *span[2:]),
-                   level, kind, name) for kind, name, level, span in found)
+                   level, kind, name, parts) for kind, name, level, span, parts in found)

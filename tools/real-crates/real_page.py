@@ -4,6 +4,7 @@ import json
 import os
 import subprocess
 import textwrap
+from collections import Counter
 from dataclasses import asdict, dataclass, field
 
 from cargo_builds import DEBIAN_RUSTC, PASSES, RUSTC, read_text
@@ -34,6 +35,7 @@ class Row:
     unknown_names: int = 0
     partly_names: int = 0
     reasons: dict = field(default_factory=dict)
+    unread: dict = field(default_factory=dict)  # of what rustc prints, by reason
     differing: list = field(default_factory=list)
     statistics: dict = field(default_factory=dict)
     passes: dict = field(default_factory=dict)
@@ -65,10 +67,11 @@ class Row:
 
     def told(self):
         reasons = "".join(f", {count} of {reason}" for reason, count in sorted(self.reasons.items()))
+        unread = "".join(f", not read {count} of {reason}" for reason, count in sorted(self.unread.items()))
         return (f"{self.imports} imports, {self.globs} globs, {self.compared} compared, {self.unknown} unknown, "
                 f"{self.partly} partly, "
                 f"{self.brought} in modules of macros, {self.alone} of `defmap` alone; {self.names} names of {self.modules} modules, {self.bound} bound, "
-                f"{self.unknown_names} unknown, {self.partly_names} partly{reasons}; "
+                f"{self.unknown_names} unknown, {self.partly_names} partly{reasons}{unread}; "
                 f"{'supported' if self.is_supported else 'not supported'}; {len(self.differing)} differ")
 
 
@@ -150,6 +153,9 @@ def limits(rows):
     reasons = (TESTS, INJECTED, BEHIND, ATTRIBUTES, PROCEDURAL, MOVED, SINCE, BRACED)
     places = {reason: sum(it.reasons.get(reason, 0) for it in rows) for reason in reasons}
     unknown, brought = sum(it.unknown for it in rows), sum(it.brought for it in rows)
+    unread = Counter()
+    for row in rows:
+        unread.update(row.unread)
     names, partly = sum(it.unknown_names for it in rows), sum(it.partly + it.partly_names for it in rows)
     return table(["what", "places"], [
         ["imports that lead nowhere, where a macro that is called may bring what they name: `unknown`", unknown],
@@ -164,7 +170,8 @@ def limits(rows):
         ["procedural macros, of which the crates alone are compared, not the names", places[PROCEDURAL]],
         ["definitions of the standard library that stand elsewhere in rustc's than in the sources, or are of another kind there: compared by name", places[MOVED]],
         ["names of the standard library that rustc's has and that of the sources has not, or the other way", places[SINCE]],
-        ["variants with braces in the libraries, which rustc 1.63 has as values and rustc 1.95 has not", places[BRACED]]])
+        ["variants with braces in the libraries, which rustc 1.63 has as values and rustc 1.95 has not", places[BRACED]],
+        *([f"items and imports that rustc prints: not read, {reason}", count] for reason, count in sorted(unread.items()))])
 
 
 def version(rustc):

@@ -5,6 +5,7 @@ are read: that of rustc 1.63, in which an item has its name before its number, a
 and that of rustc 1.95, in which the number of an item comes first, and a `use` has what its path means in all namespaces.
 """
 import re
+from collections import Counter
 from dataclasses import dataclass, field
 from itertools import takewhile
 from os.path import normpath
@@ -16,7 +17,16 @@ KINDS = {"Mod": "mod", "Struct": "struct", "Union": "union", "Enum": "enum", "Va
          "TraitAlias": "trait", "TyAlias": "type", "ForeignTy": "type", "Fn": "fn", "Const": "const", "Static": "static",
          "Macro": "macro"}
 TYPES = {"mod", "struct", "union", "enum", "variant", "trait", "type"}
+# Why something that rustc prints is not read.
+WITHIN = "in a body or an `impl`, or in what a macro wrote"
+NO_LEAF = "a `use` that has leaves, each printed by itself"
+NOT_WRITTEN = "a `use` that the compiler adds, as that of its prelude"
+UNKNOWN_USE = "a `use` of a form that is not known"
+UNKNOWN_ITEM = "an item of a form that is not known"
+UNKNOWN_VARIANT = "a variant of a form that is not known"
+NO_NAME = "an item without a name"
 SPAN = re.compile(r"span: (.+?):(\d+):(\d+): (\d+):(\d+) \(#(\d+)\)")
+NOWHERE = "span: no-location"
 IDENT = re.compile(r"ident: (\S*?)#\d+,")
 OWN_ID = re.compile(r"def_id: DefId\(\d+:\d+ ~ \w+\[\w+\]([^)]*)\)")
 OWNER = re.compile(r"(?:owner: |HirId\()DefId\(\d+:\d+ ~ \w+\[\w+\]([^)]*)\)")
@@ -66,6 +76,7 @@ class Said:
     declared: dict = field(default_factory=dict)  # the names of the items of each module, and of the variants of each enum
     macros: set = field(default_factory=set)  # the names of all macros
     globs: dict = field(default_factory=dict)  # what the globs of each module mean, those of macros too
+    unread: Counter = field(default_factory=Counter)  # what was not read, by reason
 
 
 def without_raw(name):
@@ -105,7 +116,14 @@ def meant_by_glob(body):
 def read_use(said, name, owner, body, last):
     """Reads a leaf of a `use`."""
     home, span = owner.rpartition("::")[0], SPAN.search(body[0])
-    if home not in said.declared or last not in ("Single,", "Glob,") or not span:
+    if home not in said.declared:
+        said.unread[WITHIN] += 1
+        return
+    if last == "ListStem,":
+        said.unread[NO_LEAF] += 1
+        return
+    if last not in ("Single,", "Glob,") or not span:
+        said.unread[UNKNOWN_USE] += 1
         return
     is_glob = last == "Glob,"
     meant = meant_by_leaf(body) or (meant_by_glob(body) if is_glob else None)
@@ -132,7 +150,17 @@ def read_uses(said, path, body):
     """Reads a leaf of a `use` with what its path means in all namespaces."""
     home, span, text = path.rpartition("::")[0], SPAN.search(joined(body)), joined(body)
     name, is_glob = BOUND_NAME.search(text), body[-1].strip() == "Glob,"
-    if home not in said.declared or not span or not (name or is_glob):
+    if home not in said.declared:
+        said.unread[WITHIN] += 1
+        return
+    if body[-1].strip() == "ListStem,":
+        said.unread[NO_LEAF] += 1
+        return
+    if not span and NOWHERE in text:
+        said.unread[NOT_WRITTEN] += 1
+        return
+    if not span or not (name or is_glob):
+        said.unread[UNKNOWN_USE] += 1
         return
     meant = {definition(it) for it in PER_NAMESPACE.split(text.partition("segments: [")[0])[1:]} - {None}
     if is_glob:
@@ -165,6 +193,8 @@ def declare(said, path, name):
     home = path.rpartition("::")[0]
     if home in said.declared:
         said.declared[home].add(name)
+    else:
+        said.unread[WITHIN] += 1
 
 
 def read_item(said, lines):
@@ -176,6 +206,7 @@ def read_item(said, lines):
         return
     kind = KIND.match(next(lines))
     if not kind:
+        said.unread[UNKNOWN_ITEM] += 1
         return
     name, path = without_raw(name[1]), f"crate{INSIDE.sub('', owner[1])}"
     declare(said, path, name)
@@ -189,12 +220,15 @@ def read_item(said, lines):
 def read_numbered(said, owner, kind, lines):
     """Reads an item that begins with its number, whose other lines follow."""
     if not owner or not kind:
+        said.unread[UNKNOWN_ITEM] += 1
         return
     path = f"crate{INSIDE.sub('', owner[1])}"
     name = without_raw(path.rpartition("::")[2])
     if kind[2] == "Use":
         read_uses(said, path, body_of(kind, lines))
-    elif not name.startswith("{"):
+    elif name.startswith("{"):
+        said.unread[NO_NAME] += 1
+    else:
         declare(said, path, name)
         read_of_kind(said, name, path, kind, lines)
 
@@ -205,13 +239,19 @@ def read_foreign(said, indent, lines):
     name, owner = IDENT.search(body[0]), OWNER_ID.search("".join(body))
     if name and owner:
         declare(said, f"crate{INSIDE.sub('', owner[1])}", without_raw(name[1]))
+    else:
+        said.unread[UNKNOWN_ITEM] += 1
 
 
 def read_variant(said, lines):
     """Reads a variant of an enum, whose lines follow."""
     name, owner = IDENT.search(next(lines)), OWNER.search(next(lines) + next(lines))
-    if name and owner and (path := f"crate{INSIDE.sub('', owner[1])}") in said.declared:
+    if not name or not owner:
+        said.unread[UNKNOWN_VARIANT] += 1
+    elif (path := f"crate{INSIDE.sub('', owner[1])}") in said.declared:
         said.declared[path].add(without_raw(name[1]))
+    else:
+        said.unread[WITHIN] += 1
 
 
 def read(lines):
