@@ -21,6 +21,7 @@ TYPES = {"mod", "struct", "union", "enum", "variant", "trait", "type"}
 WITHIN = "in a body or an `impl`, or in what a macro wrote"
 NO_LEAF = "a `use` that has leaves, each printed by itself"
 NOT_WRITTEN = "a `use` that the compiler adds, as that of its prelude"
+BY_MACRO = "a `use` that a macro wrote"
 UNKNOWN_USE = "a `use` of a form that is not known"
 UNKNOWN_ITEM = "an item of a form that is not known"
 UNKNOWN_VARIANT = "a variant of a form that is not known"
@@ -130,6 +131,7 @@ def read_use(said, name, owner, body, last):
     if is_glob:
         said.globs.setdefault(home, set()).add(meant)
     if span[6] != "0":
+        said.unread[BY_MACRO] += 1
         return
     leaf = said.leaves.setdefault((normpath(span[1]), int(span[2]), int(span[3])), Leaf(home, name, is_glob))
     if meant:
@@ -171,6 +173,8 @@ def read_uses(said, path, body):
         where = (normpath(span[1]), int(span[2]), int(span[3]))
         leaf = said.leaves.setdefault(where, Leaf(home, without_raw(name[1]) if name else "", is_glob))
         leaf.meant |= meant
+    else:
+        said.unread[BY_MACRO] += 1
 
 
 def read_of_kind(said, name, path, kind, lines):
