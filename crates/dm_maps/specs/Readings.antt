@@ -1,5 +1,5 @@
 -- All that path resolution reads: the name-independent part of a world, and what a world says of one name.
-use Rattle.std.specs.Prelude.{Bool, true, false, List, [], Option, slice_get}
+use Rattle.std.specs.Prelude.{Bool, true, false, List, [], Option, Some, None, slice_get, if◌then◌else◌}
 use Rattle.std.specs.Option.{option_map, option_map_or, option_and_then}
 use Rattle.std.specs.Map.{lookup}
 use Rattle.dm_base.specs.declared.ids.ModuleId.{ModuleId}
@@ -30,7 +30,7 @@ use Rattle.dm_def_map.specs.Variants.{same_enum}
 use Rattle.dm_maps.specs.declared.rules.Rules.{Rules}
 use Rattle.dm_maps.specs.World.{World, crate_map, numbered_map, scope_of}
 use Rattle.dm_maps.specs.Trees.{tree_of}
-use Rattle.dm_maps.specs.Kinds.{macro_number}
+use Rattle.dm_maps.specs.Kinds.{is_of_kind, macro_number}
 
 -- The name-independent part of a world, as far as path resolution reads it: the module tree, and the tables by id.
 pub record Setting : Type 0 where
@@ -73,6 +73,10 @@ styles_by (Macro2Id n) (loc.Macro2 e) = kinds.styles_of (loc.Macro2 e)
 styles_by (MacroRulesId n) (loc.MacroRules e) = kinds.styles_of (loc.MacroRules e)
 styles_by (ProcMacroId n) (loc.Proc k) = kinds.styles_of (loc.Proc k)
 styles_by _ _ = no_style
+
+-- what a macro of the world's is
+abbrev pub macro_loc_of : World → MacroId → Option MacroLoc
+macro_loc_of w m = option_and_then (λ e. if is_of_kind m e.1 then Some e.1 else None) (slice_get w.macros (macro_number m))
 
 -- no style for a macro that is not the world's
 abbrev pub styles_of : World → MacroId → MacroCallStyles

@@ -5,7 +5,7 @@ ghost use Rattle.dm_base.specs.Names.{find_name};
 ghost use Rattle.dm_base.specs.Tree.{IsKnown};
 ghost use Rattle.dm_maps.specs.declared.check.held.HeldId.TheVariants as held;
 ghost use Rattle.dm_maps.specs.Known.{knows};
-ghost use Rattle.dm_maps.specs.Readings.{variants_of, root_of, block_root_of, is_2015_in, prelude_of, macro_uses_of};
+ghost use Rattle.dm_maps.specs.Readings.{variants_of, root_of, block_root_of, is_2015_in, macro_loc_of, prelude_of, macro_uses_of};
 ghost use Rattle.dm_maps.specs.Trees.{tree_of};
 ghost use Rattle.dm_maps.specs.World.{scope_of};
 ghost use Rattle.dm_scope.specs.Scope.{legacy_in};
@@ -14,6 +14,7 @@ use crate::world::World;
 use dm_base::fields_shape::FieldsShape;
 use dm_base::ids::{BlockId, Crate, EnumId, EnumVariantId, ExternCrateId, MapId, ModuleId};
 use dm_base::item_ids::MacroId;
+use dm_base::macros::MacroLoc;
 use dm_base::name::Name;
 use dm_base::source::Edition;
 
@@ -66,6 +67,13 @@ impl World {
         ensures known { ForSome result (λ l. IsTrue (knows self.now (held.Macro l))) }
     {
         self.tables.legacy_of(m, name)
+    }
+
+    /// What a macro is: how it was written, and how it is expanded. None for one that is not the world's.
+    pub fn macro_loc(&self, m: MacroId) -> Option<MacroLoc>
+        ensures { result ≡ macro_loc_of self.now m }
+    {
+        self.tables.macro_loc(m)
     }
 
     /// The variant of an enum under a name, with its shape.

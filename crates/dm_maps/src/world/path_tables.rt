@@ -2,13 +2,13 @@
 ghost use Rattle.std.specs.Prelude.{◌≡◌};
 ghost use Rattle.std.specs.Option.{option_copied};
 ghost use Rattle.dm_base.specs.Names.{find_name};
-ghost use Rattle.dm_maps.specs.Readings.{root_of, block_root_of, prelude_of, macro_uses_of, styles_by, styles_of};
+ghost use Rattle.dm_maps.specs.Readings.{root_of, block_root_of, macro_loc_of, prelude_of, macro_uses_of, styles_by, styles_of};
 ghost use Rattle.dm_maps.specs.World.{crate_map, scope_of};
 ghost use Rattle.dm_scope.specs.Pushes.{last_of};
 ghost use Rattle.dm_scope.specs.Scope.{legacy_in};
 
 use crate::builder::WorldBuilder;
-use crate::check::kinds::macro_number;
+use crate::check::kinds::{is_of_kind, macro_number};
 use bitflags::Flags;
 use dm_base::ids::{BlockId, Crate, ExternCrateId, MapId, ModuleId};
 use dm_base::item_ids::MacroId;
@@ -61,6 +61,14 @@ impl WorldBuilder {
         ensures { result ≡ legacy_in (scope_of self.now m) name.now }
     {
         last_of(self.module_of(m)?.scope().get_legacy_macro(name)?)
+    }
+
+    /// What a macro is.
+    pub(crate) fn macro_loc(&self, m: MacroId) -> Option<MacroLoc>
+        ensures { result ≡ macro_loc_of self.now m }
+    {
+        let (_home, loc) = *self.macros.get(macro_number(m) as usize)?;
+        if is_of_kind(m, loc) { Some(loc) } else { None }
     }
 
     /// The styles of a macro: none for one that is not there.
