@@ -110,7 +110,7 @@ trees =
     ∷ tree_of tree.Glob (Some 0) 7 7 None ∷ []
 
 abbrev pub import : ℕ → ImportKind → Path → Option (List ℕ) → DeclaredImport
-import n kind p name = record { tree = record { 0 = n }; kind = kind; path = p; name = name; is_unnamed = false }
+import n kind p name = record { tree = record { 0 = n }; kind = kind; path = p; name = name; is_unnamed = false; is_empty_list = false }
 
 abbrev pub Imports : Type 0
 Imports =
@@ -118,3 +118,18 @@ Imports =
     ≡ import 1 imports.TypeOnly (to path.Plain (codes "c" ∷ [])) (Some (codes "c"))
     ∷ import 2 imports.Plain (to path.Plain (codes "c" ∷ codes "d" ∷ [])) (Some (codes "d"))
     ∷ import 3 imports.Glob (to path.Plain (codes "c" ∷ [])) None ∷ []
+
+abbrev pub empty_list : ℕ → Path → DeclaredImport
+empty_list n p = record { tree = record { 0 = n }; kind = imports.TypeOnly; path = p; name = None; is_unnamed = true; is_empty_list = true }
+
+-- `c::{}` asks for `c`, and binds nothing; of `c::{d::{}}` the inner list asks; and `{}` is nothing
+abbrev pub EmptyList : Type 0
+EmptyList = imports_of_trees text lexemes (tree_of tree.Prefixed None 3 4 None ∷ []) ≡ empty_list 0 (to path.Plain (codes "c" ∷ [])) ∷ []
+
+abbrev pub InnerList : Type 0
+InnerList =
+    imports_of_trees text lexemes (tree_of tree.Prefixed None 3 4 None ∷ tree_of tree.Prefixed (Some 0) 6 7 None ∷ [])
+    ≡ empty_list 1 (to path.Plain (codes "c" ∷ codes "d" ∷ [])) ∷ []
+
+abbrev pub ListOfNothing : Type 0
+ListOfNothing = imports_of_trees text lexemes (tree_of tree.Prefixed None 3 3 None ∷ []) ≡ []

@@ -1,4 +1,5 @@
 pub mod Paths
+pub mod BareModules
 pub mod PreludeModules
 pub mod ModDirs
 pub mod ModRows

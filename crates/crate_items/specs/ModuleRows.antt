@@ -1,11 +1,13 @@
 -- Modules of small crates, and how items stand: worked rows.
 use Rattle.std.specs.Prelude.{◌≡◌, ◌+◌, ℕ, Bool, true, false, List, [], ◌∷◌, Option, Some, None, codes, map}
+use Rattle.crate_items.specs.BareModules.{bare_modules}
 use Rattle.crate_items.specs.DeclaredModules.{Module}
 use Rattle.crate_items.specs.Files.{SourceFile, file_at, id_of}
 use Rattle.crate_items.specs.ModDirs as dirs
 use Rattle.crate_items.specs.ModItems.{path_of}
 use Rattle.crate_items.specs.ModuleVisibilities.{Standpoint, shown}
 use Rattle.crate_items.specs.Modules.{faulty, found_as, inline, outline, root_module}
+use Rattle.crate_items.specs.Sources.{Source}
 use Rattle.crate_items.specs.Standings.{standings}
 use Rattle.crate_items.specs.declared.modules.declared_module.Declaration.{Declaration}
 use Rattle.crate_items.specs.declared.files.found.Found.TheVariants.{Declared}
@@ -13,7 +15,8 @@ use Rattle.crate_items.specs.declared.modules.mod_items.ModItem.{ModItem}
 use Rattle.crate_items.specs.declared.modules.module_visibility.DeclaredVisibility.TheVariants as seen
 use Rattle.crate_items.specs.declared.modules.standing.Standing.{Standing}
 use Rattle.dm_base.specs.declared.edition.Edition.TheVariants.{Edition2015, Edition2021}
-use Rattle.item_tree.specs.declared.attributes.attribute_kind.AttributeKind.TheVariants.{Cfg, Path}
+use Rattle.item_tree.specs.declared.attributes.attribute_kind.AttributeKind.{AttributeKind}
+use Rattle.item_tree.specs.declared.attributes.attribute_kind.AttributeKind.TheVariants.{Bench, Cfg, NoImplicitPrelude, Path, Test}
 use Rattle.item_tree.specs.declared.attributes.Attribute.{Attribute}
 use Rattle.item_tree.specs.declared.cfg.CfgAtom.{CfgAtom}
 use Rattle.item_tree.specs.declared.cfg.CfgAtom.TheVariants.{Flag}
@@ -272,3 +275,66 @@ PathWithin =
     map path_by
     ((path_at 40 13 15 ∷ []) ∷ (path_at 30 3 5 ∷ path_at 40 13 15 ∷ []) ∷ (path_at 40 18 20 ∷ []) ∷ [])
     ≡ Some (record { start = 40; len = 3 }) ∷ Some (record { start = 30; len = 3 }) ∷ None ∷ []
+
+-- an active attribute, by what stands behind its name
+abbrev pub attribute_at : AttributeKind → ℕ → Attribute
+attribute_at kind first = record { kind = kind; inner = false; condition = None; input = record { first = first; behind = first } }
+
+-- `#[test] fn`, `fn`, an implementation with a `#[test] fn`, and `#[bench] struct`: which of them a crate has, by its options
+abbrev pub tested : List CfgAtom → List Bool
+tested options =
+    map (λ (s : Standing). s.is_configured)
+    (standings (record {
+      options = options;
+      text = [];
+      lexemes = [];
+      partners = [];
+      attributes = record {
+        attributes = attribute_at Test 3 ∷ attribute_at Test 24 ∷ attribute_at Bench 33 ∷ [];
+        conditions = [];
+        nodes = [];
+        errors = [];
+      };
+      active = [];
+      items =
+          item_of item.Function None 0 4
+          ∷ item_of item.Function None 10 10
+          ∷ item_of item.Impl None 20 20
+          ∷ item_of item.Struct None 30 34
+          ∷ item_of item.Function (Some 2) 21 25 ∷ [];
+      is_enabled = true;
+    }))
+
+abbrev pub Tests : Type 0
+Tests =
+    map tested ([] ∷ (Flag (codes "test") ∷ []) ∷ [])
+    ≡ (false ∷ true ∷ true ∷ true ∷ true ∷ []) ∷ (true ∷ true ∷ true ∷ true ∷ true ∷ []) ∷ []
+
+-- `#[no_implicit_prelude] mod a { mod b { .. } }` and `mod c { .. }`, in the file of the root
+abbrev pub bare_a : Module
+bare_a = inline root (in_root 0 (codes "a")) None
+
+abbrev pub beside_c : Module
+beside_c = inline root (in_root 1 (codes "c")) None
+
+abbrev pub bare_b : Module
+bare_b = inline bare_a (record { parent = 1; name = codes "b"; visibility = raw.Inherited; file = id_of 0; item = 2 }) None
+
+abbrev pub bare_source : Source
+bare_source =
+    record {
+      lexemes = [];
+      partners = [];
+      items = item_of item.Mod None 0 4 ∷ item_of item.Mod None 10 10 ∷ item_of item.Mod (Some 0) 5 5 ∷ [];
+      top_level = 2;
+      attributes = record { attributes = attribute_at NoImplicitPrelude 3 ∷ []; conditions = []; nodes = []; errors = [] };
+      active = [];
+      standings = [];
+      mods = [];
+      is_enabled = true;
+    }
+
+abbrev pub BareModules : Type 0
+BareModules =
+    bare_modules (record { sources = Some bare_source ∷ []; modules = root ∷ bare_a ∷ beside_c ∷ bare_b ∷ []; faults = [] })
+    ≡ false ∷ true ∷ false ∷ true ∷ []

@@ -5,6 +5,7 @@ ghost use Rattle.crate_items.specs.Modules as spec;
 ghost use Rattle.crate_items.specs.Sources.{AreSourcesOf};
 ghost use Rattle.crate_items.specs.declared.files.found.Found.TheVariants.{Declared};
 
+pub mod bare_modules;
 pub mod declared_module;
 pub mod mod_items;
 pub mod mod_resolution;

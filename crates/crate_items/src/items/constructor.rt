@@ -243,7 +243,7 @@ fn is_non_exhaustive(kind: AttributeKind) -> bool
     matches!(kind, AttributeKind::NonExhaustive)
 }
 
-fn any_non_exhaustive(kinds: &[AttributeKind]) -> bool
+pub(crate) fn any_non_exhaustive(kinds: &[AttributeKind]) -> bool
     ensures { result ≡ list_any spec.is_non_exhaustive kinds.now }
 {
     kinds.iter().any(|kind| is_non_exhaustive(*kind))

@@ -1,5 +1,6 @@
 //! What `use` items import.
-ghost use Rattle.std.specs.Prelude.{◌≡◌, ◌++◌, ◌+◌, IfOk, OnOk};
+ghost use Rattle.std.specs.Prelude.{◌≡◌, ◌<◌, ◌++◌, ◌+◌, IfOk, OnOk, false, length, slice_get};
+ghost use Rattle.std.specs.Option.{option_map_or};
 ghost use Rattle.crate_items.specs.DeclaredImports as spec;
 ghost use Rattle.item_tree.specs.UseTrees.{use_trees_of};
 
@@ -16,7 +17,7 @@ use dm_base::name::Name;
 use item_tree::ids::use_tree_idx;
 use item_tree::items::imports::{ImportKind, import_kind, import_path};
 use item_tree::items::item_kind::ItemKind;
-use item_tree::items::use_tree::{UseTree, use_trees};
+use item_tree::items::use_tree::{UseTree, UseTreeKind, use_trees};
 use item_tree::items::{Item, Range};
 use item_tree::lexer::lexeme::{Lexeme, LexemeKind};
 use item_tree::lexer::word::Word;
@@ -32,8 +33,10 @@ pub struct DeclaredImport {
     pub path: ModPath,
     /// The name that is bound; none for a glob, and for `as _`.
     pub name: Option<Name>,
-    /// Whether it is `as _`.
+    /// Whether it is `as _`, or a list of nothing.
     pub is_unnamed: bool,
+    /// Whether it is a list of nothing (`use a::b::{};`), which asks for what it is of, and is seen by its module alone.
+    pub is_empty_list: bool,
 }
 
 /// What is bound.
@@ -128,51 +131,108 @@ fn bound_by(
     }
 }
 
-/// Adds an import by a path, if there is one, and if it binds anything.
-fn push_by_path(
-    found: &mut Vec<DeclaredImport>,
-    tree: UseTreeIdx,
-    kind: ImportKind,
-    path: ModPath,
-    bound: Option<Binding>,
-) -> Result<(), AllocError>
-    ensures { OnOk result
-        (found.new.items ≡ found.old.items ++ spec.of_binding tree kind path bound) }
-{
-    match bound {
-        None => Ok(()),
-        Some(bound) => {
-            found.push(DeclaredImport {
-                tree,
-                kind,
-                path,
-                name: bound.name,
-                is_unnamed: bound.is_unnamed,
-            })?;
-            Ok(())
-        }
-    }
-}
-
 /// Where a leaf stands, and what it is.
 #[derive(Clone, Copy)]
 struct Leaf {
     tree: UseTreeIdx,
     kind: ImportKind,
     alias: Option<usize>,
+    is_empty_list: bool,
 }
 
-/// The tree of a number as a leaf; none, if it is a list or an error.
-fn leaf_of(lexemes: &[Lexeme], number: usize, tree: UseTree) -> Option<Leaf>
-    ensures { result ≡ spec.leaf_of lexemes.now number tree }
+fn is_list(kind: UseTreeKind) -> bool
+    ensures { result ≡ spec.is_list kind }
 {
-    match (use_tree_idx(number), import_kind(lexemes, tree)) {
+    matches!(kind, UseTreeKind::Prefixed)
+}
+
+/// Whether the tree of a number stands in a list of another one.
+fn is_in(trees: &[UseTree], number: usize, list: usize) -> bool
+    ensures { result ≡ option_map_or (spec.is_in list) (slice_get trees.now number) false }
+{
+    match trees.get(number) {
+        None => false,
+        Some(tree) => match tree.parent {
+            None => false,
+            Some(parent) => list == parent,
+        },
+    }
+}
+
+/// Whether the tree of a number is a list of nothing: what is in a list stands right behind it.
+fn is_empty_list(trees: &[UseTree], number: usize, tree: UseTree) -> bool
+    requires { number < length trees.now }
+    ensures { result ≡ spec.is_empty_list trees.now number tree }
+{
+    is_list(tree.kind) && !is_in(trees, number + 1, number)
+}
+
+/// The tree of a number as a leaf; none, if it is another list or an error.
+fn leaf_of(lexemes: &[Lexeme], trees: &[UseTree], number: usize, tree: UseTree) -> Option<Leaf>
+    requires { number < length trees.now }
+    ensures { result ≡ spec.leaf_of lexemes.now trees.now number tree }
+{
+    let is_empty_list = is_empty_list(trees, number, tree);
+    let kind = if is_empty_list {
+        Some(ImportKind::TypeOnly)
+    } else {
+        import_kind(lexemes, tree)
+    };
+    match (use_tree_idx(number), kind) {
         (Some(idx), Some(kind)) => Some(Leaf {
             tree: idx,
             kind,
             alias: tree.alias,
+            is_empty_list,
         }),
         _ => None,
+    }
+}
+
+/// Whether a path has no names, and does not begin with `crate`, `self` or `super`.
+fn says_nothing(path: &ModPath) -> bool
+    ensures { result ≡ spec.says_nothing path.now }
+{
+    path.segments().is_empty() && matches!(path.kind(), PathKind::Plain | PathKind::Abs)
+}
+
+/// What a list of nothing binds: nothing, and where it is of nothing, it does not ask either.
+fn bound_by_list(path: &ModPath) -> Option<Binding>
+    ensures { result ≡ spec.of_list path.now }
+{
+    if says_nothing(path) {
+        None
+    } else {
+        Some(Binding {
+            name: None,
+            is_unnamed: true,
+        })
+    }
+}
+
+/// Adds an import by a path, if there is one, and if it binds anything.
+fn push_by_path(
+    found: &mut Vec<DeclaredImport>,
+    leaf: Leaf,
+    path: ModPath,
+    bound: Option<Binding>,
+) -> Result<(), AllocError>
+    ensures { OnOk result
+        (found.new.items ≡ found.old.items ++ spec.of_binding leaf path bound) }
+{
+    match bound {
+        None => Ok(()),
+        Some(bound) => {
+            found.push(DeclaredImport {
+                tree: leaf.tree,
+                kind: leaf.kind,
+                path,
+                name: bound.name,
+                is_unnamed: bound.is_unnamed,
+                is_empty_list: leaf.is_empty_list,
+            })?;
+            Ok(())
+        }
     }
 }
 
@@ -191,18 +251,22 @@ fn push_leaf(
     match path {
         None => Ok(()),
         Some(path) => {
-            let bound = bound_by(alloc, text, lexemes, leaf.kind, leaf.alias, &path)?;
-            push_by_path(found, leaf.tree, leaf.kind, path, bound)?;
+            let bound = if leaf.is_empty_list {
+                bound_by_list(&path)
+            } else {
+                bound_by(alloc, text, lexemes, leaf.kind, leaf.alias, &path)?
+            };
+            push_by_path(found, leaf, path, bound)?;
             Ok(())
         }
     }
 }
 
-/// Whether an import is by `self` in a list.
-fn is_type_only(kind: ImportKind) -> bool
-    ensures { result ≡ spec.is_type_only kind }
+/// Whether a leaf is `self` in a list.
+fn is_self(leaf: Leaf) -> bool
+    ensures { result ≡ spec.is_self leaf }
 {
-    matches!(kind, ImportKind::TypeOnly)
+    matches!(leaf.kind, ImportKind::TypeOnly) && !leaf.is_empty_list
 }
 
 /// The path of a leaf. `self` in a list of no path is the module that the `use` stands in.
@@ -210,12 +274,12 @@ fn leaf_path(
     alloc: Global,
     text: &[u8],
     lexemes: &[Lexeme],
-    kind: ImportKind,
+    leaf: Leaf,
     places: &[usize],
 ) -> Result<Option<ModPath>, AllocError>
-    ensures { IfOk result (λ path. path ≡ spec.leaf_path text.now lexemes.now kind places.now) }
+    ensures { IfOk result (λ path. path ≡ spec.leaf_path text.now lexemes.now leaf places.now) }
 {
-    if is_type_only(kind) && places.is_empty() {
+    if is_self(leaf) && places.is_empty() {
         Ok(Some(ModPath::from_segments(PathKind::Super(0), Vec::new(alloc))))
     } else {
         path_of(alloc, text, lexemes, places)
@@ -232,14 +296,15 @@ fn push_tree(
     number: usize,
     tree: UseTree,
 ) -> Result<(), AllocError>
+    requires { number < length trees.now }
     ensures { OnOk result (found.new.items ≡ found.old.items
         ++ spec.import_of text.now lexemes.now trees.now number tree) }
 {
-    match leaf_of(lexemes, number, tree) {
+    match leaf_of(lexemes, trees, number, tree) {
         None => Ok(()),
         Some(leaf) => {
             let places = import_path(alloc, lexemes, trees, number)?;
-            let path = leaf_path(alloc, text, lexemes, leaf.kind, places.as_slice())?;
+            let path = leaf_path(alloc, text, lexemes, leaf, places.as_slice())?;
             push_leaf(found, alloc, text, lexemes, leaf, path)?;
             Ok(())
         }

@@ -5,8 +5,10 @@ ghost use Rattle.crate_items.specs.DeclaredVariants as spec;
 
 use crate::files::file_table::FileTable;
 use crate::files::source::Source;
+use crate::items::constructor::any_non_exhaustive;
 use crate::items::declared_field::{FieldVisibilities, fields_in};
 use crate::items::declared_item::{DeclaredItem, written};
+use crate::items::item_attributes::kinds_in;
 use crate::items::lexeme_names::name_at;
 use crate::items::lookups::{item_at, text_of};
 use crate::items::shapes::as_shape;
@@ -28,41 +30,61 @@ pub struct DeclaredVariant {
     pub shape: FieldsShape,
     /// The visibilities of the fields that the crate has, in order: each is seen as the enum.
     pub fields: FieldVisibilities,
+    /// Whether it stands under `#[non_exhaustive]`: then its crate alone sees its constructor.
+    pub is_non_exhaustive: bool,
     /// The lexeme of its name, by its number in the file.
     pub place: usize,
+}
+
+/// Where the attributes of a member stand.
+fn outer(member: Member) -> Range
+    ensures { result ≡ spec.outer member }
+{
+    Range {
+        first: member.first,
+        behind: member.visibility,
+    }
 }
 
 /// Whether a member has a name, and each `cfg` before it may hold.
 fn is_left(options: &CfgOptions, text: &[u8], source: &Source, member: Member) -> bool
     ensures { result ≡ spec.is_left options.now text.now source.now member }
 {
-    let outer = Range {
-        first: member.first,
-        behind: member.visibility,
-    };
     member.named
         && source
             .attributes()
-            .is_cfg_enabled(options, text, source.active_conditions(), outer)
+            .is_cfg_enabled(options, text, source.active_conditions(), outer(member))
+}
+
+/// Whether a member stands under `#[non_exhaustive]`.
+fn is_non_exhaustive(alloc: Global, source: &Source, member: Member) -> Result<bool, AllocError>
+    ensures { IfOk result (λ is_so. is_so ≡ spec.is_non_exhaustive source.now member) }
+{
+    let kinds = kinds_in(alloc, source, outer(member))?;
+    Ok(any_non_exhaustive(kinds.as_slice()))
 }
 
 /// Adds a member of this name with these fields, if there is a name.
 fn push_named(
     found: &mut Vec<DeclaredVariant>,
+    alloc: Global,
+    source: &Source,
     member: Member,
     name: Option<Name>,
     fields: Vec<RawVisibility>,
 ) -> Result<(), AllocError>
     ensures { OnOk result
-        (found.new.items ≡ found.old.items ++ spec.of_name member name fields.items) }
+        (found.new.items ≡ found.old.items ++ spec.of_name source.now member name fields.items) }
 {
     match name {
         None => Ok(()),
         Some(name) => {
+            let is_non_exhaustive = is_non_exhaustive(alloc, source, member)?;
             found.push(DeclaredVariant {
                 name,
                 shape: as_shape(member.fields.shape),
                 fields: FieldVisibilities::new(fields),
+                is_non_exhaustive,
                 place: member.name,
             })?;
             Ok(())
@@ -86,7 +108,7 @@ fn push_variant(
     if is_left(options, text, source, member) {
         let name = name_at(alloc, text, source.lexemes(), member.name)?;
         let fields = fields_in(alloc, options, text, source, Some(outer), member.fields)?;
-        push_named(found, member, name, fields)?;
+        push_named(found, alloc, source, member, name, fields)?;
     }
     Ok(())
 }

@@ -47,7 +47,11 @@ fn active_kinds(
 }
 
 /// What the active attributes say that begin in a range.
-fn kinds_in(alloc: Global, source: &Source, range: Range) -> Result<Vec<AttributeKind>, AllocError>
+pub(crate) fn kinds_in(
+    alloc: Global,
+    source: &Source,
+    range: Range,
+) -> Result<Vec<AttributeKind>, AllocError>
     ensures { IfOk result (λ kinds. kinds.items ≡ spec.kinds_in source.now range) }
 {
     let attributes = source.attributes().attributes_in(range);

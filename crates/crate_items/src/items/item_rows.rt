@@ -7,4 +7,7 @@ pub fn items_of_a_small_file()
     ensures paths { rows.Paths }
     ensures no_paths { rows.NoPaths }
     ensures imports { rows.Imports }
+    ensures empty_list { rows.EmptyList }
+    ensures inner_list { rows.InnerList }
+    ensures list_of_nothing { rows.ListOfNothing }
 {}

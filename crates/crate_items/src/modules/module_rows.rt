@@ -1,7 +1,8 @@
 //! Modules of small crates, how items stand, and whom visibilities show: worked rows.
 ghost use Rattle.crate_items.specs.ModuleRows as rows;
 
-/// Files that are there or not, arms of a `cfg_if!` and a `cfg_select!`, and paths of visibilities and of modules.
+/// Files that are there or not, arms of a `cfg_if!` and a `cfg_select!`, tests, paths of visibilities and of modules, and
+/// modules without preludes.
 pub fn modules_of_small_crates()
     ensures file_by_path { rows.FileByPath }
     ensures one_file { rows.OneFile }
@@ -16,4 +17,6 @@ pub fn modules_of_small_crates()
     ensures wrong { rows.Wrong }
     ensures wrong_in_2015 { rows.WrongIn2015 }
     ensures path_within { rows.PathWithin }
+    ensures tests { rows.Tests }
+    ensures bare_modules { rows.BareModules }
 {}

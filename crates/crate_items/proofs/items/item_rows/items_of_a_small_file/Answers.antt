@@ -10,4 +10,7 @@ returns c = record {
   paths = refl;
   no_paths = refl;
   imports = refl;
+  empty_list = refl;
+  inner_list = refl;
+  list_of_nothing = refl;
 }

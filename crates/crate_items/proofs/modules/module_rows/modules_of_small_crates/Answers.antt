@@ -18,4 +18,6 @@ returns c = record {
   wrong = refl;
   wrong_in_2015 = refl;
   path_within = refl;
+  tests = refl;
+  bare_modules = refl;
 }
