@@ -52,12 +52,19 @@ fn read_status(is_whole: bool) -> Status {
     }
 }
 
-/// Lines, each of which ends.
-fn ended(alloc: Global, complaints: &Complaints) -> Result<String, AllocError> {
-    let mut text = String::new(alloc);
-    for line in complaints.lines() {
+/// Adds lines, each of which ends.
+fn push_ended(text: &mut String, lines: &[String]) -> Result<(), AllocError> {
+    for line in lines {
         write!(text, "{line}\n")?;
     }
+    Ok(())
+}
+
+/// What could not be read, and what else is not known, in lines.
+fn ended(alloc: Global, complaints: &Complaints) -> Result<String, AllocError> {
+    let mut text = String::new(alloc);
+    push_ended(&mut text, complaints.lines())?;
+    push_ended(&mut text, complaints.warnings())?;
     Ok(text)
 }
 

@@ -59,6 +59,7 @@ fn run(rt: &HostRuntime) -> Result<Status, Failure> {
 fn main(rt: HostRuntime) -> ExitCode {
     match run(&rt) {
         Ok(status) => status.code(),
+        Err(Failure::Closed) => Failure::Closed.status().code(),
         Err(failure) => {
             let _ = eprintln!(rt; "defmap: {}", failure.line());
             failure.status().code()

@@ -56,7 +56,11 @@ pub struct Arguments<'a> {
     pub(crate) cfg_file: Option<&'a str>,
     pub(crate) externs: Vec<ExternWord<'a>>,
     pub sysroot: Option<&'a str>,
+    /// The file of what cargo printed of packages; `-` is the standard input.
     pub(crate) metadata: Option<&'a str>,
+    /// In place of a root: the package, and its target.
+    pub(crate) package: Option<&'a str>,
+    pub(crate) target: Option<&'a str>,
     /// What cargo printed of the build scripts of the packages.
     pub(crate) build: Option<&'a str>,
     /// How many modules a crate may have.
@@ -77,6 +81,8 @@ impl<'a> Drop for Arguments<'a> {
             externs: _externs,
             sysroot: _sysroot,
             metadata: _metadata,
+            package: _package,
+            target: _target,
             build: _build,
             limit: _limit,
             has_stats: _has_stats,
@@ -177,13 +183,14 @@ fn table_of(given: &ArgMatches<'_>) -> ItemTable {
     ItemTable::Items
 }
 
-/// The path that is asked about: behind a fixture it is the first word.
+/// Whether something else tells the crate than the file of a root.
+fn has_no_root(given: &ArgMatches<'_>) -> bool {
+    given.contains_id("fixture") || given.contains_id("package")
+}
+
+/// The path that is asked about: where no root is given it is the first word.
 fn path_of<'a>(given: &ArgMatches<'a>) -> &'a str {
-    let id = if given.contains_id("fixture") {
-        "root"
-    } else {
-        "path"
-    };
+    let id = if has_no_root(given) { "root" } else { "path" };
     given.get_str(id).unwrap_or("")
 }
 
@@ -245,6 +252,8 @@ pub fn read_arguments<'a>(
         externs,
         sysroot: given.get_str("sysroot"),
         metadata: given.get_str("metadata"),
+        package: given.get_str("package"),
+        target: given.get_str("target-name"),
         build: given.get_str("build"),
         limit,
         has_stats: given.get_flag("stats"),

@@ -15,8 +15,9 @@ pub(crate) enum TargetKind {
     Library,
     ProcMacro,
     Program,
-    /// A test, an example or a benchmark.
-    Trial,
+    Example,
+    /// A test or a benchmark.
+    Test,
     BuildScript,
 }
 
@@ -40,7 +41,15 @@ impl<'a> CargoTarget<'a> {
 
     /// Whether it knows the library of its own package.
     pub(crate) fn knows_library(self) -> bool {
-        matches!(self.kind, TargetKind::Program | TargetKind::Trial)
+        matches!(
+            self.kind,
+            TargetKind::Program | TargetKind::Example | TargetKind::Test
+        )
+    }
+
+    /// Whether it is built as a test.
+    pub(crate) fn is_test(self) -> bool {
+        self.kind == TargetKind::Test
     }
 }
 
@@ -62,8 +71,10 @@ fn kind_of(words: &[Value]) -> TargetKind {
         TargetKind::Program
     } else if has(words, "custom-build") {
         TargetKind::BuildScript
-    } else if has(words, "test") || has(words, "example") || has(words, "bench") {
-        TargetKind::Trial
+    } else if has(words, "test") || has(words, "bench") {
+        TargetKind::Test
+    } else if has(words, "example") {
+        TargetKind::Example
     } else {
         TargetKind::Library
     }
@@ -105,6 +116,42 @@ pub(crate) fn target_at<'a>(package: &'a Value, path: &str) -> Option<CargoTarge
     None
 }
 
+/// Whether a target has a name, or a kind, a colon and a name: a package may have a library and a program of one name.
+fn is_named(value: &Value, word: &str) -> bool {
+    match word.split_once(':') {
+        None => text_of(value, "name") == word,
+        Some((kind, name)) => has(list_of(value, "kind"), kind) && text_of(value, "name") == name,
+    }
+}
+
+/// The target of a name that a package has.
+pub(crate) fn target_named<'a>(package: &'a Value, word: &str) -> Option<CargoTarget<'a>> {
+    for value in list_of(package, "targets") {
+        if is_named(value, word) {
+            return Some(target_of(value));
+        }
+    }
+    None
+}
+
+/// The library of a package, or else its first target.
+pub(crate) fn first_target(package: &Value) -> Option<CargoTarget<'_>> {
+    match library_of(package) {
+        Some(library) => Some(library),
+        None => Some(target_of(list_of(package, "targets").first()?)),
+    }
+}
+
+/// Whether a package has a build script.
+pub(crate) fn has_build_script(package: &Value) -> bool {
+    for value in list_of(package, "targets") {
+        if has(list_of(value, "kind"), "custom-build") {
+            return true;
+        }
+    }
+    false
+}
+
 /// The library of a package.
 pub(crate) fn library_of(package: &Value) -> Option<CargoTarget<'_>> {
     for value in list_of(package, "targets") {
@@ -120,7 +167,7 @@ pub(crate) fn library_of(package: &Value) -> Option<CargoTarget<'_>> {
 pub(crate) fn is_asked(target: CargoTarget<'_>, kind: Option<&str>) -> bool {
     match kind {
         None => target.kind != TargetKind::BuildScript,
-        Some("dev") => target.kind == TargetKind::Trial,
+        Some("dev") => matches!(target.kind, TargetKind::Test | TargetKind::Example),
         Some("build") => target.kind == TargetKind::BuildScript,
         Some(_other) => false,
     }

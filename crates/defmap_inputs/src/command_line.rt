@@ -19,7 +19,7 @@ const EDITION: ValueOption = ValueOption {
 };
 
 /// Those of every subcommand that takes crates, in the order in which help lists them.
-const OPTIONS: [ValueOption; 7] = [
+const OPTIONS: [ValueOption; 5] = [
     ValueOption {
         id: "cfg",
         shown: "NAME[=\"VALUE\"]",
@@ -33,21 +33,45 @@ const OPTIONS: [ValueOption; 7] = [
         action: ArgAction::Set,
     },
     ValueOption {
-        id: "extern",
-        shown: "NAME[@EDITION]=ROOT.rs",
-        help: "A crate that the crate knows, which itself knows those given before it",
-        action: ArgAction::Append,
-    },
-    ValueOption {
         id: "sysroot",
         shown: "DIR",
-        help: "The folder with the folders of core, alloc and std",
+        help: "What `rustc --print sysroot` prints, or the folder that has core, alloc and std",
         action: ArgAction::Set,
     },
     ValueOption {
         id: "metadata",
         shown: "FILE",
-        help: "What `cargo metadata --format-version 1` prints",
+        help: "What `cargo metadata --format-version 1` prints; - for standard input",
+        action: ArgAction::Set,
+    },
+    ValueOption {
+        id: "limit",
+        shown: "NUMBER",
+        help: "How many modules a crate may have; 65536 where nothing is said",
+        action: ArgAction::Set,
+    },
+];
+
+/// One that --metadata makes needless.
+const EXTERN: ValueOption = ValueOption {
+    id: "extern",
+    shown: "NAME[@EDITION]=ROOT.rs",
+    help: "A crate that the crate knows, which itself knows those given before it",
+    action: ArgAction::Append,
+};
+
+/// Those that say something beside --metadata alone.
+const BESIDE_METADATA: [ValueOption; 3] = [
+    ValueOption {
+        id: "package",
+        shown: "NAME[@VERSION]",
+        help: "In place of a root: the package, by --metadata; its library, or its first target",
+        action: ArgAction::Set,
+    },
+    ValueOption {
+        id: "target-name",
+        shown: "[KIND:]NAME",
+        help: "Another target of --package, as bin:NAME",
         action: ArgAction::Set,
     },
     ValueOption {
@@ -55,12 +79,6 @@ const OPTIONS: [ValueOption; 7] = [
         shown: "FILE",
         help: "What `cargo check --message-format json` prints, beside --metadata: \
 the options that build scripts set",
-        action: ArgAction::Set,
-    },
-    ValueOption {
-        id: "limit",
-        shown: "NUMBER",
-        help: "How many modules a crate may have; 65536 where nothing is said",
         action: ArgAction::Set,
     },
 ];
@@ -76,8 +94,8 @@ edition:2021 cfg:A,B=C proc-macro; edition 2021 where nothing is said",
 };
 
 /// What a fixture says of its crates itself.
-const NOT_BESIDE_FIXTURE: [&'static str; 7] = [
-    "edition", "cfg", "cfg-file", "extern", "sysroot", "metadata", "build",
+const NOT_BESIDE_FIXTURE: [&'static str; 6] = [
+    "edition", "cfg", "cfg-file", "extern", "sysroot", "metadata",
 ];
 
 /// The option of `resolve` alone.
@@ -163,10 +181,20 @@ fn position<'a>(alloc: Global, id: &'a str, shown: &'a str, help: &'a str) -> Ar
         .action(ArgAction::Set)
 }
 
-/// One that a fixture stands in place of.
-fn unless_fixture<'a>(word: Arg<'a>) -> Result<Arg<'a>, AllocError> {
-    word.required_unless_present("fixture")?
-        .conflicts_with("fixture")
+/// One that a fixture or a package stands in place of.
+fn unless_named<'a>(word: Arg<'a>) -> Result<Arg<'a>, AllocError> {
+    word.required_unless_present_any(&["fixture", "package"])?
+        .conflicts_with_all(&["fixture", "package"])
+}
+
+/// One that says something beside --metadata alone.
+fn beside_metadata<'a>(alloc: Global, option: &'static ValueOption) -> Result<Arg<'a>, AllocError> {
+    let word = value(alloc, option).requires_arg("metadata")?;
+    if option.id == "target-name" {
+        word.requires_arg("package")
+    } else {
+        Ok(word)
+    }
 }
 
 /// The option of a fixture.
@@ -193,7 +221,11 @@ fn with_options<'a>(alloc: Global, command: Command<'a>) -> Result<Command<'a>, 
     for option in &OPTIONS {
         command = command.arg(value(alloc, option))?;
     }
-    let command = with_arg(command, fixture(alloc))?;
+    for option in &BESIDE_METADATA {
+        command = with_arg(command, beside_metadata(alloc, option))?;
+    }
+    let other = value(alloc, &EXTERN).conflicts_with("metadata");
+    let command = with_arg(with_arg(command, other)?, fixture(alloc))?;
     command.arg(flag(alloc, STATS.id, STATS.help))
 }
 
@@ -204,7 +236,7 @@ fn plain_command<'a>(
     about: &'a str,
 ) -> Result<Command<'a>, AllocError> {
     let help = "The file of the crate's root; - reads one file from standard input";
-    let root = unless_fixture(position(alloc, "root", "ROOT.rs", help));
+    let root = unless_named(position(alloc, "root", "ROOT.rs", help));
     let command = with_arg(Command::new(alloc, name).about(about), root)?;
     with_options(alloc, command)
 }
@@ -224,9 +256,10 @@ fn tree_command<'a>(alloc: Global) -> Result<Command<'a>, AllocError> {
 
 /// The words of `resolve`: a root and a path, or behind a fixture the path alone.
 fn resolve_command<'a>(alloc: Global) -> Result<Command<'a>, AllocError> {
-    let help = "The file of the crate's root, - for standard input; with --fixture the path";
+    let help =
+        "The file of the crate's root, - for standard input; with --fixture or --package the path";
     let root = position(alloc, "root", "ROOT.rs", help).required(true);
-    let path = unless_fixture(position(alloc, "path", "PATH", "The path, as a::b::C"));
+    let path = unless_named(position(alloc, "path", "PATH", "The path, as a::b::C"));
     let bare = Command::new(alloc, "resolve").about(RESOLVE).arg(root)?;
     let command = with_arg(bare, path)?.arg(value(alloc, &HOME))?;
     with_options(alloc, command)

@@ -3,7 +3,7 @@ ghost use Rattle.std.specs.Prelude.{◌≡◌};
 ghost use Rattle.defmap_inputs.specs.Failures.{line_of, status_of};
 
 use std::alloc::{AllocError, AllocFailed};
-use std::io;
+use std::io::{self, ErrorKind};
 use std::process::ExitCode;
 
 /// The status that a run ends with.
@@ -38,6 +38,8 @@ pub enum Failure {
     OutOfMemory,
     /// The standard output or the standard error takes nothing.
     NoOutput,
+    /// Who read the output needs no more of it.
+    Closed,
 }
 
 impl From<AllocError> for Failure {
@@ -53,8 +55,11 @@ impl<T: Drop> From<AllocFailed<T>> for Failure {
 }
 
 impl From<io::Error> for Failure {
-    fn from(_refused: io::Error) -> Failure {
-        Failure::NoOutput
+    fn from(refused: io::Error) -> Failure {
+        match refused.kind() {
+            ErrorKind::BrokenPipe => Failure::Closed,
+            _ => Failure::NoOutput,
+        }
     }
 }
 
@@ -66,10 +71,11 @@ impl Failure {
         match self {
             Failure::Told(status, _line) => *status,
             Failure::OutOfMemory | Failure::NoOutput => Status::Unreadable,
+            Failure::Closed => Status::Fine,
         }
     }
 
-    /// What to tell.
+    /// What to tell; nothing where nobody reads on.
     pub fn line(&self) -> &str
         ensures { result.now ≡ line_of self.now }
     {
@@ -78,6 +84,7 @@ impl Failure {
             Failure::OutOfMemory =>
                 "memory ran out: give the program more of it, or a smaller --limit",
             Failure::NoOutput => "the output cannot be written: see where it leads",
+            Failure::Closed => "",
         }
     }
 }

@@ -5,10 +5,10 @@ use crate::complaints::Complaints;
 use crate::extern_crates::planned;
 use crate::failure::{Failure, Status};
 use crate::loader::{Loader, Manner};
-use crate::metadata::planned_by;
+use crate::metadata::{Planned, planned_by};
 use crate::plan::CratePlan;
 use crate::reading::{FileText, INPUT, input_text, needed_text, unread_line};
-use crate::sysroot::add_sysroot;
+use crate::sysroot::{add_sysroot, library_folder};
 use dm_base::ids::FileId;
 use std::alloc::{AllocError, Global};
 use std::rt::Files;
@@ -61,24 +61,76 @@ fn add_cfgs(alloc: Global, own: &mut CratePlan, given: &Arguments<'_>) -> Result
     Ok(())
 }
 
-/// The plans of all crates, that of the crate that is asked about first.
-fn plans_of<R: Files + AllocGlobal>(
+fn misused(alloc: Global, line: &str) -> Result<(), Failure> {
+    Err(Failure::Told(Status::Misused, String::from_str(alloc, line)?))
+}
+
+/// Refuses a target of no package, and the standard input twice.
+fn look_at_words(alloc: Global, given: &Arguments<'_>) -> Result<(), Failure> {
+    if given.package.is_some() {
+        return Ok(());
+    }
+    if given.target.is_some() {
+        return misused(
+            alloc,
+            "--target-name is a target of a package: give it with --package",
+        );
+    }
+    if given.root == "-" && given.metadata == Some("-") {
+        return misused(
+            alloc,
+            "standard input is read once: give the root or the metadata by a file",
+        );
+    }
+    Ok(())
+}
+
+/// Refuses a manifest in place of a root.
+fn look_at_root(alloc: Global, given: &Arguments<'_>) -> Result<(), Failure> {
+    if given.root.ends_with(".toml") && given.package.is_none() {
+        let root = given.root;
+        let told = format!(in alloc;
+            "{root}: no root of a crate: give the file that rustc is given, as src/lib.rs, or a package \
+by --metadata FILE --package NAME"
+        )?;
+        return Err(Failure::Told(Status::Misused, told));
+    }
+    Ok(())
+}
+
+/// What is planned by the root, or by the metadata.
+fn first_plans<R: Files + Input + AllocGlobal>(
     rt: &R,
     given: &Arguments<'_>,
     cfgs: &str,
-) -> Result<Vec<CratePlan>, Failure> {
+) -> Result<Planned, Failure> {
+    match given.metadata {
+        None => Ok(Planned {
+            plans: planned(rt.alloc(), given)?,
+            warning: None,
+        }),
+        Some(path) => planned_by(rt, given, path, cfgs),
+    }
+}
+
+/// The plans of all crates, that of the crate that is asked about first.
+fn plans_of<R: Files + Input + AllocGlobal>(
+    rt: &R,
+    given: &Arguments<'_>,
+    cfgs: &str,
+) -> Result<Planned, Failure> {
     let alloc = rt.alloc();
-    let mut plans = match given.metadata {
-        None => planned(alloc, given)?,
-        Some(path) => planned_by(rt, given, path, cfgs)?,
-    };
-    if let Some(own) = plans.first_mut() {
+    look_at_words(alloc, given)?;
+    look_at_root(alloc, given)?;
+    let mut planned = first_plans(rt, given, cfgs)?;
+    if let Some(own) = planned.plans.first_mut() {
         add_cfgs(alloc, own, given)?;
     }
     if let Some(sysroot) = given.sysroot {
-        add_sysroot(rt, &mut plans, sysroot)?;
+        let folder = library_folder(rt, sysroot)?;
+        add_sysroot(rt, &mut planned.plans, folder.as_str())?;
     }
-    Ok(plans)
+    Ok(planned)
 }
 
 /// Reads the root of the crate that is asked about from the standard input.
@@ -159,8 +211,11 @@ pub(crate) fn read_inputs<R: Files + Input + AllocGlobal>(
     given: &Arguments<'_>,
 ) -> Result<Inputs, Failure> {
     let cfgs = shared_cfgs(rt, given)?;
-    let plans = plans_of(rt, given, cfgs.as_str())?;
+    let Planned { plans, warning } = plans_of(rt, given, cfgs.as_str())?;
     let mut loader = Loader::new(rt.alloc());
+    if let Some(line) = warning {
+        loader.complaints.warn(line)?;
+    }
     let roots = read_roots(
         rt,
         &mut loader,

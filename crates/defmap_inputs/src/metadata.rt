@@ -2,15 +2,17 @@
 use crate::arguments::{Arguments, edition_of};
 use crate::build_messages::{add_built, build_messages};
 use crate::cargo_target::{
-    CargoTarget, TargetKind, holds, is_asked, library_of, list_of, target_at, text_of,
+    CargoTarget, TargetKind, first_target, has_build_script, holds, is_asked, library_of, list_of,
+    target_at, target_named, text_of,
 };
 use crate::failure::{Failure, Status};
 use crate::plan::CratePlan;
-use crate::reading::needed_text;
+use crate::reading::{given_text, shown_path};
 use dm_base::source::Edition;
 use indexmap::IndexMap;
 use serde_json::Value;
 use std::alloc::{AllocError, Global};
+use std::fmt::Write;
 use std::rt::Files;
 
 /// A package, and what was resolved of it.
@@ -97,6 +99,16 @@ fn packages_of<'a>(
     Ok(packages)
 }
 
+/// Whether a package has a name, or a name, `@` and a version.
+fn is_named(package: &Value, word: &str) -> bool {
+    match word.split_once('@') {
+        None => text_of(package, "name") == word,
+        Some((name, version)) => {
+            text_of(package, "name") == name && text_of(package, "version") == version
+        }
+    }
+}
+
 impl<'a> Workspace<'a> {
     /// The package and the target whose root is at a path.
     fn asked(&self, path: &str) -> Option<(&'a str, CargoTarget<'a>)> {
@@ -106,6 +118,20 @@ impl<'a> Workspace<'a> {
             }
         }
         None
+    }
+
+    /// The package of a name, or of a name, `@` and a version; of several the first, and whether there are more.
+    fn named(&self, word: &str) -> (Option<(&'a str, Package<'a>)>, bool) {
+        let mut found = None;
+        for (id, package) in self.packages.iter() {
+            if is_named(package.package, word) {
+                if found.is_some() {
+                    return (found, true);
+                }
+                found = Some((*id, *package));
+            }
+        }
+        (found, false)
     }
 
     /// The plan of a target.
@@ -125,6 +151,9 @@ impl<'a> Workspace<'a> {
         }
         if target.kind != TargetKind::BuildScript {
             add_built(&mut plan, self.built, id)?;
+        }
+        if target.is_test() {
+            plan.set("test")?;
         }
         Ok(plan)
     }
@@ -228,13 +257,46 @@ impl<'a> Workspace<'a> {
     }
 }
 
+/// What is planned of the crate that is asked about.
+#[derive(Drop)]
+pub(crate) struct Planned {
+    pub(crate) plans: Vec<CratePlan>,
+    /// What is not known of it.
+    pub(crate) warning: Option<String>,
+}
+
+/// What is told where packages have build scripts whose options are not given.
+fn build_scripts(
+    alloc: Global,
+    workspace: &Workspace<'_>,
+    sources: &[(&str, CargoTarget<'_>)],
+) -> Result<Option<String>, AllocError> {
+    let mut names = String::new(alloc);
+    for (id, _target) in sources {
+        if let Some(package) = workspace.packages.get(id) {
+            if has_build_script(package.package) {
+                push_word(&mut names, text_of(package.package, "name"))?;
+            }
+        }
+    }
+    if names.is_empty() {
+        return Ok(None);
+    }
+    let told = format!(in alloc;
+        "no options of build scripts are known, as of {names}: give what \
+`cargo check --message-format json` prints by --build"
+    )?;
+    Ok(Some(told))
+}
+
 /// The plans of the crate of a root and of all that it depends on.
 fn plans_in<'a>(
     workspace: &Workspace<'a>,
     given: &Arguments<'_>,
+    root: &str,
     id: &'a str,
     target: CargoTarget<'a>,
-) -> Result<Vec<CratePlan>, AllocError> {
+) -> Result<Planned, AllocError> {
     let alloc = workspace.alloc;
     let mut planning = Planning {
         plans: Vec::new(alloc),
@@ -242,7 +304,7 @@ fn plans_in<'a>(
         sources: Vec::new(alloc),
     };
     let edition = given.edition.unwrap_or(target.edition);
-    workspace.add_plan(&mut planning, id, target, given.root, edition)?;
+    workspace.add_plan(&mut planning, id, target, root, edition)?;
     for number in 0..usize::MAX {
         if number >= planning.plans.len() {
             break;
@@ -252,9 +314,14 @@ fn plans_in<'a>(
     let Planning {
         plans,
         libraries: _libraries,
-        sources: _sources,
+        sources,
     } = planning;
-    Ok(plans)
+    let warning = if given.build.is_none() {
+        build_scripts(alloc, workspace, sources.as_slice())?
+    } else {
+        None
+    };
+    Ok(Planned { plans, warning })
 }
 
 fn no_metadata<T>(alloc: Global, path: &str) -> Result<T, Failure> {
@@ -263,12 +330,25 @@ fn no_metadata<T>(alloc: Global, path: &str) -> Result<T, Failure> {
     )?)
 }
 
-/// The metadata in a file.
-fn metadata_at<R: Files + AllocGlobal>(rt: &R, path: &str) -> Result<Value, Failure> {
-    let text = needed_text(rt, path)?;
-    match Value::from_str(rt.alloc(), text.as_str()) {
-        Ok(metadata) if metadata.get("packages").is_some() => Ok(metadata),
-        Ok(_) | Err(_) => no_metadata(rt.alloc(), path),
+fn no_resolved<T>(alloc: Global, path: &str) -> Result<T, Failure> {
+    failed(format!(in alloc;
+        "{path}: it says not what depends on what: give what `cargo metadata --format-version 1` prints, \
+without --no-deps"
+    )?)
+}
+
+/// The metadata in a file, or in the standard input.
+fn metadata_at<R: Files + Input + AllocGlobal>(rt: &R, path: &str) -> Result<Value, Failure> {
+    let alloc = rt.alloc();
+    let text = given_text(rt, path)?;
+    match Value::from_str(alloc, text.as_str()) {
+        Ok(metadata) if metadata.get("packages").is_some() => {
+            match metadata.get("resolve") {
+                Some(resolved) if !resolved.is_null() => Ok(metadata),
+                _ => no_resolved(alloc, shown_path(path)),
+            }
+        }
+        Ok(_) | Err(_) => no_metadata(alloc, shown_path(path)),
     }
 }
 
@@ -282,8 +362,79 @@ fn whole_path<R: Files + AllocGlobal>(rt: &R, path: &str) -> Result<String, Allo
 
 fn no_target<T>(alloc: Global, path: &str, root: &str) -> Result<T, Failure> {
     failed(format!(in alloc;
-        "{path}: no target has the root {root}: give the metadata of its package"
+        "{path}: no target has the root {root}: give the metadata of its package, or the root of a target"
     )?)
+}
+
+/// Adds a word to others, with a comma between.
+fn push_word(words: &mut String, word: &str) -> Result<(), AllocError> {
+    let between = if words.is_empty() { "" } else { ", " };
+    write!(words, "{between}{word}")
+}
+
+/// The names of packages.
+fn names_in(alloc: Global, packages: &[Value]) -> Result<String, AllocError> {
+    let mut names = String::new(alloc);
+    for package in packages {
+        push_word(&mut names, text_of(package, "name"))?;
+    }
+    Ok(names)
+}
+
+/// The kinds and names of targets.
+fn targets_in(alloc: Global, targets: &[Value]) -> Result<String, AllocError> {
+    let mut words = String::new(alloc);
+    for target in targets {
+        let kind = list_of(target, "kind").first().and_then(Value::as_str);
+        let word = format!(in alloc; "{}:{}", kind.unwrap_or(""), text_of(target, "name"))?;
+        push_word(&mut words, word.as_str())?;
+    }
+    Ok(words)
+}
+
+/// The target that is asked for of a package.
+fn target_asked<'a>(
+    alloc: Global,
+    given: &Arguments<'_>,
+    word: &str,
+    package: &'a Value,
+) -> Result<CargoTarget<'a>, Failure> {
+    let found = match given.target {
+        None => first_target(package),
+        Some(name) => target_named(package, name),
+    };
+    match found {
+        Some(target) => Ok(target),
+        None => {
+            let wanted = given.target.unwrap_or("at all");
+            let words = targets_in(alloc, list_of(package, "targets"))?;
+            failed(format!(in alloc; "package {word} has no target {wanted}: it has {words}")?)
+        }
+    }
+}
+
+/// The plans of the target of a package that is asked for by its name.
+fn planned_package(
+    alloc: Global,
+    given: &Arguments<'_>,
+    word: &str,
+    metadata: &Value,
+    workspace: &Workspace<'_>,
+) -> Result<Planned, Failure> {
+    match workspace.named(word) {
+        (Some((id, package)), false) => {
+            let target = target_asked(alloc, given, word, package.package)?;
+            Ok(plans_in(workspace, given, target.root, id, target)?)
+        }
+        (Some((_id, package)), true) => {
+            let version = text_of(package.package, "version");
+            failed(format!(in alloc; "several packages {word}: give one as {word}@{version}")?)
+        }
+        (None, _) => {
+            let names = names_in(alloc, list_of(metadata, "packages"))?;
+            failed(format!(in alloc; "no package {word}: there are {names}")?)
+        }
+    }
 }
 
 /// The plans of the crates that a workspace has of the crate that is asked about. What it was read of has a path.
@@ -291,12 +442,17 @@ fn planned_in<R: Files + AllocGlobal>(
     rt: &R,
     given: &Arguments<'_>,
     path: &str,
+    metadata: &Value,
     workspace: &Workspace<'_>,
-) -> Result<Vec<CratePlan>, Failure> {
+) -> Result<Planned, Failure> {
+    let alloc = rt.alloc();
+    if let Some(word) = given.package {
+        return planned_package(alloc, given, word, metadata, workspace);
+    }
     let root = whole_path(rt, given.root)?;
     match workspace.asked(root.as_str()) {
-        Some((id, target)) => Ok(plans_in(workspace, given, id, target)?),
-        None => no_target(rt.alloc(), path, root.as_str()),
+        Some((id, target)) => Ok(plans_in(workspace, given, given.root, id, target)?),
+        None => no_target(alloc, path, root.as_str()),
     }
 }
 
@@ -308,7 +464,7 @@ fn planned_of<R: Files + AllocGlobal>(
     metadata: &Value,
     built: &[Value],
     cfgs: &str,
-) -> Result<Vec<CratePlan>, Failure> {
+) -> Result<Planned, Failure> {
     let alloc = rt.alloc();
     let workspace = Workspace {
         alloc,
@@ -316,17 +472,24 @@ fn planned_of<R: Files + AllocGlobal>(
         built,
         cfgs,
     };
-    planned_in(rt, given, path, &workspace)
+    planned_in(rt, given, path, metadata, &workspace)
 }
 
 /// The same, of the metadata in a file.
-pub(crate) fn planned_by<R: Files + AllocGlobal>(
+pub(crate) fn planned_by<R: Files + Input + AllocGlobal>(
     rt: &R,
     given: &Arguments<'_>,
     path: &str,
     cfgs: &str,
-) -> Result<Vec<CratePlan>, Failure> {
+) -> Result<Planned, Failure> {
     let metadata = metadata_at(rt, path)?;
     let built = build_messages(rt, given.build)?;
-    planned_of(rt, given, path, &metadata, built.as_slice(), cfgs)
+    planned_of(
+        rt,
+        given,
+        shown_path(path),
+        &metadata,
+        built.as_slice(),
+        cfgs,
+    )
 }

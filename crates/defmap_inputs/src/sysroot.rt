@@ -1,5 +1,6 @@
 //! The crates of the standard library, in the folders of a sysroot.
 use crate::arguments::edition_of;
+use crate::failure::{Failure, Status};
 use crate::plan::CratePlan;
 use crate::reading::{FileText, file_text};
 use dm_base::source::Edition;
@@ -11,6 +12,50 @@ const CRATES: [&'static str; 3] = ["core", "alloc", "std"];
 
 /// Crates that a sysroot may have, and that only `extern crate` finds; each uses all those above.
 const OTHERS: [&'static str; 2] = ["proc_macro", "test"];
+
+/// Where the sysroot that rustc prints has the sources of the library.
+const SOURCES: &'static str = "lib/rustlib/src/rust/library";
+
+/// Whether a folder has the root of a crate of the library.
+fn has_root<R: Files + AllocGlobal>(rt: &R, folder: &str, name: &str) -> Result<bool, AllocError> {
+    let path = format!(in rt.alloc(); "{folder}/{name}/src/lib.rs")?;
+    Ok(!matches!(file_text(rt, path.as_str()), FileText::Missing))
+}
+
+/// Whether a folder has crates of the library.
+fn has_library<R: Files + AllocGlobal>(rt: &R, folder: &str) -> Result<bool, AllocError> {
+    for name in &CRATES {
+        if has_root(rt, folder, *name)? {
+            return Ok(true);
+        }
+    }
+    Ok(false)
+}
+
+fn no_sources<T>(alloc: Global, sysroot: &str) -> Result<T, Failure> {
+    let told = format!(in alloc;
+        "{sysroot}: no sources of the standard library: run `rustup component add rust-src`, and give \
+what `rustc --print sysroot` prints, or the folder that has core, alloc and std"
+    )?;
+    Err(Failure::Told(Status::Unreadable, told))
+}
+
+/// The folder with the crates of the library: the one that is given, or the one below it where it is what
+/// `rustc --print sysroot` prints.
+pub(crate) fn library_folder<R: Files + AllocGlobal>(
+    rt: &R,
+    sysroot: &str,
+) -> Result<String, Failure> {
+    let alloc = rt.alloc();
+    if has_library(rt, sysroot)? {
+        return Ok(String::from_str(alloc, sysroot)?);
+    }
+    let below = format!(in alloc; "{sysroot}/{SOURCES}")?;
+    if has_library(rt, below.as_str())? {
+        return Ok(below);
+    }
+    no_sources(alloc, sysroot)
+}
 
 /// The edition that the text of a Cargo.toml names.
 fn edition_in(manifest: &str) -> Option<Edition> {

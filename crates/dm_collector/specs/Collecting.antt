@@ -1,6 +1,6 @@
 -- What collecting a graph of crates gives.
 use Rattle.std.specs.Prelude.{◌≡◌, ℕ, false, List, [], map}
-use Rattle.std.specs.List.{flat_map}
+use Rattle.std.specs.List.{flat_map, list_any}
 use Rattle.std.specs.Map.{lookup}
 use Rattle.crate_items.specs.CrateGraphs.{Graph}
 use Rattle.crate_items.specs.Modules.{Listing}
@@ -13,8 +13,13 @@ use Rattle.crate_tables.specs.declared.declared_name.DeclaredName.{DeclaredName}
 use Rattle.crate_tables.specs.declared.extern_crates.ExternCrateRow.{ExternCrateRow}
 use Rattle.crate_tables.specs.declared.use_leaf.UseLeaf.{UseLeaf}
 use Rattle.dm_base.specs.declared.ids.Crate.{Crate}
+use Rattle.dm_base.specs.Tree.{same_module}
 use Rattle.dm_base.specs.declared.ids.EnumId.{EnumId}
+use Rattle.dm_base.specs.declared.ids.EnumVariantId.{EnumVariantId}
+use Rattle.dm_base.specs.declared.ids.ModuleId.{ModuleId}
+use Rattle.dm_collector.specs.BareModules.{all_bare, is_among}
 use Rattle.dm_collector.specs.Binding.{AreCratesBound}
+use Rattle.dm_collector.specs.Constructors.{constructor_vis, constructors}
 use Rattle.dm_collector.specs.Declaring.{KeepDeclared}
 use Rattle.dm_collector.specs.Enums.{enum_vis}
 use Rattle.dm_collector.specs.Leaves.{globs_of, imports_of}
@@ -24,6 +29,7 @@ use Rattle.dm_collector.specs.Steps.{Given, IsReached, MapsOf, StillShow}
 use Rattle.dm_collector.specs.declared.collected.Collected.{Collected}
 use Rattle.dm_def_map.specs.Variants.{same_enum}
 use Rattle.dm_imports.specs.Bound.{Maps}
+use Rattle.dm_imports.specs.Declarations.{same_variant}
 use Rattle.dm_imports.specs.Grounded.{IsGrounded}
 use Rattle.dm_imports.specs.Paths.{DefMaps}
 use Rattle.dm_imports.specs.Rules.{AreImportsKnown, IsSupported}
@@ -64,6 +70,9 @@ pub record IsBegun (r : Reading) (g : Graph) (k : Kept) (x : Given) (s : Maps) :
   pub imports : x.imports ≡ flat_map imports_of (leaves_of crates.tables)
   pub globs : x.globs ≡ flat_map (unless_named s.world) (flat_map globs_of (leaves_of crates.tables))
   pub enums : (e : EnumId) → x.enums e ≡ enum_vis (names_of crates.tables) e
+  pub constructors : (v : EnumVariantId) → x.constructors v
+      ≡ constructor_vis (constructors s.world r.files k.lists k.tables 0 g) v
+  pub bare : (m : ModuleId) → x.is_bare m ≡ is_among (all_bare k.lists 0 k.tables) m
   pub uses : x.uses ≡ macro_uses r.files crates.lists crates.rows 0 g
 
 -- From there crate by crate got the macros that it uses and had its imports and globs bound; and then unnamed traits were
@@ -99,7 +108,9 @@ abbrev pub given_in : Collected → Given
 given_in c = record {
   imports = c.imports.items;
   globs = c.globs.items;
-  enums = λ e. lookup (same_enum e) c.enums.entries;
+  enums = λ e. lookup (same_enum e) c.declarations.enums.entries;
+  constructors = λ v. lookup (same_variant v) c.declarations.constructors.entries;
+  is_bare = λ m. list_any (same_module m) c.declarations.bare_modules.keys;
   uses = c.uses.items;
 }
 
@@ -112,7 +123,7 @@ tables_in c w = record {
   world = w;
   imports = c.imports.items;
   globs = c.globs.items;
-  enums = c.enums.entries;
+  declarations = c.declarations;
   ambiguous = record { table = c.ambiguous; is_all_but = false };
 }
 

@@ -2,6 +2,9 @@
 use Rattle.std.specs.Prelude.{Bool, true, false, List, [], ◌∷◌, Option, None, Some, codes, if◌then◌else◌}
 use Rattle.crate_tables.specs.declared.use_leaf.UseLeaf.{UseLeaf}
 use Rattle.dm_base.specs.Names.{Name}
+use Rattle.dm_base.specs.declared.visibility.Visibility.{Visibility}
+use Rattle.dm_base.specs.declared.visibility.Visibility.TheVariants.{Module}
+use Rattle.dm_base.specs.declared.visibility.VisibilityExplicitness.TheVariants.{Implicit}
 use Rattle.dm_imports.specs.declared.glob_import.GlobImport.{GlobImport}
 use Rattle.dm_imports.specs.declared.named_import.ImportKind.{ImportKind}
 use Rattle.dm_imports.specs.declared.named_import.ImportKind.TheVariants as kind
@@ -20,12 +23,16 @@ abbrev pub name_of : Bool → Option Name → Option Name
 name_of true n = Some (codes "_")
 name_of false n = n
 
+-- what a list of nothing asks for is seen by its module alone
+abbrev pub vis_of : UseLeaf → Visibility
+vis_of x = if x.import.is_empty_list then Module x.home Implicit else x.visibility
+
 abbrev pub import_named : UseLeaf → Name → NamedImport
 import_named x n = record {
   home = x.home;
   name = n;
   path = x.import.path;
-  vis = x.visibility;
+  vis = vis_of x;
   kind = kind_of x.import.is_unnamed x.import.kind;
   import = record { use_ = x.use_; idx = x.import.tree };
   textual = x.textual;

@@ -6,6 +6,8 @@ pub mod Steps
 pub mod UnresolvedNames
 pub mod Leaves
 pub mod Enums
+pub mod Constructors
+pub mod BareModules
 pub mod Binding
 pub mod Declaring
 pub mod Collecting

@@ -4,6 +4,7 @@ use Rattle.std.specs.List.{AllByRecursion}
 use Rattle.std.specs.Option.{option_map_or}
 use Rattle.crate_tables.specs.StandardPreludes.{own_map}
 use Rattle.dm_base.specs.declared.ids.EnumId.{EnumId}
+use Rattle.dm_base.specs.declared.ids.EnumVariantId.{EnumVariantId}
 use Rattle.dm_base.specs.declared.ids.ModuleId.{ModuleId}
 use Rattle.dm_base.specs.declared.visibility.Visibility.{Visibility}
 use Rattle.dm_base.specs.Names.{Name}
@@ -21,12 +22,14 @@ use Rattle.dm_maps.specs.PushRes.{StaysShown}
 use Rattle.dm_maps.specs.World.{World}
 use Rattle.dm_scope.specs.Flags.{Globs}
 
--- What crates import: their imports, but globs; their globs; who sees each enum; and the roots that each crate has macros
--- from.
+-- What crates import: their imports, but globs; their globs; who sees each enum, and the constructors of variants that not all
+-- see who see their enums; which modules have no preludes; and the roots that each crate has macros from.
 pub record Given : Type 0 where
   pub imports : List NamedImport
   pub globs : List GlobImport
   pub enums : EnumId → Option Visibility
+  pub constructors : EnumVariantId → Option Visibility
+  pub is_bare : ModuleId → Bool
   pub uses : List Uses
 
 -- the def maps of a world, with what is imported there
@@ -38,7 +41,7 @@ tables_with x t w = record {
   world = w;
   imports = x.imports.now;
   globs = x.globs.now;
-  enums = x.enums.now.entries;
+  declarations = x.declarations.now;
   ambiguous = record { table = t; is_all_but = false };
 }
 

@@ -1,25 +1,33 @@
 //! Crates, before anything is imported: their files are read, and their modules and items declared in one world.
 ghost use Rattle.std.specs.Prelude.{◌≡◌, [], All, IfErr, IfOk, map};
-ghost use Rattle.std.specs.List.{flat_map};
+ghost use Rattle.std.specs.List.{flat_map, list_any};
 ghost use Rattle.std.specs.Map.{lookup};
 ghost use Rattle.crate_items.specs.CrateGraphs.{Graph};
 ghost use Rattle.crate_tables.specs.AssocItems.{AreAllAdded};
 ghost use Rattle.crate_tables.specs.CrateFillings.{AreFilled, IsKnownTable, Reading as Given};
 ghost use Rattle.crate_tables.specs.CrateTables.{IsNameOf, Table, emptied};
 ghost use Rattle.crate_tables.specs.DeclaredWorlds.{AreShown, BindNothing, with_all_declared};
+ghost use Rattle.dm_base.specs.Tree.{same_module};
 ghost use Rattle.dm_base.specs.declared.ids.EnumId.{EnumId as Id};
+ghost use Rattle.dm_base.specs.declared.ids.EnumVariantId.{EnumVariantId as VariantId};
+ghost use Rattle.dm_base.specs.declared.ids.ModuleId.{ModuleId as IdOfModule};
+ghost use Rattle.dm_collector.specs.BareModules.{all_bare, is_among};
 ghost use Rattle.dm_collector.specs.CollectFaults.{IsFault, IsNotDeclared};
 ghost use Rattle.dm_collector.specs.Collecting as spec;
+ghost use Rattle.dm_collector.specs.Constructors.{constructor_vis, constructors};
 ghost use Rattle.dm_collector.specs.Enums.{enum_vis};
 ghost use Rattle.dm_collector.specs.Leaves.{globs_of, imports_of};
 ghost use Rattle.dm_collector.specs.MacroUses.{macro_uses};
 ghost use Rattle.dm_collector.specs.PreludeGlobs.{unless_named};
 ghost use Rattle.dm_collector.specs.declared.collect_fault.CollectFault.TheVariants as faults;
 ghost use Rattle.dm_def_map.specs.Variants.{same_enum};
+ghost use Rattle.dm_imports.specs.Declarations.{same_variant};
 ghost use Rattle.dm_scope.specs.Flags.{no_globs};
 
+use crate::bare_modules::bare_set;
 use crate::collect_fault::{CollectFault, of_builder, of_declared, of_filling};
 use crate::collected::Collected;
+use crate::constructors::constructor_visibilities;
 use crate::enums::enum_visibilities;
 use crate::leaves::split;
 use crate::macro_uses::{MacroUses, macro_uses};
@@ -35,6 +43,7 @@ use crate_tables::extern_crates::ExternCrateRow;
 use crate_tables::table_parts::table_parts;
 use dm_base::ids::EnumId;
 use dm_base::visibility::Visibility;
+use dm_imports::declarations::Declarations;
 use dm_imports::glob_import::GlobImport;
 use dm_imports::named_import::NamedImport;
 use dm_imports::slots::Slots;
@@ -107,6 +116,33 @@ fn declare(
         globs,
         enums,
         rest: parts.rest,
+    })
+}
+
+/// What of the declarations of crates paths go by, where these see their enums.
+fn declarations_of(
+    alloc: Global,
+    graph: &CrateGraph,
+    reading: &Reading<'_>,
+    lists: &[CrateModules],
+    world: &World,
+    tables: &[CrateTable],
+    enums: IndexMap<EnumId, Visibility>,
+) -> Result<Declarations, CollectFault>
+    ensures enums { IfOk result (λ made. made.enums ≡ enums) }
+    ensures constructors { IfOk result (λ made. (v : VariantId) → lookup (same_variant v) made.constructors.entries
+        ≡ constructor_vis (constructors world.now reading.now.files lists.now tables.now 0 graph.now) v) }
+    ensures bare { IfOk result (λ made. (m : IdOfModule) → list_any (same_module m) made.bare_modules.keys
+        ≡ is_among (all_bare lists.now 0 tables.now) m) }
+    ensures memory { IfErr result (λ fault. fault ≡ faults.OutOfMemory) }
+{
+    let files = reading.files;
+    let constructors = constructor_visibilities(alloc, world, graph, files, lists, tables)?;
+    let bare_modules = bare_set(alloc, lists, tables)?;
+    Ok(Declarations {
+        enums,
+        constructors,
+        bare_modules,
     })
 }
 
@@ -191,13 +227,30 @@ pub(crate) fn begin(
         tables.as_slice(),
     )?;
     let declared = declare(alloc, builder, tables)?;
+    let Declared {
+        world,
+        flags,
+        imports,
+        globs,
+        enums,
+        rest,
+    } = declared;
     let uses = uses_of(alloc, graph, reading, lists.as_slice(), externs.as_slice())?;
+    let declarations = declarations_of(
+        alloc,
+        graph,
+        reading,
+        lists.as_slice(),
+        &world,
+        rest.as_slice(),
+        enums,
+    )?;
     Ok(Collected {
-        world: declared.world,
-        flags: declared.flags,
-        imports: declared.imports,
-        globs: declared.globs,
-        enums: declared.enums,
+        world,
+        flags,
+        imports,
+        globs,
+        declarations,
         ambiguous: Slots::new(alloc),
         order_dependent: Slots::new(alloc),
         meanings: Vec::new(alloc),
@@ -205,7 +258,7 @@ pub(crate) fn begin(
         is_supported: false,
         is_settled: false,
         lists,
-        tables: declared.rest,
+        tables: rest,
         externs,
         assocs,
     })

@@ -118,7 +118,7 @@ fn finish(made: &mut Collected, alloc: Global, order: &[Crate]) -> Result<(), Al
     let given = Importing {
         imports: made.imports.as_slice(),
         globs: made.globs.as_slice(),
-        enums: &made.enums,
+        declarations: &made.declarations,
     };
     let found = import(
         &mut made.world,

@@ -7,8 +7,7 @@ use crate_items::modules::CrateModules;
 use crate_tables::assoc_items::filling::AssocPlace;
 use crate_tables::crate_table::CrateTable;
 use crate_tables::extern_crates::ExternCrateRow;
-use dm_base::ids::EnumId;
-use dm_base::visibility::Visibility;
+use dm_imports::declarations::Declarations;
 use dm_imports::def_maps::DefMaps;
 use dm_imports::glob_import::GlobImport;
 use dm_imports::marks::Marks;
@@ -17,7 +16,6 @@ use dm_imports::rules::meanings::ImportMeanings;
 use dm_imports::slots::Slots;
 use dm_maps::world::World;
 use dm_scope::glob_imports::PerNsGlobImports;
-use indexmap::IndexMap;
 
 /// Crates, collected. The crates of the graph have their numbers in the world, too.
 pub struct Collected {
@@ -28,8 +26,8 @@ pub struct Collected {
     pub imports: Vec<NamedImport>,
     /// The globs of all crates.
     pub globs: Vec<GlobImport>,
-    /// Who sees each enum.
-    pub enums: IndexMap<EnumId, Visibility>,
+    /// Who sees enums and the constructors of their variants, and which modules have no preludes.
+    pub declarations: Declarations,
     /// The slots that are ambiguous.
     pub ambiguous: Slots<bool>,
     /// The slots whose meaning depends on the order of imports: none where `is_supported`.
@@ -62,7 +60,7 @@ impl Drop for Collected {
             flags: _flags,
             imports: _imports,
             globs: _globs,
-            enums: _enums,
+            declarations: _declarations,
             ambiguous: _ambiguous,
             order_dependent: _order_dependent,
             meanings: _meanings,
@@ -86,7 +84,7 @@ impl Collected {
             world: &self.world,
             imports: self.imports.as_slice(),
             globs: self.globs.as_slice(),
-            enums: &self.enums,
+            declarations: &self.declarations,
             ambiguous: Marks {
                 table: &self.ambiguous,
                 is_all_but: false,

@@ -1,12 +1,16 @@
 //! The leaves of uses, as imports and as globs.
-ghost use Rattle.std.specs.Prelude.{◌≡◌, ◌++◌, ◌∷◌, [], IfOk, OnOk};
+ghost use Rattle.std.specs.Prelude.{◌≡◌, ◌++◌, ◌∷◌, [], if◌then◌else◌, IfOk, OnOk};
 ghost use Rattle.std.specs.List.{flat_map};
+ghost use Rattle.dm_base.specs.declared.visibility.Visibility.TheVariants.{Module};
+ghost use Rattle.dm_base.specs.declared.visibility.VisibilityExplicitness.TheVariants.{Implicit};
 ghost use Rattle.dm_collector.specs.Leaves as spec;
 
 use crate_items::items::declared_import::DeclaredImport;
 use crate_tables::use_leaf::UseLeaf;
+use dm_base::ids::ModuleId;
 use dm_base::imports::{GlobId, ImportId};
 use dm_base::name::Name;
+use dm_base::visibility::{Visibility, VisibilityExplicitness};
 use dm_imports::glob_import::GlobImport;
 use dm_imports::named_import::{ImportKind, NamedImport};
 use item_tree::items::imports;
@@ -49,6 +53,17 @@ fn is_glob_kind(kind: imports::ImportKind) -> bool
     matches!(kind, imports::ImportKind::Glob)
 }
 
+/// Who sees what an import brings, at most: what a list of nothing asks for is seen by its module alone.
+fn vis_of(home: ModuleId, visibility: Visibility, is_empty_list: bool) -> Visibility
+    ensures { result ≡ (if is_empty_list then Module home Implicit else visibility) }
+{
+    if is_empty_list {
+        Visibility::Module(home, VisibilityExplicitness::Implicit)
+    } else {
+        visibility
+    }
+}
+
 /// Adds the import that a leaf is, if it has a name to bind.
 fn push_import(
     imports: &mut Vec<NamedImport>,
@@ -71,6 +86,7 @@ fn push_import(
         path,
         name,
         is_unnamed,
+        is_empty_list,
     } = import;
     let Some(name) = name_of(alloc, is_unnamed, name)? else {
         return Ok(());
@@ -79,7 +95,7 @@ fn push_import(
         home,
         name,
         path,
-        vis: visibility,
+        vis: vis_of(home, visibility, is_empty_list),
         kind: kind_of(is_unnamed, kind),
         import: ImportId { use_, idx: tree },
         textual,
@@ -104,6 +120,7 @@ fn push_glob(globs: &mut Vec<GlobImport>, leaf: UseLeaf) -> Result<(), AllocErro
         path,
         name: _name,
         is_unnamed: _is_unnamed,
+        is_empty_list: _is_empty_list,
     } = import;
     globs.push(GlobImport {
         into: home,

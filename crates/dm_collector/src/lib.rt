@@ -2,11 +2,13 @@
 //! imports say.
 #![tactic(auto)]
 
+mod bare_modules;
 mod begin;
 mod bind_crates;
 pub mod collect;
 pub mod collect_fault;
 pub mod collected;
+mod constructors;
 pub mod enums;
 pub mod leaves;
 mod macro_preludes;

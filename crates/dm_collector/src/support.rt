@@ -51,7 +51,7 @@ pub(crate) fn find_support(
         world,
         imports: given.imports,
         globs: given.globs,
-        enums: given.enums,
+        declarations: given.declarations,
         ambiguous: Marks {
             table: ambiguous,
             is_all_but: false,

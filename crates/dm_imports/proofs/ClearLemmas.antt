@@ -11,6 +11,7 @@ use Rattle.dm_base.specs.declared.per_ns.Namespace.{Namespace}
 use Rattle.dm_base.specs.declared.per_ns.Namespace.TheVariants.{Types, Values, Macros}
 use Rattle.dm_base.specs.Names.{Name}
 use Rattle.dm_base.specs.Path.{Path}
+use Rattle.dm_base.specs.PerNs.{keep}
 use Rattle.dm_base.specs.Tree.{crate_of, outer, sees}
 use Rattle.dm_maps.specs.Readings.{prelude_of, root_of}
 use Rattle.dm_maps.specs.Trees.{tree_of}
@@ -22,7 +23,7 @@ use Rattle.dm_imports.specs.declared.meaning.Meaning.{Meaning}
 use Rattle.dm_imports.specs.Grounded.{SlotSet, is_clear, knowing}
 use Rattle.dm_imports.specs.Grounding.{IsMore}
 use Rattle.dm_imports.specs.Meanings.{in_namespace}
-use Rattle.dm_imports.specs.Paths.{Asking, DefMaps, around, builtin_in, container_in, extern_crate_in, first, from_container, from_first, from_module, in_module, in_prelude, in_root, is_2015, is_by, is_by_glob, leads, marked, member, not_by_glob, path_meaning, plain, preluded, seen, shown, textual_in, through}
+use Rattle.dm_imports.specs.Paths.{Asking, DefMaps, around, around_bare, around_preluded, builtin_in, container_in, extern_crate_in, first, from_container, from_first, from_module, in_module, in_prelude, in_root, is_2015, is_by, is_by_glob, is_compilers, leads, marked, member, not_by_glob, path_meaning, plain, preluded, seen, shown, textual_in, through}
 
 -- what is found clear is found again, and is the same
 abbrev pub Same : Option Meaning → Option Meaning → Type 0
@@ -41,14 +42,15 @@ clearer-if x y true false e c = absurd (true≢false e)
 clearer-if x y false true e c = absurd (true≢false (sym e))
 clearer-if x y false false e c = clearer-refl None
 
-clearer-named : (o p : Option Meaning) → Clearer o p → Clearer (not_by_glob o) (not_by_glob p)
-clearer-named None None c = c
-clearer-named None (Some y) c = let e = c.0 in cc
-clearer-named (Some x) None c = let e = c.0 in cc
-clearer-named (Some x) (Some y) c =
+-- what is kept by anything but marks
+clearer-keep : (f : Meaning → Bool) → ((x : Meaning) → f (marked true x) ≡ f x) → (o p : Option Meaning) → Clearer o p → Clearer (keep f o) (keep f p)
+clearer-keep f h None None c = c
+clearer-keep f h None (Some y) c = let e = c.0 in cc
+clearer-keep f h (Some x) None c = let e = c.0 in cc
+clearer-keep f h (Some x) (Some y) c =
     let e = c.0 in
     let same : marked true x ≡ marked true y = cc in
-    clearer-if x y (not (is_by_glob x)) (not (is_by_glob y)) (ap (λ z. not (is_by_glob z)) same) c
+    clearer-if x y (f x) (f y) (sym (h x) ∙ ap f same ∙ h y) c
 
 clearer-or : (o p q r : Option Meaning) → Clearer o p → Clearer q r → Clearer (option_or o q) (option_or p r)
 clearer-or None None q r c h = h
@@ -129,16 +131,28 @@ module _ (d : DefMaps) (k l : SlotSet) (more : IsMore k l) (home : ModuleId) (im
 
   around-clearer : (n : Name) (s : Namespace) → Clearer (around (knowing d k) one n s) (around (knowing d l) two n s)
   around-clearer n s =
-      let standard = shown-in (prelude_of d.world ((tree_of d.world).map_of home)) n s in
-      clearer-or (preluded (knowing d k) home n s) (preluded (knowing d l) home n s) _ _ (preluded-clearer n s)
-      (clearer-or (in_prelude (knowing d k) one n s) (in_prelude (knowing d l) two n s) (builtin_in n s) (builtin_in n s) standard (clearer-refl (builtin_in n s)))
+      by (d.is_bare home)
+    where
+      standard : Clearer (in_prelude (knowing d k) one n s) (in_prelude (knowing d l) two n s)
+      standard = shown-in (prelude_of d.world ((tree_of d.world).map_of home)) n s
+
+      by : (b : Bool) → Clearer (cond b (around_bare (knowing d k) one n s) (around_preluded (knowing d k) one n s))
+          (cond b (around_bare (knowing d l) two n s) (around_preluded (knowing d l) two n s))
+      by true =
+          clearer-or (keep (is_compilers d.world) (in_prelude (knowing d k) one n s)) (keep (is_compilers d.world) (in_prelude (knowing d l) two n s))
+          (builtin_in n s) (builtin_in n s)
+          (clearer-keep (is_compilers d.world) (λ x. refl) (in_prelude (knowing d k) one n s) (in_prelude (knowing d l) two n s) standard)
+          (clearer-refl (builtin_in n s))
+      by false =
+          clearer-or (preluded (knowing d k) home n s) (preluded (knowing d l) home n s) _ _ (preluded-clearer n s)
+          (clearer-or (in_prelude (knowing d k) one n s) (in_prelude (knowing d l) two n s) (builtin_in n s) (builtin_in n s) standard (clearer-refl (builtin_in n s)))
 
   in_module-clearer : (n : Name) (s : Namespace) → Clearer (in_module (knowing d k) one n s) (in_module (knowing d l) two n s)
   in_module-clearer n s =
       let own = shown-clearer home n s in
       let p = shown (knowing d k) one home n s in
       let q = shown (knowing d l) two home n s in
-      clearer-or (not_by_glob p) (not_by_glob q) _ _ (clearer-named p q own)
+      clearer-or (not_by_glob p) (not_by_glob q) _ _ (clearer-keep (λ x. not (is_by_glob x)) (λ x. refl) p q own)
       (clearer-or (around (knowing d k) one n s) (around (knowing d l) two n s) p q (around-clearer n s) own)
 
   in_root-clearer : (n : Name) (s : Namespace) → Clearer (in_root (knowing d k) one n s) (in_root (knowing d l) two n s)

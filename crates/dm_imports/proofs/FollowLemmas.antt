@@ -146,7 +146,7 @@ module _ (d : DefMaps) where
   pub glob-offers : (g : GlobImport) → AreMapsKnown d → Contains d.globs g → MayOffer d g
   glob-offers g known has =
       let k = All-contains (IsGlobKnown d) d.globs g known.globs has in
-      record { into = module-known d.world g.into k.0.0; vis = k.1; enums = known.enums }
+      record { into = module-known d.world g.into k.0.0; vis = k.1; variants = known.variants }
 
   -- with what a glob offers by known slots
   pub sound-offers : (f : Followed) (new : Slots Joined) (g : GlobImport) → IsSound d f → Contains d.globs g → MayHaveOffers d (slots_of f.known) g f.offered new → AreAllNamed d.world new

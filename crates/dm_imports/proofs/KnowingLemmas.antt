@@ -41,11 +41,11 @@ pub knowing-may : (d : DefMaps) (b : Slots Joined) (k : SlotSet) (o : Offers) (i
 knowing-may d b k o i e a same asks ready known =
     let may : MayAsk (knowing d k) (knowing_asks d o i) = record {
       home = module-known d.world i.home known.0.0;
-      enums = ready.known.enums;
+      variants = ready.known.variants;
       below = λ m n s. below-named d b ready (is_none (o m n s)) m n s;
     } in
     subst (λ (v : DefMaps). MayAsk v a) (sym same) (subst (MayAsk (knowing d k)) (sym asks) may)
 
 -- who may offer in def maps may offer there as they are seen so
 pub knowing-offer : (d : DefMaps) (k : SlotSet) (e : DefMaps) (g : GlobImport) → e ≡ knowing d k → MayOffer d g → MayOffer e g
-knowing-offer d k e g same may = subst (λ (v : DefMaps). MayOffer v g) (sym same) (record { into = may.into; vis = may.vis; enums = may.enums })
+knowing-offer d k e g same may = subst (λ (v : DefMaps). MayOffer v g) (sym same) (record { into = may.into; vis = may.vis; variants = may.variants })

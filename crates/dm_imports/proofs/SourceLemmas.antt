@@ -28,7 +28,7 @@ use Rattle.dm_imports.specs.Following.{IsReader}
 use Rattle.dm_imports.specs.Grounded.{SlotSet, is_clear, knowing}
 use Rattle.dm_imports.specs.Grounding.{HasSource, IsMore, is_found, known_from}
 use Rattle.dm_imports.specs.Meanings.{in_namespace}
-use Rattle.dm_imports.specs.Paths.{DefMaps, container_in, leads, marked, path_meaning, seen, variant_in, visible}
+use Rattle.dm_imports.specs.Paths.{DefMaps, container_in, leads, marked, path_meaning, seen, variant_in, variant_vis, visible}
 use Rattle.dm_imports.specs.Rules.{glob_asks, is_other, offer_from, offered, source_of}
 use Rattle.dm_imports.proofs.ClearLemmas.{clearer-refl, path-same}
 
@@ -116,10 +116,11 @@ module _ (d : DefMaps) (k : SlotSet) (g : GlobImport) where
       by true = ap (λ b. cond b (Some (offered d g x)) None) h
       by false = refl
 
-  of-enum : (o : Option (EnumVariantId × FieldsShape)) (s : Namespace) (vis : Visibility)
-      → is_clear (option_and_then (λ v. variant_in s v.1 (def.EnumVariantId v.0) vis) o) ≡ is_some (option_and_then (λ v. variant_in s v.1 (def.EnumVariantId v.0) vis) o)
+  of-enum : (o : Option (EnumVariantId × FieldsShape)) (s : Namespace) (vis : EnumVariantId → Visibility)
+      → is_clear (option_and_then (λ v. variant_in s v.1 (def.EnumVariantId v.0) (vis v.0)) o)
+      ≡ is_some (option_and_then (λ v. variant_in s v.1 (def.EnumVariantId v.0) (vis v.0)) o)
   of-enum None s vis = refl
-  of-enum (Some v) s vis = variant-clear s v.1 (def.EnumVariantId v.0) vis
+  of-enum (Some v) s vis = variant-clear s v.1 (def.EnumVariantId v.0) (vis v.0)
 
   -- it is what the glob offers in def maps, where the slot is known
   pub known-once : (c : Container) (n : Name) (s : Namespace) → cond (is_clear (offer_from (knowing d k) g c n s)) (offer_from d g c n s) None ≡ known_from d k g c n s
@@ -140,5 +141,5 @@ module _ (d : DefMaps) (k : SlotSet) (g : GlobImport) where
       by None = if-none (k m n s)
       by (Some x) = via x (sees (tree_of d.world) x.vis g.into) (k m n s) (d.is_ambiguous m n s)
   known-once (container.Enum e) n s =
-      when-clear (option_and_then (λ v. variant_in s v.1 (def.EnumVariantId v.0) (d.enum_vis e)) (option_and_then (find_name n) (variants_if_known d.world e)))
-      (of-enum (option_and_then (find_name n) (variants_if_known d.world e)) s (d.enum_vis e))
+      when-clear (option_and_then (λ v. variant_in s v.1 (def.EnumVariantId v.0) (variant_vis d e s v.0)) (option_and_then (find_name n) (variants_if_known d.world e)))
+      (of-enum (option_and_then (find_name n) (variants_if_known d.world e)) s (variant_vis d e s))

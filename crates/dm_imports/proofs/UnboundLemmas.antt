@@ -18,7 +18,7 @@ use Rattle.dm_scope.specs.Sorted.{names_of}
 use Rattle.dm_imports.specs.declared.container.Container.{Container}
 use Rattle.dm_imports.specs.declared.container.Container.TheVariants as container
 use Rattle.dm_imports.specs.Meanings.{in_namespace}
-use Rattle.dm_imports.specs.Paths.{Asking, DefMaps, at, marked, member, seen, variant_in, visible}
+use Rattle.dm_imports.specs.Paths.{Asking, DefMaps, at, marked, member, seen, variant_in, variant_vis, visible}
 use Rattle.dm_imports.specs.Supporting.{source_names}
 use Rattle.dm_imports.proofs.ListLemmas.{find-absent, name-absent, name-listed}
 
@@ -58,7 +58,7 @@ at-unbound d m n s missing =
 pub member-unbound : (d : DefMaps) (a : Asking) (c : Container) (n : Name) (s : Namespace) → (Contains (source_names d.world c) n → ⊥) → member d a c n s ≡ None
 member-unbound d a (container.Module m) n s missing = ap (λ o. option_and_then (seen d a m n s) o) (at-unbound d m n s missing)
 member-unbound d a (container.Enum e) n s missing =
-    ap (λ o. visible d a (option_and_then (λ v. variant_in s v.1 (def.EnumVariantId v.0) (d.enum_vis e)) o)) (by (variants_if_known d.world e) missing)
+    ap (λ o. visible d a (option_and_then (λ v. variant_in s v.1 (def.EnumVariantId v.0) (variant_vis d e s v.0)) o)) (by (variants_if_known d.world e) missing)
   where
     by : (o : Option (List (Name × (EnumVariantId × FieldsShape)))) → (Contains (option_map_or (map (λ v. v.0)) o []) n → ⊥) → option_and_then (find_name n) o ≡ None
     by None h = refl

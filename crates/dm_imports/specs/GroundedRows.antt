@@ -46,6 +46,8 @@ circle = record {
   imports = import 0 1 (codes "X") (codes "b" ∷ codes "X" ∷ []) ∷ import 1 2 (codes "X") (codes "a" ∷ codes "X" ∷ []) ∷ [];
   globs = [];
   enum_vis = λ e. Public;
+  constructor_vis = λ v. None;
+  is_bare = λ m. false;
   is_ambiguous = λ m n s. false;
 }
 

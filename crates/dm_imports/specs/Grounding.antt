@@ -19,7 +19,7 @@ use Rattle.dm_imports.specs.declared.named_import.NamedImport.{NamedImport}
 use Rattle.dm_imports.specs.Brought.{AreAllNamed, IsBrought}
 use Rattle.dm_imports.specs.Grounded.{IsClosed, Offers, SlotSet, is_glob_step, is_import_step, known_offers, knowing}
 use Rattle.dm_imports.specs.Meanings.{is_declared}
-use Rattle.dm_imports.specs.Paths.{AreEnumsNamed, DefMaps, at}
+use Rattle.dm_imports.specs.Paths.{AreVariantsNamed, DefMaps, at}
 use Rattle.dm_imports.specs.Rules.{AreMapsKnown, IsModule, offer_from, source_of}
 use Rattle.dm_imports.specs.Slots.{Slots, slot_at}
 
@@ -54,7 +54,7 @@ known_from d k g c n s = cond (is_found k c n s) (offer_from d g c n s) None
 pub record MayOffer (d : DefMaps) (g : GlobImport) : Type 0 where
   pub into : IsKnown (tree_of d.world) g.into
   pub vis : NamesKnown (tree_of d.world) g.vis
-  pub enums : AreEnumsNamed d
+  pub variants : AreVariantsNamed d
 
 -- both sources of a glob are this one, or one of the two is none
 abbrev pub HasSource : DefMaps → SlotSet → GlobImport → Option Container → Type 0

@@ -1,3 +1,4 @@
+pub mod Declarations
 pub mod Meanings
 pub mod Slots
 pub mod Paths

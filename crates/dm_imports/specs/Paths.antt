@@ -5,6 +5,7 @@ use Rattle.dm_base.specs.declared.fields_shape.FieldsShape.{FieldsShape}
 use Rattle.dm_base.specs.declared.fields_shape.FieldsShape.TheVariants as shape
 use Rattle.dm_base.specs.declared.ids.Crate.{Crate}
 use Rattle.dm_base.specs.declared.ids.EnumId.{EnumId}
+use Rattle.dm_base.specs.declared.ids.EnumVariantId.{EnumVariantId}
 use Rattle.dm_base.specs.declared.ids.ExternCrateId.{ExternCrateId}
 use Rattle.dm_base.specs.declared.ids.ModuleId.{ModuleId}
 use Rattle.dm_base.specs.declared.imports.ImportId.{ImportId}
@@ -13,6 +14,10 @@ use Rattle.dm_base.specs.declared.item_ids.AdtId.TheVariants as adt
 use Rattle.dm_base.specs.declared.item_ids.MacroId.{MacroId}
 use Rattle.dm_base.specs.declared.item_ids.ModuleDefId.{ModuleDefId}
 use Rattle.dm_base.specs.declared.item_ids.ModuleDefId.TheVariants as def
+use Rattle.dm_base.specs.declared.macros.MacroExpander.{MacroExpander}
+use Rattle.dm_base.specs.declared.macros.MacroExpander.TheVariants as expander
+use Rattle.dm_base.specs.declared.macros.MacroLoc.{MacroLoc}
+use Rattle.dm_base.specs.declared.macros.MacroLoc.TheVariants as loc
 use Rattle.dm_base.specs.declared.mod_path.PathKind.TheVariants as kind
 use Rattle.dm_base.specs.declared.per_ns.Namespace.{Namespace}
 use Rattle.dm_base.specs.declared.per_ns.Namespace.TheVariants.{Types, Values, Macros}
@@ -27,7 +32,7 @@ use Rattle.dm_base.specs.Tree.{IsKnown, crate_of, outer, sees}
 use Rattle.dm_base.specs.Visibility.{NamesKnown}
 use Rattle.dm_def_map.specs.Maps.{LocalMap}
 use Rattle.dm_maps.specs.GoesOn.{variants_if_known}
-use Rattle.dm_maps.specs.Readings.{is_2015_in, macro_uses_of, prelude_of, root_of}
+use Rattle.dm_maps.specs.Readings.{is_2015_in, macro_loc_of, macro_uses_of, prelude_of, root_of}
 use Rattle.dm_maps.specs.ItemHomes.{homes_of}
 use Rattle.dm_maps.specs.Trees.{tree_of}
 use Rattle.dm_maps.specs.World.{World, scope_of}
@@ -48,6 +53,10 @@ pub record DefMaps : Type 0 where
   pub globs : List GlobImport
   -- who sees an enum; its variants are seen as it is
   pub enum_vis : EnumId → Visibility
+  -- who sees the constructor of a variant of an enum that all see, where not all do
+  pub constructor_vis : EnumVariantId → Option Visibility
+  -- which modules have no preludes
+  pub is_bare : ModuleId → Bool
   -- which slots are ambiguous
   pub is_ambiguous : ModuleId → Name → Namespace → Bool
 
@@ -106,8 +115,19 @@ variant_in Values shape.Tuple v vis = Some (record { def = v; vis = vis; source 
 variant_in Values shape.Unit v vis = Some (record { def = v; vis = vis; source = source.Declaration; is_ambiguous = false })
 variant_in Macros f v vis = None
 
+abbrev pub constructor_of : Visibility → Option Visibility → Visibility
+constructor_of Public (Some v) = v
+constructor_of v _ = v
+
+-- it is seen as its enum; of an enum that all see, fewer may see the constructor of a variant
+abbrev pub variant_vis : DefMaps → EnumId → Namespace → EnumVariantId → Visibility
+variant_vis d e Types v = d.enum_vis e
+variant_vis d e Values v = constructor_of (d.enum_vis e) (d.constructor_vis v)
+variant_vis d e Macros v = d.enum_vis e
+
 abbrev pub variant : DefMaps → EnumId → Name → Namespace → Option Meaning
-variant d e n s = option_and_then (λ v. variant_in s v.1 (def.EnumVariantId v.0) (d.enum_vis e)) (option_and_then (find_name n) (variants_if_known d.world e))
+variant d e n s =
+    option_and_then (λ v. variant_in s v.1 (def.EnumVariantId v.0) (variant_vis d e s v.0)) (option_and_then (find_name n) (variants_if_known d.world e))
 
 abbrev pub visible : DefMaps → Asking → Option Meaning → Option Meaning
 visible d a o = keep (λ x. sees (tree_of d.world) x.vis a.home) o
@@ -160,9 +180,29 @@ builtin_in n Macros = None
 abbrev pub in_prelude : DefMaps → Asking → Name → Namespace → Option Meaning
 in_prelude d a n s = option_and_then (λ p. shown d a p n s) (prelude_of d.world ((tree_of d.world).map_of a.home))
 
+-- what the compiler expands
+abbrev pub is_builtin : MacroExpander → Bool
+is_builtin (expander.Declarative s) = false
+is_builtin _ = true
+
+abbrev pub is_builtin_macro : MacroLoc → Bool
+is_builtin_macro (loc.Macro2 e) = is_builtin e
+is_builtin_macro (loc.MacroRules e) = is_builtin e
+is_builtin_macro (loc.Proc k) = false
+
+abbrev pub is_compilers : World → Meaning → Bool
+is_compilers w x = elim x.def [ def.MacroId m ↦ option_map_or is_builtin_macro (macro_loc_of w m) false | _ ↦ false ]
+
+-- A module without preludes still has builtin types, and the macros of the compiler that the standard prelude has.
+abbrev pub around_bare : DefMaps → Asking → Name → Namespace → Option Meaning
+around_bare d a n s = option_or (keep (is_compilers d.world) (in_prelude d a n s)) (builtin_in n s)
+
 -- crates and macros of preludes go before the standard prelude, and that before builtin types
+abbrev pub around_preluded : DefMaps → Asking → Name → Namespace → Option Meaning
+around_preluded d a n s = option_or (preluded d a.home n s) (option_or (in_prelude d a n s) (builtin_in n s))
+
 abbrev pub around : DefMaps → Asking → Name → Namespace → Option Meaning
-around d a n s = option_or (preluded d a.home n s) (option_or (in_prelude d a n s) (builtin_in n s))
+around d a n s = if d.is_bare a.home then around_bare d a n s else around_preluded d a n s
 
 -- ---- Where a path begins
 
@@ -250,11 +290,11 @@ path_meaning d a t p s = elim p.kind [
 
 -- ---- What is asked of def maps and of who asks
 
--- each visibility of an enum names a module of the world's
-abbrev pub AreEnumsNamed : DefMaps → Type 0
-AreEnumsNamed d = (e : EnumId) → NamesKnown (tree_of d.world) (d.enum_vis e)
+-- each visibility of a variant names a module of the world's
+abbrev pub AreVariantsNamed : DefMaps → Type 0
+AreVariantsNamed d = (e : EnumId) (s : Namespace) (v : EnumVariantId) → NamesKnown (tree_of d.world) (variant_vis d e s v)
 
 pub record MayAsk (d : DefMaps) (a : Asking) : Type 0 where
   pub home : IsKnown (tree_of d.world) a.home
-  pub enums : AreEnumsNamed d
+  pub variants : AreVariantsNamed d
   pub below : (m : ModuleId) (n : Name) (s : Namespace) → IsNamed d.world (a.below m n s)

@@ -35,6 +35,8 @@ shadowing = record {
   imports = import 2 4 (codes "open") (codes "imp" ∷ codes "open" ∷ []) ∷ [];
   globs = glob 0 3 Public (codes "unix" ∷ []) ∷ glob 1 4 Public (codes "generic" ∷ []) ∷ glob 3 5 Public (codes "sys" ∷ []) ∷ [];
   enum_vis = λ e. Public;
+  constructor_vis = λ v. None;
+  is_bare = λ m. false;
   is_ambiguous = λ m n s. false;
 }
 
@@ -64,6 +66,8 @@ own_binding = record {
   imports = import 3 0 (codes "a") (codes "a" ∷ codes "b" ∷ []) ∷ [];
   globs = glob 2 0 Public (codes "src" ∷ []) ∷ [];
   enum_vis = λ e. Public;
+  constructor_vis = λ v. None;
+  is_bare = λ m. false;
   is_ambiguous = λ m n s. false;
 }
 
@@ -85,6 +89,8 @@ two_globs = record {
   imports = [];
   globs = glob 0 3 (within 3) (codes "k" ∷ []) ∷ glob 1 3 Public (codes "b" ∷ []) ∷ [];
   enum_vis = λ e. Public;
+  constructor_vis = λ v. None;
+  is_bare = λ m. false;
   is_ambiguous = λ m n s. false;
 }
 
@@ -111,6 +117,8 @@ textual_macros = record {
       ∷ [];
   globs = [];
   enum_vis = λ e. Public;
+  constructor_vis = λ v. None;
+  is_bare = λ m. false;
   is_ambiguous = λ m n s. false;
 }
 
@@ -138,6 +146,8 @@ glob_of_no_name edition = record {
   imports = [];
   globs = glob 0 1 Public [] ∷ [];
   enum_vis = λ e. Public;
+  constructor_vis = λ v. None;
+  is_bare = λ m. false;
   is_ambiguous = λ m n s. false;
 }
 

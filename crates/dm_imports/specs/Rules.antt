@@ -1,19 +1,23 @@
 -- What the rules give of def maps: a slot has what its module declares, else what an import by name brings, else what
 -- globs bring.
-use Rattle.std.specs.Prelude.{◌≡◌, ◌<◌, ◌||◌, All, IsTrue, Bool, true, false, not, List, [], ◌∷◌, Option, Some, None, fold, if◌then◌else◌}
+use Rattle.std.specs.Prelude.{◌≡◌, ◌<◌, ◌||◌, ◌&&◌, All, IsTrue, Bool, true, false, not, List, [], ◌∷◌, Option, Some, None, fold, if◌then◌else◌}
 use Rattle.std.specs.List.{filter_map, list_any}
 use Rattle.std.specs.Option.{option_and_then, option_map, option_map_or, option_or}
 use Rattle.dm_base.specs.declared.ids.ModuleId.{ModuleId}
 use Rattle.dm_base.specs.declared.per_ns.Namespace.{Namespace}
 use Rattle.dm_base.specs.declared.per_ns.Namespace.TheVariants.{Types, Values, Macros}
+use Rattle.dm_base.specs.declared.item_ids.ModuleDefId.TheVariants as def
 use Rattle.dm_base.specs.declared.visibility.Visibility.{Visibility}
+use Rattle.dm_base.specs.declared.visibility.Visibility.TheVariants as vis
 use Rattle.dm_base.specs.Names.{Name}
 use Rattle.dm_base.specs.PerNs.{keep}
 use Rattle.dm_base.specs.Sameness.{same_def}
 use Rattle.dm_base.specs.Tree.{same_module}
 use Rattle.dm_base.specs.Visibility.{NamesKnown, max_of, min_of}
 use Rattle.dm_maps.specs.declared.check.held.HeldId.TheVariants as held
+use Rattle.dm_maps.specs.ItemHomes.{homes_of}
 use Rattle.dm_maps.specs.Known.{knows}
+use Rattle.dm_maps.specs.Readings.{root_of}
 use Rattle.dm_maps.specs.Trees.{tree_of}
 use Rattle.dm_maps.specs.World.{World}
 use Rattle.dm_imports.specs.declared.container.Container.{Container}
@@ -26,7 +30,7 @@ use Rattle.dm_imports.specs.declared.named_import.ImportKind.{ImportKind}
 use Rattle.dm_imports.specs.declared.named_import.ImportKind.TheVariants as kind
 use Rattle.dm_imports.specs.declared.named_import.NamedImport.{NamedImport}
 use Rattle.dm_imports.specs.Meanings.{is_declared, joined}
-use Rattle.dm_imports.specs.Paths.{AreEnumsNamed, Asking, DefMaps, at, leads, member, path_meaning}
+use Rattle.dm_imports.specs.Paths.{AreVariantsNamed, Asking, DefMaps, at, leads, member, path_meaning}
 use Rattle.dm_imports.specs.Slots.{same_place}
 
 -- ---- Visibilities that meet in a module: one of two is always the less permissive
@@ -111,9 +115,22 @@ brings kind.TypeOnly Values = false
 brings kind.TypeOnly Macros = false
 brings kind.Unnamed s = false
 
--- what an import brings: what its path means, shown to none who does not see that
+-- an extern crate that a module declares is the root of a crate
+abbrev pub is_root : World → ModuleId → Bool
+is_root w m = option_map_or (same_module m) (option_and_then (root_of w) ((homes_of w).krate m)) false
+
+abbrev pub is_extern_crate : World → Meaning → Bool
+is_extern_crate w x = is_declared x && elim x.def [ def.ModuleId m ↦ is_root w m | _ ↦ false ]
+
+abbrev pub is_public : Visibility → Bool
+is_public v = elim v [ vis.Public ↦ true | _ ↦ false ]
+
+-- what an import brings is shown to none who does not see what its path means; but `pub use` shows an extern crate to all
+abbrev pub imported_vis : DefMaps → NamedImport → Meaning → Visibility
+imported_vis d i x = if is_public i.vis && is_extern_crate d.world x then vis.Public else least d.world i.home i.vis x.vis
+
 abbrev pub imported : DefMaps → NamedImport → Meaning → Meaning
-imported d i x = record x { vis = least d.world i.home i.vis x.vis; source = source.Import i.import }
+imported d i x = record x { vis = imported_vis d i x; source = source.Import i.import }
 
 abbrev pub import_brings : DefMaps → NamedImport → Namespace → Option Meaning
 import_brings d i s = if brings i.kind s then option_map (imported d i) (path_meaning d (import_asks d i) i.textual i.path s) else None
@@ -159,6 +176,6 @@ pub record AreImportsKnown (d : DefMaps) : Type 0 where
 
 -- so are those that the visibilities of enums name
 pub record AreMapsKnown (d : DefMaps) : Type 0 where
-  pub enums : AreEnumsNamed d
+  pub variants : AreVariantsNamed d
   pub imports : All (IsImportKnown d) d.imports
   pub globs : All (IsGlobKnown d) d.globs

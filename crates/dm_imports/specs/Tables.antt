@@ -1,18 +1,18 @@
 -- Def maps and who asks, as calls have them: what is a set or a function there is a table here.
 use Rattle.std.specs.Prelude.{◌||◌, Bool, true, List, Option, None, Some, is_none, is_some, if◌then◌else◌}
+use Rattle.std.specs.List.{list_any}
 use Rattle.std.specs.Map.{lookup}
 use Rattle.std.specs.Option.{option_and_then, option_map, option_map_or}
-use Rattle.dm_base.specs.declared.ids.EnumId.{EnumId}
 use Rattle.dm_base.specs.declared.ids.ModuleId.{ModuleId}
 use Rattle.dm_base.specs.declared.imports.ImportId.{ImportId}
 use Rattle.dm_base.specs.declared.per_ns.Namespace.{Namespace}
 use Rattle.dm_base.specs.declared.visibility.Visibility.{Visibility}
 use Rattle.dm_base.specs.declared.visibility.Visibility.TheVariants.{Module, PubCrate, Public}
 use Rattle.dm_base.specs.Names.{Name}
-use Rattle.dm_base.specs.Tree.{Tree}
-use Rattle.dm_def_map.specs.Variants.{same_enum}
+use Rattle.dm_base.specs.Tree.{Tree, same_module}
 use Rattle.dm_maps.specs.Trees.{tree_of}
 use Rattle.dm_maps.specs.World.{World}
+use Rattle.dm_imports.specs.Declarations.{Declarations, same_variant, vis_in}
 use Rattle.dm_imports.specs.declared.glob_import.GlobImport.{GlobImport}
 use Rattle.dm_imports.specs.declared.joined.Joined.{Joined}
 use Rattle.dm_imports.specs.declared.meaning.Meaning.{Meaning}
@@ -33,11 +33,8 @@ pub record MapTables : Type 0 where
   pub world : World
   pub imports : List NamedImport
   pub globs : List GlobImport
-  pub enums : List (EnumId × Visibility)
+  pub declarations : Declarations
   pub ambiguous : Marks
-
-abbrev pub vis_in : List (EnumId × Visibility) → EnumId → Visibility
-vis_in es e = option_map_or (λ v. v) (lookup (same_enum e) es) Public
 
 -- a visibility of a module that is not the world's counts as public
 abbrev pub is_named : Tree → Visibility → Bool
@@ -53,7 +50,9 @@ of_tables t = record {
   world = t.world;
   imports = t.imports;
   globs = t.globs;
-  enum_vis = λ e. named_or_public (tree_of t.world) (vis_in t.enums e);
+  enum_vis = λ e. named_or_public (tree_of t.world) (vis_in t.declarations.enums e);
+  constructor_vis = λ v. option_map (named_or_public (tree_of t.world)) (lookup (same_variant v) t.declarations.constructors);
+  is_bare = λ m. list_any (same_module m) t.declarations.bare_modules;
   is_ambiguous = has_mark t.ambiguous;
 }
 

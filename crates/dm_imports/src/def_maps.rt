@@ -1,12 +1,10 @@
 //! `DefMaps`: def maps, with what is imported in them.
 
+use crate::declarations::Declarations;
 use crate::glob_import::GlobImport;
 use crate::marks::Marks;
 use crate::named_import::NamedImport;
-use dm_base::ids::EnumId;
-use dm_base::visibility::Visibility;
 use dm_maps::world::World;
-use indexmap::IndexMap;
 use std::marker::Model;
 
 /// Def maps, with what is imported in them.
@@ -15,8 +13,7 @@ pub struct DefMaps<'a> {
     pub world: &'a World,
     pub imports: &'a [NamedImport],
     pub globs: &'a [GlobImport],
-    /// Who sees each enum: its variants are seen as it is.
-    pub enums: &'a IndexMap<EnumId, Visibility>,
+    pub declarations: &'a Declarations,
     /// The slots that are ambiguous.
     pub ambiguous: Marks<'a>,
 }
@@ -30,7 +27,7 @@ impl<'a> Model for DefMaps<'a> {
       world = d.world.now;
       imports = d.imports.now;
       globs = d.globs.now;
-      enums = d.enums.now.entries;
+      declarations = d.declarations.now;
       ambiguous = d.ambiguous;
     } };
 }

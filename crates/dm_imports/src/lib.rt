@@ -5,6 +5,7 @@ mod asked;
 pub mod asking;
 pub mod bind;
 pub mod container;
+pub mod declarations;
 pub mod def_maps;
 pub mod glob_import;
 pub mod importing;

@@ -1,6 +1,6 @@
 //! What the rules give of def maps.
 
-mod all_imports;
+pub(crate) mod all_imports;
 mod all_offers;
 pub mod examine;
 pub mod grounded;

@@ -1,7 +1,7 @@
 //! `is_supported` and `is_grounded` on a crate with the modules `generic` and `unix`, each with a function `open`, and
 //! `sys`, in which `pub use crate::generic::*; pub use crate::unix::open;` stand.
 use dm_base::ids::{
-    Crate, EnumId, FileAstId, FileId, FunctionId, MacroCallId, ModuleId, UseId, UseTreeIdx,
+    Crate, FileAstId, FileId, FunctionId, MacroCallId, ModuleId, UseId, UseTreeIdx,
 };
 use dm_base::imports::{GlobId, ImportId, ImportOrExternCrate, ImportOrGlob};
 use dm_base::item_ids::{ItemKind, ModuleDefId};
@@ -11,6 +11,7 @@ use dm_base::per_ns::{Namespace, PerNs};
 use dm_base::source::{Edition, EditionedFileId, HirFileId, TreeId};
 use dm_base::visibility::Visibility;
 use dm_imports::bind::bind_crate;
+use dm_imports::declarations::Declarations;
 use dm_imports::def_maps::DefMaps;
 use dm_imports::glob_import::GlobImport;
 use dm_imports::importing::Importing;
@@ -24,7 +25,6 @@ use dm_maps::builder::WorldBuilder;
 use dm_maps::module_origin::ModuleOrigin;
 use dm_maps::world::World;
 use dm_scope::glob_imports::PerNsGlobImports;
-use indexmap::IndexMap;
 use std::alloc::{AllocError, Global};
 
 const ROOT: ModuleId = ModuleId(0);
@@ -151,7 +151,7 @@ fn glob(alloc: Global) -> Result<GlobImport, AllocError> {
 struct Uses {
     imports: Vec<NamedImport>,
     globs: Vec<GlobImport>,
-    enums: IndexMap<EnumId, Visibility>,
+    declarations: Declarations,
 }
 
 /// A hand-written `Drop`, to keep proofs small: what drops one has one call to prove.
@@ -160,7 +160,7 @@ impl Drop for Uses {
         let Uses {
             imports: _imports,
             globs: _globs,
-            enums: _enums,
+            declarations: _declarations,
         } = self;
     }
 }
@@ -176,7 +176,7 @@ fn both_uses(alloc: Global) -> Result<Uses, AllocError> {
     Ok(Uses {
         imports: only(alloc, import(alloc, "unix")?)?,
         globs: only(alloc, glob(alloc)?)?,
-        enums: IndexMap::new(alloc),
+        declarations: Declarations::new(alloc),
     })
 }
 
@@ -185,7 +185,7 @@ fn one_use(alloc: Global, first: &str) -> Result<Uses, AllocError> {
     Ok(Uses {
         imports: only(alloc, import(alloc, first)?)?,
         globs: Vec::new(alloc),
-        enums: IndexMap::new(alloc),
+        declarations: Declarations::new(alloc),
     })
 }
 
@@ -198,7 +198,7 @@ fn maps_of<'a>(world: &'a World, uses: &'a Uses, ambiguous: &'a Slots<bool>) -> 
         world,
         imports: uses.imports.as_slice(),
         globs: uses.globs.as_slice(),
-        enums: &uses.enums,
+        declarations: &uses.declarations,
         ambiguous: marks,
     }
 }
@@ -242,7 +242,7 @@ fn bind_uses(
     let given = Importing {
         imports: uses.imports.as_slice(),
         globs: uses.globs.as_slice(),
-        enums: &uses.enums,
+        declarations: &uses.declarations,
     };
     let mut steps = Vec::new(alloc);
     bind_crate(world, flags, ambiguous, &mut steps, alloc, &given, Crate(0)).ok()

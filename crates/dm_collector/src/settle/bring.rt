@@ -32,7 +32,7 @@ fn maps_of<'a>(
         world,
         imports: given.imports,
         globs: given.globs,
-        enums: given.enums,
+        declarations: given.declarations,
         ambiguous: Marks {
             table: ambiguous,
             is_all_but: false,

@@ -15,6 +15,7 @@ use dm_base::builtin_type::BuiltinType;
 use dm_base::ids::{Crate, ExternCrateId, MapId, ModuleId};
 use dm_base::item_ids::{MacroId, ModuleDefId};
 use dm_base::item_in_ns::ItemModules;
+use dm_base::macros::{MacroExpander, MacroLoc};
 use dm_base::module_tree::ModuleTree;
 use dm_base::name::Name;
 use dm_base::per_ns::Namespace;
@@ -132,15 +133,57 @@ fn builtin_in(name: &Name, namespace: Namespace) -> Option<Meaning>
     }
 }
 
-/// Crates and macros of preludes go before the standard prelude, and that before builtin types.
-pub(crate) fn around(
+/// Whether a macro is one of the compiler's.
+pub(crate) fn is_builtin_macro(loc: MacroLoc) -> bool
+    ensures { result ≡ spec.is_builtin_macro loc }
+{
+    match loc {
+        MacroLoc::Macro2(expander) | MacroLoc::MacroRules(expander) => {
+            !matches!(expander, MacroExpander::Declarative { .. })
+        }
+        MacroLoc::Proc(_) => false,
+    }
+}
+
+/// Whether it is a macro of the compiler's.
+pub(crate) fn is_compilers(world: &World, found: Meaning) -> bool
+    ensures { result ≡ spec.is_compilers world.now found }
+{
+    match found.def {
+        ModuleDefId::MacroId(id) => match world.macro_loc(id) {
+            None => false,
+            Some(loc) => is_builtin_macro(loc),
+        },
+        _ => false,
+    }
+}
+
+/// A module without preludes still has builtin types, and the macros of the compiler that the standard prelude has.
+fn around_bare(
     maps: &DefMaps<'_>,
     asking: &Asking<'_>,
     name: &Name,
     namespace: Namespace,
 ) -> Option<Meaning>
     requires { MayAsk (of_tables maps.now) (asks asking.now) }
-    ensures value { result ≡ spec.around (of_tables maps.now) (asks asking.now) name.now namespace }
+    ensures value { result ≡ spec.around_bare (of_tables maps.now) (asks asking.now) name.now namespace }
+    ensures named { IsNamed maps.now.world result }
+{
+    match in_prelude(maps, asking, name, namespace) {
+        Some(found) if is_compilers(maps.world, found) => Some(found),
+        _ => builtin_in(name, namespace),
+    }
+}
+
+/// Crates and macros of preludes go before the standard prelude, and that before builtin types.
+fn around_preluded(
+    maps: &DefMaps<'_>,
+    asking: &Asking<'_>,
+    name: &Name,
+    namespace: Namespace,
+) -> Option<Meaning>
+    requires { MayAsk (of_tables maps.now) (asks asking.now) }
+    ensures value { result ≡ spec.around_preluded (of_tables maps.now) (asks asking.now) name.now namespace }
     ensures named { IsNamed maps.now.world result }
 {
     let of_prelude = preluded(maps, asking.home, name, namespace);
@@ -152,4 +195,22 @@ pub(crate) fn around(
         return standard;
     }
     builtin_in(name, namespace)
+}
+
+/// What stands around the module that asks.
+pub(crate) fn around(
+    maps: &DefMaps<'_>,
+    asking: &Asking<'_>,
+    name: &Name,
+    namespace: Namespace,
+) -> Option<Meaning>
+    requires { MayAsk (of_tables maps.now) (asks asking.now) }
+    ensures value { result ≡ spec.around (of_tables maps.now) (asks asking.now) name.now namespace }
+    ensures named { IsNamed maps.now.world result }
+{
+    if maps.declarations.is_bare(asking.home) {
+        around_bare(maps, asking, name, namespace)
+    } else {
+        around_preluded(maps, asking, name, namespace)
+    }
 }

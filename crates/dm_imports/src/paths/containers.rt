@@ -2,10 +2,12 @@
 ghost use Rattle.std.specs.Prelude.{◌≡◌};
 ghost use Rattle.std.specs.Option.{option_and_then};
 ghost use Rattle.dm_base.specs.Visibility.{NamesKnown};
+ghost use Rattle.dm_base.specs.declared.visibility.Visibility.TheVariants.{Public};
 ghost use Rattle.dm_maps.specs.Trees.{tree_of};
 ghost use Rattle.dm_imports.specs.Meanings.{IsNamed};
 ghost use Rattle.dm_imports.specs.Paths as spec;
-ghost use Rattle.dm_imports.specs.Paths.{AreEnumsNamed, MayAsk};
+ghost use Rattle.dm_imports.specs.Paths.{AreVariantsNamed, MayAsk};
+ghost use Rattle.dm_imports.specs.Tables as tables;
 ghost use Rattle.dm_imports.specs.Tables.{asks, of_tables};
 
 use crate::asking::Asking;
@@ -15,11 +17,12 @@ use crate::known::is_named;
 use crate::meaning::{Meaning, Source};
 use crate::paths::shown::shown;
 use dm_base::fields_shape::FieldsShape;
-use dm_base::ids::EnumId;
+use dm_base::ids::{EnumId, EnumVariantId};
 use dm_base::item_ids::{AdtId, ModuleDefId};
 use dm_base::name::Name;
 use dm_base::per_ns::Namespace;
 use dm_base::visibility::Visibility;
+use dm_maps::world::World;
 
 /// The module or enum that a definition is, if it is one.
 pub(crate) fn container_in(def: ModuleDefId) -> Option<Container>
@@ -76,19 +79,38 @@ pub(crate) fn variant_in(
     }
 }
 
-/// Who sees an enum. A visibility of a module that is not the world's counts as public.
-fn enum_vis(maps: &DefMaps<'_>, e: EnumId) -> Visibility
-    ensures value { result ≡ (of_tables maps.now).enum_vis e }
-    ensures named { NamesKnown (tree_of maps.now.world) result }
+/// A visibility of a module that is not the world's counts as public.
+fn named_or_public(world: &World, vis: Visibility) -> Visibility
+    ensures value { result ≡ tables.named_or_public (tree_of world.now) vis }
+    ensures named { NamesKnown (tree_of world.now) result }
 {
-    let vis = match maps.enums.get(&e) {
-        None => Visibility::Public,
-        Some(vis) => *vis,
-    };
-    if is_named(maps.world, vis) {
+    if is_named(world, vis) {
         vis
     } else {
         Visibility::Public
+    }
+}
+
+/// Who sees the constructor of a variant of an enum that all see.
+fn constructor_vis(maps: &DefMaps<'_>, v: EnumVariantId) -> Visibility
+    ensures value { result ≡ spec.constructor_of Public ((of_tables maps.now).constructor_vis v) }
+    ensures named { NamesKnown (tree_of maps.now.world) result }
+{
+    match maps.declarations.constructor_vis(v) {
+        None => Visibility::Public,
+        Some(vis) => named_or_public(maps.world, vis),
+    }
+}
+
+/// Who sees a variant in a namespace.
+fn variant_vis(maps: &DefMaps<'_>, e: EnumId, namespace: Namespace, v: EnumVariantId) -> Visibility
+    ensures value { result ≡ spec.variant_vis (of_tables maps.now) e namespace v }
+    ensures named { NamesKnown (tree_of maps.now.world) result }
+{
+    let of_enum = named_or_public(maps.world, maps.declarations.enum_vis(e));
+    match (namespace, of_enum) {
+        (Namespace::Values, Visibility::Public) => constructor_vis(maps, v),
+        _ => of_enum,
     }
 }
 
@@ -99,7 +121,7 @@ pub(crate) fn variant(
     name: &Name,
     namespace: Namespace,
 ) -> Option<Meaning>
-    requires { AreEnumsNamed (of_tables maps.now) }
+    requires { AreVariantsNamed (of_tables maps.now) }
     ensures value { result ≡ spec.variant (of_tables maps.now) e name.now namespace }
     ensures named { IsNamed maps.now.world result }
 {
@@ -109,7 +131,7 @@ pub(crate) fn variant(
     match maps.world.variant_of(e, name) {
         None => None,
         Some((v, shape)) => {
-            let vis = enum_vis(maps, e);
+            let vis = variant_vis(maps, e, namespace, v);
             variant_in(namespace, shape, ModuleDefId::EnumVariantId(v), vis)
         }
     }

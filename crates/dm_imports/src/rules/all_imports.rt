@@ -9,7 +9,7 @@ ghost use Rattle.dm_base.specs.Visibility.{NamesKnown};
 ghost use Rattle.dm_maps.specs.Trees.{tree_of};
 ghost use Rattle.dm_imports.specs.Asked as asked;
 ghost use Rattle.dm_imports.specs.Brought.{AreAllNamed, IsBrought};
-ghost use Rattle.dm_imports.specs.Paths.{AreEnumsNamed};
+ghost use Rattle.dm_imports.specs.Paths.{AreVariantsNamed};
 ghost use Rattle.dm_imports.specs.Rules as spec;
 ghost use Rattle.dm_imports.specs.Rules.{AreMapsKnown};
 ghost use Rattle.dm_imports.specs.Slots.{same_slot, slot_at};
@@ -25,8 +25,12 @@ use crate::rules::meanings::{ImportMeanings, meanings_of};
 use crate::rules::visibilities::least;
 use crate::slots::Slots;
 use dm_base::ids::ModuleId;
+use dm_base::item_ids::ModuleDefId;
+use dm_base::item_in_ns::ItemModules;
 use dm_base::name::Name;
 use dm_base::per_ns::Namespace;
+use dm_base::visibility::Visibility;
+use dm_maps::world::World;
 use std::alloc::{AllocError, Global};
 
 /// Whether an import of a kind brings what a namespace has.
@@ -54,6 +58,43 @@ fn import_asks<'a>(maps: &DefMaps<'_>, below: &'a Slots<Joined>, import: &NamedI
     }
 }
 
+/// Whether a module is the root of its crate.
+fn is_root(world: &World, m: ModuleId) -> bool
+    ensures { result ≡ spec.is_root world.now m }
+{
+    match world.module_krate(m) {
+        None => false,
+        Some(krate) => match world.root_of(krate) {
+            None => false,
+            Some(root) => m == root,
+        },
+    }
+}
+
+/// Whether it is an extern crate, by its declaration.
+pub(crate) fn is_extern_crate(world: &World, found: Meaning) -> bool
+    ensures { result ≡ spec.is_extern_crate world.now found }
+{
+    match (found.source, found.def) {
+        (Source::Declaration, ModuleDefId::ModuleId(m)) => is_root(world, m),
+        _ => false,
+    }
+}
+
+/// Who sees what an import brings of what its path means: none who does not see that; but `pub use` shows an extern crate to
+/// all.
+fn imported_vis(maps: &DefMaps<'_>, import: &NamedImport, found: Meaning) -> Visibility
+    requires home { IsKnown (tree_of maps.now.world) import.now.home }
+    requires vis { NamesKnown (tree_of maps.now.world) import.now.vis }
+    requires found { NamesKnown (tree_of maps.now.world) found.vis }
+    ensures { result ≡ spec.imported_vis (of_tables maps.now) import.now found }
+{
+    if matches!(import.vis, Visibility::Public) && is_extern_crate(maps.world, found) {
+        return Visibility::Public;
+    }
+    least(maps.world, import.home, import.vis, found.vis)
+}
+
 /// What an import brings of what its path means.
 fn imported(maps: &DefMaps<'_>, import: &NamedImport, found: Meaning) -> Meaning
     requires home { IsKnown (tree_of maps.now.world) import.now.home }
@@ -62,7 +103,7 @@ fn imported(maps: &DefMaps<'_>, import: &NamedImport, found: Meaning) -> Meaning
     ensures { result ≡ spec.imported (of_tables maps.now) import.now found }
 {
     Meaning {
-        vis: least(maps.world, import.home, import.vis, found.vis),
+        vis: imported_vis(maps, import, found),
         source: Source::Import(import.import),
         ..found
     }
@@ -77,7 +118,7 @@ pub(crate) fn import_brings(
 ) -> Option<Meaning>
     requires below { IsBrought (of_tables maps.now) below.now }
     requires named { AreAllNamed maps.now.world below.now }
-    requires enums { AreEnumsNamed (of_tables maps.now) }
+    requires variants { AreVariantsNamed (of_tables maps.now) }
     requires home { IsKnown (tree_of maps.now.world) import.now.home }
     requires vis { NamesKnown (tree_of maps.now.world) import.now.vis }
     ensures { result ≡ spec.import_brings (of_tables maps.now) import.now namespace }
@@ -128,7 +169,7 @@ fn add_import(
 ) -> Result<(), AllocError>
     requires below { IsBrought (of_tables maps.now) below.now }
     requires named { AreAllNamed maps.now.world below.now }
-    requires enums { AreEnumsNamed (of_tables maps.now) }
+    requires variants { AreVariantsNamed (of_tables maps.now) }
     requires home { IsKnown (tree_of maps.now.world) import.now.home }
     requires vis { NamesKnown (tree_of maps.now.world) import.now.vis }
     ensures slots { OnOk result ((k : ModuleId) (x : Name) (t : Namespace) → slot_at all.new.slots k x t
@@ -154,7 +195,7 @@ fn add_imports(
 ) -> Result<(), AllocError>
     requires below { IsBrought (of_tables maps.now) below.now }
     requires named { AreAllNamed maps.now.world below.now }
-    requires enums { AreEnumsNamed (of_tables maps.now) }
+    requires variants { AreVariantsNamed (of_tables maps.now) }
     requires imports { All (spec.IsImportKnown (of_tables maps.now)) imports.now }
     ensures slots { OnOk result ((k : ModuleId) (x : Name) (t : Namespace) → slot_at all.new.slots k x t
         ≡ fold (λ y i. option_or y (spec.import_to (of_tables maps.now) k x t i)) (slot_at all.old.slots k x t)

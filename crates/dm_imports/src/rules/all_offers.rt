@@ -10,7 +10,7 @@ ghost use Rattle.dm_maps.specs.Trees.{tree_of};
 ghost use Rattle.dm_scope.specs.Sorted.{seen};
 ghost use Rattle.dm_imports.specs.Brought as brought;
 ghost use Rattle.dm_imports.specs.Meanings.{IsNamed};
-ghost use Rattle.dm_imports.specs.Paths.{AreEnumsNamed};
+ghost use Rattle.dm_imports.specs.Paths.{AreVariantsNamed};
 ghost use Rattle.dm_imports.specs.Rules as spec;
 ghost use Rattle.dm_imports.specs.Rules.{AreMapsKnown};
 ghost use Rattle.dm_imports.specs.Slots.{same_place, same_slot, slot_at};
@@ -69,7 +69,7 @@ fn add_name(
 ) -> Result<(), AllocError>
     requires into { IsKnown (tree_of maps.now.world) glob.now.into }
     requires vis { NamesKnown (tree_of maps.now.world) glob.now.vis }
-    requires enums { AreEnumsNamed (of_tables maps.now) }
+    requires variants { AreVariantsNamed (of_tables maps.now) }
     requires all { brought.AreAllNamed maps.now.world all.old }
     ensures joined { OnOk result ((k : ModuleId) (x : Name) (t : Namespace) → slot_at all.new k x t
         ≡ cond (same_place glob.now.into name.now k x)
@@ -96,7 +96,7 @@ fn add_names(
 ) -> Result<(), AllocError>
     requires into { IsKnown (tree_of maps.now.world) glob.now.into }
     requires vis { NamesKnown (tree_of maps.now.world) glob.now.vis }
-    requires enums { AreEnumsNamed (of_tables maps.now) }
+    requires variants { AreVariantsNamed (of_tables maps.now) }
     requires all { brought.AreAllNamed maps.now.world all.old }
     ensures joined { OnOk result (brought.HasOffers (of_tables maps.now) glob.now source (seen names.now) all.old all.new) }
     ensures named { OnOk result (brought.AreAllNamed maps.now.world all.new) }
@@ -118,7 +118,7 @@ fn add_glob(
     requires listing { IsListing maps.now.world listing.now }
     requires into { IsKnown (tree_of maps.now.world) glob.now.into }
     requires vis { NamesKnown (tree_of maps.now.world) glob.now.vis }
-    requires enums { AreEnumsNamed (of_tables maps.now) }
+    requires variants { AreVariantsNamed (of_tables maps.now) }
     requires all { brought.AreAllNamed maps.now.world all.old }
     ensures joined { OnOk result ((k : ModuleId) (x : Name) (t : Namespace) → slot_at all.new k x t
         ≡ brought.join maps.now.world k (slot_at all.old k x t) (spec.offer_to (of_tables maps.now) k x t glob.now)) }
@@ -143,7 +143,7 @@ fn add_globs(
     globs: &[GlobImport],
 ) -> Result<(), AllocError>
     requires listing { IsListing maps.now.world listing.now }
-    requires enums { AreEnumsNamed (of_tables maps.now) }
+    requires variants { AreVariantsNamed (of_tables maps.now) }
     requires globs { All (spec.IsGlobKnown (of_tables maps.now)) globs.now }
     requires all { brought.AreAllNamed maps.now.world all.old }
     ensures joined { OnOk result ((k : ModuleId) (x : Name) (t : Namespace) → slot_at all.new k x t

@@ -4,7 +4,7 @@ ghost use Rattle.dm_base.specs.Tree.{IsKnown};
 ghost use Rattle.dm_base.specs.Visibility.{NamesKnown};
 ghost use Rattle.dm_maps.specs.Trees.{tree_of};
 ghost use Rattle.dm_imports.specs.Brought.{AreAllNamed, IsBrought};
-ghost use Rattle.dm_imports.specs.Paths.{AreEnumsNamed};
+ghost use Rattle.dm_imports.specs.Paths.{AreVariantsNamed};
 ghost use Rattle.dm_imports.specs.Rules.{AreImportsKnown, AreMapsKnown, IsImportKnown};
 ghost use Rattle.dm_imports.specs.Asked as spec;
 ghost use Rattle.dm_imports.specs.Tables.{of_tables};
@@ -36,7 +36,7 @@ pub(crate) fn meanings_of(
 ) -> ImportMeanings
     requires below { IsBrought (of_tables maps.now) below.now }
     requires named { AreAllNamed maps.now.world below.now }
-    requires enums { AreEnumsNamed (of_tables maps.now) }
+    requires variants { AreVariantsNamed (of_tables maps.now) }
     requires home { IsKnown (tree_of maps.now.world) import.now.home }
     requires vis { NamesKnown (tree_of maps.now.world) import.now.vis }
     ensures { result ≡ spec.meanings_of (of_tables maps.now) import.now }

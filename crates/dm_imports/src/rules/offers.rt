@@ -10,7 +10,7 @@ ghost use Rattle.dm_maps.specs.World.{scope_of};
 ghost use Rattle.dm_scope.specs.Scope.{bound_in};
 ghost use Rattle.dm_imports.specs.declared.container.Container.TheVariants as container;
 ghost use Rattle.dm_imports.specs.Meanings.{IsNamed};
-ghost use Rattle.dm_imports.specs.Paths.{AreEnumsNamed};
+ghost use Rattle.dm_imports.specs.Paths.{AreVariantsNamed};
 ghost use Rattle.dm_imports.specs.Rules as spec;
 ghost use Rattle.dm_imports.specs.Tables.{asks, of_tables};
 
@@ -67,7 +67,7 @@ fn glob_asks<'a>(glob: &GlobImport) -> Asking<'a>
 /// The module or enum that a glob's path means, if that is not the glob's own module.
 pub(crate) fn source_of(maps: &DefMaps<'_>, glob: &GlobImport) -> Option<Container>
     requires into { IsKnown (tree_of maps.now.world) glob.now.into }
-    requires enums { AreEnumsNamed (of_tables maps.now) }
+    requires variants { AreVariantsNamed (of_tables maps.now) }
     ensures { result ≡ spec.source_of (of_tables maps.now) glob.now }
 {
     let asking = glob_asks(glob);
@@ -90,7 +90,7 @@ pub(crate) fn offer_from(
 ) -> Option<Meaning>
     requires into { IsKnown (tree_of maps.now.world) glob.now.into }
     requires vis { NamesKnown (tree_of maps.now.world) glob.now.vis }
-    requires enums { AreEnumsNamed (of_tables maps.now) }
+    requires variants { AreVariantsNamed (of_tables maps.now) }
     ensures value { result ≡ spec.offer_from (of_tables maps.now) glob.now container name.now namespace }
     ensures named { IsNamed maps.now.world result }
 {
@@ -118,7 +118,7 @@ fn item_offer(
 ) -> Option<Meaning>
     requires into { IsKnown (tree_of maps.now.world) glob.now.into }
     requires vis { NamesKnown (tree_of maps.now.world) glob.now.vis }
-    requires enums { AreEnumsNamed (of_tables maps.now) }
+    requires variants { AreVariantsNamed (of_tables maps.now) }
     requires items { items.now ≡ bound_in (scope_of maps.now.world m) name.now }
     requires known { KnowsAll maps.now.world (res_holds items.now) }
     ensures value { result ≡ spec.offer_from (of_tables maps.now) glob.now (container.Module m) name.now namespace }
@@ -138,7 +138,7 @@ pub(crate) fn offers_from(
 ) -> NameOffers
     requires into { IsKnown (tree_of maps.now.world) glob.now.into }
     requires vis { NamesKnown (tree_of maps.now.world) glob.now.vis }
-    requires enums { AreEnumsNamed (of_tables maps.now) }
+    requires variants { AreVariantsNamed (of_tables maps.now) }
     ensures types { result.types ≡ spec.offer_from (of_tables maps.now) glob.now container name.now Types }
     ensures values { result.values ≡ spec.offer_from (of_tables maps.now) glob.now container name.now Values }
     ensures macros { result.macros ≡ spec.offer_from (of_tables maps.now) glob.now container name.now Macros }

@@ -8,7 +8,7 @@ ghost use Rattle.dm_maps.specs.World.{scope_of};
 ghost use Rattle.dm_scope.specs.Scope.{bound_in};
 ghost use Rattle.dm_imports.specs.Brought.{AreAllNamed, IsBrought};
 ghost use Rattle.dm_imports.specs.Paths as paths;
-ghost use Rattle.dm_imports.specs.Paths.{AreEnumsNamed};
+ghost use Rattle.dm_imports.specs.Paths.{AreVariantsNamed};
 ghost use Rattle.dm_imports.specs.Rules as spec;
 ghost use Rattle.dm_imports.specs.Rules.{AreImportsKnown, AreMapsKnown, IsSupported, SupportedIn};
 ghost use Rattle.dm_imports.specs.Supporting.{Agrees, AgreesIn, AllAgree, AreGiven, GlobAgrees, IsListing, given_by};
@@ -274,7 +274,7 @@ fn glob_agrees(
     requires listing { IsListing maps.now.world listing.now }
     requires given { AreGiven (of_tables maps.now) given.now }
     requires bound { AllAgree (of_tables maps.now) }
-    requires enums { AreEnumsNamed (of_tables maps.now) }
+    requires variants { AreVariantsNamed (of_tables maps.now) }
     requires into { spec.IsModule (of_tables maps.now) glob.now.into }
     ensures yes { IfOk result (λ yes. IsTrue yes → GlobAgrees (of_tables maps.now) glob.now) }
     ensures no { IfOk result (λ yes. SupportedIn (of_tables maps.now) glob.now.into → IsTrue yes) }
@@ -299,7 +299,7 @@ fn globs_agree(
     requires listing { IsListing maps.now.world listing.now }
     requires given { AreGiven (of_tables maps.now) given.now }
     requires bound { AllAgree (of_tables maps.now) }
-    requires enums { AreEnumsNamed (of_tables maps.now) }
+    requires variants { AreVariantsNamed (of_tables maps.now) }
     requires globs { All (spec.IsGlobKnown (of_tables maps.now)) globs.now }
     ensures yes { IfOk result (λ yes. IsTrue yes → All (GlobAgrees (of_tables maps.now)) globs.now) }
     ensures no { IfOk result (λ yes. IsSupported (of_tables maps.now) → IsTrue yes) }

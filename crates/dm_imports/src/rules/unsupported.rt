@@ -8,7 +8,7 @@ ghost use Rattle.dm_scope.specs.Scope.{bound_in};
 ghost use Rattle.dm_imports.specs.Grounding.{slots_of};
 ghost use Rattle.dm_imports.specs.Marking as spec;
 ghost use Rattle.dm_imports.specs.Marking.{Marks};
-ghost use Rattle.dm_imports.specs.Paths.{AreEnumsNamed};
+ghost use Rattle.dm_imports.specs.Paths.{AreVariantsNamed};
 ghost use Rattle.dm_imports.specs.Rules as rules;
 ghost use Rattle.dm_imports.specs.Rules.{AreMapsKnown};
 ghost use Rattle.dm_imports.specs.Supporting.{AreGiven, IsListing};
@@ -158,7 +158,7 @@ fn mark_glob(
 ) -> Result<(), AllocError>
     requires listing { IsListing maps.now.world listing.now }
     requires given { AreGiven (of_tables maps.now) given.now }
-    requires enums { AreEnumsNamed (of_tables maps.now) }
+    requires variants { AreVariantsNamed (of_tables maps.now) }
     requires into { rules.IsModule (of_tables maps.now) glob.now.into }
     ensures marks { OnOk result (Marks (of_tables maps.now) found.old found.new) }
     ensures judged { OnOk result (spec.IsGlobJudged (of_tables maps.now) (slots_of found.new) glob.now) }
@@ -184,7 +184,7 @@ fn mark_globs(
 ) -> Result<(), AllocError>
     requires listing { IsListing maps.now.world listing.now }
     requires given { AreGiven (of_tables maps.now) given.now }
-    requires enums { AreEnumsNamed (of_tables maps.now) }
+    requires variants { AreVariantsNamed (of_tables maps.now) }
     requires globs { All (rules.IsGlobKnown (of_tables maps.now)) globs.now }
     ensures marks { OnOk result (Marks (of_tables maps.now) found.old found.new) }
     ensures judged { OnOk result (All (spec.IsGlobJudged (of_tables maps.now) (slots_of found.new)) globs.now) }

@@ -56,6 +56,23 @@ impl Search {
         Ok(if_seen(maps, who.home, found))
     }
 
+    /// What a module without preludes has around it: builtin types, and the macros of the compiler that the standard
+    /// prelude has.
+    fn around_bare<M: Maps>(
+        &mut self,
+        maps: &M,
+        who: Who,
+        name: usize,
+        namespace: Namespace,
+    ) -> Result<Found, AllocError> {
+        let builtin = builtin_in(maps, name, namespace);
+        match self.in_prelude(maps, who, name, namespace)? {
+            Found::Is(found, slot) if maps.is_compilers(found) => Ok(Found::Is(found, slot)),
+            Found::Is(_, _) | Found::Nothing => Ok(builtin),
+            Found::Waits(slot, _) => Ok(Found::Waits(slot, matches!(builtin, Found::Is(_, _)))),
+        }
+    }
+
     /// Crates and macros of preludes go before the standard prelude, and that before builtin types. Where it is not known
     /// yet what the standard prelude has, as in the crate that it is of, a builtin type may be left.
     pub(crate) fn around<M: Maps>(
@@ -65,6 +82,9 @@ impl Search {
         name: usize,
         namespace: Namespace,
     ) -> Result<Found, AllocError> {
+        if maps.is_bare(who.home) {
+            return self.around_bare(maps, who, name, namespace);
+        }
         let first = preluded(maps, who.home, name, namespace);
         if first.is_some() {
             return Ok(certain(first));

@@ -5,18 +5,20 @@ ghost use Rattle.dm_base.specs.Visibility.{NamesKnown};
 ghost use Rattle.dm_maps.specs.Trees.{tree_of};
 
 use crate::container::Container;
+use crate::declarations::Declarations;
 use crate::known::is_named;
 use crate::meaning::{Meaning, in_namespace, public_def};
-use crate::paths::around::used;
+use crate::paths::around::{is_compilers, used};
 use crate::paths::containers::variant_in;
 use crate::paths::textual::textual_macro;
+use crate::rules::all_imports::is_extern_crate;
 use crate::rules::source_names::source_names;
 use crate::rules::visibilities::{least, most};
 use crate::search::leaf::Leaf;
 use crate::search::maps::Maps;
 use crate::slots::Slots;
 use dm_base::builtin_type::BuiltinType;
-use dm_base::ids::{Crate, EnumId, MapId, ModuleId};
+use dm_base::ids::{Crate, EnumId, EnumVariantId, MapId, ModuleId};
 use dm_base::item_ids::{AdtId, MacroId, ModuleDefId};
 use dm_base::item_in_ns::ItemModules;
 use dm_base::mod_path::PathKind;
@@ -26,15 +28,14 @@ use dm_base::per_ns::Namespace;
 use dm_base::visibility::Visibility;
 use dm_maps::world::World;
 use dm_maps::world::maps_of::local_def_map;
-use indexmap::{IndexMap, IndexSet};
+use indexmap::IndexSet;
 use std::alloc::{AllocError, Global};
 
 /// The def maps of a world, where the names of a crate are searched.
 pub(crate) struct CrateMaps<'a> {
     pub(crate) alloc: Global,
     pub(crate) world: &'a World,
-    /// Who sees each enum.
-    pub(crate) enums: &'a IndexMap<EnumId, Visibility>,
+    pub(crate) declarations: &'a Declarations,
     /// The crate; all crates that it depends on are done.
     pub(crate) krate: Crate,
     /// The slots of these crates that are ambiguous.
@@ -50,7 +51,7 @@ impl<'a> Drop for CrateMaps<'a> {
         let CrateMaps {
             alloc: _alloc,
             world: _world,
-            enums: _enums,
+            declarations: _declarations,
             krate: _krate,
             ambiguous: _ambiguous,
             names: _names,
@@ -102,6 +103,20 @@ fn outer_module(world: &World, m: ModuleId, steps: u8) -> Option<ModuleId> {
     }
 }
 
+/// Who sees a variant in a namespace.
+fn variant_vis(
+    declarations: &Declarations,
+    e: EnumId,
+    namespace: Namespace,
+    v: EnumVariantId,
+) -> Visibility {
+    let of_enum = declarations.enum_vis(e);
+    match (namespace, of_enum, declarations.constructor_vis(v)) {
+        (Namespace::Values, Visibility::Public, Some(vis)) => vis,
+        _ => of_enum,
+    }
+}
+
 /// Whether a module is the world's, and so are those that two visibilities name.
 fn can_compare(world: &World, m: ModuleId, one: Visibility, two: Visibility) -> bool
     ensures { result ≡ true → IsKnown (tree_of world.now) m × NamesKnown (tree_of world.now) one
@@ -144,10 +159,7 @@ impl<'a> Maps for CrateMaps<'a> {
         }
         let name = self.names.get_index(name)?;
         let (v, shape) = self.world.variant_of(e, name)?;
-        let vis = match self.enums.get(&e) {
-            None => Visibility::Public,
-            Some(vis) => *vis,
-        };
+        let vis = variant_vis(self.declarations, e, namespace, v);
         variant_in(namespace, shape, ModuleDefId::EnumVariantId(v), vis)
     }
 
@@ -186,6 +198,18 @@ impl<'a> Maps for CrateMaps<'a> {
 
     fn is_2015(&self, m: ModuleId) -> bool {
         self.world.is_2015(krate_of(self.world, self.krate, m))
+    }
+
+    fn is_bare(&self, m: ModuleId) -> bool {
+        self.declarations.is_bare(m)
+    }
+
+    fn is_compilers(&self, found: Meaning) -> bool {
+        is_compilers(self.world, found)
+    }
+
+    fn is_extern_crate(&self, found: Meaning) -> bool {
+        is_extern_crate(self.world, found)
     }
 
     fn extern_crate(&self, m: ModuleId, name: usize) -> Option<Meaning> {

@@ -1,7 +1,7 @@
 //! What imports and globs do once their paths were followed, while names are searched.
 
 use crate::container::Container;
-use crate::meaning::Meaning;
+use crate::meaning::{Meaning, Source};
 use crate::paths::containers::led;
 use crate::rules::offers::is_other;
 use crate::search::asker::{Asker, Progress, is_open};
@@ -12,12 +12,26 @@ use crate::search::state::{Search, Task};
 use crate::step::Step;
 use dm_base::ids::ModuleId;
 use dm_base::per_ns::Namespace;
+use dm_base::visibility::Visibility;
 use std::alloc::AllocError;
 
-/// What one brings of what it finds: it shows that to none who does not see it.
+/// Whether one is an import by `pub use`.
+fn is_public_use(by: &Asker) -> bool {
+    matches!((by.source, by.vis), (Source::Import(_), Visibility::Public))
+}
+
+/// Who sees what one brings of what it finds: none who does not see that; but `pub use` shows an extern crate to all.
+fn brought_vis<M: Maps>(maps: &M, by: &Asker, found: Meaning) -> Visibility {
+    if is_public_use(by) && maps.is_extern_crate(found) {
+        return Visibility::Public;
+    }
+    maps.least(by.home, by.vis, found.vis)
+}
+
+/// What one brings of what it finds.
 pub(crate) fn brought<M: Maps>(maps: &M, by: &Asker, found: Meaning) -> Meaning {
     Meaning {
-        vis: maps.least(by.home, by.vis, found.vis),
+        vis: brought_vis(maps, by, found),
         source: by.source,
         ..found
     }

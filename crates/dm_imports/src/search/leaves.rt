@@ -110,7 +110,7 @@ pub(crate) fn crate_maps<'a>(
     let mut maps = CrateMaps {
         alloc,
         world,
-        enums: given.enums,
+        declarations: given.declarations,
         krate,
         ambiguous,
         names: IndexSet::new(alloc),

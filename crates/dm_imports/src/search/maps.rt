@@ -45,6 +45,15 @@ pub(crate) trait Maps {
     /// Whether a module's crate is of edition 2015.
     fn is_2015(&self, m: ModuleId) -> bool;
 
+    /// Whether a module has no preludes.
+    fn is_bare(&self, m: ModuleId) -> bool;
+
+    /// Whether it is a macro of the compiler's.
+    fn is_compilers(&self, found: Meaning) -> bool;
+
+    /// Whether it is an extern crate, by its declaration.
+    fn is_extern_crate(&self, found: Meaning) -> bool;
+
     /// A crate of the extern prelude of a module's crate.
     fn extern_crate(&self, m: ModuleId, name: usize) -> Option<Meaning>;
 

@@ -19,7 +19,7 @@ maps_of m t is gs w = of_tables (record {
   world = w;
   imports = is;
   globs = gs;
-  enums = m.enums.entries;
+  declarations = m.declarations;
   ambiguous = record { table = t; is_all_but = false };
 })
 

@@ -24,7 +24,7 @@ pub(crate) fn knowing<'a>(maps: &DefMaps<'a>, known: &'a Slots<bool>) -> DefMaps
         world: maps.world,
         imports: maps.imports,
         globs: maps.globs,
-        enums: maps.enums,
+        declarations: maps.declarations,
         ambiguous: Marks {
             table: known,
             is_all_but: true,

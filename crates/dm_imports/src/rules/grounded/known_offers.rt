@@ -8,7 +8,7 @@ ghost use Rattle.dm_imports.specs.Brought as brought;
 ghost use Rattle.dm_imports.specs.Grounded as spec;
 ghost use Rattle.dm_imports.specs.Grounding.{HasSource, MayOffer, is_found, known_from, slots_of};
 ghost use Rattle.dm_imports.specs.Meanings.{IsNamed};
-ghost use Rattle.dm_imports.specs.Paths.{AreEnumsNamed};
+ghost use Rattle.dm_imports.specs.Paths.{AreVariantsNamed};
 ghost use Rattle.dm_imports.specs.Rules.{AreMapsKnown, IsGlobKnown};
 ghost use Rattle.dm_imports.specs.Slots.{same_place, slot_at};
 ghost use Rattle.dm_imports.specs.Supporting.{IsListing};
@@ -161,7 +161,7 @@ fn add_globs(
     globs: &[GlobImport],
 ) -> Result<(), AllocError>
     requires listing { IsListing maps.now.world listing.now }
-    requires enums { AreEnumsNamed (of_tables maps.now) }
+    requires variants { AreVariantsNamed (of_tables maps.now) }
     requires globs { All (IsGlobKnown (of_tables maps.now)) globs.now }
     requires all { brought.AreAllNamed maps.now.world all.old }
     ensures joined { OnOk result ((k : ModuleId) (x : Name) (t : Namespace) → slot_at all.new k x t

@@ -18,7 +18,7 @@ pub add_glob-requires-clause-glob : goal.add_glob-requires-clause-glob
 add_glob-requires-clause-glob c =
     let d = of_tables c.args.maps.now in
     let known = subst (IsGlobKnown d) (sym c.glob-item.is) (All-get_or (IsGlobKnown d) c.args.globs.now c.loop-glob.glob-index c.glob-item.result c.loop-glob-test.true c.requires.globs) in
-    record { into = module-known d.world c.glob-item.result.into known.0.0; vis = known.1; enums = c.requires.enums }
+    record { into = module-known d.world c.glob-item.result.into known.0.0; vis = known.1; variants = c.requires.variants }
 
 pub loop-glob-preserved : goal.loop-glob-preserved
 loop-glob-preserved c = record {

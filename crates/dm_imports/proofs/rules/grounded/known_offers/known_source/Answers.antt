@@ -13,8 +13,8 @@ use Rattle.dm_imports.proofs.rules.grounded.known_offers.known_source.Goals as g
 pub source_of-requires-clause-into : goal.source_of-requires-clause-into
 source_of-requires-clause-into c = (knowing-offer (of_tables c.args.maps.now) (slots_of c.args.known.now) (of_tables c.knowing-by.result) c.args.glob.now c.knowing-by.ensures c.requires).into
 
-pub source_of-requires-clause-enums : goal.source_of-requires-clause-enums
-source_of-requires-clause-enums c = (knowing-offer (of_tables c.args.maps.now) (slots_of c.args.known.now) (of_tables c.knowing-by.result) c.args.glob.now c.knowing-by.ensures c.requires).enums
+pub source_of-requires-clause-variants : goal.source_of-requires-clause-variants
+source_of-requires-clause-variants c = (knowing-offer (of_tables c.args.maps.now) (slots_of c.args.known.now) (of_tables c.knowing-by.result) c.args.glob.now c.knowing-by.ensures c.requires).variants
 
 pub returns : goal.returns
 returns c =

@@ -1,0 +1,5 @@
+use app::Area;
+
+fn main() {
+    let _ = Area(6);
+}

@@ -1,0 +1,6 @@
+use app::Area;
+
+#[cfg(test)]
+mod floors {
+    use super::Area as Floor;
+}

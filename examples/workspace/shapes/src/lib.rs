@@ -1,0 +1,1 @@
+pub struct Area(pub u32);
