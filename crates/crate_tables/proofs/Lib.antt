@@ -17,3 +17,14 @@ pub mod PlaceLemmas
 pub mod BlockLemmas
 pub mod ContainerLemmas
 pub mod FillLemmas
+pub mod AllLemmas
+pub mod FitLemmas
+pub mod FitSteps
+pub mod FitMaps
+pub mod FitFree
+pub mod FitScopes
+pub mod FitCrates
+pub mod FitItems
+pub mod FitPreludes
+pub mod FitFilling
+pub mod FitAssoc

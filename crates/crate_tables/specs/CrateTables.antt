@@ -11,7 +11,7 @@ use Rattle.crate_tables.specs.declared.use_leaf.UseLeaf.{UseLeaf}
 use Rattle.dm_base.specs.PerNs.{type_alone}
 use Rattle.dm_base.specs.declared.per_ns.PerNs.{PerNs}
 use Rattle.dm_base.specs.declared.visibility.Visibility.{Visibility}
-use Rattle.dm_maps.specs.Holding.{vis_holds}
+use Rattle.dm_maps.specs.Holding.{def_holds, vis_holds}
 use Rattle.dm_maps.specs.Pushes.{push_holds}
 use Rattle.dm_maps.specs.declared.check.held.HeldId.{HeldId}
 use Rattle.dm_maps.specs.declared.check.held.HeldId.TheVariants as held
@@ -112,3 +112,7 @@ pub record IsTableOf (w : World) (k : Crate) (t : Table) : Type 0 where
   pub ids : AreIdsOf w t.ids
   pub names : All (IsNameOf w) t.names
   pub leaves : All (IsLeafOf w) t.leaves
+
+-- each definition of the table is the builder's
+abbrev pub HasKnownDefs : World → Table → Type 0
+HasKnownDefs w t = All (λ (p : DefPlace). KnowsAll w (def_holds p.def)) t.defs

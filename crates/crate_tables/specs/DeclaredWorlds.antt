@@ -2,8 +2,6 @@
 use Rattle.std.specs.Prelude.{List, [], ◌∷◌, Option, None, Some, if◌then◌else◌}
 use Rattle.std.specs.List.{filter_map}
 use Rattle.crate_tables.specs.declared.declared_name.DeclaredName.{DeclaredName}
-use Rattle.crate_tables.specs.declared.declared_world.NotDeclared.{NotDeclared}
-use Rattle.crate_tables.specs.declared.declared_world.NotDeclared.TheVariants.{Dangling, OutOfMemory}
 use Rattle.dm_base.specs.Tree.{same_module}
 use Rattle.dm_base.specs.declared.per_ns.Item.{Item}
 use Rattle.dm_base.specs.declared.per_ns.PerNs.{PerNs}
@@ -15,7 +13,6 @@ use Rattle.dm_scope.specs.Flags.{Globs}
 use Rattle.dm_scope.specs.Push.{globs_after}
 use Rattle.dm_scope.specs.Scope.{no_scope}
 use Rattle.dm_scope.specs.Shows.{ScopePush, Shows, push_of}
-use Rattle.dm_maps.specs.First.{IsFirstFault, holders}
 use Rattle.dm_maps.specs.PushRes.{with_push}
 use Rattle.dm_maps.specs.World.{World, scope_of}
 
@@ -67,8 +64,3 @@ AreShown w g ds = (m : ModuleId) → Shows (scope_of w m) g m (pushes_to m ds)
 -- no module binds anything yet: each shows what a fresh scope does
 abbrev pub BindNothing : World → Type 0
 BindNothing w = (g : Globs) (m : ModuleId) → Shows no_scope g m [] → Shows (scope_of w m) g m []
-
--- why names are not declared: the first holder of the tables has an id that is none of theirs, or memory ran out
-abbrev pub IsRefusal : World → NotDeclared → Type 0
-IsRefusal w (Dangling fault) = IsFirstFault w (holders w) fault
-IsRefusal w OutOfMemory = Unit {0}

@@ -4,7 +4,7 @@ ghost use Rattle.crate_items.specs.CrateGraphs.{AreKnown};
 ghost use Rattle.crate_tables.specs.BlockLists.{with_all_blocks};
 ghost use Rattle.crate_tables.specs.CrateFillings as spec;
 ghost use Rattle.crate_tables.specs.CrateRoots.{KnowsRoots, root_holds, root_id as root_of, with_roots};
-ghost use Rattle.crate_tables.specs.CrateTables.{IsTableOf};
+ghost use Rattle.crate_tables.specs.CrateTables.{HasKnownDefs, IsTableOf};
 ghost use Rattle.crate_tables.specs.ExternCrates.{Linked, linkable};
 ghost use Rattle.crate_tables.specs.DeclaredWorlds.{BindNothing};
 ghost use Rattle.crate_tables.specs.Kept.{IsKept};
@@ -13,6 +13,7 @@ ghost use Rattle.crate_items.specs.Modules.{Listing};
 ghost use Rattle.dm_maps.specs.declared.check.held.HeldId.TheVariants as held;
 ghost use Rattle.dm_maps.specs.Added.{IsGrown};
 ghost use Rattle.dm_maps.specs.Build.{no_world};
+ghost use Rattle.dm_maps.specs.First.{IsChecked};
 ghost use Rattle.dm_maps.specs.Known.{knows, KnowsAll};
 
 use crate::all_items::add_all_bound;
@@ -422,14 +423,8 @@ fn finish(
     list_blocks(builder, tables)
 }
 
-/// The tables of a graph's crates, each filled with what it declares, and what each has there. Crates have the numbers
-/// that they have in the graph. No module binds anything yet.
-///
-/// # Errors
-///
-/// Fails where the file of a crate's root is not there, where a crate has more modules than asked for, and where memory
-/// or numbers run out.
-pub fn filled(
+/// The crates of a graph, each filled, with their preludes, and with their blocks in the lists of their modules.
+fn filled_whole(
     alloc: Global,
     graph: &CrateGraph,
     reading: &Reading<'_>,
@@ -464,4 +459,31 @@ pub fn filled(
             externs,
         }),
     }
+}
+
+/// The tables of a graph's crates, each filled with what it declares, and what each has there. Crates have the numbers
+/// that they have in the graph. No module binds anything yet.
+///
+/// # Errors
+///
+/// Fails where the file of a crate's root is not there, where a crate has more modules than asked for, and where memory
+/// or numbers run out.
+pub fn filled(
+    alloc: Global,
+    graph: &CrateGraph,
+    reading: &Reading<'_>,
+) -> Result<FilledCrates, FillFault>
+    ensures filled { IfOk result (λ made. spec.AreFilled reading.now graph.now
+        (record { world = made.builder; lists = made.lists.items; tables = made.tables.items; rows = made.externs.items })) }
+    ensures known { IfOk result (λ made. All (spec.IsKnownTable made.builder) made.tables.items) }
+
+    // Each id that the builder's tables hold is one of its own, and so is each definition of a crate.
+    ensures checked { IfOk result (λ made. IsChecked made.builder) }
+    ensures defs { IfOk result (λ made. All (HasKnownDefs made.builder) made.tables.items) }
+    ensures empty { IfOk result (λ made. BindNothing made.builder) }
+    ensures fault { IfErr result (spec.IsShortageOr (spec.IsFaultIn reading.now graph.now)) }
+{
+    let _crates = graph.crates();
+    let made = filled_whole(alloc, graph, reading)?;
+    Ok(made)
 }

@@ -1,10 +1,10 @@
 //! Names of modules, declared in a world.
 ghost use Rattle.std.specs.Option.{option_map_or};
-ghost use Rattle.std.specs.Prelude.{◌≡◌, ◌++◌, ◌∷◌, [], false, All, IfErr, IfOk, List, None, OnOk};
+ghost use Rattle.std.specs.Prelude.{◌≡◌, ◌++◌, ◌∷◌, [], false, All, IfOk, List, None, OnOk};
 ghost use Rattle.crate_tables.specs.CrateTables.{IsNameOf};
 ghost use Rattle.crate_tables.specs.DeclaredWorlds as spec;
-ghost use Rattle.crate_tables.specs.declared.declared_world.NotDeclared.TheVariants.{OutOfMemory};
 ghost use Rattle.dm_base.specs.Tree.{same_module};
+ghost use Rattle.dm_maps.specs.First.{IsChecked};
 ghost use Rattle.dm_maps.specs.Holding.{import_holds};
 ghost use Rattle.dm_maps.specs.declared.check.held.HeldId.{HeldId};
 ghost use Rattle.dm_base.specs.declared.ids.ModuleId.{ModuleId};
@@ -18,26 +18,9 @@ use crate::declared_name::DeclaredName;
 use dm_base::imports::ImportOrExternCrate;
 use dm_base::per_ns::PerNs;
 use dm_maps::builder::WorldBuilder;
-use dm_maps::fault::WorldFault;
 use dm_maps::world::World;
 use dm_scope::glob_imports::PerNsGlobImports;
 use std::alloc::{AllocError, Global};
-
-/// Why names were not declared.
-#[derive(Drop, Debug)]
-pub enum NotDeclared {
-    /// The tables hold an id that is none of theirs.
-    Dangling(WorldFault),
-    OutOfMemory,
-}
-
-impl From<AllocError> for NotDeclared {
-    ghost from_gives = { λ _ fault. fault ≡ OutOfMemory };
-
-    fn from(_refused: AllocError) -> NotDeclared {
-        NotDeclared::OutOfMemory
-    }
-}
 
 /// The extern crate that a type came by, if it did.
 fn extern_crate_of(items: &PerNs) -> Option<ImportOrExternCrate>
@@ -100,36 +83,37 @@ fn declare_all(
     Ok(())
 }
 
-fn world_of(tables: WorldBuilder) -> Result<World, NotDeclared>
-    ensures same { IfOk result (λ world. world ≡ tables) }
-    ensures refused { IfErr result (spec.IsRefusal tables) }
+/// The world of tables that hold no id but their own.
+fn world_of(tables: WorldBuilder) -> World
+    requires { IsChecked tables }
+    ensures { result ≡ tables }
 {
     match tables.check() {
-        Ok(world) => Ok(world),
-        Err((_tables, fault)) => Err(NotDeclared::Dangling(fault)),
+        Ok(world) => world,
+        Err(_refused) => unreachable!(),
     }
 }
 
-/// The world of tables whose modules bind nothing yet, with names declared in it, one push after another: so each module
-/// shows what is declared there, and nothing else of the tables changes.
+/// The world of tables that hold no id but their own, and whose modules bind nothing yet, with names declared in it, one
+/// push after another: so each module shows what is declared there, and nothing else of the tables changes.
 ///
 /// # Errors
 ///
-/// Fails where the tables hold an id that is none of theirs, and where memory runs out.
+/// Fails only where memory runs out.
 pub fn declared_world(
     alloc: Global,
     tables: WorldBuilder,
     names: &[DeclaredName],
-) -> Result<(World, PerNsGlobImports), NotDeclared>
+) -> Result<(World, PerNsGlobImports), AllocError>
+    requires checked { IsChecked tables }
     requires known { All (IsNameOf tables) names.now }
     requires empty { spec.BindNothing tables }
     ensures exact { IfOk result (λ made. (record { world = made.0; globs = made.1 }) ≡
         spec.with_all_declared (record { world = tables; globs = no_globs }) names.now) }
     ensures shown { IfOk result (λ made. spec.AreShown made.0 made.1 names.now) }
     ensures stays { IfOk result (λ made. (hs : List HeldId) → KnowsAll tables hs → KnowsAll made.0 hs) }
-    ensures refused { IfErr result (spec.IsRefusal tables) }
 {
-    let mut world = world_of(tables)?;
+    let mut world = world_of(tables);
     let mut globs = PerNsGlobImports::new(alloc);
     declare_all(&mut world, &mut globs, alloc, names)?;
     Ok((world, globs))

@@ -1,12 +1,13 @@
 //! The associated items of all crates, added to a builder.
-ghost use Rattle.std.specs.Prelude.{◌≡◌, ◌+◌, [], true, IfErr, IfOk, OnOk, length, slice_get};
+ghost use Rattle.std.specs.Prelude.{◌≡◌, ◌+◌, [], true, All, IfErr, IfOk, OnOk, length, slice_get};
 ghost use Rattle.crate_tables.specs.AssocItems as spec;
 ghost use Rattle.crate_tables.specs.Containers.{containers_of as traits_and_impls};
 ghost use Rattle.crate_tables.specs.CrateFillings.{IsKnownTable};
 ghost use Rattle.crate_tables.specs.CrateMaps.{is_shortage};
-ghost use Rattle.crate_tables.specs.CrateTables.{Table};
+ghost use Rattle.crate_tables.specs.CrateTables.{HasKnownDefs, Table};
 ghost use Rattle.crate_tables.specs.DeclaredWorlds.{BindNothing};
 ghost use Rattle.dm_maps.specs.Added.{IsGrown};
+ghost use Rattle.dm_maps.specs.First.{IsChecked};
 
 use crate::assoc_items::containers::{containers_of, homes_of};
 pub use crate::assoc_items::items::AssocPlace;
@@ -135,6 +136,10 @@ pub fn add_assoc_items(
     // What tables hold stays the builder's, and where no module binds anything, none does.
     ensures known { (t : Table) → IsKnownTable builder.old t → IsKnownTable builder.new t }
     ensures empty { BindNothing builder.old → BindNothing builder.new }
+
+    // Where each id that the builder's tables hold is one of its own, and each definition of the crates, each id is then.
+    ensures checked { OnOk result
+        (IsChecked builder.old → All (HasKnownDefs builder.old) tables.now → IsChecked builder.new) }
 {
     let mut places = Vec::new(alloc);
     add_all(builder, &mut places, alloc, files, lists, tables)?;

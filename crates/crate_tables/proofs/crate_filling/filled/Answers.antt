@@ -1,9 +1,13 @@
-use Rattle.crate_tables.proofs.FillingLemmas.{tables-on}
-use Rattle.crate_tables.proofs.KeptLemmas.{nothing-kept}
+use Rattle.std.proofs.Common.{subst}
+use Rattle.std.specs.Prelude.{All, length}
+use Rattle.crate_items.specs.CrateGraphs.{AreKnown, Graph}
+use Rattle.crate_tables.proofs.FitFilling.{filled-checked, filled-defs}
 use Rattle.crate_tables.proofs.crate_filling.filled.Goals as goal
 
-pub returns-in-Ok-clause-empty : goal.returns-in-Ok-clause-empty
-returns-in-Ok-clause-empty c = nothing-kept c.in_ok-made.made.builder c.finish.new.builder c.finish.ensures.stays c.in_ok-made.ensures.empty
+pub returns-clause-checked : goal.returns-clause-checked
+returns-clause-checked c =
+    filled-checked c.args.reading.now c.args.graph.now _ (subst (λ (g : Graph). All (AreKnown (length c.args.graph.now)) g) c.crates-crates.ensures.all c.crates-crates.ensures.known) c.in_ok-made.ensures.filled
 
-pub returns-in-Ok-clause-known : goal.returns-in-Ok-clause-known
-returns-in-Ok-clause-known c = tables-on _ _ _ c.finish.ensures.stays c.in_ok-made.ensures.known
+pub returns-clause-defs : goal.returns-clause-defs
+returns-clause-defs c =
+    filled-defs c.args.reading.now c.args.graph.now _ (subst (λ (g : Graph). All (AreKnown (length c.args.graph.now)) g) c.crates-crates.ensures.all c.crates-crates.ensures.known) c.in_ok-made.ensures.filled

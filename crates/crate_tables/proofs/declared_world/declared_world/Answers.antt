@@ -5,5 +5,5 @@ use Rattle.crate_tables.proofs.declared_world.declared_world.Goals as goal
 
 pub declare_all-requires-clause-empty : goal.declare_all-requires-clause-empty
 declare_all-requires-clause-empty c = λ m.
-    subst (λ s. Shows s c.new-globs.result m []) (sym (ap (λ (w : World). scope_of w m) c.in_ok-world.ensures.same))
+    subst (λ s. Shows s c.new-globs.result m []) (sym (ap (λ (w : World). scope_of w m) c.world_of-world.ensures))
     (c.requires.empty c.new-globs.result m (c.new-globs.ensures.shown m))
