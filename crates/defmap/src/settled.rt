@@ -82,10 +82,8 @@ fn of_fault(fault: CollectFault) -> NotSettled {
     match fault {
         CollectFault::TooManyModules(krate) => NotSettled::TooManyModules(krate),
         CollectFault::OutOfMemory => NotSettled::OutOfMemory,
-        CollectFault::Cycle(_)
-        | CollectFault::NoRootFile(_)
-        | CollectFault::OutOfNumbers
-        | CollectFault::Dangling(_) => NotSettled::Unfit,
+        CollectFault::Cycle(_) | CollectFault::NoRootFile(_) | CollectFault::OutOfNumbers =>
+            NotSettled::Unfit,
     }
 }
 

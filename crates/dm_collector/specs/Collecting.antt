@@ -108,9 +108,9 @@ abbrev pub given_in : Collected → Given
 given_in c = record {
   imports = c.imports.items;
   globs = c.globs.items;
-  enums = λ e. lookup (same_enum e) c.declarations.enums.entries;
-  constructors = λ v. lookup (same_variant v) c.declarations.constructors.entries;
-  is_bare = λ m. list_any (same_module m) c.declarations.bare_modules.keys;
+  enums = λ e. lookup (same_enum e) c.declarations.enums;
+  constructors = λ v. lookup (same_variant v) c.declarations.constructors;
+  is_bare = λ m. list_any (same_module m) c.declarations.bare_modules;
   uses = c.uses.items;
 }
 

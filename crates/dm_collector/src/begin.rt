@@ -1,18 +1,18 @@
 //! Crates, before anything is imported: their files are read, and their modules and items declared in one world.
-ghost use Rattle.std.specs.Prelude.{◌≡◌, [], All, IfErr, IfOk, map};
+ghost use Rattle.std.specs.Prelude.{◌≡◌, [], All, IfErr, IfOk, OnOk, map};
 ghost use Rattle.std.specs.List.{flat_map, list_any};
 ghost use Rattle.std.specs.Map.{lookup};
 ghost use Rattle.crate_items.specs.CrateGraphs.{Graph};
 ghost use Rattle.crate_tables.specs.AssocItems.{AreAllAdded};
 ghost use Rattle.crate_tables.specs.CrateFillings.{AreFilled, IsKnownTable, Reading as Given};
-ghost use Rattle.crate_tables.specs.CrateTables.{IsNameOf, Table, emptied};
+ghost use Rattle.crate_tables.specs.CrateTables.{HasKnownDefs, Table, emptied};
 ghost use Rattle.crate_tables.specs.DeclaredWorlds.{AreShown, BindNothing, with_all_declared};
 ghost use Rattle.dm_base.specs.Tree.{same_module};
 ghost use Rattle.dm_base.specs.declared.ids.EnumId.{EnumId as Id};
 ghost use Rattle.dm_base.specs.declared.ids.EnumVariantId.{EnumVariantId as VariantId};
 ghost use Rattle.dm_base.specs.declared.ids.ModuleId.{ModuleId as IdOfModule};
 ghost use Rattle.dm_collector.specs.BareModules.{all_bare, is_among};
-ghost use Rattle.dm_collector.specs.CollectFaults.{IsFault, IsNotDeclared};
+ghost use Rattle.dm_collector.specs.CollectFaults.{IsFault};
 ghost use Rattle.dm_collector.specs.Collecting as spec;
 ghost use Rattle.dm_collector.specs.Constructors.{constructor_vis, constructors};
 ghost use Rattle.dm_collector.specs.Enums.{enum_vis};
@@ -22,10 +22,11 @@ ghost use Rattle.dm_collector.specs.PreludeGlobs.{unless_named};
 ghost use Rattle.dm_collector.specs.declared.collect_fault.CollectFault.TheVariants as faults;
 ghost use Rattle.dm_def_map.specs.Variants.{same_enum};
 ghost use Rattle.dm_imports.specs.Declarations.{same_variant};
+ghost use Rattle.dm_maps.specs.First.{IsChecked};
 ghost use Rattle.dm_scope.specs.Flags.{no_globs};
 
 use crate::bare_modules::bare_set;
-use crate::collect_fault::{CollectFault, of_builder, of_declared, of_filling};
+use crate::collect_fault::{CollectFault, of_builder, of_filling};
 use crate::collected::Collected;
 use crate::constructors::constructor_visibilities;
 use crate::enums::enum_visibilities;
@@ -37,7 +38,6 @@ use crate_items::modules::CrateModules;
 use crate_tables::assoc_items::filling::{AssocPlace, add_assoc_items};
 use crate_tables::crate_filling::{FilledCrates, Reading, filled};
 use crate_tables::crate_table::CrateTable;
-use crate_tables::declared_name::DeclaredName;
 use crate_tables::declared_world::declared_world;
 use crate_tables::extern_crates::ExternCrateRow;
 use crate_tables::table_parts::table_parts;
@@ -51,7 +51,7 @@ use dm_maps::builder::WorldBuilder;
 use dm_maps::world::World;
 use dm_scope::glob_imports::PerNsGlobImports;
 use indexmap::IndexMap;
-use std::alloc::Global;
+use std::alloc::{AllocError, Global};
 
 /// A world in which crates declare what they do, what they import, and their tables without names and leaves of uses.
 #[derive(Drop)]
@@ -64,31 +64,13 @@ struct Declared {
     rest: Vec<CrateTable>,
 }
 
-/// The world of some tables, with names declared.
-fn world_with(
-    alloc: Global,
-    tables: WorldBuilder,
-    names: &[DeclaredName],
-) -> Result<(World, PerNsGlobImports), CollectFault>
-    requires known { All (IsNameOf tables) names.now }
-    requires empty { BindNothing tables }
-    ensures world { IfOk result (λ made. (record { world = made.0; globs = made.1 }) ≡
-        with_all_declared (record { world = tables; globs = no_globs }) names.now) }
-    ensures declared { IfOk result (λ made. AreShown made.0 made.1 names.now) }
-    ensures fault { IfErr result (IsNotDeclared tables) }
-{
-    match declared_world(alloc, tables, names) {
-        Err(fault) => Err(of_declared(fault)),
-        Ok(made) => Ok(made),
-    }
-}
-
 /// The world of some tables, with what crates declare, and what they import.
 fn declare(
     alloc: Global,
     builder: WorldBuilder,
     tables: Vec<CrateTable>,
-) -> Result<Declared, CollectFault>
+) -> Result<Declared, AllocError>
+    requires checked { IsChecked builder }
     requires known { All (IsKnownTable builder) tables.items }
     requires empty { BindNothing builder }
     ensures world { IfOk result (λ made. (record { world = made.world; globs = made.flags }) ≡
@@ -101,11 +83,10 @@ fn declare(
     ensures enums { IfOk result (λ made. (e : Id) → lookup (same_enum e) made.enums.entries
         ≡ enum_vis (spec.names_of tables.items) e) }
     ensures rest { IfOk result (λ made. made.rest.items ≡ map emptied tables.items) }
-    ensures fault { IfErr result (IsNotDeclared builder) }
 {
     let parts = table_parts(alloc, tables)?;
     let names = parts.names;
-    let (world, flags) = world_with(alloc, builder, names.as_slice())?;
+    let (world, flags) = declared_world(alloc, builder, names.as_slice())?;
     let leaves = split(alloc, parts.leaves)?;
     let globs = bringing_names(alloc, &world, leaves.globs)?;
     let enums = enum_visibilities(alloc, names.as_slice())?;
@@ -129,10 +110,10 @@ fn declarations_of(
     tables: &[CrateTable],
     enums: IndexMap<EnumId, Visibility>,
 ) -> Result<Declarations, CollectFault>
-    ensures enums { IfOk result (λ made. made.enums ≡ enums) }
-    ensures constructors { IfOk result (λ made. (v : VariantId) → lookup (same_variant v) made.constructors.entries
+    ensures enums { IfOk result (λ made. made.enums ≡ enums.entries) }
+    ensures constructors { IfOk result (λ made. (v : VariantId) → lookup (same_variant v) made.constructors
         ≡ constructor_vis (constructors world.now reading.now.files lists.now tables.now 0 graph.now) v) }
-    ensures bare { IfOk result (λ made. (m : IdOfModule) → list_any (same_module m) made.bare_modules.keys
+    ensures bare { IfOk result (λ made. (m : IdOfModule) → list_any (same_module m) made.bare_modules
         ≡ is_among (all_bare lists.now 0 tables.now) m) }
     ensures memory { IfErr result (λ fault. fault ≡ faults.OutOfMemory) }
 {
@@ -155,6 +136,8 @@ fn tables_of(
     ensures filled { IfOk result (λ made. AreFilled reading.now graph.now
         (record { world = made.builder; lists = made.lists.items; tables = made.tables.items; rows = made.externs.items })) }
     ensures known { IfOk result (λ made. All (IsKnownTable made.builder) made.tables.items) }
+    ensures checked { IfOk result (λ made. IsChecked made.builder) }
+    ensures defs { IfOk result (λ made. All (HasKnownDefs made.builder) made.tables.items) }
     ensures empty { IfOk result (λ made. BindNothing made.builder) }
     ensures fault { IfErr result (IsFault reading.now graph.now) }
 {
@@ -177,6 +160,8 @@ fn add_items(
         (record { world = builder.new; places = places.items })) }
     ensures known { (t : Table) → IsKnownTable builder.old t → IsKnownTable builder.new t }
     ensures empty { BindNothing builder.old → BindNothing builder.new }
+    ensures checked { OnOk result
+        (IsChecked builder.old → All (HasKnownDefs builder.old) tables.now → IsChecked builder.new) }
     ensures fault { IfErr result (λ fault. (r : Given) (g : Graph) → IsFault r g fault) }
 {
     match add_assoc_items(builder, alloc, reading.files, lists, tables) {

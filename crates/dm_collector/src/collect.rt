@@ -182,7 +182,7 @@ pub fn collect(
     ensures used { IfOk result (λ made. made.is_settled ≡ true → All (HasMacros made.world) made.uses.items) }
 
     // Where it fails, it is so as the fault says: these crates are a circle, the root of that crate has no file, or it has
-    // more modules than asked for, or that holder of the crates' tables has an id that is none of theirs.
+    // more modules than asked for.
     ensures fault { IfErr result (IsFault reading.now graph.now) }
 {
     let order = ordered(alloc, graph)?;

@@ -3,17 +3,13 @@ ghost use Rattle.std.specs.Prelude.{◌≡◌};
 ghost use Rattle.crate_items.specs.CrateGraphs.{Graph, rows};
 ghost use Rattle.crate_items.specs.OrderFaults as orders;
 ghost use Rattle.crate_tables.specs.CrateFillings.{IsFaultIn, IsShortageOr, Reading};
-ghost use Rattle.crate_tables.specs.DeclaredWorlds.{IsRefusal};
-ghost use Rattle.dm_collector.specs.CollectFaults.{IsFault, IsNotDeclared};
-ghost use Rattle.dm_maps.specs.World.{World};
+ghost use Rattle.dm_collector.specs.CollectFaults.{IsFault};
 ghost use Rattle.dm_collector.specs.declared.collect_fault.CollectFault.TheVariants as faults;
 
 use crate_items::files::crate_order::OrderFault;
-use crate_tables::declared_world::NotDeclared;
 use crate_tables::fill_fault::FillFault;
 use dm_base::ids::Crate;
 use dm_maps::build_fault::BuildFault;
-use dm_maps::fault::WorldFault;
 use std::alloc::AllocError;
 
 /// Why crates were not collected.
@@ -27,8 +23,6 @@ pub enum CollectFault {
     TooManyModules(Crate),
     /// There is no number for another module, item, variant or use.
     OutOfNumbers,
-    /// The tables of the crates hold an id that is none of theirs.
-    Dangling(WorldFault),
     OutOfMemory,
 }
 
@@ -69,15 +63,5 @@ pub(crate) fn of_filling(fault: FillFault) -> CollectFault
         FillFault::TooManyModules(krate) => CollectFault::TooManyModules(krate),
         FillFault::OutOfNumbers => CollectFault::OutOfNumbers,
         FillFault::OutOfMemory => CollectFault::OutOfMemory,
-    }
-}
-
-/// The same of a world.
-pub(crate) fn of_declared(fault: NotDeclared) -> CollectFault
-    ensures { (w : World) → IsRefusal w fault → IsNotDeclared w result }
-{
-    match fault {
-        NotDeclared::Dangling(fault) => CollectFault::Dangling(fault),
-        NotDeclared::OutOfMemory => CollectFault::OutOfMemory,
     }
 }

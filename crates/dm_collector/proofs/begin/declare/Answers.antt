@@ -7,13 +7,13 @@ use Rattle.dm_collector.specs.Enums.{enum_vis}
 use Rattle.dm_collector.proofs.TableLemmas.{names-known}
 use Rattle.dm_collector.proofs.begin.declare.Goals as goal
 
-pub world_with-requires-clause-known : goal.world_with-requires-clause-known
-world_with-requires-clause-known c =
+pub declared_world-requires-clause-known : goal.declared_world-requires-clause-known
+declared_world-requires-clause-known c =
     subst (All (IsNameOf c.args.builder)) (sym (c.as_slice.ensures.value ∙ c.in_ok-parts.ensures.names)) (names-known c.args.builder c.args.tables.items c.requires.known)
 
 pub returns-clause-declared : goal.returns-clause-declared
 returns-clause-declared c =
-    subst (λ (ds : List DeclaredName). AreShown c.in_ok-world.world c.in_ok-world.flags ds) (c.as_slice.ensures.value ∙ c.in_ok-parts.ensures.names) c.in_ok-world.ensures.declared
+    subst (λ (ds : List DeclaredName). AreShown c.in_ok-world.world c.in_ok-world.flags ds) (c.as_slice.ensures.value ∙ c.in_ok-parts.ensures.names) c.in_ok-world.ensures.shown
 
 pub returns-clause-enums : goal.returns-clause-enums
 returns-clause-enums c = λ e.
