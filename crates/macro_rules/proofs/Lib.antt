@@ -1,1 +1,4 @@
 pub mod Stepped
+pub mod Passed
+pub mod Counted
+pub mod Reached

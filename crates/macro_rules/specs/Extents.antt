@@ -39,6 +39,7 @@ is_bool _ = false
 
 abbrev pub is_literal : TokenKind → Bool
 is_literal kind.Literal = true
+is_literal kind.Doc = true
 is_literal k = is_bool k
 
 -- a name or a keyword, but not `_`; `$crate` is a name

@@ -56,7 +56,7 @@ fn is_bool(kind: TokenKind) -> bool
 fn is_literal(kind: TokenKind) -> bool
     ensures { result ≡ spec.is_literal kind }
 {
-    matches!(kind, TokenKind::Literal) || is_bool(kind)
+    matches!(kind, TokenKind::Literal | TokenKind::Doc) || is_bool(kind)
 }
 
 /// A name, or a keyword, but not `_`.

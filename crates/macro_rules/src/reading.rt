@@ -2,9 +2,11 @@
 ghost use Rattle.std.specs.Prelude.{◌≡◌, ◌<◌, ◌^◌, OnOk, length};
 ghost use Rattle.macro_rules.specs.Readings as spec;
 
+pub(crate) mod dollars;
+
 use crate::extents::{is_mark, kind_at};
-use crate::row::{Repetition, Row, Variable};
-use crate::token::{FragmentKind, Token, TokenKind, same};
+use crate::row::{Repetition, Row};
+use crate::token::{Token, TokenKind};
 use std::alloc::{AllocError, Global};
 use std::marker::Model;
 
@@ -137,6 +139,31 @@ impl Reading {
         self.state.fault = Some(fault);
     }
 
+    /// What was wrong.
+    pub(crate) fn fault(&self) -> Option<RuleFault>
+        ensures { result ≡ self.now.state.fault }
+    {
+        self.state.fault
+    }
+
+    /// The positions that were read.
+    pub(crate) fn rows(&self) -> &[Row]
+        ensures { result.now ≡ self.now.rows }
+    {
+        self.rows.as_slice()
+    }
+
+    pub(crate) fn into_rows(self) -> Vec<Row>
+        ensures { result.items ≡ self.rows }
+    {
+        let Reading {
+            rows,
+            groups: _groups,
+            state: _state,
+        } = self;
+        rows
+    }
+
     /// Adds a position that is not empty, where so many tokens behind it belong to it.
     fn add(&mut self, row: Row, skipped: usize) -> Result<(), AllocError>
         ensures { OnOk result (self.new ≡ spec.added row skipped self.old) }
@@ -171,6 +198,7 @@ impl Reading {
             bare: self.state.bare,
         })?;
         self.rows.push(Row::Begin(Repetition {
+            end: begin,
             behind: None,
             within,
         }))?;
@@ -204,18 +232,21 @@ impl Reading {
         Ok(())
     }
 
-    /// Says at the begin of a repetition where it goes on if it is left out.
-    fn skip_to_end(&mut self, begin: usize, tail: Tail, within: Option<usize>)
+    /// Says at the begin of a repetition where its iterations end, and where it goes on if it is left out.
+    fn note_end(&mut self, begin: usize, end: usize, tail: Tail, within: Option<usize>)
         requires { begin < length self.old.rows }
-        ensures { self.new ≡ spec.skipping begin tail within self.old }
+        ensures { self.new ≡ spec.end_noted begin end tail within self.old }
     {
-        if tail.skips {
-            let behind = self.rows.len();
-            self.rows[begin] = Row::Begin(Repetition {
-                behind: Some(behind),
-                within,
-            });
-        }
+        let behind = if tail.skips {
+            Some(self.rows.len())
+        } else {
+            None
+        };
+        self.rows[begin] = Row::Begin(Repetition {
+            end,
+            behind,
+            within,
+        });
     }
 
     /// Ends a repetition, which began at a position, in a group that was so before.
@@ -232,8 +263,9 @@ impl Reading {
             self.fail(RuleFault::EmptyRepetition);
             return Ok(());
         }
+        let end = self.rows.len();
         self.end_repetition(begin, tail, separator)?;
-        self.skip_to_end(begin, tail, opening.within);
+        self.note_end(begin, end, tail, opening.within);
         self.state.bare = opening.bare && (tail.skips || self.state.bare);
         self.state.within = opening.within;
         self.state.skipped = if tail.separated { 2 } else { 1 };

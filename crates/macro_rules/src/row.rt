@@ -15,6 +15,8 @@ pub struct Variable {
 /// The begin of a repetition.
 #[derive(Clone, Copy)]
 pub struct Repetition {
+    /// Where its iterations end.
+    pub end: usize,
     /// The position behind it, where it may be left out.
     pub behind: Option<usize>,
     /// Where the innermost repetition begins in which it stands.

@@ -2,6 +2,7 @@
 ghost use Rattle.std.specs.Prelude.{◌≡◌};
 ghost use Rattle.macro_rules.specs.Tokens as spec;
 
+use dm_base::edition::Edition;
 use item_tree::lexer::lexeme::Delimiter;
 use item_tree::lexer::span::{Span, piece};
 use item_tree::lexer::word::Word;
@@ -49,8 +50,17 @@ pub enum TokenKind {
     /// Where a captured fragment begins that stays one tree.
     FragmentOpen(FragmentKind),
     FragmentClose(FragmentKind),
+    /// The string that stands for the text of a doc comment.
+    Doc,
     /// What is no token.
     Error,
+}
+
+/// The crate that a macro is of.
+#[derive(Clone, Copy)]
+pub struct Home {
+    pub krate: u32,
+    pub edition: Edition,
 }
 
 /// A token, with its place in the bytes that macros and calls were read into.

@@ -1,5 +1,6 @@
 //! What a rule makes of the tokens of a call.
 ghost use Rattle.std.specs.Prelude.{◌≡◌, ◌+◌, ◌-◌, ◌<◌, ◌≤◌, ◌^◌, IfOk, OnOk, drop, length, slice_get};
+ghost use Rattle.macro_rules.specs.Runs.{IsParsed};
 ghost use Rattle.macro_rules.specs.Threads as thread;
 ghost use Rattle.macro_rules.specs.Walks as spec;
 
@@ -136,8 +137,28 @@ fn advance(
     }
 }
 
-/// What a rule makes of some tokens, in at most so many turns. `steps` is twice the number of positions.
+/// What a rule makes of some tokens, in at most so many turns, each of which follows so many threads at most.
+///
+/// # Errors
+///
+/// Fails only where memory runs out.
 pub fn match_tokens(
+    alloc: Global,
+    bytes: &[u8],
+    rows: &[Row],
+    tokens: &[Token],
+    steps: usize,
+    turns: usize,
+) -> Result<Walk, AllocError>
+    ensures log { IfOk result (λ walk. walk.log.items ≡ (spec.walk bytes.now rows.now tokens.now steps turns).log) }
+    ensures outcome { IfOk result (λ walk. walk.outcome ≡ (spec.walk bytes.now rows.now tokens.now steps turns).outcome) }
+    ensures parsed { IfOk result (λ walk. IsParsed bytes.now rows.now tokens.now walk.outcome) }
+{
+    let walk = walk_tokens(alloc, bytes, rows, tokens, steps, turns)?;
+    Ok(walk)
+}
+
+fn walk_tokens(
     alloc: Global,
     bytes: &[u8],
     rows: &[Row],

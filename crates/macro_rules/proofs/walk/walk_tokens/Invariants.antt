@@ -1,6 +1,6 @@
 use Rattle.std.proofs.Common.{◌≡◌, ◌≤◌, length}
 use Rattle.macro_rules.specs.Walks.{walked, walk}
-use Rattle.macro_rules.proofs.walk.match_tokens.Given as goal
+use Rattle.macro_rules.proofs.walk.walk_tokens.Given as goal
 
 abbrev pub invariant-loop-left : goal.invariant-loop-left
 invariant-loop-left l = record {
