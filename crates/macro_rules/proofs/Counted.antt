@@ -1,5 +1,5 @@
 -- One step of each recursion over a number of steps.
-use Rattle.std.proofs.Common.{◌≡◌, ◌∙◌, ℕ, zero, suc, ◌-◌, ◌≢◌, true, false, Option, Some, List, slice_get, refl, ap, sym, arith, cond}
+use Rattle.std.proofs.Common.{◌≡◌, ◌∙◌, ℕ, zero, suc, ◌-◌, ◌≢◌, false, Option, Some, List, slice_get, refl, ap, sym, arith, cond}
 use Rattle.std.specs.Prelude.{is_some}
 use Rattle.macro_rules.specs.RulesRead.{RulesRead}
 use Rattle.macro_rules.specs.Rules.{rules_from, next_at, next_read}

@@ -1,9 +1,8 @@
 -- Lists that are made in so many steps, and what threads took on their way.
-use Rattle.std.proofs.Common.{◌≡◌, ◌∙◌, ℕ, zero, suc, ◌-◌, ◌≢◌, true, false, Option, Some, None, List, [], ◌∷◌, ◌++◌, slice_get, refl, ap, sym, arith, cond, append_assoc}
+use Rattle.std.proofs.Common.{◌≡◌, ◌∙◌, ℕ, zero, suc, ◌-◌, ◌≢◌, Some, None, List, [], ◌∷◌, ◌++◌, slice_get, refl, ap, sym, arith, cond, append_assoc}
 use Rattle.std.proofs.lemmas.Bool.{eq-eqb, ne_eqb}
 use Rattle.macro_rules.specs.Visits.{passage, passage_at, passages_of}
 use Rattle.macro_rules.specs.declared.matching.Thread.{Thread}
-use Rattle.macro_rules.specs.declared.visits.Passage.{Passage}
 
 -- one more element of a list that is made in so many steps
 pub made_step : {X : Type 0} (f : ℕ → List X) (x : X) (n : ℕ) (xs ys : List X) → ((k : ℕ) → f (suc k) ≡ x ∷ f k) → n ≢ 0 → ys ≡ xs ++ x ∷ [] → ys ++ f (n - 1) ≡ xs ++ f n

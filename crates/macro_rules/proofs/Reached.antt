@@ -1,19 +1,18 @@
 -- What matches is parsed: each thread is at a position that is reached at its place.
-use Rattle.std.proofs.Common.{◌≡◌, ◌∙◌, ℕ, zero, suc, ◌+◌, ◌-◌, ◌<◌, ◌≤◌, true, false, Option, Some, None, List, [], ◌∷◌, ◌++◌, length, drop, get_or, slice_get, nat_eq, refl, ap, sym, subst, inl, inr, arith, cond, length-drop, length-append}
+use Rattle.std.proofs.Common.{◌≡◌, ◌∙◌, ℕ, zero, suc, ◌+◌, ◌-◌, ◌<◌, ◌≤◌, Option, Some, None, List, [], ◌∷◌, ◌++◌, length, drop, get_or, slice_get, nat_eq, refl, ap, sym, subst, inl, inr, arith, cond, length-drop, length-append}
 use Rattle.std.specs.Prelude.{◌⊎◌, ◌&&◌, nat_lt}
 use Rattle.std.proofs.lemmas.Bool.{cond_both, eqb-true}
 use Rattle.std.proofs.lemmas.List.{get_or-drop}
 use Rattle.std.proofs.lemmas.List.Quantifiers.{position-Some}
 use Rattle.std.proofs.lemmas.Option.{slice_get_within, slice_get-get_or}
-use Rattle.macro_rules.specs.Runs.{Reaches, begins, goes_on, turns, takes, reads, Parses, IsParsed}
+use Rattle.macro_rules.specs.Runs.{Reaches, begins, goes_on, turns, takes, reads, IsParsed}
 use Rattle.macro_rules.specs.Threads as spec
 use Rattle.macro_rules.specs.Threads.{thread_at, standing, entered, ways_from, gone, followed_to, followed, closed, behind_token, token_way, taken, variable_len, behind_fragment, fragment_end, with_read, with_reader, at_end, ends_by, first_standing, first_reading, count_reading, count_taking, reads_by, turn_at, IsWithin}
-use Rattle.macro_rules.specs.Walks.{Walked, by_turn, reads_on, advanced_at, advanced, by_step, walked, walk}
+use Rattle.macro_rules.specs.Walks.{by_turn, reads_on, advanced_at, advanced, by_step, walked, walk}
 use Rattle.macro_rules.specs.declared.matching.Outcome.TheVariants as outcome
 use Rattle.macro_rules.specs.declared.matching.Thread.{Thread}
 use Rattle.macro_rules.specs.declared.matching.Turn.{Turn}
 use Rattle.macro_rules.specs.declared.matching.Turn.TheVariants as turn
-use Rattle.macro_rules.specs.declared.matching.Ways.{Ways}
 use Rattle.macro_rules.specs.declared.row.Row.{Row}
 use Rattle.macro_rules.specs.declared.token.Token.{Token}
 use Rattle.macro_rules.specs.declared.walk.Step.{Step}
@@ -101,7 +100,7 @@ module _ (bytes : List ℕ) (rows : List Row) (ts : List Token) where
       → Fine (length log) (place + 1) (taken bytes rows x (length log) (place + 1) (length log - from) from log)
   taken_fine from place x log fine low here i t h =
       let stands = taken_stands from place (length log) (place + 1) (length log - from) from x log
-          (λ k u g. ((fine k u g).0, (λ a _. (fine k u g).1 a), λ past. absurd (omega (arith, past, slice_get_within log k u g)))) refl here (omega arith) (omega (arith, low)) (omega arith) i t h in
+      (λ k u g. ((fine k u g).0, (λ a _. (fine k u g).1 a), λ past. absurd (omega (arith, past, slice_get_within log k u g)))) refl here (omega arith) (omega (arith, low)) (omega arith) i t h in
       (stands.0, stands.2)
 
   -- what a step leaves: threads that stand where the next one goes on, or an end that is right
@@ -117,10 +116,11 @@ module _ (bytes : List ℕ) (rows : List Row) (ts : List Token) where
       by None e = tt
       by (Some n) e =
           let stands = fine reader t own in
-          let here : Reaches bytes rows ts t.row place = subst (λ (p : ℕ). Reaches bytes rows ts t.row p) (stands.1 low) stands.0 in
-          (omega (arith, length-append log (thread_at (t.row + 1) (place + n) reader ∷ [])),
-          each_push (λ i u. Reaches bytes rows ts u.row u.place × (length log ≤ i → u.place ≡ place + n)) log (thread_at (t.row + 1) (place + n) reader)
-          (λ i u h. ((fine i u h).0, λ past. absurd (omega (arith, past, slice_get_within log i u h)))) (reads here e, λ _. refl))
+          let here : Reaches bytes rows ts t.row place = subst (λ (p : ℕ). Reaches bytes rows ts t.row p) (stands.1 low) stands.0 in (
+            omega (arith, length-append log (thread_at (t.row + 1) (place + n) reader ∷ [])),
+            each_push (λ i u. Reaches bytes rows ts u.row u.place × (length log ≤ i → u.place ≡ place + n)) log (thread_at (t.row + 1) (place + n) reader)
+                (λ i u h. ((fine i u h).0, λ past. absurd (omega (arith, past, slice_get_within log i u h)))) (reads here e, λ _. refl),
+          )
 
   past_end : (xs : List Token) (i : ℕ) → slice_get xs i ≡ None → length xs ≤ i
   past_end [] i h = omega arith

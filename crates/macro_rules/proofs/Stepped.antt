@@ -1,5 +1,5 @@
 -- One step of each recursion over a number of steps.
-use Rattle.std.proofs.Common.{◌≡◌, ◌∙◌, ℕ, zero, suc, ◌+◌, ◌-◌, ◌<◌, ◌≢◌, true, List, length, slice_get, refl, ap, sym, arith, cond}
+use Rattle.std.proofs.Common.{◌≡◌, ◌∙◌, ℕ, zero, suc, ◌+◌, ◌-◌, ◌<◌, ◌≢◌, List, length, slice_get, refl, ap, sym, arith, cond}
 use Rattle.std.proofs.lemmas.Bool.{lt-ltb}
 use Rattle.macro_rules.specs.Threads.{closed, followed, taken, gone, token_way}
 use Rattle.macro_rules.specs.Walks.{advanced, after, by_step, walked}

@@ -1,5 +1,5 @@
 -- How far fragments go.
-use Rattle.std.specs.Prelude.{◌==◌, ◌+◌, ◌-◌, ◌&&◌, ◌||◌, ℕ, Bool, true, false, not, List, [], ◌∷◌, Option, Some, None, drop, slice_get, nat_le, length, if◌then◌else◌}
+use Rattle.std.specs.Prelude.{◌==◌, ◌+◌, ◌-◌, ◌&&◌, ◌||◌, ℕ, Bool, true, false, not, List, [], ◌∷◌, Option, Some, None, drop, slice_get, if◌then◌else◌}
 use Rattle.item_tree.specs.declared.lexer.lexeme.Delimiter.TheVariants.{Parenthesis, Bracket, Brace}
 use Rattle.item_tree.specs.declared.lexer.word.Word.{Word}
 use Rattle.item_tree.specs.declared.lexer.word.Word.TheVariants as word

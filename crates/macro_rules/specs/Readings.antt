@@ -1,5 +1,5 @@
 -- Matchers and transcribers, read into rows: each token in turn.
-use Rattle.std.specs.Prelude.{◌==◌, ◌+◌, ◌-◌, ◌&&◌, ◌||◌, ℕ, Bool, true, false, not, List, [], ◌∷◌, ◌++◌, Option, Some, None, is_none, is_some, drop, take, slice_get, slice_set, position, nat_le, nat_lt, length, if◌then◌else◌}
+use Rattle.std.specs.Prelude.{◌==◌, ◌+◌, ◌-◌, ◌&&◌, ◌||◌, ℕ, Bool, true, false, not, List, [], ◌∷◌, ◌++◌, Option, Some, None, is_none, is_some, take, slice_get, slice_set, position, nat_le, nat_lt, length, if◌then◌else◌}
 use Rattle.std.specs.Str.{bytes_eq}
 use Rattle.dm_base.specs.declared.edition.Edition.{Edition}
 use Rattle.item_tree.specs.Spans.{name_text, piece}
@@ -10,9 +10,7 @@ use Rattle.macro_rules.specs.Read.{Read}
 use Rattle.macro_rules.specs.declared.reading.Opening.{Opening}
 use Rattle.macro_rules.specs.declared.reading.RuleFault.{RuleFault}
 use Rattle.macro_rules.specs.declared.reading.RuleFault.TheVariants as fault
-use Rattle.macro_rules.specs.declared.reading.State.{State}
 use Rattle.macro_rules.specs.declared.reading.Tail.{Tail}
-use Rattle.macro_rules.specs.declared.row.Repetition.{Repetition}
 use Rattle.macro_rules.specs.declared.row.Row.{Row}
 use Rattle.macro_rules.specs.declared.row.Row.TheVariants as row
 use Rattle.macro_rules.specs.FragmentNames.{kind_named}

@@ -1,5 +1,5 @@
 -- Small macros, and what rustc says that they make of a call: the texts of tools/differential/macro-texts.txt.
-use Rattle.std.specs.Prelude.{◌≡◌, ℕ, Bool, List, [], ◌∷◌, Option, Some, None, map, codes}
+use Rattle.std.specs.Prelude.{◌≡◌, ℕ, List, [], ◌∷◌, Some, None, map, codes}
 use Rattle.dm_base.specs.declared.edition.Edition.TheVariants.{Edition2021}
 use Rattle.item_tree.specs.Spans.{piece}
 use Rattle.item_tree.specs.declared.lexer.lexeme.Delimiter.TheVariants.{Parenthesis, Brace}

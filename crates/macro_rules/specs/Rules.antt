@@ -3,7 +3,6 @@ use Rattle.std.specs.Prelude.{◌==◌, ◌+◌, ◌-◌, ◌&&◌, ◌||◌, �
 use Rattle.macro_rules.specs.Extents.{kind_at, is_mark, is_pair, tree_len}
 use Rattle.macro_rules.specs.Read.{Read}
 use Rattle.macro_rules.specs.Readings.{rows_read}
-use Rattle.macro_rules.specs.RuleRows.{RuleRows}
 use Rattle.macro_rules.specs.RulesRead.{RulesRead}
 use Rattle.macro_rules.specs.declared.reading.RuleFault.{RuleFault}
 use Rattle.macro_rules.specs.declared.reading.RuleFault.TheVariants as fault

@@ -1,5 +1,5 @@
 -- What a rule makes of the tokens of a call.
-use Rattle.std.specs.Prelude.{◌≡◌, ◌+◌, ◌-◌, ◌≤◌, ℕ, zero, suc, List, [], ◌∷◌, Option, Some, None, drop, slice_get, length, nat_le, if◌then◌else◌}
+use Rattle.std.specs.Prelude.{◌+◌, ◌-◌, ◌≤◌, ℕ, zero, suc, List, [], ◌∷◌, Option, Some, None, drop, slice_get, length}
 use Rattle.macro_rules.specs.Threads as spec
 use Rattle.macro_rules.specs.declared.matching.Outcome.{Outcome}
 use Rattle.macro_rules.specs.declared.matching.Outcome.TheVariants as outcome

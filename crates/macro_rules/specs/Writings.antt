@@ -1,5 +1,5 @@
 -- What a transcriber writes.
-use Rattle.std.specs.Prelude.{◌==◌, ◌+◌, ◌-◌, ◌^◌, ◌&&◌, ◌||◌, ℕ, zero, suc, Bool, true, false, not, List, [], ◌∷◌, ◌++◌, Option, Some, None, Result, Ok, Err, is_some, min, drop, take, slice_get, slice_set, nat_eq, nat_le, nat_lt, length, if◌then◌else◌}
+use Rattle.std.specs.Prelude.{◌==◌, ◌+◌, ◌-◌, ◌^◌, ◌||◌, ℕ, zero, suc, Bool, true, false, List, [], ◌∷◌, ◌++◌, Option, Some, None, Result, Ok, Err, is_some, min, drop, take, slice_get, slice_set, nat_eq, nat_le, nat_lt, length, if◌then◌else◌}
 use Rattle.std.specs.List.{list_any, list_all}
 use Rattle.macro_rules.specs.Extents.{kind_at}
 use Rattle.macro_rules.specs.Visits.{at_row}

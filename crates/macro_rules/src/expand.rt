@@ -7,8 +7,8 @@ use crate::rules::Rule;
 use crate::token::Token;
 use crate::visits::visits;
 use crate::walk::match_tokens;
-use crate::writing::{WriteFault, Writing};
 use crate::writing::transcribing::transcribe;
+use crate::writing::{WriteFault, Writing};
 use std::alloc::{AllocError, Global};
 use std::marker::Model;
 

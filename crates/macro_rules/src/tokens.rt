@@ -6,11 +6,10 @@ ghost use Rattle.macro_rules.specs.TokensRead as spec;
 
 use crate::token::{Token, TokenKind};
 use dm_base::edition::Edition;
-use item_tree::lexer::lex;
 use item_tree::lexer::lexeme::Delimiter;
 use item_tree::lexer::span::Span;
-use item_tree::lexer::token;
 use item_tree::lexer::word::{Word, word_of};
+use item_tree::lexer::{lex, token};
 use std::alloc::{AllocError, Global};
 
 /// Operators of three marks.
@@ -316,7 +315,15 @@ fn place_tokens(
     let mut at: usize = 0;
     let mut skipped: usize = 0;
     for own in cut {
-        add_token(&mut tokens, words, base + at, *own, &text[at..], skipped, edition)?;
+        add_token(
+            &mut tokens,
+            words,
+            base + at,
+            *own,
+            &text[at..],
+            skipped,
+            edition,
+        )?;
         skipped = marks_behind(own.kind, &text[at..], skipped);
         at += own.len;
     }

@@ -77,12 +77,12 @@ impl Model for Writing {
     ghost Value = { Written };
 
     ghost view = { λ w. record {
-        tokens = w.tokens.items;
-        levels = w.levels.items;
-        leaders = w.leaders.items;
-        current = w.current.items;
-        at = w.at;
-        fault = w.fault;
+      tokens = w.tokens.items;
+      levels = w.levels.items;
+      leaders = w.leaders.items;
+      current = w.current.items;
+      at = w.at;
+      fault = w.fault;
     } };
 }
 
@@ -212,11 +212,7 @@ fn is_led(current: &[Option<usize>], around: Option<usize>) -> bool
 
 /// The repetition of the matcher that leads one of the transcriber by a variable: the outermost around the variable that
 /// does not lead yet.
-fn find_leader(
-    matcher: &[Row],
-    current: &[Option<usize>],
-    within: Option<usize>,
-) -> Option<usize>
+fn find_leader(matcher: &[Row], current: &[Option<usize>], within: Option<usize>) -> Option<usize>
     ensures { result ≡ spec.find_leader matcher.now current.now within }
 {
     let mut found = None;
@@ -343,7 +339,12 @@ impl Writing {
                 match find_leader(matcher, self.current.as_slice(), within) {
                     None => Ok(()),
                     Some(repetition) => {
-                        let number = leader_now(matcher, table, self.current.as_slice(), repetition);
+                        let number = leader_now(
+                            matcher,
+                            table,
+                            self.current.as_slice(),
+                            repetition,
+                        );
                         self.add_leader(from, number)
                     }
                 }

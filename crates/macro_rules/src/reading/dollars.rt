@@ -90,7 +90,8 @@ impl Reading {
     {
         let bare = self.state.bare && is_vis(kind);
         let within = self.state.within;
-        self.rows.push(Row::Variable(Variable { name, kind, within }))?;
+        self.rows
+            .push(Row::Variable(Variable { name, kind, within }))?;
         self.state.skipped = 3;
         self.state.bare = bare;
         Ok(())

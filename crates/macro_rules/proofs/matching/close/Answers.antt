@@ -1,4 +1,4 @@
-use Rattle.std.proofs.Common.{◌∙◌, ◌<◌, length, arith, rules}
+use Rattle.std.proofs.Common.{◌∙◌, ◌<◌, length, arith}
 use Rattle.macro_rules.proofs.Stepped.{closed_step}
 use Rattle.macro_rules.proofs.matching.close.Goals as goal
 

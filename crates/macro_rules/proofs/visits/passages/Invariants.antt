@@ -1,4 +1,4 @@
-use Rattle.std.proofs.Common.{◌≡◌, ◌++◌, length}
+use Rattle.std.proofs.Common.{◌≡◌, ◌++◌}
 use Rattle.macro_rules.specs.Visits.{passages, passages_of}
 use Rattle.macro_rules.proofs.visits.passages.Given as goal
 
