@@ -58,12 +58,12 @@ group_opened t r = record r {
 abbrev pub begin_of : ℕ → Option ℕ → Option ℕ → Row
 begin_of end behind within = row.Begin (record { end = end; behind = behind; within = within })
 
--- a repetition begins, and its first iteration starts; the delimiter behind `$` is its own
-abbrev pub repetition_opened : Read → Read
-repetition_opened r = record r {
+-- a repetition begins, and its first iteration starts; the delimiter behind `$` is its own. In a transcriber it may be empty
+abbrev pub repetition_opened : Bool → Read → Read
+repetition_opened is_matcher r = record r {
   rows = (r.rows ++ begin_of (length r.rows) None r.state.within ∷ []) ++ row.Iteration ∷ [];
   groups = r.groups ++ record { repetition = Some (length r.rows); within = r.state.within; bare = r.state.bare } ∷ [];
-  state = record r.state { skipped = 1; within = Some (length r.rows); bare = true };
+  state = record r.state { skipped = 1; within = Some (length r.rows); bare = is_matcher };
 }
 
 -- an iteration ends: behind it stands the separator, and behind that what follows; or it starts anew
@@ -183,7 +183,7 @@ other_read k token len r =
     else added (row.Token token) 0 r
 
 abbrev pub dollar_before : TokenKind → Part → List ℕ → List Row → Token → List Token → Read → Read
-dollar_before (kind.Open Parenthesis) p bytes matcher token ts r = repetition_opened r
+dollar_before (kind.Open Parenthesis) p bytes matcher token ts r = repetition_opened p.is_matcher r
 dollar_before (kind.Open Brace) p bytes matcher token ts r = failed fault.Unsupported r
 dollar_before (kind.Word word.Crate) p bytes matcher token ts r = added (dollar_crate p.home.krate (token_at ts 1 token)) 1 r
 dollar_before (kind.Word w) p bytes matcher token ts r = name_read p bytes matcher token (token_at ts 1 token) ts r

@@ -1,5 +1,5 @@
 -- Small macros, and what rustc says that they make of a call: the texts of tools/differential/macro-texts.txt.
-use Rattle.std.specs.Prelude.{◌≡◌, ℕ, List, [], ◌∷◌, Some, None, map, codes}
+use Rattle.std.specs.Prelude.{◌≡◌, ℕ, Bool, List, [], ◌∷◌, Option, Some, None, map, codes}
 use Rattle.dm_base.specs.declared.edition.Edition.TheVariants.{Edition2021}
 use Rattle.item_tree.specs.Spans.{piece}
 use Rattle.item_tree.specs.declared.lexer.lexeme.Delimiter.TheVariants.{Parenthesis, Brace}
@@ -119,6 +119,13 @@ nested =
     Writes (codes "($($a:ident { $($b:ident)* })*) => { $(enum $a { $($b),* })* } A { B C } D { }") (g (kind.Open Parenthesis) 0 ∷ g (kind.Mark 36) 1 ∷ g (kind.Open Parenthesis) 2 ∷ g (kind.Mark 36) 3 ∷ w 4 1 ∷ g (kind.Mark 58) 5 ∷ w 6 5 ∷ g (kind.Open Brace) 12 ∷ g (kind.Mark 36) 14 ∷ g (kind.Open Parenthesis) 15 ∷ g (kind.Mark 36) 16 ∷ w 17 1 ∷ g (kind.Mark 58) 18 ∷ w 19 5 ∷ g (kind.Close Parenthesis) 24 ∷ g (kind.Mark 42) 25 ∷ g (kind.Close Brace) 27 ∷ g (kind.Close Parenthesis) 28 ∷ g (kind.Mark 42) 29 ∷ g (kind.Close Parenthesis) 30 ∷ arrow 32 ∷ g (kind.Open Brace) 35 ∷ g (kind.Mark 36) 37 ∷ g (kind.Open Parenthesis) 38 ∷ k word.Enum 39 4 ∷ g (kind.Mark 36) 44 ∷ w 45 1 ∷ g (kind.Open Brace) 47 ∷ g (kind.Mark 36) 49 ∷ g (kind.Open Parenthesis) 50 ∷ g (kind.Mark 36) 51 ∷ w 52 1 ∷ g (kind.Close Parenthesis) 53 ∷ g (kind.Mark 44) 54 ∷ g (kind.Mark 42) 55 ∷ g (kind.Close Brace) 57 ∷ g (kind.Close Parenthesis) 58 ∷ g (kind.Mark 42) 59 ∷ g (kind.Close Brace) 61 ∷ [])
     (w 63 1 ∷ g (kind.Open Brace) 65 ∷ w 67 1 ∷ w 69 1 ∷ g (kind.Close Brace) 71 ∷ w 73 1 ∷ g (kind.Open Brace) 75 ∷ g (kind.Close Brace) 77 ∷ [])
     (codes "enum" ∷ codes "A" ∷ codes "{" ∷ codes "B" ∷ codes "," ∷ codes "C" ∷ codes "}" ∷ codes "enum" ∷ codes "D" ∷ codes "{" ∷ codes "}" ∷ [])
+
+-- a repetition of nothing but another, in a transcriber
+abbrev pub repeated_whole : Type 0
+repeated_whole =
+    Writes (codes "($( $($a:ident)* ; )*) => { $( $($a)* )* } A B ; C ;") (g (kind.Open Parenthesis) 0 ∷ g (kind.Mark 36) 1 ∷ g (kind.Open Parenthesis) 2 ∷ g (kind.Mark 36) 4 ∷ g (kind.Open Parenthesis) 5 ∷ g (kind.Mark 36) 6 ∷ w 7 1 ∷ g (kind.Mark 58) 8 ∷ w 9 5 ∷ g (kind.Close Parenthesis) 14 ∷ g (kind.Mark 42) 15 ∷ g (kind.Mark 59) 17 ∷ g (kind.Close Parenthesis) 19 ∷ g (kind.Mark 42) 20 ∷ g (kind.Close Parenthesis) 21 ∷ arrow 23 ∷ g (kind.Open Brace) 26 ∷ g (kind.Mark 36) 28 ∷ g (kind.Open Parenthesis) 29 ∷ g (kind.Mark 36) 31 ∷ g (kind.Open Parenthesis) 32 ∷ g (kind.Mark 36) 33 ∷ w 34 1 ∷ g (kind.Close Parenthesis) 35 ∷ g (kind.Mark 42) 36 ∷ g (kind.Close Parenthesis) 38 ∷ g (kind.Mark 42) 39 ∷ g (kind.Close Brace) 41 ∷ [])
+    (w 43 1 ∷ w 45 1 ∷ g (kind.Mark 59) 47 ∷ w 49 1 ∷ g (kind.Mark 59) 51 ∷ [])
+    (codes "A" ∷ codes "B" ∷ codes "C" ∷ [])
 
 -- two variables in step
 abbrev pub in_step : Type 0

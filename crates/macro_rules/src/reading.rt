@@ -186,9 +186,9 @@ impl Reading {
         self.add(Row::Token(token), 0)
     }
 
-    /// Opens a repetition, at its `$` before the delimiter.
-    fn open_repetition(&mut self) -> Result<(), AllocError>
-        ensures { OnOk result (self.new ≡ spec.repetition_opened self.old) }
+    /// Opens a repetition, at its `$` before the delimiter. In a transcriber it may be empty.
+    fn open_repetition(&mut self, is_matcher: bool) -> Result<(), AllocError>
+        ensures { OnOk result (self.new ≡ spec.repetition_opened is_matcher self.old) }
     {
         let begin = self.rows.len();
         let within = self.state.within;
@@ -204,7 +204,7 @@ impl Reading {
         }))?;
         self.rows.push(Row::Iteration)?;
         self.state.skipped = 1;
-        self.state.bare = true;
+        self.state.bare = is_matcher;
         self.state.within = Some(begin);
         Ok(())
     }

@@ -13,6 +13,7 @@ pub fn calls()
     ensures question_mark { rows.question_mark }
     ensures bad_literal { rows.bad_literal }
     ensures nested { rows.nested }
+    ensures repeated_whole { rows.repeated_whole }
     ensures in_step { rows.in_step }
     ensures uneven { rows.uneven }
     ensures lesser_depth { rows.lesser_depth }

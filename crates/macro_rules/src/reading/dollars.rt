@@ -182,7 +182,7 @@ impl Reading {
         ensures { OnOk result (self.new ≡ spec.dollar_read part bytes.now matcher.now token tokens.now self.old) }
     {
         match kind_at(tokens, 1) {
-            TokenKind::Open(Delimiter::Parenthesis) => self.open_repetition(),
+            TokenKind::Open(Delimiter::Parenthesis) => self.open_repetition(part.is_matcher),
             TokenKind::Open(Delimiter::Brace) => {
                 self.fail(RuleFault::Unsupported);
                 Ok(())

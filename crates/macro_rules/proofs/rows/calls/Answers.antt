@@ -49,6 +49,10 @@ pub returns-clause-nested : goal.returns-clause-nested
 unfolding begins fragment_len turn_at by_turn kind_named dollar_read one_read step parts_read rule_read rule_len written applied
 returns-clause-nested c = record { written = refl; faultless = refl }
 
+pub returns-clause-repeated_whole : goal.returns-clause-repeated_whole
+unfolding begins fragment_len turn_at by_turn kind_named dollar_read one_read step parts_read rule_read rule_len written applied
+returns-clause-repeated_whole c = record { written = refl; faultless = refl }
+
 pub returns-clause-in_step : goal.returns-clause-in_step
 unfolding begins fragment_len turn_at by_turn kind_named dollar_read one_read step parts_read rule_read rule_len written applied
 returns-clause-in_step c = record { written = refl; faultless = refl }
