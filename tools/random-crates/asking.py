@@ -250,8 +250,10 @@ def read_imports(printed, ours, keys, own):
         meant = ours.meant.setdefault(key, {})
         for part in told.split("; ")[1:]:
             words = part.split(" ", 2)
-            if part in ("unknown", "more unknown"):
+            if part.startswith(("unknown, by ", "more unknown")):
                 ours.unknown.add(key)
+            elif part.startswith("private "):
+                continue
             elif len(words) == 3 and words[1] == "builtin":
                 meant[words[0]] = ("builtin", words[2].rpartition(" ")[2])
             elif len(words) == 3 and words[0] in ("type", "value", "macro"):

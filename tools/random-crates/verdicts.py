@@ -99,7 +99,7 @@ def ask_together(program, ones):
         printed, told, fault = run(program, folder, "tree", [], "--fixture=all")
         if fault or SUPPORTED not in told:
             return None
-        for number, part in enumerate(f"\n{printed}".split("\n# ")[1:]):
+        for number, part in enumerate(f"\n{printed}".split("\ncrate ")[1:]):
             note_bound(found[number].ours, part.partition("\n")[2])
         if accepted:
             keys = fixture_of([it.one.graph for it in accepted], folder, True)

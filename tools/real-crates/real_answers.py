@@ -72,8 +72,10 @@ def imports(printed, own):
         path, row, column = place.rsplit(":", 2)
         one = found.setdefault((normpath(path), int(row), int(column)), Ours())
         for part in told.split("; ")[1:]:
-            if part == "unknown":
+            if part.startswith("unknown, by "):
                 one.is_unknown = True
+            elif part.startswith("private "):
+                continue
             elif part == "more unknown":
                 one.has_more = True
             elif " builtin " in part:

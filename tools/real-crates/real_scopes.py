@@ -11,7 +11,11 @@ MODULES = 8
 # Of more names than this only so many are asked of a module, at even distances.
 NAMES = 400
 WORD = re.compile(r"\b[A-Za-z_]\w*")
-BOUND = re.compile(r"\b(type|value|macro) pub")
+SPACES = {"mod": "type", "struct": "type", "union": "type", "enum": "type", "variant": "type", "trait": "type",
+          "type": "type", "builtin type": "type", "fn": "value", "const": "value", "static": "value",
+          "constructor": "value", "macro": "macro", "unresolved": "", "unknown": ""}
+TOLD = re.compile(rf"((?:  )+)({'|'.join(SPACES)}) (\S+?)(?:: (.*))?")
+BROUGHT = re.compile(r", (?:import|glob|extern)\b")
 TEST = re.compile(r"#\[(?:test|bench|test_case)\b[^;{}]*?\bfn (\w+)")
 # A `use` or an `extern` block with an attribute that the language has not itself.
 REWRITTEN = re.compile(r"#\[(?!cfg|doc|allow|warn|deny|expect|macro_use|stable|unstable|deprecated|rustc_|prelude_import|link)"
@@ -35,14 +39,19 @@ class Probe:
 
 def trees(printed):
     """The modules that `defmap tree` prints, each with its names, and of each name the namespaces in which it is bound."""
-    modules, names = {}, {}
+    modules, around = {"crate": {}}, ["crate"]
     for line in printed.splitlines():
-        if line.startswith("- "):
-            name, _, items = line[2:].partition(" : ")
-            if name != "_":
-                names[name] = set(BOUND.findall(items))
-        elif line:
-            names = modules.setdefault(line, {})
+        told = TOLD.fullmatch(line)
+        if not told or told[3] == "_":
+            continue
+        depth, kind, name, seen = len(told[1]) // 2, told[2], told[3], told[4] or ""
+        home = around[depth - 1]
+        spaces = modules[home].setdefault(name, set())
+        if SPACES[kind]:
+            spaces.add(SPACES[kind])
+        if kind == "mod" and not BROUGHT.search(seen):
+            around[depth:] = [f"{home}::{name}"]
+            modules.setdefault(around[depth], {})
     return modules
 
 

@@ -7,7 +7,8 @@ use Rattle.std.proofs.lemmas.List.Elements.{All-append, All-cons, All-nil}
 use Rattle.std.proofs.lemmas.Option.{slice_get_within, unwrap_or-slice_get}
 use Rattle.crate_items.specs.DeclaredModules.{Module}
 use Rattle.crate_items.specs.Files.{SourceFile}
-use Rattle.crate_items.specs.Modules.{Adds, IsListedTo, IsListing, IsRead, Listing, declared_in, fault_of, faults_in, faults_of, founds, founds_at, founds_from, is_enabled, is_left, module_of, modules_of, mods_known, of_each, root_module}
+use Rattle.crate_items.specs.ModDirs.{Dir}
+use Rattle.crate_items.specs.Modules.{Adds, IsListedTo, IsListing, IsRead, Listing, beside, declared_in, fault_of, faults_in, faults_of, founds, founds_at, founds_from, is_enabled, is_left, module_of, modules_of, mods_known, of_each, path_within, placed, root_module}
 use Rattle.crate_items.specs.Sources.{AreSourcesOf, Extends, Source, source_at}
 use Rattle.crate_items.specs.declared.files.found.Found.{Found}
 use Rattle.crate_items.specs.declared.files.found.Found.TheVariants.{Declared}
@@ -154,25 +155,34 @@ same_listing edition options files old new sources modules l = record {
 }
 
 -- and where a module is added whose file was read
-pub listing_more : (edition : Edition) (options : List CfgAtom) (files : List SourceFile) (old new : Listing) (table : List (Option Source)) (m : Module) → IsListing edition options files old
+pub listing_more : (edition : Edition) (options : List CfgAtom) (files : List SourceFile) (old new : Listing) (table : List (Option Source)) (m : Module) (base : Option Dir) → IsListing edition options files old
     → length table ≡ length files → AreSourcesOf edition options files table → Extends old.sources table → IsSome (source_at table m.file) → new.sources ≡ table
-    → new.modules ≡ old.modules ++ module_of table (Declared m) → IsListing edition options files new
-listing_more edition options files old new table m l len right more read sources modules = record {
+    → new.modules ≡ old.modules ++ module_of table (Declared m base) → IsListing edition options files new
+listing_more edition options files old new table m base l len right more read sources modules = record {
   len = ap length sources ∙ len;
   right = subst (λ (s : List (Option Source)). AreSourcesOf edition options files s) (sym sources) right;
   read = subst (λ (s : List (Option Source)). All (IsRead s) new.modules) (sym sources) (subst (λ (ms : List Module). All (IsRead table) ms) (sym modules) all);
 }
   where
-    one : (b : Bool) → All (IsRead table) (cond b (m ∷ []) [])
-    one true = All-cons (IsRead table) m [] read (All-nil (IsRead table))
+    at_place : (b : Option Dir) (p : Option (List ℕ)) → IsRead table (beside m b p)
+    at_place None None = read
+    at_place None (Some p) = read
+    at_place (Some b) None = read
+    at_place (Some b) (Some p) = read
+
+    one : (b : Bool) → All (IsRead table) (cond b (placed table m base ∷ []) [])
+    one true = All-cons (IsRead table) (placed table m base) [] (at_place base (path_within (source_at table m.file))) (All-nil (IsRead table))
     one false = All-nil (IsRead table)
 
-    all : All (IsRead table) (old.modules ++ module_of table (Declared m))
-    all = All-append (IsRead table) old.modules (module_of table (Declared m)) (read_more old.sources table old.modules more l.read) (one (is_left table m m.item))
+    all : All (IsRead table) (old.modules ++ module_of table (Declared m base))
+    all = All-append (IsRead table) old.modules (module_of table (Declared m base)) (read_more old.sources table old.modules more l.read) (one (is_left table m m.item))
 
--- a module is left or not, whatever else is read
-pub same_left : (old table : List (Option Source)) (m : Module) → Extends old table → IsSome (source_at old m.file) → module_of old (Declared m) ≡ module_of table (Declared m)
-same_left old table m more read = ap (λ b. cond b (m ∷ []) []) (by m.item)
+-- a module is left or not, and has its place, whatever else is read
+pub same_left : (old table : List (Option Source)) (m : Module) (base : Option Dir) → Extends old table → IsSome (source_at old m.file)
+    → module_of old (Declared m base) ≡ module_of table (Declared m base)
+same_left old table m base more read =
+    ap (λ b. cond b (placed old m base ∷ []) []) (by m.item)
+    ∙ ap (λ (s : Option Source). cond (is_left table m m.item) (beside m base (path_within s) ∷ []) []) (same_source old table m.file more read)
   where
     by : (item : Option ℕ) → is_left old m item ≡ is_left table m item
     by None = ap is_enabled (same_source old table m.file more read)

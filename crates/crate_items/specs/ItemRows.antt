@@ -51,6 +51,7 @@ source =
           ∷ stands (Some 3) (Some 6) false ∷ [];
       mods = [];
       is_enabled = true;
+      path = None;
     }
 
 abbrev pub homed : Option ℕ → ℕ → ℕ → Homed

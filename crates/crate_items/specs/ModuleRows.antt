@@ -1,12 +1,13 @@
 -- Modules of small crates, and how items stand: worked rows.
-use Rattle.std.specs.Prelude.{◌≡◌, ◌+◌, ℕ, Bool, true, false, List, [], ◌∷◌, Option, Some, None, codes, map}
+use Rattle.std.specs.Prelude.{◌≡◌, ◌+◌, ◌++◌, ℕ, Bool, true, false, List, [], ◌∷◌, Option, Some, None, codes, map}
 use Rattle.crate_items.specs.BareModules.{bare_modules}
 use Rattle.crate_items.specs.DeclaredModules.{Module}
 use Rattle.crate_items.specs.Files.{SourceFile, file_at, id_of}
 use Rattle.crate_items.specs.ModDirs as dirs
+use Rattle.crate_items.specs.ModDirs.{Dir}
 use Rattle.crate_items.specs.ModItems.{path_of}
 use Rattle.crate_items.specs.ModuleVisibilities.{Standpoint, shown}
-use Rattle.crate_items.specs.Modules.{faulty, found_as, inline, outline, root_module}
+use Rattle.crate_items.specs.Modules.{base_of, faulty, found_as, inline, module_of, outline, root_module}
 use Rattle.crate_items.specs.Sources.{Source}
 use Rattle.crate_items.specs.Standings.{standings}
 use Rattle.crate_items.specs.declared.modules.declared_module.Declaration.{Declaration}
@@ -66,7 +67,7 @@ abbrev pub FileByPath : Type 0
 FileByPath = map (file_at files) (codes "src/b.rs" ∷ codes "src/c.rs" ∷ []) ≡ Some (id_of 2) ∷ None ∷ []
 
 abbrev pub OneFile : Type 0
-OneFile = found_as files 0 root (mod_at 0 None None true) (Some (codes "a")) ≡ Declared module_a
+OneFile = found_as files 0 root (mod_at 0 None None true) (Some (codes "a")) ≡ Declared module_a (Some root.dir)
 
 -- `mod b;`, of which both files are there, and `mod c;`, of which none is
 abbrev pub TwoFiles : Type 0
@@ -93,7 +94,7 @@ abbrev pub inline_c : Module
 inline_c = inline root (in_root 7 (codes "c")) None
 
 abbrev pub Inline : Type 0
-Inline = found_as files 0 root (mod_at 2 None None false) (Some (codes "c")) ≡ Declared inline_c
+Inline = found_as files 0 root (mod_at 2 None None false) (Some (codes "c")) ≡ Declared inline_c None
 
 -- items of a file, by their kinds, parents, and the lexemes of their outer attributes
 abbrev pub item_of : ItemKind → Option ℕ → ℕ → ℕ → Item
@@ -218,6 +219,27 @@ Shown =
 abbrev pub ShownIn2015 : Type 0
 ShownIn2015 = shown (record within_c { edition = Edition2015 }) lexemes (in_path 5 6) ≡ Some (seen.Within 1)
 
+-- in `mod é { .. }` of the root, whose name is in Normalization Form C, `crate::é` in Form D
+abbrev pub composed : Module
+composed = inline root (in_root 7 (0xC3 ∷ 0xA9 ∷ [])) None
+
+abbrev pub within_composed : Standpoint
+within_composed =
+    record {
+      modules = root ∷ composed ∷ [];
+      number = 1;
+      edition = Edition2021;
+      text = codes "crate::e" ++ 0xCC ∷ 0x81 ∷ [];
+    }
+
+-- `pub(in crate::é)` shows it to the module, and `pub(in crate::e)` to none
+abbrev pub ShownInOneForm : Type 0
+ShownInOneForm =
+    map (λ (len : ℕ). shown within_composed
+    (word_at word.Crate 0 5 ∷ colon_at 5 ∷ colon_at 6 ∷ word_at word.Other 7 len ∷ []) (in_path 0 4))
+    (3 ∷ 1 ∷ [])
+    ≡ Some (seen.Within 1) ∷ None ∷ []
+
 -- `::crate::c::super`
 abbrev pub global_lexemes : List Lexeme
 global_lexemes =
@@ -332,9 +354,29 @@ bare_source =
       standings = [];
       mods = [];
       is_enabled = true;
+      path = None;
     }
 
 abbrev pub BareModules : Type 0
 BareModules =
     bare_modules (record { sources = Some bare_source ∷ []; modules = root ∷ bare_a ∷ beside_c ∷ bare_b ∷ []; faults = [] })
     ≡ false ∷ true ∷ false ∷ true ∷ []
+
+-- the folders of the children of `mod a;`, which is declared in such a folder with a `#[path]` or without, and whose file
+-- begins with such a `#![path]`
+abbrev pub children_of_file : Module → Bool → Option (List ℕ) → List Dir
+children_of_file outer has_path path =
+    map (λ (m : Module). m.dir)
+    (module_of (None ∷ Some (record bare_source { path = path }) ∷ []) (Declared module_a (base_of outer has_path)))
+
+-- from the folder of the declaration, without the own one; a `#[path]` before the module goes before it
+abbrev pub PathOfFile : Type 0
+PathOfFile =
+    children_of_file root false (Some (codes "x/y.rs"))
+    ++ children_of_file module_a false (Some (codes "x/y.rs"))
+    ++ children_of_file root true (Some (codes "x/y.rs"))
+    ++ children_of_file root false None
+    ≡ record { folder = codes "src/x/"; own = [] }
+    ∷ record { folder = codes "src/x/"; own = [] }
+    ∷ module_a.dir
+    ∷ module_a.dir ∷ []

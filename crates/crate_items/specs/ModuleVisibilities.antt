@@ -3,13 +3,14 @@ use Rattle.std.specs.Prelude.{◌==◌, ℕ, Bool, false, zero, suc, List, [], �
 use Rattle.std.specs.Str.{bytes_eq}
 use Rattle.crate_items.specs.DeclaredModules.{Module}
 use Rattle.crate_items.specs.LexemeNames.{names_nothing}
-use Rattle.crate_items.specs.Modules.{Listing}
+use Rattle.crate_items.specs.Modules.{Listing, as_name}
 use Rattle.crate_items.specs.Sources.{Source, source_at}
 use Rattle.crate_items.specs.declared.modules.declared_module.Declaration.{Declaration}
 use Rattle.crate_items.specs.declared.modules.module_visibility.DeclaredVisibility.{DeclaredVisibility}
 use Rattle.crate_items.specs.declared.modules.module_visibility.DeclaredVisibility.TheVariants.{Public, Within}
 use Rattle.crate_items.specs.declared.modules.module_visibility.Reach.{Reach}
 use Rattle.crate_items.specs.declared.modules.module_visibility.Reach.TheVariants.{Start, Global, Up, At, Nowhere}
+use Rattle.dm_base.specs.Names.{Name}
 use Rattle.dm_base.specs.declared.edition.Edition.{Edition}
 use Rattle.dm_base.specs.declared.edition.Edition.TheVariants.{Edition2015}
 use Rattle.item_tree.specs.AttributeKinds.{lexemes_in}
@@ -97,13 +98,21 @@ word_behind s (Up n) w name = upper_word s n w name
 word_behind s (At n) w name = down_word s n w name
 word_behind s Nowhere w name = Nowhere
 
-abbrev pub kind_behind : Standpoint → Reach → LexemeKind → List ℕ → Reach
-kind_behind s r (kind.Word w) name = word_behind s r w name
-kind_behind s r k name = if is_colon k then behind_colon r else Nowhere
+-- a word is the name that its text is, as that of a module is, in Normalization Form C
+abbrev pub behind_word : Standpoint → Reach → Word → Option Name → Reach
+behind_word s r w None = Nowhere
+behind_word s r w (Some name) = word_behind s r w name
+
+abbrev pub lexeme_text : Standpoint → Lexeme → List ℕ
+lexeme_text s l = name_text s.text (record { start = l.start; len = l.len })
+
+abbrev pub kind_behind : Standpoint → Reach → LexemeKind → Lexeme → Reach
+kind_behind s r (kind.Word w) l = behind_word s r w (as_name (lexeme_text s l))
+kind_behind s r k l = if is_colon k then behind_colon r else Nowhere
 
 -- where a path leads behind one more of its lexemes
 abbrev pub behind_lexeme : Standpoint → Reach → Lexeme → Reach
-behind_lexeme s r l = kind_behind s r l.kind (name_text s.text (record { start = l.start; len = l.len }))
+behind_lexeme s r l = kind_behind s r l.kind l
 
 abbrev pub reached : Standpoint → Reach → List Lexeme → Reach
 reached s r [] = r

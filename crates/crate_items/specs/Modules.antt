@@ -1,11 +1,11 @@
 -- The modules that a crate declares.
-use Rattle.std.specs.Prelude.{◌≡◌, ◌==◌, ◌<◌, ◌+◌, ◌++◌, ℕ, All, Bool, true, false, List, [], ◌∷◌, Option, Some, None, IsSome, length, option_map, slice_get, take, chars, encode_utf8_all, if◌then◌else◌}
+use Rattle.std.specs.Prelude.{◌≡◌, ◌==◌, ◌<◌, ◌+◌, ◌++◌, ℕ, All, Bool, true, false, List, [], ◌∷◌, Option, Some, None, IsSome, is_some, length, option_map, slice_get, take, chars, encode_utf8_all, if◌then◌else◌}
 use Rattle.std.specs.Char.{is_ascii}
 use Rattle.std.specs.List.{flat_map, list_all, list_any}
 use Rattle.std.specs.Str.{is_utf8}
 use Rattle.crate_items.specs.Files.{SourceFile, file_at, path_of, text_of}
 use Rattle.crate_items.specs.ModDirs as dirs
-use Rattle.crate_items.specs.ModDirs.{File}
+use Rattle.crate_items.specs.ModDirs.{Dir, File}
 use Rattle.crate_items.specs.Sources.{AreSourcesOf, Extends, Source, source_at}
 use Rattle.crate_items.specs.declared.modules.declared_module.Declaration.{Declaration}
 use Rattle.crate_items.specs.DeclaredModules.{Module, Fault}
@@ -67,23 +67,29 @@ outline m d id c =
 abbrev pub faulty : Declaration → List File → Option FileId → Found
 faulty d cs within = Faulty (record { declaration = d; candidates = cs; within = within })
 
-abbrev pub at_candidate : Module → Declaration → List File → FileId → Option File → Found
-at_candidate m d cs id None = faulty d cs None
-at_candidate m d cs id (Some c) =
+-- the folder that a `#![path]` goes from which the file of a module begins with: that of the declaration. A `#[path]` before
+-- that goes before it
+abbrev pub base_of : Module → Bool → Option Dir
+base_of m has_path = if has_path then None else Some m.dir
+
+abbrev pub at_candidate : Module → Bool → Declaration → List File → FileId → Option File → Found
+at_candidate m has_path d cs id None = faulty d cs None
+at_candidate m has_path d cs id (Some c) =
     if stands_in m id then faulty d cs (Some id)
-    else Declared (outline m d id c)
+    else Declared (outline m d id c) (base_of m has_path)
 
 -- the file of a module is the one that is there among the candidates. None is an error, and so are two
-abbrev pub by_file : Module → Declaration → List File → Option There → Found
-by_file m d cs None = faulty d cs None
-by_file m d cs (Some t) = at_candidate m d cs t.file (slice_get cs t.place)
+abbrev pub by_file : Module → Bool → Declaration → List File → Option There → Found
+by_file m has_path d cs None = faulty d cs None
+by_file m has_path d cs (Some t) = at_candidate m has_path d cs t.file (slice_get cs t.place)
 
-abbrev pub in_file : List SourceFile → Module → Declaration → List File → Found
-in_file files m d cs = by_file m d cs (only (there_from files 0 cs))
+abbrev pub in_file : List SourceFile → Module → Bool → Declaration → List File → Found
+in_file files m has_path d cs = by_file m has_path d cs (only (there_from files 0 cs))
 
 abbrev pub by_kind : List SourceFile → Module → Bool → Declaration → Option (List ℕ) → Found
 by_kind files m is_outline d path =
-    if is_outline then in_file files m d (dirs.candidates m.dir d.name path) else Declared (inline m d path)
+    if is_outline then in_file files m (is_some path) d (dirs.candidates m.dir d.name path)
+    else Declared (inline m d path) None
 
 -- a name is its text in Normalization Form C; a text of ASCII is in that form
 abbrev pub normalized : List ℕ → Name
@@ -139,14 +145,27 @@ abbrev pub is_left : List (Option Source) → Module → Option ℕ → Bool
 is_left table m None = is_enabled (source_at table m.file)
 is_left table m (Some n) = true
 
+-- the `#![path]` that a file begins with
+abbrev pub path_within : Option Source → Option (List ℕ)
+path_within None = None
+path_within (Some s) = s.path
+
+-- the children of a module whose file begins with one have their files beside what it names
+abbrev pub beside : Module → Option Dir → Option (List ℕ) → Module
+beside m (Some base) (Some path) = record m { dir = dirs.of_owner (dirs.attr_file base path) }
+beside m _ _ = m
+
+abbrev pub placed : List (Option Source) → Module → Option Dir → Module
+placed table m base = beside m base (path_within (source_at table m.file))
+
 abbrev pub module_of : List (Option Source) → Found → List Module
 module_of table Nothing = []
-module_of table (Declared m) = if is_left table m m.item then m ∷ [] else []
+module_of table (Declared m base) = if is_left table m m.item then placed table m base ∷ [] else []
 module_of table (Faulty f) = []
 
 abbrev pub fault_of : Found → List Fault
 fault_of Nothing = []
-fault_of (Declared m) = []
+fault_of (Declared m base) = []
 fault_of (Faulty f) = f ∷ []
 
 abbrev pub modules_of : List (Option Source) → List Found → List Module
@@ -175,7 +194,7 @@ IsRead table m = IsSome (source_at table m.file)
 -- a module whose file is in the table
 abbrev pub IsKnown : List SourceFile → Found → Type 0
 IsKnown files Nothing = Unit {0}
-IsKnown files (Declared m) = m.file.0 < length files
+IsKnown files (Declared m base) = m.file.0 < length files
 IsKnown files (Faulty f) = Unit {0}
 
 -- what a crate reads and declares

@@ -1,7 +1,7 @@
 -- Files, as a crate reads them.
-use Rattle.std.specs.Prelude.{◌≡◌, ◌++◌, ℕ, Bool, true, List, Option, Some, None, slice_get, take}
+use Rattle.std.specs.Prelude.{◌≡◌, ◌++◌, ℕ, Bool, true, List, Option, Some, None, option_map, slice_get, take}
 use Rattle.crate_items.specs.Files.{SourceFile, text_of}
-use Rattle.crate_items.specs.ModItems.{IsInTextOrder, mods_of}
+use Rattle.crate_items.specs.ModItems.{IsInTextOrder, mods_of, path_in_range}
 use Rattle.crate_items.specs.Standings.{View, may_stand, standings}
 use Rattle.crate_items.specs.declared.modules.mod_items.ModItem.{ModItem}
 use Rattle.crate_items.specs.declared.modules.standing.Standing.{Standing}
@@ -12,6 +12,7 @@ use Rattle.item_tree.specs.Delimiters.{partners_of}
 use Rattle.item_tree.specs.ItemAttributes.{inner_range}
 use Rattle.item_tree.specs.Items.{children_from, top_level_of}
 use Rattle.item_tree.specs.Lexemes.{lexemes_of}
+use Rattle.item_tree.specs.Strings.{string_value}
 use Rattle.item_tree.specs.Tokens.{are_tokens}
 use Rattle.item_tree.specs.declared.cfg.CfgAtom.{CfgAtom}
 use Rattle.item_tree.specs.declared.items.Item.{Item}
@@ -19,7 +20,8 @@ use Rattle.item_tree.specs.declared.lexer.lexeme.Lexeme.{Lexeme}
 use Rattle.item_tree.specs.declared.lexer.token.Token.{Token}
 
 -- what is read of a file: its lexemes with their partners, its items, and how many are of the top level, its attributes
--- and their active conditions, how each item stands, the modules that it declares, and whether the crate has it at all
+-- and their active conditions, how each item stands, the modules that it declares, whether the crate has it at all, and what
+-- the first active `#![path]` stands for that it begins with
 pub record Source : Type 0 where
   pub lexemes : List Lexeme
   pub partners : List ℕ
@@ -30,6 +32,7 @@ pub record Source : Type 0 where
   pub standings : List Standing
   pub mods : List ModItem
   pub is_enabled : Bool
+  pub path : Option (List ℕ)
 
 abbrev pub view_of : List CfgAtom → List ℕ → Source → View
 view_of options text s = record {
@@ -60,6 +63,8 @@ pub record IsSourceOf (edition : Edition) (options : List CfgAtom) (text : List 
   pub standings : s.standings ≡ standings (view_of options text s)
   pub mods : IsInTextOrder (mods_of s.lexemes (view_of options text s) s.standings) s.mods
   pub enabled : s.is_enabled ≡ may_stand (view_of options text s) (inner_range 0 (take s.top_level s.items))
+  pub path : s.path ≡ option_map (string_value text)
+      (path_in_range (view_of options text s) (inner_range 0 (take s.top_level s.items)))
 
 -- what a file of a number was read as, if it was read
 abbrev pub known : Option (Option Source) → Option Source

@@ -2,7 +2,8 @@
 ghost use Rattle.std.specs.Prelude.{◌≡◌, ◌<◌, ◌≤◌, ◌++◌, ◌∷◌, [], All, IfErr, IfOk, OnOk, length, slice_get};
 ghost use Rattle.crate_items.specs.ModuleVisibilities.{visibility_in};
 ghost use Rattle.crate_items.specs.Modules as spec;
-ghost use Rattle.crate_items.specs.Sources.{AreSourcesOf};
+ghost use Rattle.crate_items.specs.Sources.{AreSourcesOf, source_at};
+ghost use Rattle.std.specs.Option.{option_copied};
 ghost use Rattle.crate_items.specs.declared.files.found.Found.TheVariants.{Declared};
 
 pub mod bare_modules;
@@ -102,15 +103,21 @@ impl CrateModules {
 
     /// Whom a visibility, as it is written in the module of a number, shows what it stands before, by the text of that
     /// module's file; none where it leads to no module around. Then rustc shows it to all.
+    ///
+    /// # Errors
+    ///
+    /// Fails only where memory runs out.
     pub fn visibility(
         &self,
+        alloc: Global,
         edition: Edition,
         text: &[u8],
         number: usize,
         written: RawVisibility,
-    ) -> Option<DeclaredVisibility>
+    ) -> Result<Option<DeclaredVisibility>, AllocError>
         requires { number < length self.now.modules }
-        ensures { result ≡ visibility_in self.now edition text.now number written }
+        ensures { IfOk result
+            (λ shown. shown ≡ visibility_in self.now edition text.now number written) }
     {
         let standpoint = Standpoint {
             modules: self.modules.as_slice(),
@@ -119,20 +126,26 @@ impl CrateModules {
             text,
         };
         match self.sources.get(self.modules[number].file) {
-            None => standpoint.shown(&[], written),
-            Some(source) => standpoint.shown(source.lexemes(), written),
+            None => standpoint.shown(alloc, &[], written),
+            Some(source) => standpoint.shown(alloc, source.lexemes(), written),
         }
     }
 
     /// Adds a module of which the file is read, unless that file has a `cfg` that does not hold.
-    fn push_left(&mut self, declared: DeclaredModule) -> Result<(), AllocError>
+    fn push_left(
+        &mut self,
+        alloc: Global,
+        declared: DeclaredModule,
+        base: Option<ModDir>,
+    ) -> Result<(), AllocError>
         ensures sources { self.new.sources ≡ self.old.sources }
         ensures faults { self.new.faults ≡ self.old.faults }
         ensures modules { OnOk result (self.new.modules ≡
-            self.old.modules ++ spec.module_of self.old.sources (Declared declared)) }
+            self.old.modules ++ spec.module_of self.old.sources (Declared declared base)) }
     {
         if is_left(&self.sources, &declared) {
-            self.modules.push(declared)?;
+            let placed = placed(alloc, &self.sources, declared, base)?;
+            self.modules.push(placed)?;
         }
         Ok(())
     }
@@ -158,10 +171,10 @@ impl CrateModules {
                 self.faults.push(fault)?;
                 Ok(())
             }
-            Found::Declared(declared) => {
+            Found::Declared(declared, base) => {
                 self.sources
                     .read(alloc, edition, options, files, declared.file)?;
-                self.push_left(declared)?;
+                self.push_left(alloc, declared, base)?;
                 Ok(())
             }
         }
@@ -219,6 +232,39 @@ fn is_left(sources: &Sources, declared: &DeclaredModule) -> bool
         None => match sources.get(declared.file) {
             None => true,
             Some(source) => source.is_enabled(),
+        },
+    }
+}
+
+/// The `#![path]` that a file begins with.
+fn path_within(sources: &Sources, file: FileId) -> Option<&[u8]>
+    ensures { option_copied result ≡ spec.path_within (source_at sources.now file) }
+{
+    match sources.get(file) {
+        None => None,
+        Some(source) => source.path(),
+    }
+}
+
+/// A module, whose children have their files beside what a `#![path]` names from a folder that its file begins with.
+fn placed(
+    alloc: Global,
+    sources: &Sources,
+    declared: DeclaredModule,
+    base: Option<ModDir>,
+) -> Result<DeclaredModule, AllocError>
+    ensures { IfOk result (λ m. m ≡ spec.placed sources.now declared base) }
+{
+    match base {
+        None => Ok(declared),
+        Some(base) => match path_within(sources, declared.file) {
+            None => Ok(declared),
+            Some(path) => {
+                let dir = base.beside(alloc, path)?;
+                let mut placed = declared;
+                placed.dir = dir;
+                Ok(placed)
+            }
         },
     }
 }

@@ -118,13 +118,18 @@ impl<'a> CrateView<'a> {
     }
 
     /// Whom a declaration shows its module to.
-    fn shown(&self, declaration: &Declaration) -> Option<DeclaredVisibility>
-        ensures { result ≡ spec.shown_in self.now declaration.now
-            (slice_get self.now.list.modules declaration.now.parent) }
+    fn shown(
+        &self,
+        alloc: Global,
+        declaration: &Declaration,
+    ) -> Result<Option<DeclaredVisibility>, AllocError>
+        ensures { IfOk result (λ shown. shown ≡ spec.shown_in self.now declaration.now
+            (slice_get self.now.list.modules declaration.now.parent)) }
     {
         match self.list.modules().get(declaration.parent) {
-            None => None,
+            None => Ok(None),
             Some(outer) => self.list.visibility(
+                alloc,
                 self.edition,
                 text_of(self.files, outer.file()),
                 declaration.parent,
@@ -149,7 +154,7 @@ impl<'a> CrateView<'a> {
             item: declaration.item,
             own_file: own_file(self.files, declared.file(), declared.item()),
             written: declaration.visibility,
-            shown: self.shown(declaration),
+            shown: self.shown(alloc, declaration)?,
         })
     }
 

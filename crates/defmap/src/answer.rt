@@ -1,14 +1,20 @@
 //! The answer to what is asked.
+use crate::second::add_second_declarations;
+use crate::settled::Settled;
 use crate::settling::{SettledInputs, settle_crates};
 use crate::stats::push_counts;
 use crate::trees::trees_text;
-use defmap_answers::crates::Crates;
+use defmap_answers::crates::{Crates, asked_crates, crate_name};
 use defmap_answers::imports::imports_text;
+use defmap_answers::incomplete::incomplete_of;
 use defmap_answers::items::{Manner, items_text};
-use defmap_answers::places::Lines;
-use defmap_answers::resolve::{meaning_text, module_at};
+use defmap_answers::module_paths::module_at;
+use defmap_answers::resolve::{Finding, meaning_text};
+use defmap_answers::rows::{Style, push_row};
 use defmap_answers::stopwatch::Stopwatch;
-use defmap_answers::unresolved::{Told, UnknownCount, find_unresolved, nothing, push_messages};
+use defmap_answers::survey::Survey;
+use defmap_answers::syntax::add_syntax_errors;
+use defmap_answers::unresolved::{Told, UnknownCount, find_unresolved, messages_text, nothing};
 use defmap_answers::written_path::written_path;
 use defmap_inputs::arguments::{Arguments, Question, TreeForm, Wish};
 use defmap_inputs::complaints::Complaints;
@@ -73,6 +79,7 @@ fn push_unknown(out: &mut String, name: &str, count: UnknownCount) -> Result<(),
     let UnknownCount {
         by_macros,
         by_standard,
+        by_files,
         calls,
     } = count;
     if by_macros > 0 {
@@ -85,6 +92,12 @@ fn push_unknown(out: &mut String, name: &str, count: UnknownCount) -> Result<(),
         write!(
             out,
             "{name}: {by_standard} imports unknown, from the standard library: give its folder by --sysroot\n"
+        )?;
+    }
+    if by_files > 0 {
+        write!(
+            out,
+            "{name}: {by_files} imports unknown, from files that are not there\n"
         )?;
     }
     if calls > 0 {
@@ -101,22 +114,12 @@ fn unknown_told<C: Crates>(
     complaints: &Complaints,
 ) -> Result<String, AllocError> {
     let mut told = ended(alloc, complaints)?;
-    for (name, count) in crates.names().iter().zip(unknown) {
-        push_unknown(&mut told, name.as_str(), *count)?;
+    for krate in &asked_crates(alloc, crates)? {
+        if let Some(count) = unknown.get(krate.0 as usize) {
+            push_unknown(&mut told, crate_name(crates, *krate), *count)?;
+        }
     }
     Ok(told)
-}
-
-/// The messages, in lines.
-fn messages_text<C: Crates>(
-    alloc: Global,
-    crates: &C,
-    told: &mut Vec<Told>,
-) -> Result<String, AllocError> {
-    let lines = Lines::new(alloc, crates.files())?;
-    let mut out = String::new(alloc);
-    push_messages(&mut out, &lines, told)?;
-    Ok(out)
 }
 
 /// Whether all crates are given that there are, those of the standard library too.
@@ -124,16 +127,27 @@ fn has_all(given: &Arguments<'_>) -> bool {
     given.sysroot.is_some() || given.fixture.is_some()
 }
 
+/// Adds what is wrong with the texts of the crates that are asked about: syntax errors, and second declarations.
+fn add_wrong_texts(told: &mut Vec<Told>, survey: &Survey<'_, Settled>) -> Result<(), AllocError> {
+    add_syntax_errors(told, survey.alloc(), survey.crates())?;
+    add_second_declarations(told, survey.alloc(), survey.crates())
+}
+
 /// The answer to `unresolved`.
-fn unresolved_answer<C: Crates>(
-    alloc: Global,
-    crates: &C,
-    given: &Arguments<'_>,
+fn unresolved_answer(
+    survey: &Survey<'_, Settled>,
     complaints: &Complaints,
 ) -> Result<Answer, AllocError> {
-    let mut found = find_unresolved(alloc, crates, has_all(given))?;
-    let out = messages_text(alloc, crates, &mut found.told)?;
-    let told = unknown_told(alloc, crates, found.unknown.as_slice(), complaints)?;
+    let mut found = find_unresolved(survey)?;
+    add_wrong_texts(&mut found.told, survey)?;
+    let out = messages_text(
+        survey.alloc(),
+        survey.lines(),
+        survey.style(),
+        &mut found.told,
+    )?;
+    let unknown = found.unknown.as_slice();
+    let told = unknown_told(survey.alloc(), survey.crates(), unknown, complaints)?;
     let status = if !complaints.lines().is_empty() {
         Status::Unreadable
     } else if found.told.is_empty() {
@@ -144,17 +158,18 @@ fn unresolved_answer<C: Crates>(
     Ok(Answer { out, told, status })
 }
 
-/// What could not be read, in lines, and whether there is nothing of it.
-fn missing_told<C: Crates>(
-    alloc: Global,
-    crates: &C,
+/// What could not be read or is wrong with texts, in lines, and whether there is nothing of it.
+fn missing_told(
+    survey: &Survey<'_, Settled>,
     complaints: &Complaints,
 ) -> Result<(String, bool), AllocError> {
+    let alloc = survey.alloc();
     let mut missing = nothing(alloc, 0)?;
-    missing.add_modules(alloc, crates)?;
+    missing.add_modules(alloc, survey.crates())?;
+    add_wrong_texts(&mut missing.told, survey)?;
     let is_whole = missing.told.is_empty() && complaints.lines().is_empty();
     let mut told = ended(alloc, complaints)?;
-    let modules = messages_text(alloc, crates, &mut missing.told)?;
+    let modules = messages_text(alloc, survey.lines(), Style::Text, &mut missing.told)?;
     told.push_str(modules.as_str())?;
     Ok((told, is_whole))
 }
@@ -174,16 +189,15 @@ fn diagnosed_answer(
 
 /// The answer to `tree`.
 fn tree_answer(
-    alloc: Global,
     made: &SettledInputs,
-    given: &Arguments<'_>,
-    form: TreeForm,
-) -> Result<Answer, AllocError> {
-    let out = trees_text(alloc, made, form, given.fixture.is_some())?;
+    survey: &Survey<'_, Settled>,
+    form: TreeForm<'_>,
+) -> Result<Answer, Failure> {
+    let out = trees_text(made, survey, form)?;
     if form.has_diagnostics {
-        return diagnosed_answer(alloc, out, &made.complaints);
+        return Ok(diagnosed_answer(survey.alloc(), out, &made.complaints)?);
     }
-    let (told, is_whole) = missing_told(alloc, &made.settled, &made.complaints)?;
+    let (told, is_whole) = missing_told(survey, &made.complaints)?;
     Ok(Answer {
         out,
         told,
@@ -196,71 +210,127 @@ fn no_path<T>(alloc: Global, written: &str) -> Result<T, Failure> {
     Err(Failure::Told(Status::Misused, told))
 }
 
+/// The status where something was found of a path, and all was read.
+fn found_status(finding: Finding) -> Status {
+    match finding {
+        Finding::Found => Status::Fine,
+        Finding::Absent => Status::Absent,
+        Finding::Unknown => Status::Unreadable,
+        Finding::Behind => Status::Behind,
+    }
+}
+
 /// The answer to what a path means in a module.
 fn meaning_answer<C: Crates>(
-    alloc: Global,
-    crates: &C,
+    survey: &Survey<'_, C>,
     home: ModuleId,
     path: &ModPath,
     complaints: &Complaints,
 ) -> Result<Answer, AllocError> {
-    let (out, is_found) = meaning_text(alloc, crates, home, path)?;
+    let (out, finding) = meaning_text(survey, home, path)?;
     Ok(Answer {
         out,
-        told: ended(alloc, complaints)?,
-        status: if !complaints.lines().is_empty() {
-            Status::Unreadable
-        } else if is_found {
-            Status::Fine
+        told: ended(survey.alloc(), complaints)?,
+        status: if complaints.lines().is_empty() {
+            found_status(finding)
         } else {
-            Status::Absent
+            Status::Unreadable
         },
     })
 }
 
 /// The answer to `resolve`.
 fn resolve_answer<C: Crates>(
-    alloc: Global,
-    crates: &C,
+    survey: &Survey<'_, C>,
     written: &str,
     home: &str,
     complaints: &Complaints,
 ) -> Result<Answer, Failure> {
+    let alloc = survey.alloc();
     let Some(path) = written_path(alloc, written)? else {
         return no_path(alloc, written);
     };
-    let home = module_at(alloc, crates, home)?;
-    Ok(meaning_answer(alloc, crates, home, &path, complaints)?)
+    let home = module_at(survey, home)?;
+    Ok(meaning_answer(survey, home, &path, complaints)?)
 }
 
 /// The answer to `imports`.
 fn imports_answer<C: Crates>(
-    alloc: Global,
-    crates: &C,
-    given: &Arguments<'_>,
+    survey: &Survey<'_, C>,
     complaints: &Complaints,
 ) -> Result<Answer, AllocError> {
     Ok(Answer {
-        out: imports_text(alloc, crates, has_all(given))?,
-        told: ended(alloc, complaints)?,
+        out: imports_text(survey)?,
+        told: ended(survey.alloc(), complaints)?,
         status: read_status(complaints.lines().is_empty()),
     })
 }
 
 /// The answer to a question.
 fn answered(
+    made: &SettledInputs,
+    survey: &Survey<'_, Settled>,
+    question: Question<'_>,
+) -> Result<Answer, Failure> {
+    let complaints = &made.complaints;
+    match question {
+        Question::Tree(form) => tree_answer(made, survey, form),
+        Question::Unresolved => Ok(unresolved_answer(survey, complaints)?),
+        Question::Imports => Ok(imports_answer(survey, complaints)?),
+        Question::Resolve { path, home } => resolve_answer(survey, path, home, complaints),
+    }
+}
+
+/// Tells behind an answer how much of the crates is not known.
+fn tell_incomplete(
+    answer: &mut Answer,
+    survey: &Survey<'_, Settled>,
+    given: &Arguments<'_>,
+) -> Result<(), AllocError> {
+    let incomplete = incomplete_of(survey)?;
+    if incomplete.is_nothing() {
+        return Ok(());
+    }
+    push_row(&mut answer.told, survey.alloc(), Style::Text, &incomplete)?;
+    if given.is_json {
+        push_row(&mut answer.out, survey.alloc(), Style::Json, &incomplete)?;
+    }
+    if given.is_strict && answer.status == Status::Fine {
+        answer.status = Status::Unreadable;
+    }
+    Ok(())
+}
+
+/// How the answer is written.
+fn style_of(given: &Arguments<'_>) -> Style {
+    if given.is_json {
+        Style::Json
+    } else {
+        Style::Text
+    }
+}
+
+/// Whether each answer tells how much is not known: the dumps of def maps tell what these have.
+fn is_of_dumps(question: Question<'_>) -> bool {
+    match question {
+        Question::Tree(form) => form.is_dump,
+        _ => false,
+    }
+}
+
+/// The answer to a question, and how much of the crates is not known.
+fn whole_answer(
     alloc: Global,
     made: &SettledInputs,
     given: &Arguments<'_>,
     question: Question<'_>,
 ) -> Result<Answer, Failure> {
-    let (settled, complaints) = (&made.settled, &made.complaints);
-    match question {
-        Question::Tree(form) => Ok(tree_answer(alloc, made, given, form)?),
-        Question::Unresolved => Ok(unresolved_answer(alloc, settled, given, complaints)?),
-        Question::Imports => Ok(imports_answer(alloc, settled, given, complaints)?),
-        Question::Resolve { path, home } => resolve_answer(alloc, settled, path, home, complaints),
+    let survey = Survey::of(alloc, &made.settled, has_all(given), style_of(given))?;
+    let mut answer = answered(made, &survey, question)?;
+    if !is_of_dumps(question) {
+        tell_incomplete(&mut answer, &survey, given)?;
     }
+    Ok(answer)
 }
 
 /// The answer by the settled crates.
@@ -271,8 +341,7 @@ fn answer_by<R: AllocGlobal + Clock>(
     question: Question<'_>,
     watch: &mut Stopwatch,
 ) -> Result<Answer, Failure> {
-    let alloc = rt.alloc();
-    let mut answered = answered(alloc, made, given, question)?;
+    let mut answered = whole_answer(rt.alloc(), made, given, question)?;
     watch.end(rt, "answering")?;
     if given.has_stats {
         push_counts(&mut answered.told, &made.settled)?;

@@ -6,7 +6,8 @@ use crate_items::items::module_items::module_items;
 use crate_items::modules::CrateModules;
 use crate_tables::crate_table::CrateTable;
 use defmap_answers::places::ItemPlace;
-use dm_base::ids::{Crate, UseId};
+use dm_base::ids::{Crate, ModuleId, UseId};
+use dm_base::item_ids::ModuleDefId;
 use indexmap::IndexMap;
 use std::alloc::{AllocError, Global};
 
@@ -54,6 +55,59 @@ pub(crate) fn use_places(
                 item: place.item,
             };
             places.insert(place.use_, written)?;
+        }
+    }
+    Ok(places)
+}
+
+/// Adds the places of the modules of a crate, but for its root, which no item declares.
+fn add_modules(
+    places: &mut IndexMap<ModuleDefId, ItemPlace>,
+    krate: usize,
+    list: &CrateModules,
+    ids: &[Option<ModuleId>],
+) -> Result<(), AllocError> {
+    for (module, id) in list.modules().iter().zip(ids) {
+        if let (Some(id), Some(declaration)) = (id, module.declaration()) {
+            let written = ItemPlace {
+                krate,
+                file: declaration.file,
+                item: declaration.item,
+            };
+            places.insert(ModuleDefId::ModuleId(*id), written)?;
+        }
+    }
+    Ok(())
+}
+
+/// Adds the places of the definitions of a crate.
+fn add_defs(
+    places: &mut IndexMap<ModuleDefId, ItemPlace>,
+    krate: usize,
+    table: &CrateTable,
+) -> Result<(), AllocError> {
+    for place in table.defs() {
+        let written = ItemPlace {
+            krate,
+            file: place.file,
+            item: place.item,
+        };
+        places.insert(place.def, written)?;
+    }
+    Ok(())
+}
+
+/// The places of the definitions and the modules of crates.
+pub(crate) fn def_places(
+    alloc: Global,
+    lists: &[CrateModules],
+    tables: &[CrateTable],
+) -> Result<IndexMap<ModuleDefId, ItemPlace>, AllocError> {
+    let mut places = IndexMap::new(alloc);
+    for (krate, table) in tables.iter().enumerate() {
+        add_defs(&mut places, krate, table)?;
+        if let Some(list) = lists.get(krate) {
+            add_modules(&mut places, krate, list, table.ids())?;
         }
     }
     Ok(places)

@@ -3,11 +3,13 @@
 #![tactic(auto)]
 
 mod answer;
+mod associated;
 mod assocs;
 mod diagnostics;
 mod item_places;
 mod lists;
 mod macro_view;
+mod second;
 mod settled;
 mod settling;
 mod stats;

@@ -1,5 +1,6 @@
 //! The crates that are asked about, collected and settled.
-use crate::item_places::{all_items, use_places};
+use crate::associated::associated_items;
+use crate::item_places::{all_items, def_places, use_places};
 use crate::{world_modules, world_names, world_paths};
 use crate_items::files::crate_graph::CrateGraph;
 use crate_items::files::file_table::FileTable;
@@ -7,6 +8,7 @@ use crate_items::items::declared_item::DeclaredItem;
 use crate_items::modules::CrateModules;
 use crate_tables::crate_filling::Reading;
 use def_diagnostics::unresolved_globs::leads_nowhere;
+use defmap_answers::associated::AssociatedItem;
 use defmap_answers::crates::Crates;
 use defmap_answers::places::ItemPlace;
 use dm_base::ids::{Crate, EnumId, EnumVariantId, ExternCrateId, ModuleId, UseId};
@@ -36,6 +38,7 @@ pub(crate) struct Settled {
     files: FileTable,
     items: Vec<Vec<DeclaredItem>>,
     uses: IndexMap<UseId, ItemPlace>,
+    defs: IndexMap<ModuleDefId, ItemPlace>,
     pub(crate) collected: Collected,
     /// The imports that mean nothing, by their places.
     unresolved: Vec<usize>,
@@ -54,6 +57,7 @@ impl Drop for Settled {
             files: _files,
             items: _items,
             uses: _uses,
+            defs: _defs,
             collected: _collected,
             unresolved: _unresolved,
             names: _names,
@@ -128,6 +132,7 @@ fn procedural_crates(
 struct ItemLists {
     items: Vec<Vec<DeclaredItem>>,
     uses: IndexMap<UseId, ItemPlace>,
+    defs: IndexMap<ModuleDefId, ItemPlace>,
     procedural: Vec<bool>,
 }
 
@@ -142,6 +147,7 @@ fn listed(
     Ok(ItemLists {
         items: all_items(alloc, graph, lists, files)?,
         uses: use_places(alloc, collected.tables.as_slice())?,
+        defs: def_places(alloc, lists, collected.tables.as_slice())?,
         procedural: procedural_crates(alloc, graph, lists.len())?,
     })
 }
@@ -159,12 +165,14 @@ impl Settled {
         let ItemLists {
             items,
             uses,
+            defs,
             procedural,
         } = listed(alloc, graph, &files, &collected)?;
         Ok(Settled {
             files,
             items,
             uses,
+            defs,
             collected,
             unresolved,
             names,
@@ -294,6 +302,22 @@ impl Crates for Settled {
 
     fn declared_name(&self, home: ModuleId, def: ModuleDefId) -> Option<&Name> {
         world_names::declared_name(&self.collected.world, home, def)
+    }
+
+    fn def_place(&self, def: ModuleDefId) -> Option<ItemPlace> {
+        self.defs.get(&def).copied()
+    }
+
+    fn sees(&self, from: ModuleId, visibility: Visibility) -> bool {
+        world_paths::sees(&self.collected.world, from, visibility)
+    }
+
+    fn variants(&self, alloc: Global, e: EnumId) -> Result<Vec<&Name>, AllocError> {
+        world_names::variants(alloc, &self.collected.world, e)
+    }
+
+    fn associated_items(&self, alloc: Global) -> Result<Vec<AssociatedItem>, AllocError> {
+        associated_items(alloc, self)
     }
 
     fn enum_of(&self, variant: EnumVariantId) -> Option<EnumId> {

@@ -6,6 +6,7 @@ use dm_base::name::Name;
 use dm_maps::world::World;
 use dm_scope::item_scope::ItemScope;
 use dm_scope::scope_tables::ScopeTables;
+use std::alloc::{AllocError, Global};
 
 /// The name that a scope declares a definition under as a type.
 fn type_name(scope: &ItemScope, def: ModuleDefId) -> Option<&Name> {
@@ -84,4 +85,16 @@ pub(crate) fn variant_name(world: &World, e: EnumId, variant: EnumVariantId) -> 
         }
     }
     None
+}
+
+/// The names of the variants of an enum, in the order in which they are written.
+pub(crate) fn variants(alloc: Global, world: &World, e: EnumId) -> Result<Vec<&Name>, AllocError> {
+    let mut names = Vec::new(alloc);
+    let Some(variants) = world.variants(e) else {
+        return Ok(names);
+    };
+    for (name, _variant) in variants {
+        names.push(name)?;
+    }
+    Ok(names)
 }

@@ -1,8 +1,14 @@
-//! What paths mean in a world. Nothing where the world has not what these name.
+//! What paths mean in a world, and who sees what. Nothing where the world has not what these name.
+ghost use Rattle.std.specs.Prelude.{◌↔◌, IsTrue};
+ghost use Rattle.dm_base.specs.Visibility.{NamesKnown};
+ghost use Rattle.dm_maps.specs.Trees.{tree_of};
+
 use dm_base::ids::ModuleId;
 use dm_base::item_ids::ModuleDefId;
 use dm_base::item_in_ns::ItemModules;
 use dm_base::mod_path::ModPath;
+use dm_base::module_tree::ModuleTree;
+use dm_base::visibility::Visibility;
 use dm_maps::modes::{BuiltinShadowMode, MacroSubNs};
 use dm_maps::world::World;
 use dm_maps::world::maps_of::local_def_map;
@@ -48,4 +54,25 @@ pub(crate) fn macro_meaning(
     path: &ModPath,
 ) -> Option<ResolvePathResult> {
     meaning_with(world, ResolveMode::Other, m, path, Some(MacroSubNs::Bang))
+}
+
+/// Whether the module that a visibility names, if it names one, is the world's.
+#[tactic(auto, unfolding(dm_maps::specs::Trees::tree_of))]
+fn is_named(world: &World, visibility: Visibility) -> bool
+    ensures { IsTrue result ↔ NamesKnown (tree_of world.now) visibility }
+{
+    match visibility {
+        Visibility::Module(m, _) => world.has(m),
+        Visibility::PubCrate(_) => true,
+        Visibility::Public => true,
+    }
+}
+
+/// Whether a module sees what has a visibility.
+pub(crate) fn sees(world: &World, from: ModuleId, visibility: Visibility) -> bool {
+    if world.has(from) && is_named(world, visibility) {
+        visibility.is_visible_from(world, from)
+    } else {
+        false
+    }
 }

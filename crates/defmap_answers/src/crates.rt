@@ -1,4 +1,5 @@
 //! `Crates`: what the answers ask of crates that are collected.
+use crate::associated::AssociatedItem;
 use crate::places::ItemPlace;
 use crate_items::files::file_table::FileTable;
 use crate_items::items::declared_item::DeclaredItem;
@@ -100,6 +101,18 @@ pub trait Crates {
 
     /// The name that a module declares a definition under.
     fn declared_name(&self, home: ModuleId, def: ModuleDefId) -> Option<&Name>;
+
+    /// Where a definition is written.
+    fn def_place(&self, def: ModuleDefId) -> Option<ItemPlace>;
+
+    /// Whether a module sees what has a visibility.
+    fn sees(&self, from: ModuleId, visibility: Visibility) -> bool;
+
+    /// The names of the variants of an enum, in the order in which they are written.
+    fn variants(&self, alloc: Global, e: EnumId) -> Result<Vec<&Name>, AllocError>;
+
+    /// The associated items of traits and of plain inherent implementations, of all crates.
+    fn associated_items(&self, alloc: Global) -> Result<Vec<AssociatedItem>, AllocError>;
 
     /// The enum of a variant.
     fn enum_of(&self, variant: EnumVariantId) -> Option<EnumId>;

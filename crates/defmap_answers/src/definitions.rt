@@ -6,7 +6,7 @@ use dm_base::item_ids::{AdtId, ModuleDefId};
 use std::alloc::{AllocError, Global};
 
 /// How a kind of definition is called.
-fn kind_word(def: ModuleDefId) -> &'static str {
+pub(crate) fn kind_word(def: ModuleDefId) -> &'static str {
     match def {
         ModuleDefId::ModuleId(_) => "mod",
         ModuleDefId::FunctionId(_) => "fn",
@@ -20,6 +20,14 @@ fn kind_word(def: ModuleDefId) -> &'static str {
         ModuleDefId::TypeAliasId(_) => "type",
         ModuleDefId::BuiltinType(_) => "builtin type",
         ModuleDefId::MacroId(_) => "macro",
+    }
+}
+
+/// The same of what a name is as a value: a struct and a variant are their constructors there.
+pub(crate) fn value_word(def: ModuleDefId) -> &'static str {
+    match def {
+        ModuleDefId::AdtId(_) | ModuleDefId::EnumVariantId(_) => "constructor",
+        _ => kind_word(def),
     }
 }
 
@@ -58,7 +66,11 @@ fn variant_path<C: Crates>(
 }
 
 /// The path of a definition.
-fn path_of<C: Crates>(alloc: Global, crates: &C, def: ModuleDefId) -> Result<String, AllocError> {
+pub(crate) fn definition_path<C: Crates>(
+    alloc: Global,
+    crates: &C,
+    def: ModuleDefId,
+) -> Result<String, AllocError> {
     let home = match def {
         ModuleDefId::ModuleId(m) => return module_path(alloc, crates, m),
         ModuleDefId::BuiltinType(builtin) => return String::from_str(alloc, builtin.as_str()),
@@ -77,6 +89,6 @@ pub(crate) fn definition_text<C: Crates>(
     crates: &C,
     def: ModuleDefId,
 ) -> Result<String, AllocError> {
-    let path = path_of(alloc, crates, def)?;
+    let path = definition_path(alloc, crates, def)?;
     format!(in alloc; "{} {path}", kind_word(def))
 }

@@ -1,23 +1,25 @@
-//! What may be there although it is not found: names that an unexpanded macro, or a crate that is not given, may bring.
+//! What may be there although it is not found: names that an unexpanded macro, a file that is not there, or a crate that is
+//! not given, may bring.
 //!
 //! A module *hides* names where a macro is called among its items, and where it has a glob import of a module that hides
 //! names, or one that is itself unknown. An import that leads nowhere is *unknown* where it begins with a crate of the
 //! standard library, which is not given; where the module that its first missing name is looked up in hides names; where
 //! this name is the last, and that module the root of a crate of procedural macros, or of one in which a macro is called
-//! that may export macros; and where an unknown import of that module, or of one that it has a glob of, would bind this
-//! name.
+//! that may export macros; where this name is that of a module without its file; and where an unknown import of that
+//! module, or of one that it has a glob of, would bind this name.
 use crate::crates::Crates;
 use crate::macro_exports::exporting_roots;
 use crate::macro_homes::MacroHome;
 use crate::notes::{Cause, Notes};
 use crate::written_path::prefix_of;
+use crate_items::modules::CrateModules;
 use dm_base::ids::ModuleId;
 use dm_base::item_ids::ModuleDefId;
 use dm_base::mod_path::{ModPath, PathKind};
 use dm_base::name::Name;
 use dm_imports::container::Container;
 use dm_imports::glob_import::GlobImport;
-use indexmap::IndexSet;
+use indexmap::IndexMap;
 use std::alloc::{AllocError, Global};
 
 /// What is hidden in crates.
@@ -43,15 +45,15 @@ impl<'a, C: Crates> Drop for Hidden<'a, C> {
 
 /// The name that is missing of a path, and the module that it is looked up in.
 #[derive(Clone, Copy)]
-struct Missing<'b> {
-    module: ModuleId,
-    name: Option<&'b Name>,
+pub(crate) struct Missing<'b> {
+    pub(crate) module: ModuleId,
+    pub(crate) name: Option<&'b Name>,
     is_first: bool,
     is_last: bool,
 }
 
 /// Whether a crate of the standard library has a name.
-fn is_standard(name: &Name) -> bool {
+pub(crate) fn is_standard(name: &Name) -> bool {
     matches!(
         name.as_str(),
         "core" | "alloc" | "std" | "test" | "proc_macro"
@@ -95,7 +97,7 @@ pub(crate) fn first_module<C: Crates>(crates: &C, home: ModuleId) -> ModuleId {
 }
 
 /// The first missing name of the path of an import that leads nowhere.
-fn missing_of<'b, C: Crates>(
+pub(crate) fn missing_of<'b, C: Crates>(
     alloc: Global,
     crates: &C,
     home: ModuleId,
@@ -129,10 +131,10 @@ fn missing_of<'b, C: Crates>(
 }
 
 /// The modules that macro calls stand in.
-fn modules_of(alloc: Global, homes: &[MacroHome]) -> Result<IndexSet<ModuleId>, AllocError> {
-    let mut modules = IndexSet::new(alloc);
+fn modules_of(alloc: Global, homes: &[MacroHome]) -> Result<IndexMap<ModuleId, Cause>, AllocError> {
+    let mut modules = IndexMap::new(alloc);
     for home in homes {
-        modules.insert(home.module)?;
+        modules.insert(home.module, Cause::Macro)?;
     }
     Ok(modules)
 }
@@ -162,8 +164,32 @@ impl<'a, C: Crates> Hidden<'a, C> {
             has_sysroot,
             notes: begun(alloc, crates, homes)?,
         };
+        hidden.note_files()?;
         hidden.find_all(crates.unresolved())?;
         Ok(hidden)
+    }
+
+    /// Notes the modules of the crate of a number whose files are not there.
+    fn note_files_of(&mut self, number: usize, list: &'a CrateModules) -> Result<(), AllocError> {
+        let crates = self.crates;
+        for fault in list.faults() {
+            let declaration = fault.declaration();
+            let home = crates.module_ids(number).get(declaration.parent);
+            if let Some(home) = home.copied().flatten() {
+                let name = declaration.name.as_str();
+                self.notes.note_name(home, name, Cause::File)?;
+            }
+        }
+        Ok(())
+    }
+
+    /// Notes the modules of all crates whose files are not there.
+    fn note_files(&mut self) -> Result<(), AllocError> {
+        let crates = self.crates;
+        for (number, list) in crates.lists().iter().enumerate() {
+            self.note_files_of(number, list)?;
+        }
+        Ok(())
     }
 
     /// Notes what is unknown, until there is nothing new.

@@ -1,49 +1,79 @@
 //! What each import of some crates means.
 use crate::ambiguous::Ambiguities;
-use crate::by_rules::{meanings_of, source_meanings};
+use crate::by_rules::{mean_something, meanings_of, source_meanings};
 use crate::crates::{Crates, asked_crates};
 use crate::definitions::definition_text;
-use crate::hidden::Hidden;
-use crate::macro_homes::macro_homes;
+use crate::notes::Cause;
 use crate::partly::partly_unknown;
 use crate::path_text::path_text;
-use crate::places::{Lines, use_spot};
+use crate::places::use_spot;
 use crate::prelude_use::prelude_use;
+use crate::private::private_text;
+use crate::rows::{Location, Row, push_location, push_row};
 use crate::shown::is_own;
-use dm_base::ids::{Crate, UseId, UseTreeIdx};
+use crate::survey::Survey;
+use dm_base::ids::{Crate, ModuleId, UseId, UseTreeIdx};
 use dm_base::mod_path::ModPath;
+use dm_imports::meaning::Meaning;
 use dm_imports::rules::meanings::ImportMeanings;
 use indexmap::IndexSet;
+use serde::Serialize;
 use std::alloc::{AllocError, Global};
 use std::fmt::Write;
 
-/// Adds the words for what something is in each namespace.
-fn push_meant<C: Crates>(
-    out: &mut String,
-    alloc: Global,
-    crates: &C,
-    meanings: ImportMeanings,
-) -> Result<(), AllocError> {
-    let namespaces = [
-        ("type", meanings.types),
-        ("value", meanings.values),
-        ("macro", meanings.macros),
-    ];
-    for (word, meaning) in &namespaces {
-        if let Some(meaning) = meaning {
-            let shown = definition_text(alloc, crates, meaning.def)?;
-            write!(out, "; {word} {shown}")?;
+/// What an import means: its path, where it is written, what it is in each namespace, and with which reservation.
+#[derive(Drop, Serialize)]
+struct ImportRow<'a> {
+    reason: &'static str,
+    path: String,
+    at: Option<Location<'a>>,
+    types: Option<String>,
+    values: Option<String>,
+    macros: Option<String>,
+    /// What it comes to that is not to be seen there.
+    private: Option<String>,
+    reservation: Option<&'static str>,
+}
+
+/// Adds what something is in a namespace, if it is anything there.
+fn push_meant(out: &mut String, word: &str, meant: &Option<String>) -> Result<(), AllocError> {
+    match meant {
+        None => Ok(()),
+        Some(meant) => write!(out, "; {word} {meant}"),
+    }
+}
+
+impl<'a> Row for ImportRow<'a> {
+    fn push_text(&self, out: &mut String) -> Result<(), AllocError> {
+        if let Some(at) = self.at {
+            push_location(out, at)?;
+        }
+        write!(out, ": {}", self.path)?;
+        push_meant(out, "type", &self.types)?;
+        push_meant(out, "value", &self.values)?;
+        push_meant(out, "macro", &self.macros)?;
+        push_meant(out, "private", &self.private)?;
+        match self.reservation {
+            None => out.push_str("\n"),
+            Some(words) => write!(out, "; {words}\n"),
         }
     }
-    Ok(())
+}
+
+/// What is said of an import that is unknown.
+fn unknown_words(cause: Cause) -> &'static str {
+    match cause {
+        Cause::Macro => "unknown, by macros",
+        Cause::Standard => "unknown, by the standard library",
+        Cause::File => "unknown, by a file that is not there",
+    }
 }
 
 /// What lists imports.
-struct Listing<'s, 'h, 'l, 'f, C: Crates> {
+struct Listing<'s, 'h, C: Crates> {
     alloc: Global,
     crates: &'s C,
-    hidden: &'h Hidden<'s, C>,
-    lines: &'l Lines<'f>,
+    survey: &'h Survey<'s, C>,
     /// The named imports that may mean more.
     partly: IndexSet<usize>,
     ambiguous: Ambiguities,
@@ -51,13 +81,12 @@ struct Listing<'s, 'h, 'l, 'f, C: Crates> {
 }
 
 /// A hand-written `Drop`, to keep proofs small: what drops one has one call to prove.
-impl<'s, 'h, 'l, 'f, C: Crates> Drop for Listing<'s, 'h, 'l, 'f, C> {
+impl<'s, 'h, C: Crates> Drop for Listing<'s, 'h, C> {
     fn drop(self) {
         let Listing {
             alloc: _alloc,
             crates: _crates,
-            hidden: _hidden,
-            lines: _lines,
+            survey: _survey,
             partly: _partly,
             ambiguous: _ambiguous,
             out: _out,
@@ -65,28 +94,62 @@ impl<'s, 'h, 'l, 'f, C: Crates> Drop for Listing<'s, 'h, 'l, 'f, C> {
     }
 }
 
-impl<'s, 'h, 'l, 'f, C: Crates> Listing<'s, 'h, 'l, 'f, C> {
-    /// Adds a path, as it is written.
-    fn add_written(&mut self, path: &ModPath, star: &str) -> Result<(), AllocError> {
-        let written = path_text(self.alloc, path)?;
-        write!(self.out, ": {written}{star}")
+impl<'s, 'h, C: Crates> Listing<'s, 'h, C> {
+    /// What an import is in a namespace.
+    fn shown(&self, meaning: Option<Meaning>) -> Result<Option<String>, AllocError> {
+        match meaning {
+            None => Ok(None),
+            Some(meaning) => {
+                let shown = definition_text(self.alloc, self.crates, meaning.def)?;
+                Ok(Some(shown))
+            }
+        }
     }
 
-    /// Adds the line of an import.
+    /// Where an import is written.
+    fn location(&self, leaf: (UseId, UseTreeIdx)) -> Result<Option<Location<'s>>, AllocError> {
+        let (use_, idx) = leaf;
+        match use_spot(self.alloc, self.crates, use_, idx)? {
+            None => Ok(None),
+            Some(spot) => Ok(Some(self.survey.lines.location(spot))),
+        }
+    }
+
+    /// What an import that means nothing comes to that is not to be seen where it stands.
+    fn private(
+        &self,
+        home: ModuleId,
+        path: &ModPath,
+        meanings: ImportMeanings,
+        reservation: Option<&'static str>,
+    ) -> Result<Option<String>, AllocError> {
+        if reservation.is_some() || mean_something(meanings) {
+            return Ok(None);
+        }
+        private_text(&self.survey.hidden, home, path)
+    }
+
+    /// Adds the row of an import.
     fn add(
         &mut self,
-        written: (&ModPath, &str),
+        (home, path, star): (ModuleId, &ModPath, &str),
         leaf: (UseId, UseTreeIdx),
         meanings: ImportMeanings,
-        reservation: &str,
+        reservation: Option<&'static str>,
     ) -> Result<(), AllocError> {
-        let (use_, idx) = leaf;
-        if let Some(spot) = use_spot(self.alloc, self.crates, use_, idx)? {
-            self.lines.push_place(&mut self.out, spot)?;
-        }
-        self.add_written(written.0, written.1)?;
-        push_meant(&mut self.out, self.alloc, self.crates, meanings)?;
-        write!(self.out, "{reservation}\n")
+        let mut written = path_text(self.alloc, path)?;
+        written.push_str(star)?;
+        let row = ImportRow {
+            reason: "import",
+            path: written,
+            at: self.location(leaf)?,
+            types: self.shown(meanings.types)?,
+            values: self.shown(meanings.values)?,
+            macros: self.shown(meanings.macros)?,
+            private: self.private(home, path, meanings, reservation)?,
+            reservation,
+        };
+        push_row(&mut self.out, self.alloc, self.survey.style, &row)
     }
 
     /// Adds all imports, by kind.
@@ -102,18 +165,20 @@ impl<'s, 'h, 'l, 'f, C: Crates> Listing<'s, 'h, 'l, 'f, C> {
             if !is_own(crates, import.home) {
                 continue;
             }
-            let reservation = if self.hidden.notes.cause_of_named(place).is_some() {
-                "; unknown"
+            let notes = &self.survey.hidden.notes;
+            let reservation = if let Some(cause) = notes.cause_of_named(place) {
+                Some(unknown_words(cause))
             } else if self.ambiguous.named.contains_key(&place) {
-                "; ambiguous"
+                Some("ambiguous")
             } else if self.partly.contains(&place) {
-                "; more unknown"
+                Some("more unknown")
             } else {
-                ""
+                None
             };
             let leaf = (import.import.use_, import.import.idx);
             let meanings = meanings_of(crates, place, import);
-            self.add((&import.path, ""), leaf, meanings, reservation)?;
+            let written = (import.home, &import.path, "");
+            self.add(written, leaf, meanings, reservation)?;
         }
         Ok(())
     }
@@ -125,7 +190,7 @@ impl<'s, 'h, 'l, 'f, C: Crates> Listing<'s, 'h, 'l, 'f, C> {
             let leaf = (found.use_, found.glob.tree);
             let path = &found.glob.path;
             let meanings = source_meanings(self.crates, found.home, path);
-            self.add((path, "::*"), leaf, meanings, "")?;
+            self.add((found.home, path, "::*"), leaf, meanings, None)?;
         }
         Ok(())
     }
@@ -142,8 +207,7 @@ impl<'s, 'h, 'l, 'f, C: Crates> Listing<'s, 'h, 'l, 'f, C> {
         let Listing {
             alloc: _alloc,
             crates: _crates,
-            hidden: _hidden,
-            lines: _lines,
+            survey: _survey,
             partly: _partly,
             ambiguous: _ambiguous,
             out,
@@ -156,45 +220,34 @@ impl<'s, 'h, 'l, 'f, C: Crates> Listing<'s, 'h, 'l, 'f, C> {
         for (place, glob) in crates.globs().iter().enumerate() {
             if is_own(crates, glob.into) {
                 let leaf = (glob.import.use_, glob.import.idx);
-                let reservation = if self.hidden.notes.cause_of_glob(place).is_some() {
-                    "; unknown"
+                let notes = &self.survey.hidden.notes;
+                let reservation = if let Some(cause) = notes.cause_of_glob(place) {
+                    Some(unknown_words(cause))
                 } else if self.ambiguous.globs.contains_key(&place) {
-                    "; ambiguous"
+                    Some("ambiguous")
                 } else {
-                    ""
+                    None
                 };
                 let meanings = source_meanings(crates, glob.into, &glob.path);
-                self.add((&glob.path, "::*"), leaf, meanings, reservation)?;
+                self.add((glob.into, &glob.path, "::*"), leaf, meanings, reservation)?;
             }
         }
         Ok(())
     }
 }
 
-/// What each import of the crates means, where it is known what is hidden.
-fn listed<C: Crates>(lines: &Lines<'_>, hidden: &Hidden<'_, C>) -> Result<String, AllocError> {
+/// What each import of the crates that are asked about means, the named ones first, and those that
+/// name preludes last.
+pub fn imports_text<C: Crates>(survey: &Survey<'_, C>) -> Result<String, AllocError> {
+    let (alloc, crates) = (survey.hidden.alloc(), survey.hidden.crates());
     let mut listing = Listing {
-        alloc: hidden.alloc(),
-        crates: hidden.crates(),
-        hidden,
-        lines,
-        partly: partly_unknown(hidden)?,
-        ambiguous: Ambiguities::of(hidden.alloc(), hidden.crates())?,
-        out: String::new(hidden.alloc()),
+        alloc,
+        crates,
+        survey,
+        partly: partly_unknown(&survey.hidden)?,
+        ambiguous: Ambiguities::of(alloc, crates)?,
+        out: String::new(alloc),
     };
     listing.add_all()?;
     Ok(listing.into_text())
-}
-
-/// What each import of the crates that are asked about means, the named ones first, and those that
-/// name preludes last.
-pub fn imports_text<C: Crates>(
-    alloc: Global,
-    crates: &C,
-    has_sysroot: bool,
-) -> Result<String, AllocError> {
-    let homes = macro_homes(alloc, crates)?;
-    let hidden = Hidden::of(alloc, crates, has_sysroot, homes.as_slice())?;
-    let lines = Lines::new(alloc, crates.files())?;
-    listed(&lines, &hidden)
 }

@@ -4,13 +4,24 @@ use dm_base::name::Name;
 use indexmap::{IndexMap, IndexSet};
 use std::alloc::{AllocError, Global};
 
-/// Why an import is unknown.
+/// Why something is unknown.
 #[derive(Clone, Copy, PartialEq, Eq, Debug)]
-pub(crate) enum Cause {
-    /// A macro may bring what it needs.
+pub enum Cause {
+    /// A macro may bring it.
     Macro,
-    /// It needs the standard library.
+    /// The standard library may, which is not given.
     Standard,
+    /// It would stand in the file of a module, which is not there.
+    File,
+}
+
+/// Why something is unknown, in words.
+pub(crate) fn cause_words(cause: Cause) -> &'static str {
+    match cause {
+        Cause::Macro => "by macros",
+        Cause::Standard => "by the standard library",
+        Cause::File => "by a file that is not there",
+    }
 }
 
 /// Why an import of a name is unknown, and the place of the last name that was noted before of the same module.
@@ -23,8 +34,8 @@ struct NotedName {
 /// The modules that hide names, and the imports and globs that are unknown.
 pub(crate) struct Notes<'a> {
     alloc: Global,
-    by_macros: IndexSet<ModuleId>,
-    by_standard: IndexSet<ModuleId>,
+    /// The modules that hide names, each with what was found first.
+    hiding: IndexMap<ModuleId, Cause>,
     /// The roots that macros may bring macros to.
     exporting: IndexSet<ModuleId>,
     /// The unknown imports, by their places among the named ones.
@@ -43,8 +54,7 @@ impl<'a> Drop for Notes<'a> {
     fn drop(self) {
         let Notes {
             alloc: _alloc,
-            by_macros: _by_macros,
-            by_standard: _by_standard,
+            hiding: _hiding,
             exporting: _exporting,
             named: _named,
             by_name: _by_name,
@@ -55,16 +65,15 @@ impl<'a> Drop for Notes<'a> {
 }
 
 impl<'a> Notes<'a> {
-    /// That macros are called in some modules, and may bring macros to some roots.
+    /// That some modules hide names, and that macros may bring macros to some roots.
     pub(crate) fn new(
         alloc: Global,
-        by_macros: IndexSet<ModuleId>,
+        hiding: IndexMap<ModuleId, Cause>,
         exporting: IndexSet<ModuleId>,
     ) -> Notes<'a> {
         Notes {
             alloc,
-            by_macros,
-            by_standard: IndexSet::new(alloc),
+            hiding,
             exporting,
             named: IndexMap::new(alloc),
             by_name: IndexMap::new(alloc),
@@ -80,13 +89,7 @@ impl<'a> Notes<'a> {
 
     /// Why a module hides names, if it does.
     pub(crate) fn cause_in(&self, module: ModuleId) -> Option<Cause> {
-        if self.by_macros.contains(&module) {
-            Some(Cause::Macro)
-        } else if self.by_standard.contains(&module) {
-            Some(Cause::Standard)
-        } else {
-            None
-        }
+        self.hiding.get(&module).copied()
     }
 
     /// Why a name of a module is unknown, if it is: the module hides names, or has an unknown import that would bind it.
@@ -111,7 +114,7 @@ impl<'a> Notes<'a> {
     }
 
     /// Notes that a name of a module is unknown. Tells whether that is new.
-    fn note_name(
+    pub(crate) fn note_name(
         &mut self,
         module: ModuleId,
         name: &'a str,
@@ -150,10 +153,9 @@ impl<'a> Notes<'a> {
         cause: Cause,
     ) -> Result<(), AllocError> {
         self.globs.insert(place, cause)?;
-        match cause {
-            Cause::Macro => self.by_macros.insert(module)?,
-            Cause::Standard => self.by_standard.insert(module)?,
-        };
+        if !self.hiding.contains_key(&module) {
+            self.hiding.insert(module, cause)?;
+        }
         Ok(())
     }
 

@@ -3,14 +3,15 @@ ghost use Rattle.std.specs.Prelude.{◌≡◌, length};
 
 use crate::crates::Crates;
 use crate::offsets::{item_offset, leaf_offset};
+use crate::rows::{Location, push_location};
 use crate_items::files::file_table::FileTable;
 use crate_items::files::line_index::LineIndex;
 use crate_items::files::source::Source;
 use crate_items::modules::CrateModules;
 use dm_base::ids::{ExternCrateId, FileId, UseId, UseTreeIdx};
 use dm_base::imports::ImportOrExternCrate;
+use dm_base::item_ids::ModuleDefId;
 use std::alloc::{AllocError, Global};
-use std::fmt::Write;
 
 /// The crate, the file and the number there of an item.
 #[derive(Clone, Copy)]
@@ -67,18 +68,40 @@ impl<'a> Lines<'a> {
         Ok(Lines { files: all })
     }
 
-    /// Adds the path of the file of a spot, its line and its column.
-    pub(crate) fn push_place(&self, out: &mut String, spot: Spot) -> Result<(), AllocError> {
+    /// The path of the file of a spot, its line and its column. No line is 0.
+    pub(crate) fn location(&self, spot: Spot) -> Location<'a> {
         let Some(lines) = self.files.get(spot.file.0 as usize) else {
-            return out.push_str("?");
+            return nowhere("?");
         };
-        let path = lines.path;
         if spot.offset > lines.len {
-            return out.push_str(path);
+            return nowhere(lines.path);
         }
         let at = lines.index.line_col(spot.offset);
-        write!(out, "{path}:{}:{}", at.line, at.col)
+        Location {
+            file: lines.path,
+            line: at.line,
+            column: at.col,
+        }
     }
+
+    /// Adds the path of the file of a spot, its line and its column.
+    pub(crate) fn push_place(&self, out: &mut String, spot: Spot) -> Result<(), AllocError> {
+        push_location(out, self.location(spot))
+    }
+}
+
+/// A file of which no line is told.
+fn nowhere(file: &str) -> Location<'_> {
+    Location {
+        file,
+        line: 0,
+        column: 0,
+    }
+}
+
+/// The same, by the bytes of its path.
+pub(crate) fn file_location(path: &[u8]) -> Location<'_> {
+    nowhere(std::str::from_utf8(path).unwrap_or("?"))
 }
 
 /// The file of an import, and the byte of it where the import begins.
@@ -132,8 +155,14 @@ fn extern_spot<C: Crates>(crates: &C, id: ExternCrateId) -> Option<Spot> {
     item_spot(crates.lists(), place.krate, place.file, place.item)
 }
 
+/// Where a definition is written; none of what is written nowhere.
+pub(crate) fn definition_spot<C: Crates>(crates: &C, def: ModuleDefId) -> Option<Spot> {
+    let place = crates.def_place(def)?;
+    item_spot(crates.lists(), place.krate, place.file, place.item)
+}
+
 /// Where the import begins that brought something.
-fn import_spot<C: Crates>(
+pub(crate) fn import_spot<C: Crates>(
     alloc: Global,
     crates: &C,
     import: ImportOrExternCrate,
@@ -145,22 +174,11 @@ fn import_spot<C: Crates>(
     }
 }
 
-/// Adds how an import is called, and where it begins.
-pub(crate) fn push_import<C: Crates>(
-    out: &mut String,
-    alloc: Global,
-    crates: &C,
-    lines: &Lines<'_>,
-    import: ImportOrExternCrate,
-) -> Result<(), AllocError> {
-    out.push_str(match import {
+/// How an import is called.
+pub(crate) fn import_word(import: ImportOrExternCrate) -> &'static str {
+    match import {
         ImportOrExternCrate::Import(_) => "import",
         ImportOrExternCrate::Glob(_) => "glob",
         ImportOrExternCrate::ExternCrate(_) => "extern",
-    })?;
-    let Some(spot) = import_spot(alloc, crates, import)? else {
-        return Ok(());
-    };
-    out.push_str(" ")?;
-    lines.push_place(out, spot)
+    }
 }

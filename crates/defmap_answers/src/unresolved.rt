@@ -3,15 +3,19 @@ use crate::ambiguous::{Ambiguities, Ambiguity, AmbiguousName, ambiguity_text, am
 use crate::crates::{Crates, is_asked, numbered};
 use crate::hidden::Hidden;
 use crate::macro_calls::{CallEnd, end_of, item_of};
-use crate::macro_homes::{MacroHome, macro_homes};
+use crate::macro_homes::MacroHome;
 use crate::notes::Cause;
 use crate::path_text::path_text;
-use crate::places::{Lines, Spot, item_spot, use_spot};
+use crate::places::{Lines, Spot, item_spot, source_of, use_spot};
+use crate::private::private_text;
+use crate::rows::{Location, Row, Style, push_location, push_row};
 use crate::shown::is_own;
+use crate::survey::Survey;
 use crate_items::modules::CrateModules;
-use crate_items::modules::declared_module::ModuleFault;
+use crate_items::modules::declared_module::{Declaration, ModuleFault};
 use dm_base::ids::{Crate, ModuleId, UseId, UseTreeIdx};
 use dm_base::mod_path::ModPath;
+use serde::Serialize;
 use std::alloc::{AllocError, Global};
 use std::fmt::Write;
 
@@ -36,6 +40,7 @@ impl Drop for Told {
 pub struct UnknownCount {
     pub by_macros: usize,
     pub by_standard: usize,
+    pub by_files: usize,
     /// Macro calls.
     pub calls: usize,
 }
@@ -56,11 +61,18 @@ impl Drop for Unresolved {
     }
 }
 
+impl Told {
+    pub fn new(spot: Option<Spot>, message: String) -> Told {
+        Told { spot, message }
+    }
+}
+
 impl UnknownCount {
     fn add(&mut self, cause: Cause) {
         match cause {
             Cause::Macro => self.by_macros = self.by_macros.saturating_add(1),
             Cause::Standard => self.by_standard = self.by_standard.saturating_add(1),
+            Cause::File => self.by_files = self.by_files.saturating_add(1),
         }
     }
 }
@@ -79,6 +91,31 @@ fn module_message(alloc: Global, fault: &ModuleFault) -> Result<String, AllocErr
     Ok(paths)
 }
 
+/// Whether the declaration of a module has neither a body nor a semicolon, which is told as a syntax error.
+fn lacks_end(lists: &[CrateModules], krate: usize, declaration: &Declaration) -> bool {
+    let Some(source) = source_of(lists, krate, declaration.file) else {
+        return false;
+    };
+    match source.items().get(declaration.item) {
+        None => false,
+        Some(item) => item.missing.is_some(),
+    }
+}
+
+/// What is told of an import that leads nowhere.
+fn import_message<C: Crates>(
+    hidden: &Hidden<'_, C>,
+    home: ModuleId,
+    path: &ModPath,
+) -> Result<String, AllocError> {
+    let alloc = hidden.alloc();
+    let written = path_text(alloc, path)?;
+    match private_text(hidden, home, path)? {
+        None => format!(in alloc; "unresolved import {written}"),
+        Some(private) => format!(in alloc; "private import {written}: {private}"),
+    }
+}
+
 /// Why it is unknown what an ambiguous name means, if it is: what is hidden would go before what globs bring.
 fn cause_at<C: Crates>(hidden: &Hidden<'_, C>, found: &AmbiguousName<'_, '_>) -> Option<Cause> {
     let module = found.module?;
@@ -86,19 +123,18 @@ fn cause_at<C: Crates>(hidden: &Hidden<'_, C>, found: &AmbiguousName<'_, '_>) ->
 }
 
 impl Unresolved {
-    /// Adds an import that leads nowhere.
+    /// Adds an import that leads nowhere, or to what is private.
     fn add_import<C: Crates>(
         &mut self,
-        alloc: Global,
-        crates: &C,
-        path: &ModPath,
+        hidden: &Hidden<'_, C>,
+        (home, path): (ModuleId, &ModPath),
         leaf: (UseId, UseTreeIdx),
     ) -> Result<(), AllocError> {
+        let (alloc, crates) = (hidden.alloc(), hidden.crates());
         let (use_, idx) = leaf;
-        let written = path_text(alloc, path)?;
         self.told.push(Told {
             spot: use_spot(alloc, crates, use_, idx)?,
-            message: format!(in alloc; "unresolved import {written}")?,
+            message: import_message(hidden, home, path)?,
         })?;
         Ok(())
     }
@@ -132,7 +168,7 @@ impl Unresolved {
                 self.count(crates, import.home, cause);
             } else if is_own(crates, import.home) {
                 let leaf = (import.import.use_, import.import.idx);
-                self.add_import(hidden.alloc(), crates, &import.path, leaf)?;
+                self.add_import(hidden, (import.home, &import.path), leaf)?;
             }
         }
         Ok(())
@@ -153,7 +189,7 @@ impl Unresolved {
                 self.count(crates, glob.into, cause);
             } else if is_own(crates, glob.into) {
                 let leaf = (glob.import.use_, glob.import.idx);
-                self.add_import(hidden.alloc(), crates, &glob.path, leaf)?;
+                self.add_import(hidden, (glob.into, &glob.path), leaf)?;
             }
         }
         Ok(())
@@ -297,6 +333,9 @@ impl Unresolved {
     ) -> Result<(), AllocError> {
         for fault in list.faults() {
             let declaration = fault.declaration();
+            if lacks_end(lists, number, declaration) {
+                continue;
+            }
             self.told.push(Told {
                 spot: item_spot(lists, number, declaration.file, declaration.item),
                 message: module_message(alloc, fault)?,
@@ -324,6 +363,7 @@ pub fn nothing(alloc: Global, crates: usize) -> Result<Unresolved, AllocError> {
         unknown.push(UnknownCount {
             by_macros: 0,
             by_standard: 0,
+            by_files: 0,
             calls: 0,
         })?;
     }
@@ -333,27 +373,13 @@ pub fn nothing(alloc: Global, crates: usize) -> Result<Unresolved, AllocError> {
     })
 }
 
-/// What leads nowhere in the crates that are asked about, where it is known what is hidden.
-fn unresolved_in<C: Crates>(
-    alloc: Global,
-    crates: &C,
-    hidden: &Hidden<'_, C>,
-    homes: &[MacroHome],
-) -> Result<Unresolved, AllocError> {
-    let mut found = nothing(alloc, crates.names().len())?;
-    found.add_all(alloc, crates, hidden, homes)?;
-    Ok(found)
-}
-
 /// What leads nowhere in the crates that are asked about.
-pub fn find_unresolved<C: Crates>(
-    alloc: Global,
-    crates: &C,
-    has_sysroot: bool,
-) -> Result<Unresolved, AllocError> {
-    let homes = macro_homes(alloc, crates)?;
-    let hidden = Hidden::of(alloc, crates, has_sysroot, homes.as_slice())?;
-    unresolved_in(alloc, crates, &hidden, homes.as_slice())
+pub fn find_unresolved<C: Crates>(survey: &Survey<'_, C>) -> Result<Unresolved, AllocError> {
+    let hidden = &survey.hidden;
+    let (alloc, crates) = (hidden.alloc(), hidden.crates());
+    let mut found = nothing(alloc, crates.names().len())?;
+    found.add_all(alloc, crates, hidden, survey.calls.as_slice())?;
+    Ok(found)
 }
 
 /// What a message is sorted by.
@@ -364,19 +390,40 @@ fn order_of(told: &Told) -> (u32, usize) {
     }
 }
 
-/// Adds the messages, each in a line, in the order of the files and their bytes.
-pub fn push_messages(
-    out: &mut String,
-    lines: &Lines<'_>,
-    told: &mut Vec<Told>,
-) -> Result<(), AllocError> {
-    told.sort_by_key(|one| order_of(one))?;
-    for one in told.iter() {
-        if let Some(spot) = one.spot {
-            lines.push_place(out, spot)?;
+/// A message, and where that is which it is about.
+#[derive(Drop, Serialize)]
+struct MessageRow<'a> {
+    reason: &'static str,
+    message: &'a str,
+    at: Option<Location<'a>>,
+}
+
+impl<'a> Row for MessageRow<'a> {
+    fn push_text(&self, out: &mut String) -> Result<(), AllocError> {
+        if let Some(at) = self.at {
+            push_location(out, at)?;
             out.push_str(": ")?;
         }
-        write!(out, "{}\n", one.message)?;
+        write!(out, "{}\n", self.message)
     }
-    Ok(())
+}
+
+/// The messages, each in a line, in the order of the files and their bytes.
+pub fn messages_text(
+    alloc: Global,
+    lines: &Lines<'_>,
+    style: Style,
+    told: &mut Vec<Told>,
+) -> Result<String, AllocError> {
+    let mut out = String::new(alloc);
+    told.sort_by_key(|one| order_of(one))?;
+    for one in told.iter() {
+        let row = MessageRow {
+            reason: "message",
+            message: one.message.as_str(),
+            at: one.spot.map(|spot| lines.location(spot)),
+        };
+        push_row(&mut out, alloc, style, &row)?;
+    }
+    Ok(out)
 }

@@ -7,18 +7,30 @@ use std::alloc::{AllocError, Global};
 
 /// How the modules of a crate are shown, and what else.
 #[derive(Clone, Copy)]
-pub struct TreeForm {
+pub struct TreeForm<'a> {
     /// Whether the def map's own dump is shown.
     pub is_dump: bool,
+    /// Whether a graph of the modules is shown, for Graphviz.
+    pub is_dot: bool,
     pub has_diagnostics: bool,
     pub has_lists: bool,
+    /// How many levels of modules are shown; all where nothing is said.
+    pub depth: Option<u32>,
+    /// The module that is shown.
+    pub focus: &'a str,
+    /// The kinds of items that are shown, with commas between; all where nothing is said.
+    pub kinds: Option<&'a str>,
+    pub only_public: bool,
+    pub has_variants: bool,
+    /// Whether associated items are shown.
+    pub has_assoc: bool,
 }
 
 /// What is asked of crates.
 #[derive(Clone, Copy)]
 pub enum Question<'a> {
     /// The modules, with what each binds.
-    Tree(TreeForm),
+    Tree(TreeForm<'a>),
     /// What a path means in a module.
     Resolve { path: &'a str, home: &'a str },
     /// What leads nowhere.
@@ -66,6 +78,10 @@ pub struct Arguments<'a> {
     /// How many modules a crate may have.
     pub limit: u32,
     pub has_stats: bool,
+    /// Whether it is a fault that something is not known.
+    pub is_strict: bool,
+    /// Whether the answer is written as objects of JSON.
+    pub is_json: bool,
 }
 
 /// A hand-written `Drop`, to keep proofs small: what drops one has one call to prove.
@@ -86,9 +102,30 @@ impl<'a> Drop for Arguments<'a> {
             build: _build,
             limit: _limit,
             has_stats: _has_stats,
+            is_strict: _is_strict,
+            is_json: _is_json,
         } = self;
     }
 }
+
+/// The words for kinds of items.
+const KINDS: [&'static str; 12] = [
+    "mod",
+    "struct",
+    "union",
+    "enum",
+    "trait",
+    "type",
+    "fn",
+    "const",
+    "static",
+    "constructor",
+    "variant",
+    "macro",
+];
+
+const KIND_LIST: &'static str =
+    "mod, struct, union, enum, trait, type, fn, const, static, constructor, variant, macro";
 
 /// How many modules a crate may have where nothing else is said.
 const LIMIT: u32 = 65_536;
@@ -165,12 +202,45 @@ fn all_of<'a>(alloc: Global, given: &ArgMatches<'a>, id: &str) -> Result<Vec<&'a
     }
 }
 
-fn tree_form(given: &ArgMatches<'_>) -> TreeForm {
-    TreeForm {
+/// How many levels of modules are given.
+fn given_depth(alloc: Global, given: &ArgMatches<'_>) -> Result<Option<u32>, Failure> {
+    let Some(word) = given.get_str("depth") else {
+        return Ok(None);
+    };
+    match word.parse::<u32>() {
+        Ok(depth) => Ok(Some(depth)),
+        Err(_fault) => misused(format!(in alloc; "no depth {word}: give a number of levels")?),
+    }
+}
+
+/// Fails where a word is no kind of items.
+fn check_kinds(alloc: Global, words: &str) -> Result<(), Failure> {
+    for word in words.split(',') {
+        if !KINDS.contains(&word) {
+            return misused(format!(in alloc; "no kind {word}: give some of {}", KIND_LIST)?);
+        }
+    }
+    Ok(())
+}
+
+fn tree_form<'a>(alloc: Global, given: &ArgMatches<'a>) -> Result<TreeForm<'a>, Failure> {
+    let depth = given_depth(alloc, given)?;
+    let kinds = given.get_str("kinds");
+    if let Some(words) = kinds {
+        check_kinds(alloc, words)?;
+    }
+    Ok(TreeForm {
         is_dump: given.get_flag("dump"),
+        is_dot: given.get_flag("dot"),
         has_diagnostics: given.get_flag("diagnostics"),
         has_lists: given.get_flag("lists"),
-    }
+        depth,
+        focus: given.get_str("focus").unwrap_or("crate"),
+        kinds,
+        only_public: given.get_flag("only-public"),
+        has_variants: given.get_flag("variants"),
+        has_assoc: given.get_flag("assoc"),
+    })
 }
 
 /// The table that is given, or that of the items.
@@ -194,17 +264,17 @@ fn path_of<'a>(given: &ArgMatches<'a>) -> &'a str {
     given.get_str(id).unwrap_or("")
 }
 
-fn wish_of<'a>(name: &str, given: &ArgMatches<'a>) -> Wish<'a> {
-    Wish::OfCrates(match name {
-        "items" => return Wish::OfItems(table_of(given)),
+fn wish_of<'a>(alloc: Global, name: &str, given: &ArgMatches<'a>) -> Result<Wish<'a>, Failure> {
+    Ok(Wish::OfCrates(match name {
+        "items" => return Ok(Wish::OfItems(table_of(given))),
         "resolve" => Question::Resolve {
             path: path_of(given),
             home: given.get_str("in").unwrap_or("crate"),
         },
         "unresolved" => Question::Unresolved,
         "imports" => Question::Imports,
-        _ => Question::Tree(tree_form(given)),
-    })
+        _ => Question::Tree(tree_form(alloc, given)?),
+    }))
 }
 
 /// The edition that is given, if one is.
@@ -241,9 +311,10 @@ pub fn read_arguments<'a>(
 ) -> Result<Arguments<'a>, Failure> {
     let edition = given_edition(alloc, given)?;
     let limit = given_limit(alloc, given)?;
+    let wish = wish_of(alloc, name, given)?;
     let externs = given_externs(alloc, given)?;
     Ok(Arguments {
-        wish: wish_of(name, given),
+        wish,
         root: given.get_str("root").unwrap_or(""),
         fixture: given.get_str("fixture"),
         edition,
@@ -257,5 +328,7 @@ pub fn read_arguments<'a>(
         build: given.get_str("build"),
         limit,
         has_stats: given.get_flag("stats"),
+        is_strict: given.get_flag("strict"),
+        is_json: given.get_flag("json"),
     })
 }

@@ -122,7 +122,23 @@ struct FlagOption {
 }
 
 /// Those of `tree` alone.
-const FLAGS: [FlagOption; 3] = [
+const FLAGS: [FlagOption; 7] = [
+    FlagOption {
+        id: "assoc",
+        help: "Shows the items of traits and of plain inherent implementations, too",
+    },
+    FlagOption {
+        id: "dot",
+        help: "Prints the modules and which uses which as a graph for Graphviz, circles in red",
+    },
+    FlagOption {
+        id: "only-public",
+        help: "Shows only what is seen by all, and modules that are",
+    },
+    FlagOption {
+        id: "variants",
+        help: "Shows the variants of enums, too",
+    },
     FlagOption {
         id: "dump",
         help: "Prints the crate's own dump of its def map",
@@ -138,10 +154,43 @@ associated items, too",
     },
 ];
 
-const STATS: FlagOption = FlagOption {
-    id: "stats",
-    help: "Tells on standard error what was read, and how long each stage took",
-};
+/// The options of `tree` alone.
+const TREE_OPTIONS: [ValueOption; 3] = [
+    ValueOption {
+        id: "focus",
+        shown: "MODULE",
+        help: "The module that is shown; crate where nothing is said",
+        action: ArgAction::Set,
+    },
+    ValueOption {
+        id: "depth",
+        shown: "NUMBER",
+        help: "How many levels of modules are shown; all where nothing is said",
+        action: ArgAction::Set,
+    },
+    ValueOption {
+        id: "kinds",
+        shown: "KIND,..",
+        help: "Shows only these kinds beside modules, as fn,struct",
+        action: ArgAction::Set,
+    },
+];
+
+/// Those of every subcommand that takes crates.
+const COMMON_FLAGS: [FlagOption; 3] = [
+    FlagOption {
+        id: "json",
+        help: "Prints an object of JSON a line, as docs/JSON.md has them",
+    },
+    FlagOption {
+        id: "strict",
+        help: "Status 3 where something may be hidden, as by a macro, and the status would be 0",
+    },
+    FlagOption {
+        id: "stats",
+        help: "Tells on standard error what was read, and how long each stage took",
+    },
+];
 
 /// What the subcommands say of themselves.
 const TREE: &'static str =
@@ -226,7 +275,7 @@ fn with_options<'a>(alloc: Global, command: Command<'a>) -> Result<Command<'a>, 
     }
     let other = value(alloc, &EXTERN).conflicts_with("metadata");
     let command = with_arg(with_arg(command, other)?, fixture(alloc))?;
-    command.arg(flag(alloc, STATS.id, STATS.help))
+    with_flags(alloc, command, &COMMON_FLAGS)
 }
 
 /// A subcommand that takes crates, and nothing else.
@@ -241,17 +290,30 @@ fn plain_command<'a>(
     with_options(alloc, command)
 }
 
-/// A command with the words of `tree` alone.
-fn with_flags<'a>(alloc: Global, command: Command<'a>) -> Result<Command<'a>, AllocError> {
+/// A command with some words that are given or not.
+fn with_flags<'a>(
+    alloc: Global,
+    command: Command<'a>,
+    words: &[FlagOption],
+) -> Result<Command<'a>, AllocError> {
     let mut command = command;
-    for word in &FLAGS {
+    for word in words {
         command = command.arg(flag(alloc, word.id, word.help))?;
     }
     Ok(command)
 }
 
+/// A command with the options of `tree` alone.
+fn with_tree_options<'a>(alloc: Global, command: Command<'a>) -> Result<Command<'a>, AllocError> {
+    let mut command = with_flags(alloc, command, &FLAGS)?;
+    for option in &TREE_OPTIONS {
+        command = command.arg(value(alloc, option))?;
+    }
+    Ok(command)
+}
+
 fn tree_command<'a>(alloc: Global) -> Result<Command<'a>, AllocError> {
-    with_flags(alloc, plain_command(alloc, "tree", TREE)?)
+    with_tree_options(alloc, plain_command(alloc, "tree", TREE)?)
 }
 
 /// The words of `resolve`: a root and a path, or behind a fixture the path alone.

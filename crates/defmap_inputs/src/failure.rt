@@ -17,16 +17,19 @@ pub enum Status {
     Misused,
     /// Something could not be read.
     Unreadable,
+    /// What was asked for stands behind a type, where names are not looked up.
+    Behind,
 }
 
 impl Status {
-    /// The number of the status: 0 to 3.
+    /// The number of the status: 0 to 4.
     pub fn code(self) -> ExitCode {
         match self {
             Status::Fine => ExitCode::SUCCESS,
             Status::Absent => ExitCode::from(1),
             Status::Misused => ExitCode::from(2),
             Status::Unreadable => ExitCode::from(3),
+            Status::Behind => ExitCode::from(4),
         }
     }
 }

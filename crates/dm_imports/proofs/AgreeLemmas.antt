@@ -1,4 +1,4 @@
--- Def maps are supported where what is bound, and what could be, agrees with the rules.
+-- What holds of the names that are bound, and of those that could be, holds of all that do not have what the rules give.
 use Rattle.std.proofs.Common.{◌≡◌, ◌∙◌, ap, cond, refl, subst, sym, true, false, Bool, List, [], ◌∷◌, Option, None, Some, ◌&&◌}
 use Rattle.std.proofs.lemmas.Bool.{and_parts}
 use Rattle.std.proofs.lemmas.List.Elements.{All-contains}
@@ -18,9 +18,9 @@ use Rattle.dm_imports.specs.declared.glob_import.GlobImport.{GlobImport}
 use Rattle.dm_imports.specs.declared.named_import.NamedImport.{NamedImport}
 use Rattle.dm_imports.specs.Meanings.{is_declared, joined}
 use Rattle.dm_imports.specs.Paths.{DefMaps}
-use Rattle.dm_imports.specs.Rules.{IsModule, IsSupported, all_imports, all_offers, glob_asks, import_brings, import_to, join_all, offer_from, offer_to, offered, offers_to, source_of}
+use Rattle.dm_imports.specs.Rules.{IsModule, all_imports, all_offers, glob_asks, import_brings, import_to, join_all, offer_from, offer_to, offered, offers_to, source_of}
 use Rattle.dm_imports.specs.Slots.{same_place}
-use Rattle.dm_imports.specs.Supporting.{Agrees, AllAgree, GlobAgrees, names_brought, source_names}
+use Rattle.dm_imports.specs.Supporting.{Agrees, names_brought, source_names}
 use Rattle.dm_imports.proofs.ListLemmas.{name-absent, name-listed, none-of, some-of}
 use Rattle.dm_imports.proofs.SlotLemmas.{name-same}
 use Rattle.dm_imports.proofs.UnboundLemmas.{at-unbound, member-unbound}
@@ -90,6 +90,3 @@ module _ (d : DefMaps) where
           let here = All-contains (λ (y : GlobImport). (v : Name) → Contains (names_brought d y) v → P y.into v) d.globs x.0 globs x.1 in
           subst (λ (k : ModuleId). P k n) (same_module-true x.0.into m p.0) (here n (name-listed n (names_brought d x.0) p.1))
       by false false false e f g = agrees m n (agrees-unbound d m n (name-absent n (names_of (scope_of d.world m)) e) f g)
-
-  pub supported-from : All (λ (i : NamedImport). Agrees d i.home i.name) d.imports → AllAgree d → All (GlobAgrees d) d.globs → IsSupported d
-  supported-from imports modules globs = everywhere (Agrees d) (λ m n h. h) imports modules globs

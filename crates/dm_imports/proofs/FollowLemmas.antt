@@ -1,33 +1,37 @@
 -- Offers that are joined one by one while steps are followed are among those of each closed set.
-use Rattle.std.proofs.Common.{◌≡◌, ◌∙◌, ap, cond, refl, subst, sym, true, false, true≢false, inl, inr, Bool, Option, None, Some, List, [], ◌∷◌, ◌||◌}
+use Rattle.std.proofs.Common.{◌≡◌, ◌∙◌, ap, cond, not, refl, subst, sym, true, false, true≢false, inl, inr, Bool, Option, None, Some, List, [], ◌∷◌, ◌&&◌, ◌||◌}
 use Rattle.std.specs.Prelude.{◌⊎◌}
 use Rattle.std.specs.Prelude.{is_some}
 use Rattle.std.proofs.Math.Bool.{or-false}
-use Rattle.std.proofs.lemmas.Bool.{and_parts, or_cases, or_right}
+use Rattle.std.proofs.lemmas.Bool.{and_from, and_parts, or_cases, or_right}
 use Rattle.std.proofs.lemmas.List.Folds.{list_any_at}
 use Rattle.std.proofs.lemmas.List.Elements.{All-contains}
 use Rattle.std.specs.List.{All, Contains, cons_option, filter_map, list_any}
 use Rattle.std.specs.Option.{ForSome, option_map_or}
 use Rattle.dm_base.specs.declared.ids.ModuleId.{ModuleId}
 use Rattle.dm_base.specs.declared.per_ns.Namespace.{Namespace}
-use Rattle.dm_base.specs.IdLaws.{same_module-true}
+use Rattle.dm_base.specs.IdLaws.{same_module-refl, same_module-true}
 use Rattle.dm_base.specs.Names.{Name}
 use Rattle.dm_imports.specs.declared.container.Container.{Container}
 use Rattle.dm_imports.specs.declared.glob_import.GlobImport.{GlobImport}
 use Rattle.dm_imports.specs.declared.joined.Joined.{Joined}
 use Rattle.dm_imports.specs.declared.meaning.Meaning.{Meaning}
+use Rattle.dm_imports.specs.declared.named_import.NamedImport.{NamedImport}
 use Rattle.dm_imports.specs.declared.rules.grounded.following.Followed.{Followed}
+use Rattle.dm_imports.specs.declared.rules.grounded.readers.Reader.{Reader}
 use Rattle.dm_imports.specs.Brought.{AreAllNamed, alone, both, join}
-use Rattle.dm_imports.specs.Following.{AreOffered, Follows, IsOffered, IsSound, MayHaveOffers, known_list}
-use Rattle.dm_imports.specs.Grounded.{SlotSet, known_offer, known_offers}
-use Rattle.dm_imports.specs.Grounding.{AreCovered, AreSafeOffers, HasSource, IsMore, IsSafe, IsWay, IsWithin, MayOffer, Way, is_conflict, known_from, offers_in, slots_of}
-use Rattle.dm_imports.specs.Paths.{DefMaps}
+use Rattle.dm_imports.specs.Following.{AreOffered, Follows, IsOffered, IsOfferedBy, IsReader, IsSound, MayHaveOffers, known_list}
+use Rattle.dm_imports.specs.Grounded.{Offers, SlotSet, is_brought, is_glob_step, known_offer, known_offers}
+use Rattle.dm_imports.specs.Grounding.{AreCovered, AreSafeOffers, HasSource, IsMore, IsSafe, IsWay, IsWithin, MayOffer, Way, is_conflict, is_way, known_from, means, needs_one, offers_in, slots_of}
+use Rattle.dm_imports.specs.Meanings.{is_declared}
+use Rattle.dm_imports.specs.Paths.{DefMaps, is_by_glob}
 use Rattle.dm_imports.specs.Rules.{AreMapsKnown, IsGlobKnown, conflicts, join_all}
 use Rattle.dm_imports.specs.Slots.{Slots, no_slots, same_slot, slot_at}
 use Rattle.dm_imports.proofs.AskLemmas.{module-known}
 use Rattle.dm_imports.proofs.KnownOfferLemmas.{known-at}
 use Rattle.dm_imports.proofs.SlotLemmas.{Written, name-same, namespace-same, nothing-at}
-use Rattle.dm_imports.proofs.StepLemmas.{conflict-more, joined-some, known_offer-more}
+use Rattle.dm_imports.proofs.StepLemmas.{conflict-more, joined-some, known_offer-more, offers-more}
+use Rattle.dm_imports.proofs.WayLemmas.{IsGiven, given-safe}
 
 any-given : (f : GlobImport → Option Meaning) (p : Meaning → Bool) (gs : List GlobImport) → list_any (λ g. option_map_or p (f g) false) gs ≡ list_any p (filter_map f gs)
 any-given f p [] = refl
@@ -157,6 +161,62 @@ module _ (d : DefMaps) where
     named = named;
     ways = sound.ways;
   }
+
+-- ---- Slots that need one offer
+
+pub needs-means : (d : DefMaps) (w : Way) → needs_one d w ≡ true → (x : Meaning) × (means d w ≡ Some x) × (x.is_ambiguous ≡ false) × (is_brought d w.home w.name w.namespace x ≡ true)
+needs-means d w needs = by (means d w) refl needs
+  where
+    unless : (b : Bool) → not b ≡ true → b ≡ false
+    unless true e = absurd (true≢false (sym e))
+    unless false e = refl
+
+    by : (o : Option Meaning) → means d w ≡ o → option_map_or (λ x. is_by_glob x && not x.is_ambiguous && is_brought d w.home w.name w.namespace x) o false ≡ true
+        → (x : Meaning) × (means d w ≡ Some x) × (x.is_ambiguous ≡ false) × (is_brought d w.home w.name w.namespace x ≡ true)
+    by None e h = absurd (true≢false (sym h))
+    by (Some x) e h =
+        let p = and_parts (is_by_glob x && not x.is_ambiguous) (is_brought d w.home w.name w.namespace x) h in
+        let q = and_parts (is_by_glob x) (not x.is_ambiguous) p.0 in
+        (x, e, unless x.is_ambiguous q.1, p.1)
+
+module _ (d : DefMaps) (k : SlotSet) (r : Reader) (is : IsReader d k r) (n : Name) (s : Namespace) (x : Meaning) (clear : x.is_ambiguous ≡ false) (brought : is_brought d r.glob.now.into n s x ≡ true) where
+  abbrev its : GlobImport
+  its = r.glob.now
+
+  offered-there : (y : Meaning) → known_from d k its r.source n s ≡ Some y → is_some (known_offers d k its.into n s) ≡ true
+  offered-there y e =
+      let offer : known_offer d k its.into n s its ≡ Some y =
+      sym (known-at d k its r.source is.source its.into n s) ∙ ap (λ b. cond b (known_from d k its r.source n s) None) (same_module-refl its.into) ∙ e in
+      joined-some d.world its.into (known_list d k its.into n s) ∙ listed d k its.into n s its y is.listed offer (λ z. true) refl
+
+  glob-step : is_some (known_from d k its r.source n s) ≡ true → is_glob_step d (known_offers d k) its.into n s x ≡ true
+  glob-step some =
+      let o = known_offers d k its.into n s in
+      ap (λ b. cond b (is_by_glob x && is_conflict o) (is_brought d its.into n s x && is_some o)) clear
+      ∙ and_from (is_brought d its.into n s x) (is_some o) brought (by (known_from d k its r.source n s) refl some)
+    where
+      by : (o : Option Meaning) → known_from d k its r.source n s ≡ o → is_some o ≡ true → is_some (known_offers d k its.into n s) ≡ true
+      by None e h = absurd (true≢false (sym h))
+      by (Some y) e h = offered-there y e
+
+-- a way of which globs derive the slot
+way-by-globs : (d : DefMaps) (k : SlotSet) (o : Offers) (w : Way) (x : Meaning) → w.import ≡ None → is_glob_step d o w.home w.name w.namespace x ≡ true → is_way d k o w x ≡ true
+way-by-globs d k o w x none step = by w.import none
+  where
+    by : (i : Option NamedImport) → i ≡ None → is_way d k o (record w { import = i }) x ≡ true
+    by None e = or_right (is_declared x) (is_glob_step d o w.home w.name w.namespace x) step
+    by (Some i) e = absurd (true≢false (ap is_some e))
+
+-- a slot that needs one offer may be made known where a glob has one
+pub once-safe : (d : DefMaps) (old new : Slots Bool) (r : Reader) (w : Way) → IsReader d (slots_of old) r → IsOfferedBy d (slots_of old) r w → IsWay d w → needs_one d w ≡ true → IsGiven old new w
+    → IsSafe d (slots_of old) → IsSafe d (slots_of new)
+once-safe d old new r w reader offered is needs given safe =
+    let k = slots_of old in
+    let x = needs-means d w needs in
+    let brought = subst (λ (m : ModuleId). is_brought d m w.name w.namespace x.0 ≡ true) offered.home x.3 in
+    let there = glob-step d k r reader w.name w.namespace x.0 x.2 brought offered.offer in
+    let step = subst (λ (m : ModuleId). is_glob_step d (known_offers d k) m w.name w.namespace x.0 ≡ true) (sym offered.home) there in
+    given-safe d old new (known_offers d k) w x.0 given is x.1 (way-by-globs d k (known_offers d k) w x.0 offered.import step) (λ c closed. offers-more d k c (safe c closed)) safe
 
 -- with more known slots each way is settled or listed, too
 pub more-covered : (d : DefMaps) (k l : SlotSet) (ws : List Way) → IsMore k l → AreCovered d k ws → AreCovered d l ws

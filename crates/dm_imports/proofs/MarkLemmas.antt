@@ -1,5 +1,5 @@
 -- Slots that are marked where they have not what the rules give.
-use Rattle.std.proofs.Common.{◌≡◌, ◌∙◌, ap, subst, sym, true, true≢false, inl, inr, Bool, List, None}
+use Rattle.std.proofs.Common.{◌≡◌, ◌∙◌, ap, false, not, refl, subst, sym, true, true≢false, inl, inr, Bool, List, None}
 use Rattle.std.proofs.lemmas.Bool.{and_parts}
 use Rattle.std.proofs.lemmas.List.Elements.{All-contains, All-weaker}
 use Rattle.std.specs.List.{All}
@@ -11,40 +11,55 @@ use Rattle.dm_base.specs.IdLaws.{same_module-true}
 use Rattle.dm_base.specs.Names.{Name}
 use Rattle.dm_imports.specs.declared.glob_import.GlobImport.{GlobImport}
 use Rattle.dm_imports.specs.declared.named_import.NamedImport.{NamedImport}
+use Rattle.dm_imports.specs.declared.rules.unsupported.Judged.{Judged}
 use Rattle.dm_imports.specs.Grounded.{SlotSet}
 use Rattle.dm_imports.specs.Grounding.{IsMore, Way, has_slot, slots_of, way_of}
 use Rattle.dm_imports.specs.Marking.{AreAllJudged, AreDependent, AreJudged, AreThoseDependent, HasUngrounded, IsGlobJudged, IsJudged, IsJust, IsUngroundedWay, Marks}
 use Rattle.dm_imports.specs.OrderDependent.{DependsOnOrder, IsUngrounded, IsUnsupported}
 use Rattle.dm_imports.specs.Paths.{DefMaps, at}
-use Rattle.dm_imports.specs.Rules.{IsModule, given}
+use Rattle.dm_imports.specs.Rules.{IsModule, IsSupported, given}
 use Rattle.dm_imports.specs.Slots.{Slots, no_slots, same_slot, slot_at}
 use Rattle.dm_imports.proofs.AgreeLemmas.{everywhere}
 use Rattle.dm_imports.proofs.SlotLemmas.{name-same, namespace-same, nothing-at}
 use Rattle.dm_imports.proofs.WayLemmas.{IsGiven, given-cases, given-has, given-more}
 
+pub not-true : (b : Bool) → not b ≡ true → b ≡ false
+not-true true e = absurd (true≢false (sym e))
+not-true false e = refl
+
 module _ (d : DefMaps) where
-  pub marks-none : (k : Slots Bool) → Marks d k k
+  pub marks-none : (k : Judged) → Marks d k k
   marks-none k = record { more = λ m n s h. h; just = λ h. h }
 
-  pub none-just : (k : Slots Bool) → k ≡ no_slots → IsJust d (slots_of k)
-  none-just k is m n s h =
-      let none = ap is_some (ap (λ (t : Slots Bool). slot_at t m n s) is ∙ nothing-at m n s) in
-      absurd (true≢false (sym h ∙ none))
+  -- before the first slot is looked at
+  pub none-just : (k : Judged) → k.unsupported ≡ no_slots → k.is_supported ≡ true → IsJust d k
+  none-just k is is_noted = record {
+    marked = λ m n s h. absurd (true≢false (sym h ∙ unmarked m n s));
+    none = λ e. unmarked;
+    noted = λ supported. is_noted;
+  }
+    where
+      unmarked : (m : ModuleId) (n : Name) (s : Namespace) → slots_of k.unsupported m n s ≡ false
+      unmarked m n s = ap is_some (ap (λ (t : Slots Bool). slot_at t m n s) is ∙ nothing-at m n s)
 
-  pub marks-then : (j k l : Slots Bool) → Marks d j k → Marks d k l → Marks d j l
+  pub marks-then : (j k l : Judged) → Marks d j k → Marks d k l → Marks d j l
   marks-then j k l one two = record {
     more = λ m n s h. two.more m n s (one.more m n s h);
     just = λ h. two.just (one.just h);
   }
 
   -- a slot that has not what the rules give was marked
-  pub marks-slot : (old new : Slots Bool) (w : Way) → IsGiven old new w → IsUnsupported d w.home w.name w.namespace → Marks d old new
-  marks-slot old new w is not = record {
-    more = given-more old new w is;
-    just = λ just m n s h. elim (given-cases old new w is m n s h) [
-      | inl e ↦ just m n s e
-      | inr e ↦ λ agrees. not (unmoved m n s e agrees)
-    ];
+  pub marks-slot : (old new : Judged) (w : Way) → IsGiven old.unsupported new.unsupported w → new.is_supported ≡ false → IsModule d w.home → IsUnsupported d w.home w.name w.namespace → Marks d old new
+  marks-slot old new w is unnoted home differs = record {
+    more = given-more old.unsupported new.unsupported w is;
+    just = λ just. record {
+      marked = λ m n s h. elim (given-cases old.unsupported new.unsupported w is m n s h) [
+        | inl e ↦ just.marked m n s e
+        | inr e ↦ λ agrees. differs (unmoved m n s e agrees)
+      ];
+      none = λ e. absurd (true≢false (sym e ∙ unnoted));
+      noted = λ supported. absurd (differs (supported w.home home w.name w.namespace));
+    };
   }
     where
       unmoved : (m : ModuleId) (n : Name) (s : Namespace) → same_slot w.home w.name w.namespace m n s ≡ true → at d m n s ≡ given d m n s → at d w.home w.name w.namespace ≡ given d w.home w.name w.namespace
@@ -61,9 +76,12 @@ module _ (d : DefMaps) where
     | inr e ↦ inr (more m n s e)
   ]
 
+  pub all-judged-more : (k l : SlotSet) → IsMore k l → AreAllJudged d k → AreAllJudged d l
+  all-judged-more k l more all m is n has = judged-more k l more m n (all m is n has)
+
   -- the slots of a name that were judged one after another
-  pub three-judged : (j k l : Slots Bool) (m : ModuleId) (n : Name) → Marks d j k → Marks d k l → IsJudged d (slots_of j) m n Types → IsJudged d (slots_of k) m n Values
-      → IsJudged d (slots_of l) m n Macros → AreJudged d (slots_of l) m n
+  pub three-judged : (j k l : Judged) (m : ModuleId) (n : Name) → Marks d j k → Marks d k l → IsJudged d (slots_of j.unsupported) m n Types → IsJudged d (slots_of k.unsupported) m n Values
+      → IsJudged d (slots_of l.unsupported) m n Macros → AreJudged d (slots_of l.unsupported) m n
   three-judged j k l m n one two a b c Types = elim a [
     | inl e ↦ inl e
     | inr e ↦ inr (two.more m n Types (one.more m n Types e))
@@ -83,6 +101,13 @@ module _ (d : DefMaps) where
       (λ m is n has. judged-more k l two m n (judged-more j k one m n (modules m is n has)))
       globs
 
+  -- where all are judged, and it is noted that none is marked, the def maps are supported
+  pub judged-supported : (j : Judged) → IsJust d j → ((m : ModuleId) → IsModule d m → (n : Name) → AreJudged d (slots_of j.unsupported) m n) → j.is_supported ≡ true → IsSupported d
+  judged-supported j just all noted m is n s = elim (all m is n s) [
+    | inl e ↦ e
+    | inr e ↦ absurd (true≢false (sym e ∙ just.none noted m n s))
+  ]
+
   -- ---- Slots that depend on the order of imports
 
   -- the slot of an ungrounded way was marked
@@ -98,7 +123,7 @@ module _ (d : DefMaps) where
   ]
 
   -- Those that have not what the rules give are marked, and then the slots of all ways that are open.
-  pub those-dependent : (k l : SlotSet) (left : List Way) → IsJust d k → ((m : ModuleId) → IsModule d m → (n : Name) → AreJudged d k m n) → IsMore k l → All (λ (w : Way). has_slot l w ≡ true) left
+  pub those-dependent : (k l : SlotSet) (left : List Way) → ((m : ModuleId) (n : Name) (s : Namespace) → k m n s ≡ true → IsUnsupported d m n s) → ((m : ModuleId) → IsModule d m → (n : Name) → AreJudged d k m n) → IsMore k l → All (λ (w : Way). has_slot l w ≡ true) left
       → (AreDependent d k → AreDependent d l) → HasUngrounded d left → AreThoseDependent d l
   those-dependent k l left just judged more marked dependent all m is n s = (λ h. dependent (λ a b c e. inl (just a b c e)) m n s h, back)
     where

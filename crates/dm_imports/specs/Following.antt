@@ -1,5 +1,5 @@
 -- What is known while steps are followed in an order that a search found: never more than follows from declarations.
-use Rattle.std.specs.Prelude.{◌≡◌, ◌⊎◌, All, Contains, Bool, true, List, Some}
+use Rattle.std.specs.Prelude.{◌≡◌, ◌⊎◌, All, Contains, Bool, true, List, None, Some, is_some}
 use Rattle.std.specs.List.{filter_map, list_any}
 use Rattle.std.specs.Option.{ForSome}
 use Rattle.dm_base.specs.declared.ids.ModuleId.{ModuleId}
@@ -12,7 +12,7 @@ use Rattle.dm_imports.specs.declared.rules.grounded.following.Followed.{Followed
 use Rattle.dm_imports.specs.declared.rules.grounded.readers.Reader.{Reader}
 use Rattle.dm_imports.specs.Brought.{AreAllNamed, join}
 use Rattle.dm_imports.specs.Grounded.{IsClosed, SlotSet, known_offer, known_offers}
-use Rattle.dm_imports.specs.Grounding.{HasSource, IsMore, IsSafe, IsWay, is_conflict, slots_of}
+use Rattle.dm_imports.specs.Grounding.{HasSource, IsMore, IsSafe, IsWay, Way, is_conflict, known_from, slots_of}
 use Rattle.dm_imports.specs.Paths.{DefMaps}
 use Rattle.dm_imports.specs.Slots.{Slots, slot_at}
 
@@ -52,3 +52,9 @@ pub record Follows (d : DefMaps) (f g : Followed) : Type 0 where
 pub record IsReader (d : DefMaps) (k : SlotSet) (r : Reader) : Type 0 where
   pub listed : Contains d.globs r.glob.now
   pub source : HasSource d k r.glob.now (Some r.source)
+
+-- what one offers of a slot by known slots may derive that, by globs
+pub record IsOfferedBy (d : DefMaps) (k : SlotSet) (r : Reader) (w : Way) : Type 0 where
+  pub home : w.home ≡ r.glob.now.into
+  pub import : w.import ≡ None
+  pub offer : is_some (known_from d k r.glob.now r.source w.name w.namespace) ≡ true

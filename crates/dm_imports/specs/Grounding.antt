@@ -1,5 +1,5 @@
 -- How it is seen that def maps are grounded: by ways in which slots may be derived, of which fewer and fewer are open.
-use Rattle.std.specs.Prelude.{◌≡◌, ◌⊎◌, All, Contains, Bool, true, false, List, ◌||◌, Option, Some, None, cond, is_some}
+use Rattle.std.specs.Prelude.{◌≡◌, ◌⊎◌, All, Contains, Bool, true, false, List, ◌&&◌, ◌||◌, not, Option, Some, None, cond, is_some}
 use Rattle.std.specs.Borrow.{Bor}
 use Rattle.std.specs.Option.{ForSome, option_map_or}
 use Rattle.dm_base.specs.declared.ids.ModuleId.{ModuleId}
@@ -17,9 +17,9 @@ use Rattle.dm_imports.specs.declared.joined.Joined.{Joined}
 use Rattle.dm_imports.specs.declared.meaning.Meaning.{Meaning}
 use Rattle.dm_imports.specs.declared.named_import.NamedImport.{NamedImport}
 use Rattle.dm_imports.specs.Brought.{AreAllNamed, IsBrought}
-use Rattle.dm_imports.specs.Grounded.{IsClosed, Offers, SlotSet, is_glob_step, is_import_step, known_offers, knowing}
+use Rattle.dm_imports.specs.Grounded.{IsClosed, Offers, SlotSet, is_brought, is_glob_step, is_import_step, known_offers, knowing}
 use Rattle.dm_imports.specs.Meanings.{is_declared}
-use Rattle.dm_imports.specs.Paths.{AreVariantsNamed, DefMaps, at}
+use Rattle.dm_imports.specs.Paths.{AreVariantsNamed, DefMaps, at, is_by_glob}
 use Rattle.dm_imports.specs.Rules.{AreMapsKnown, IsModule, offer_from, source_of}
 use Rattle.dm_imports.specs.Slots.{Slots, slot_at}
 
@@ -76,6 +76,10 @@ means d w = at d w.home w.name w.namespace
 
 abbrev pub has_slot : SlotSet → Way → Bool
 has_slot k w = k w.home w.name w.namespace
+
+-- globs brought what its slot means, and bring one definition there, so that any offer derives it
+abbrev pub needs_one : DefMaps → Way → Bool
+needs_one d w = option_map_or (λ x. is_by_glob x && not x.is_ambiguous && is_brought d w.home w.name w.namespace x) (means d w) false
 
 abbrev pub is_way : DefMaps → SlotSet → Offers → Way → Meaning → Bool
 is_way d k o w x = elim w.import [

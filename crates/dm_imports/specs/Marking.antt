@@ -1,27 +1,29 @@
 -- How slots are marked that have not what the rules give.
-use Rattle.std.specs.Prelude.{◌≡◌, ◌↔◌, ◌⊎◌, All, Contains, Bool, true, List, None}
+use Rattle.std.specs.Prelude.{◌≡◌, ◌↔◌, ◌⊎◌, All, Contains, true, false, List, None}
 use Rattle.dm_base.specs.declared.ids.ModuleId.{ModuleId}
 use Rattle.dm_base.specs.declared.per_ns.Namespace.{Namespace}
 use Rattle.dm_base.specs.Names.{Name}
 use Rattle.dm_maps.specs.World.{scope_of}
 use Rattle.dm_scope.specs.Sorted.{names_of}
 use Rattle.dm_imports.specs.declared.glob_import.GlobImport.{GlobImport}
+use Rattle.dm_imports.specs.declared.rules.unsupported.Judged.{Judged}
 use Rattle.dm_imports.specs.Grounded.{SlotSet}
 use Rattle.dm_imports.specs.Grounding.{IsMore, Way, slots_of, way_of}
 use Rattle.dm_imports.specs.OrderDependent.{DependsOnOrder, IsUngrounded, IsUnsupported}
 use Rattle.dm_imports.specs.Paths.{DefMaps, at}
-use Rattle.dm_imports.specs.Rules.{IsModule, given}
-use Rattle.dm_imports.specs.Slots.{Slots}
+use Rattle.dm_imports.specs.Rules.{IsModule, IsSupported, given}
 use Rattle.dm_imports.specs.Supporting.{names_brought}
 
--- no slot is marked that has what the rules give
-abbrev pub IsJust : DefMaps → SlotSet → Type 0
-IsJust d k = (m : ModuleId) (n : Name) (s : Namespace) → k m n s ≡ true → IsUnsupported d m n s
+-- No slot is marked that has what the rules give, and where none is, that is noted; where the def maps are supported, too.
+pub record IsJust (d : DefMaps) (j : Judged) : Type 0 where
+  pub marked : (m : ModuleId) (n : Name) (s : Namespace) → slots_of j.unsupported m n s ≡ true → IsUnsupported d m n s
+  pub none : j.is_supported ≡ true → (m : ModuleId) (n : Name) (s : Namespace) → slots_of j.unsupported m n s ≡ false
+  pub noted : IsSupported d → j.is_supported ≡ true
 
 -- more slots are marked
-pub record Marks (d : DefMaps) (old new : Slots Bool) : Type 0 where
-  pub more : IsMore (slots_of old) (slots_of new)
-  pub just : IsJust d (slots_of old) → IsJust d (slots_of new)
+pub record Marks (d : DefMaps) (old new : Judged) : Type 0 where
+  pub more : IsMore (slots_of old.unsupported) (slots_of new.unsupported)
+  pub just : IsJust d old → IsJust d new
 
 -- a slot has what the rules give, or is marked
 abbrev pub IsJudged : DefMaps → SlotSet → ModuleId → Name → Namespace → Type 0

@@ -19,7 +19,7 @@ use Rattle.dm_imports.specs.Asked.{meanings_of}
 use Rattle.dm_imports.specs.Brought.{IsBrought}
 use Rattle.dm_imports.specs.Meanings.{is_declared, joined}
 use Rattle.dm_imports.specs.Paths.{DefMaps, at}
-use Rattle.dm_imports.specs.Rules.{IsModule, all_imports, given, source_of}
+use Rattle.dm_imports.specs.Rules.{all_imports, given, source_of}
 use Rattle.dm_imports.specs.Slots.{Slots, slot_at}
 
 -- the names of a container: those that a module's scope has, or those of an enum's variants
@@ -43,13 +43,6 @@ IsListing w l = (m : ModuleId) → m.0 < 4294967296 → (n : Name) → Contains 
 abbrev pub Agrees : DefMaps → ModuleId → Name → Type 0
 Agrees d m n = (s : Namespace) → at d m n s ≡ given d m n s
 
--- so has each name that a module binds
-abbrev pub AgreesIn : DefMaps → ModuleId → Type 0
-AgreesIn d m = (n : Name) → Contains (names_of (scope_of d.world m)) n → Agrees d m n
-
-abbrev pub AllAgree : DefMaps → Type 0
-AllAgree d = (m : ModuleId) → IsModule d m → AgreesIn d m
-
 -- the names of what a glob brings
 abbrev pub names_brought : DefMaps → GlobImport → List Name
 names_brought d g = option_map_or (source_names d.world) (source_of d g) []
@@ -68,7 +61,3 @@ pub record AreGiven (d : DefMaps) (g : GivenTables) : Type 0 where
   pub imports : (k : ModuleId) (x : Name) (t : Namespace) → slot_at g.imports k x t ≡ all_imports d d.imports k x t
   pub meanings : g.meanings ≡ map (meanings_of d) d.imports
   pub globs : IsBrought d g.globs
-
--- so has each name of what a glob brings
-abbrev pub GlobAgrees : DefMaps → GlobImport → Type 0
-GlobAgrees d g = (n : Name) → Contains (names_brought d g) n → Agrees d g.into n

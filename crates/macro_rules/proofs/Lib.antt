@@ -2,3 +2,4 @@ pub mod Stepped
 pub mod Passed
 pub mod Counted
 pub mod Reached
+pub mod Turned

@@ -1,11 +1,10 @@
--- How far fragments go.
-use Rattle.std.specs.Prelude.{◌==◌, ◌+◌, ◌-◌, ◌&&◌, ◌||◌, ℕ, Bool, true, false, not, List, [], ◌∷◌, Option, Some, None, drop, slice_get, if◌then◌else◌}
-use Rattle.item_tree.specs.declared.lexer.lexeme.Delimiter.TheVariants.{Parenthesis, Bracket, Brace}
+-- How far trees go, and what kinds of tokens there are.
+use Rattle.std.specs.Prelude.{◌==◌, ◌+◌, ◌-◌, ◌&&◌, ◌||◌, ℕ, Bool, true, false, List, [], ◌∷◌, Option, Some, None, drop, nat_lt, slice_get, if◌then◌else◌}
+use Rattle.item_tree.specs.declared.lexer.lexeme.Delimiter.TheVariants.{Parenthesis, Brace}
 use Rattle.item_tree.specs.declared.lexer.word.Word.{Word}
 use Rattle.item_tree.specs.declared.lexer.word.Word.TheVariants as word
 use Rattle.macro_rules.specs.declared.extents.WordClass.{WordClass}
 use Rattle.macro_rules.specs.declared.extents.WordClass.TheVariants as class
-use Rattle.macro_rules.specs.declared.token.FragmentKind.{FragmentKind}
 use Rattle.macro_rules.specs.declared.token.FragmentKind.TheVariants as of
 use Rattle.macro_rules.specs.declared.token.Token.{Token}
 use Rattle.macro_rules.specs.declared.token.TokenKind.{TokenKind}
@@ -42,11 +41,15 @@ is_literal kind.Literal = true
 is_literal kind.Doc = true
 is_literal k = is_bool k
 
+abbrev pub is_lifetime : TokenKind → Bool
+is_lifetime kind.Lifetime = true
+is_lifetime _ = false
+
 -- a name or a keyword, but not `_`; `$crate` is a name
 abbrev pub is_ident : TokenKind → Bool
 is_ident (kind.Word word.Underscore) = false
 is_ident (kind.Word w) = true
-is_ident kind.Keyword = true
+is_ident (kind.Keyword w) = true
 is_ident (kind.DollarCrate home) = true
 is_ident _ = false
 
@@ -64,25 +67,56 @@ abbrev pub is_pair : ℕ → ℕ → TokenKind → Bool
 is_pair first second (kind.Pair a b) = (a == first) && (b == second)
 is_pair first second _ = false
 
-abbrev pub ends_fragment : TokenKind → Bool
-ends_fragment (kind.FragmentClose k) = true
-ends_fragment _ = false
+-- `>` with another behind it in its operator: `>>`, `>=`, `>>=` have a token for each mark, what is left where those before are taken
+abbrev pub width : TokenKind → ℕ
+width (kind.Pair first second) = if first == 62 then 2 else 1
+width (kind.Triple first second third) = if first == 62 then 3 else 1
+width _ = 1
 
--- a fragment is one literal, perhaps with a minus
-abbrev pub holds_literal : List Token → Bool
-holds_literal ts =
-    if is_mark 45 (kind_at ts 1)
-    then is_literal (kind_at ts 2) && ends_fragment (kind_at ts 3)
-    else is_literal (kind_at ts 1) && ends_fragment (kind_at ts 2)
+-- the tokens of the first tree: an operator is one
+abbrev pub first_tree_len : List Token → ℕ
+first_tree_len ts = if nat_lt 1 (width (kind_at ts 0)) then width (kind_at ts 0) else tree_len 0 ts
 
--- a literal, `-`, `true`, `false`, a fragment of a literal, and one of an expression that is a literal
-abbrev pub begins_literal_with : TokenKind → List Token → Bool
-begins_literal_with (kind.FragmentOpen of.Literal) ts = true
-begins_literal_with (kind.FragmentOpen of.Expr) ts = holds_literal ts
-begins_literal_with k ts = is_mark 45 k || is_literal k
+-- how many angle brackets are open behind a token that is in no group; those of `->` and `=>` close none
+abbrev pub angles_behind : TokenKind → ℕ → ℕ
+angles_behind (kind.Mark b) n = if b == 60 then n + 1 else if b == 62 then n - 1 else n
+angles_behind (kind.Pair first second) n =
+    if (first == 60) && (second == 60) then n + 2
+    else if (first == 60) && (second == 45) then n + 1
+    else if first == 62 then n - 1
+    else n
+angles_behind (kind.Triple first second third) n = if first == 62 then n - 1 else n
+angles_behind _ n = n
 
-abbrev pub begins_literal : List Token → Bool
-begins_literal ts = begins_literal_with (kind_at ts 0) ts
+abbrev pub angles_in : ℕ → TokenKind → ℕ → ℕ
+angles_in groups k n = if groups == 0 then angles_behind k n else n
+
+-- the tokens up to where no angle bracket is open, and no group
+abbrev pub angles_len : ℕ → ℕ → List Token → ℕ
+angles_len groups n [] = 0
+angles_len groups n (t ∷ ts) =
+    if (depth_behind t.kind groups == 0) && (angles_in groups t.kind n == 0) then 1
+    else angles_len (depth_behind t.kind groups) (angles_in groups t.kind n) ts + 1
+
+-- `<`, `<<`, or `<-` before a literal
+abbrev pub opens_angles : TokenKind → Bool
+opens_angles k = is_mark 60 k || is_pair 60 60 k || is_pair 60 45 k
+
+abbrev pub opens_parenthesis : TokenKind → Bool
+opens_parenthesis (kind.Open Parenthesis) = true
+opens_parenthesis _ = false
+
+abbrev pub opens_brace : TokenKind → Bool
+opens_brace (kind.Open Brace) = true
+opens_brace _ = false
+
+abbrev pub opens : TokenKind → Bool
+opens (kind.Open d) = true
+opens _ = false
+
+abbrev pub closes : TokenKind → Bool
+closes (kind.Close d) = true
+closes _ = false
 
 -- what a word may be in a type: a name, a keyword that is a segment of paths, one that types begin with, or another
 abbrev pub word_class : Word → WordClass
@@ -131,70 +165,16 @@ abbrev pub is_keyword : WordClass → Bool
 is_keyword class.Keyword = true
 is_keyword _ = false
 
--- `! * & ? <`
-abbrev pub begins_type_mark : ℕ → Bool
-begins_type_mark b = (b == 33) || (b == 42) || (b == 38) || (b == 63) || (b == 60)
+abbrev pub is_segment_class : WordClass → Bool
+is_segment_class class.Name = true
+is_segment_class class.Segment = true
+is_segment_class _ = false
 
--- a word that is no keyword, or is one that types have; `$crate`, a lifetime, `(`, `[`, one of these marks, `&&`, `<<`
--- or `::`; a fragment of a type or a path
-abbrev pub begins_type : TokenKind → Bool
-begins_type (kind.Word w) = not (is_keyword (word_class w))
-begins_type (kind.DollarCrate home) = true
-begins_type kind.Lifetime = true
-begins_type (kind.Open Parenthesis) = true
-begins_type (kind.Open Bracket) = true
-begins_type (kind.Mark b) = begins_type_mark b
-begins_type (kind.FragmentOpen of.Ty) = true
-begins_type (kind.FragmentOpen of.Path) = true
-begins_type k = is_pair 38 38 k || is_pair 60 60 k || is_pair 58 58 k
-
--- a word, a fragment, a comma, or what begins a type
-abbrev pub begins_visibility : TokenKind → Bool
-begins_visibility (kind.Word w) = true
-begins_visibility kind.Keyword = true
-begins_visibility (kind.FragmentOpen k) = true
-begins_visibility k = is_mark 44 k || begins_type k
-
--- a brace, or a fragment that may be a block: of the latter only a block can be read
-abbrev pub begins_block : TokenKind → Bool
-begins_block (kind.Open Brace) = true
-begins_block (kind.FragmentOpen of.Block) = true
-begins_block (kind.FragmentOpen of.Stmt) = true
-begins_block (kind.FragmentOpen of.Expr) = true
-begins_block (kind.FragmentOpen of.Literal) = true
-begins_block _ = false
-
--- a word, `::`, or a fragment that may be a name
-abbrev pub begins_path : TokenKind → Bool
-begins_path (kind.Word w) = true
-begins_path kind.Keyword = true
-begins_path (kind.DollarCrate home) = true
-begins_path (kind.FragmentOpen of.Item) = false
-begins_path (kind.FragmentOpen of.Block) = false
-begins_path (kind.FragmentOpen of.Vis) = false
-begins_path (kind.FragmentOpen k) = true
-begins_path k = is_pair 58 58 k
-
-abbrev pub is_lifetime : TokenKind → Bool
-is_lifetime kind.Lifetime = true
-is_lifetime _ = false
-
--- the first token may begin a fragment of the kind
-unfoldable pub begins : FragmentKind → List Token → Bool
-begins of.Ident ts = is_ident (kind_at ts 0)
-begins of.Lifetime ts = is_lifetime (kind_at ts 0)
-begins of.Tt ts = begins_tree (kind_at ts 0)
-begins of.Literal ts = begins_literal ts
-begins of.Vis ts = begins_visibility (kind_at ts 0)
-begins of.Block ts = begins_block (kind_at ts 0)
-begins of.Path ts = begins_path (kind_at ts 0)
-begins of.Meta ts = begins_path (kind_at ts 0)
-begins of.Ty ts = begins_type (kind_at ts 0)
-begins _ ts = false
-
-abbrev pub closes : TokenKind → Bool
-closes (kind.Close d) = true
-closes _ = false
+-- a name, or a keyword that is a segment of paths
+abbrev pub is_segment : TokenKind → Bool
+is_segment (kind.Word w) = is_segment_class (word_class w)
+is_segment (kind.DollarCrate home) = true
+is_segment _ = false
 
 abbrev pub restriction_of : TokenKind → List Token → ℕ
 restriction_of (kind.Word word.In) ts = tree_len 0 ts
@@ -202,10 +182,6 @@ restriction_of (kind.Word word.Crate) ts = if closes (kind_at ts 2) then 3 else 
 restriction_of (kind.Word word.SelfValue) ts = if closes (kind_at ts 2) then 3 else 0
 restriction_of (kind.Word word.Super) ts = if closes (kind_at ts 2) then 3 else 0
 restriction_of _ ts = 0
-
-abbrev pub opens_parenthesis : TokenKind → Bool
-opens_parenthesis (kind.Open Parenthesis) = true
-opens_parenthesis _ = false
 
 -- behind `pub`: `(crate)`, `(self)`, `(super)` or `(in path)`
 abbrev pub restriction_len : List Token → ℕ
@@ -223,11 +199,18 @@ visibility_len ts = visibility_with (kind_at ts 0) ts
 abbrev pub signed_len : TokenKind → TokenKind → Option ℕ
 signed_len first second = if is_literal first then Some 1 else if is_literal second then Some 2 else None
 
+abbrev pub fragment_or : TokenKind → TokenKind → List Token → Option ℕ
+fragment_or first (kind.FragmentOpen k) ts = Some (1 + tree_len 0 (drop 1 ts))
+fragment_or first second ts = signed_len first second
+
+abbrev pub plain_literal_len : TokenKind → List Token → Option ℕ
+plain_literal_len k ts = if is_mark 45 k then fragment_or k (kind_at ts 1) ts else signed_len k (kind_at ts 1)
+
 abbrev pub literal_with : TokenKind → List Token → Option ℕ
 literal_with (kind.FragmentOpen k) ts = Some (tree_len 0 ts)
-literal_with k ts = signed_len k (kind_at ts 1)
+literal_with k ts = plain_literal_len k ts
 
--- a literal with its minus
+-- a literal, or a fragment of one, with its minus
 abbrev pub literal_len : List Token → Option ℕ
 literal_len ts = literal_with (kind_at ts 0) ts
 
@@ -238,13 +221,3 @@ block_with _ ts = None
 
 abbrev pub block_len : List Token → Option ℕ
 block_len ts = block_with (kind_at ts 0) ts
-
--- how many tokens a fragment of the kind takes that may begin so; nothing where it cannot be read
-unfoldable pub fragment_len : FragmentKind → List Token → Option ℕ
-fragment_len of.Ident ts = Some 1
-fragment_len of.Lifetime ts = Some 1
-fragment_len of.Tt ts = Some (tree_len 0 ts)
-fragment_len of.Literal ts = literal_len ts
-fragment_len of.Vis ts = Some (visibility_len ts)
-fragment_len of.Block ts = block_len ts
-fragment_len _ ts = None

@@ -1,6 +1,14 @@
 pub mod Tokens
 pub mod TokensRead
 pub mod Extents
+pub mod Beginnings
+pub mod Goals
+pub mod Types
+pub mod Expressions
+pub mod Patterns
+pub mod Statements
+pub mod Fragments
+pub mod FragmentRows
 pub mod Threads
 pub mod Walks
 pub mod Read

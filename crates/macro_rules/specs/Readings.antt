@@ -5,7 +5,7 @@ use Rattle.dm_base.specs.declared.edition.Edition.{Edition}
 use Rattle.item_tree.specs.Spans.{name_text, piece}
 use Rattle.item_tree.specs.declared.lexer.lexeme.Delimiter.TheVariants.{Parenthesis, Brace}
 use Rattle.item_tree.specs.declared.lexer.word.Word.TheVariants as word
-use Rattle.macro_rules.specs.Extents.{kind_at, is_mark}
+use Rattle.macro_rules.specs.Extents.{kind_at, is_mark, width}
 use Rattle.macro_rules.specs.Read.{Read}
 use Rattle.macro_rules.specs.declared.reading.Opening.{Opening}
 use Rattle.macro_rules.specs.declared.reading.RuleFault.{RuleFault}
@@ -99,8 +99,12 @@ token_or (Some t) other = t
 abbrev pub token_at : List Token → ℕ → Token → Token
 token_at ts at other = token_or (slice_get ts at) other
 
+-- an operator that has a token for each mark is not read as a separator
+abbrev pub fault_of : TokenKind → RuleFault
+fault_of k = if nat_lt 1 (width k) then fault.Unsupported else fault.BadRule
+
 abbrev pub closed_with : Option Tail → ℕ → Opening → Token → List Token → Read → Read
-closed_with None begin o token ts r = failed fault.BadRule r
+closed_with None begin o token ts r = failed (fault_of (kind_at ts 1)) r
 closed_with (Some t) begin o token ts r = repetition_closed begin o t (token_at ts 1 token) r
 
 abbrev pub closed_by : Option ℕ → Opening → Token → List Token → Read → Read
@@ -130,16 +134,6 @@ abbrev pub is_vis : FragmentKind → Bool
 is_vis of.Vis = true
 is_vis _ = false
 
--- the kinds whose extents are known
-abbrev pub is_read : FragmentKind → Bool
-is_read of.Ident = true
-is_read of.Lifetime = true
-is_read of.Tt = true
-is_read of.Literal = true
-is_read of.Vis = true
-is_read of.Block = true
-is_read _ = false
-
 abbrev pub variable_of : Token → FragmentKind → Option ℕ → Row
 variable_of name kind within = row.Variable (record { name = name; kind = kind; within = within })
 
@@ -153,9 +147,7 @@ variable_added name kind r = record r {
 abbrev pub variable_with : List ℕ → Token → Option FragmentKind → Read → Read
 variable_with bytes name None r = failed fault.NoKind r
 variable_with bytes name (Some kind) r =
-    if not (is_read kind) then failed fault.Unsupported r
-    else if is_some (found bytes r.rows name) then failed fault.TwoOfAName r
-    else variable_added name kind r
+    if is_some (found bytes r.rows name) then failed fault.TwoOfAName r else variable_added name kind r
 
 -- `$name:kind`, behind the `$`
 abbrev pub variable_read : List ℕ → Edition → Token → List Token → Read → Read
@@ -187,7 +179,7 @@ dollar_before (kind.Open Parenthesis) p bytes matcher token ts r = repetition_op
 dollar_before (kind.Open Brace) p bytes matcher token ts r = failed fault.Unsupported r
 dollar_before (kind.Word word.Crate) p bytes matcher token ts r = added (dollar_crate p.home.krate (token_at ts 1 token)) 1 r
 dollar_before (kind.Word w) p bytes matcher token ts r = name_read p bytes matcher token (token_at ts 1 token) ts r
-dollar_before kind.Keyword p bytes matcher token ts r = name_read p bytes matcher token (token_at ts 1 token) ts r
+dollar_before (kind.Keyword w) p bytes matcher token ts r = name_read p bytes matcher token (token_at ts 1 token) ts r
 dollar_before (kind.Close d) p bytes matcher token ts r = added (row.Token token) 0 r
 dollar_before k p bytes matcher token ts r = other_read k token (length ts) r
 

@@ -1,6 +1,7 @@
 -- Sets of positions: the threads at a place of the input are the end of a list of threads.
 use Rattle.std.specs.Prelude.{◌==◌, ◌+◌, ◌<◌, ◌&&◌, ℕ, zero, suc, Bool, false, List, [], ◌∷◌, ◌++◌, Option, Some, None, is_some, drop, slice_get, position, nat_lt, nat_eq, length, count_by, if◌then◌else◌}
-use Rattle.macro_rules.specs.Extents.{begins, fragment_len}
+use Rattle.macro_rules.specs.Beginnings.{begins}
+use Rattle.macro_rules.specs.Fragments.{fragment_len}
 use Rattle.macro_rules.specs.Tokens.{same}
 use Rattle.macro_rules.specs.declared.matching.Outcome.{Outcome}
 use Rattle.macro_rules.specs.declared.matching.Outcome.TheVariants as outcome

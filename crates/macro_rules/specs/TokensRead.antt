@@ -1,8 +1,9 @@
 -- Tokens, read from a text.
-use Rattle.std.specs.Prelude.{◌==◌, ◌+◌, ◌-◌, ◌++◌, ◌&&◌, ◌||◌, ℕ, Bool, not, List, [], ◌∷◌, Option, Some, None, codes, drop, take, slice_get, nat_le, nat_lt, length, nat_eq, if◌then◌else◌}
+use Rattle.std.specs.Prelude.{◌==◌, ◌+◌, ◌-◌, ◌++◌, ◌&&◌, ◌||◌, ℕ, Bool, true, false, not, List, [], ◌∷◌, Option, Some, None, codes, drop, take, slice_get, nat_le, nat_lt, length, nat_eq, if◌then◌else◌}
 use Rattle.std.specs.List.{starts_with}
 use Rattle.std.specs.Str.{bytes_eq}
 use Rattle.dm_base.specs.declared.edition.Edition.{Edition}
+use Rattle.dm_base.specs.declared.edition.Edition.TheVariants.{Edition2015}
 use Rattle.item_tree.specs.Words.{word_of}
 use Rattle.item_tree.specs.declared.lexer.lexeme.Delimiter.TheVariants.{Parenthesis, Bracket, Brace}
 use Rattle.item_tree.specs.declared.lexer.token.Token as lexed
@@ -10,6 +11,8 @@ use Rattle.item_tree.specs.declared.lexer.token.TokenKind as lexed_kind
 use Rattle.item_tree.specs.declared.lexer.token.TokenKind.TheVariants as of
 use Rattle.item_tree.specs.declared.lexer.word.Word.{Word}
 use Rattle.item_tree.specs.declared.lexer.word.Word.TheVariants as word
+use Rattle.macro_rules.specs.declared.token.Keyword.{Keyword}
+use Rattle.macro_rules.specs.declared.token.Keyword.TheVariants as keyword
 use Rattle.macro_rules.specs.declared.token.Token.{Token}
 use Rattle.macro_rules.specs.declared.token.TokenKind.{TokenKind}
 use Rattle.macro_rules.specs.declared.token.TokenKind.TheVariants as kind
@@ -65,20 +68,40 @@ operator_kind rest len =
     else if len == 2 then kind.Pair (byte_at rest 0) (byte_at rest 1)
     else mark_kind (byte_at rest 0)
 
--- the keywords that the grammar of items has no word for
-unfoldable pub is_keyword : List ℕ → Bool
-is_keyword name =
-    bytes_eq name (codes "loop") || bytes_eq name (codes "continue") || bytes_eq name (codes "await") || bytes_eq name (codes "yield")
-    || bytes_eq name (codes "try") || bytes_eq name (codes "abstract") || bytes_eq name (codes "become") || bytes_eq name (codes "box")
-    || bytes_eq name (codes "do") || bytes_eq name (codes "override") || bytes_eq name (codes "priv") || bytes_eq name (codes "typeof")
+-- those that are names in the edition 2015
+abbrev pub is_newer : Edition → Bool
+is_newer Edition2015 = false
+is_newer _ = true
+
+-- keywords that no text has
+unfoldable pub is_reserved : List ℕ → Bool
+is_reserved name =
+    bytes_eq name (codes "abstract") || bytes_eq name (codes "become") || bytes_eq name (codes "override") || bytes_eq name (codes "priv")
     || bytes_eq name (codes "unsized") || bytes_eq name (codes "virtual")
 
-abbrev pub kind_of_word : Word → List ℕ → TokenKind
-kind_of_word word.Other name = if is_keyword name then kind.Keyword else kind.Word word.Other
-kind_of_word w name = kind.Word w
+-- the keywords that the grammar of items has no word for
+unfoldable pub keyword_of : Edition → List ℕ → Option Keyword
+keyword_of edition name =
+    if bytes_eq name (codes "loop") then Some keyword.Loop
+    else if bytes_eq name (codes "continue") then Some keyword.Continue
+    else if bytes_eq name (codes "await") && is_newer edition then Some keyword.Await
+    else if bytes_eq name (codes "yield") then Some keyword.Yield
+    else if bytes_eq name (codes "try") && is_newer edition then Some keyword.Try
+    else if bytes_eq name (codes "do") || bytes_eq name (codes "box") then Some keyword.Do
+    else if bytes_eq name (codes "typeof") then Some keyword.Typeof
+    else if is_reserved name then Some keyword.Reserved
+    else None
+
+abbrev pub keyword_or : Option Keyword → TokenKind
+keyword_or None = kind.Word word.Other
+keyword_or (Some k) = kind.Keyword k
+
+abbrev pub kind_of_word : Word → Edition → List ℕ → TokenKind
+kind_of_word word.Other edition name = keyword_or (keyword_of edition name)
+kind_of_word w edition name = kind.Word w
 
 abbrev pub word_kind : Edition → List ℕ → TokenKind
-word_kind edition name = kind_of_word (word_of edition name) name
+word_kind edition name = kind_of_word (word_of edition name) edition name
 
 -- what a token is that is neither a comment, a blank nor a mark
 abbrev pub plain_kind : Edition → lexed_kind.TokenKind → List ℕ → Option TokenKind
@@ -124,10 +147,19 @@ abbrev pub marks_behind : lexed_kind.TokenKind → List ℕ → ℕ → ℕ
 marks_behind of.Punctuation rest skipped = if skipped == 0 then operator_len rest - 1 else skipped - 1
 marks_behind _ rest skipped = 0
 
+-- what is left of an operator that begins with `>`, without its first mark and without its first two
+abbrev pub left_of : TokenKind → ℕ → List Token
+left_of (kind.Pair first second) start = if first == 62 then placed (kind.Mark second) (start + 1) 1 ∷ [] else []
+left_of (kind.Triple first second third) start =
+    if first == 62 then placed (kind.Pair second third) (start + 1) 2 ∷ placed (kind.Mark third) (start + 2) 1 ∷ [] else []
+left_of k start = []
+
 -- the operator that a mark begins, unless the mark belongs to one before
 abbrev pub operator_tokens : ℕ → List ℕ → ℕ → List Token
 operator_tokens start rest skipped =
-    if skipped == 0 then placed (operator_kind rest (operator_len rest)) start (operator_len rest) ∷ [] else []
+    if skipped == 0
+    then placed (operator_kind rest (operator_len rest)) start (operator_len rest) ∷ left_of (operator_kind rest (operator_len rest)) start
+    else []
 
 abbrev pub doc_or : ℕ → Option Doc → List Token
 doc_or words None = []

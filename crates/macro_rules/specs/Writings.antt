@@ -1,7 +1,7 @@
 -- What a transcriber writes.
-use Rattle.std.specs.Prelude.{◌==◌, ◌+◌, ◌-◌, ◌^◌, ◌||◌, ℕ, zero, suc, Bool, true, false, List, [], ◌∷◌, ◌++◌, Option, Some, None, Result, Ok, Err, is_some, min, drop, take, slice_get, slice_set, nat_eq, nat_le, nat_lt, length, if◌then◌else◌}
+use Rattle.std.specs.Prelude.{◌==◌, ◌+◌, ◌-◌, ◌^◌, ◌&&◌, ◌||◌, ℕ, zero, suc, Bool, true, false, List, [], ◌∷◌, ◌++◌, Option, Some, None, Result, Ok, Err, is_some, min, drop, take, slice_get, slice_set, nat_eq, nat_le, nat_lt, length, if◌then◌else◌}
 use Rattle.std.specs.List.{list_any, list_all}
-use Rattle.macro_rules.specs.Extents.{kind_at}
+use Rattle.macro_rules.specs.Extents.{kind_at, tree_len, width}
 use Rattle.macro_rules.specs.Visits.{at_row}
 use Rattle.macro_rules.specs.Written.{Written}
 use Rattle.macro_rules.specs.declared.row.Row.{Row}
@@ -29,15 +29,35 @@ kind_number of.Ty = 7
 kind_number of.Meta = 8
 kind_number of.Item = 9
 kind_number of.Expr = 10
-kind_number of.Expr2021 = 11
+kind_number of.Expr2021 = 10
 kind_number of.Pat = 12
-kind_number of.PatParam = 13
+kind_number of.PatParam = 12
 kind_number of.Stmt = 14
 
--- a name, a lifetime and a tree are put back as they are, and so is what is a fragment of its kind already
-abbrev pub stays : FragmentKind → TokenKind → Bool
-stays k (kind.FragmentOpen own) = nat_lt (kind_number k) 3 || (kind_number k == kind_number own)
-stays k _ = nat_lt (kind_number k) 3
+abbrev pub has_kind : FragmentKind → TokenKind → Bool
+has_kind k (kind.FragmentOpen own) = kind_number k == kind_number own
+has_kind k _ = false
+
+-- a name, a lifetime and a tree are put back as they are, and so is what is one fragment of its kind already
+abbrev pub stays : FragmentKind → List Token → Bool
+stays k piece = nat_lt (kind_number k) 3 || (has_kind k (kind_at piece 0) && (tree_len 0 piece == length piece))
+
+abbrev pub mark_of : TokenKind → TokenKind
+mark_of (kind.Pair first second) = kind.Mark first
+mark_of (kind.Triple first second third) = kind.Mark first
+mark_of k = k
+
+-- its first mark alone
+abbrev pub first_mark : Token → Token
+first_mark t = record { kind = mark_of t.kind; span = record { start = t.span.start; len = 1 } }
+
+abbrev pub parted_at : Token → ℕ → Token
+parted_at t size = if nat_lt size (width t.kind) then first_mark t else t
+
+-- an operator whose marks were not all taken is single marks
+abbrev pub parted : List Token → List Token
+parted [] = []
+parted (t ∷ ts) = parted_at t (length ts + 1) ∷ parted ts
 
 abbrev pub flat : Option (Option ℕ) → Option ℕ
 flat None = None
@@ -119,7 +139,7 @@ border k = record { kind = k; span = record { start = 0; len = 0 } }
 -- a fragment, with its borders where it stays one tree
 abbrev pub fragment : FragmentKind → List Token → List Token
 fragment k piece =
-    if stays k (kind_at piece 0) then piece else border (kind.FragmentOpen k) ∷ (piece ++ border (kind.FragmentClose k) ∷ [])
+    if stays k piece then piece else border (kind.FragmentOpen k) ∷ (parted piece ++ border (kind.FragmentClose k) ∷ [])
 
 abbrev pub fragment_written : FragmentKind → List Token → Written → Written
 fragment_written k piece w = all_written (fragment k piece) w

@@ -1,5 +1,5 @@
-//! How far fragments go.
-ghost use Rattle.std.specs.Prelude.{◌≡◌, ◌+◌, ◌<◌, ◌≤◌, ◌^◌, IfSome, length};
+//! How far trees go, and what kinds of tokens there are.
+ghost use Rattle.std.specs.Prelude.{◌≡◌, ◌+◌, ◌<◌, ◌≤◌, ◌^◌, IfSome, drop, length};
 ghost use Rattle.macro_rules.specs.Extents as spec;
 
 use crate::token::{FragmentKind, Token, TokenKind};
@@ -46,6 +46,108 @@ pub fn tree_len(tokens: &[Token]) -> usize
     at
 }
 
+/// The tokens of an operator: `>>`, `>=` and `>>=` have one for each mark.
+pub(crate) fn width(kind: TokenKind) -> usize
+    ensures some { 0 < result }
+    ensures small { result ≤ 3 }
+    ensures exact { result ≡ spec.width kind }
+{
+    match kind {
+        TokenKind::Pair(first, _) => if first == b'>' { 2 } else { 1 },
+        TokenKind::Triple(first, _, _) => if first == b'>' { 3 } else { 1 },
+        _ => 1,
+    }
+}
+
+/// The tokens of the first tree, which may be an operator.
+pub(crate) fn first_tree_len(tokens: &[Token]) -> usize
+    ensures small { result ≤ length tokens.now + 3 }
+    ensures exact { result ≡ spec.first_tree_len tokens.now }
+{
+    let len = width(kind_at(tokens, 0));
+    if 1 < len { len } else { tree_len(tokens) }
+}
+
+/// How many angle brackets are open behind one more token that is in no group.
+fn angles_behind(kind: TokenKind, angles: usize) -> usize
+    requires { angles < 2 ^ 63 }
+    ensures small { result ≤ angles + 2 }
+    ensures exact { result ≡ spec.angles_behind kind angles }
+{
+    match kind {
+        TokenKind::Mark(mark) => {
+            if mark == b'<' {
+                angles + 1
+            } else if mark == b'>' {
+                angles.saturating_sub(1)
+            } else {
+                angles
+            }
+        }
+        TokenKind::Pair(first, second) => {
+            if first == b'<' && second == b'<' {
+                angles + 2
+            } else if first == b'<' && second == b'-' {
+                angles + 1
+            } else if first == b'>' {
+                angles.saturating_sub(1)
+            } else {
+                angles
+            }
+        }
+        TokenKind::Triple(first, _, _) => {
+            if first == b'>' {
+                angles.saturating_sub(1)
+            } else {
+                angles
+            }
+        }
+        _ => angles,
+    }
+}
+
+fn angles_in(groups: usize, kind: TokenKind, angles: usize) -> usize
+    requires { angles < 2 ^ 63 }
+    ensures small { result ≤ angles + 2 }
+    ensures exact { result ≡ spec.angles_in groups kind angles }
+{
+    if groups == 0 {
+        angles_behind(kind, angles)
+    } else {
+        angles
+    }
+}
+
+/// The tokens up to where no angle bracket is open, and no group.
+pub(crate) fn angles_len(tokens: &[Token]) -> usize
+    ensures within { result ≤ length tokens.now }
+    ensures exact { result ≡ spec.angles_len 0 0 tokens.now }
+{
+    let mut groups: usize = 0;
+    let mut angles: usize = 0;
+    let mut at: usize = 0;
+    while at < tokens.len() {
+        angles = angles_in(groups, tokens[at].kind, angles);
+        groups = depth_behind(tokens[at].kind, groups);
+        at += 1;
+        if groups == 0 && angles == 0 {
+            return at;
+        }
+    }
+    at
+}
+
+/// The tokens behind the first so many.
+pub(crate) fn behind(tokens: &[Token], count: usize) -> &[Token]
+    ensures { result.now ≡ drop count tokens.now }
+{
+    if count < tokens.len() {
+        &tokens[count..]
+    } else {
+        &[]
+    }
+}
+
 /// Whether a word is a literal.
 fn is_bool(kind: TokenKind) -> bool
     ensures { result ≡ spec.is_bool kind }
@@ -53,25 +155,32 @@ fn is_bool(kind: TokenKind) -> bool
     matches!(kind, TokenKind::Word(Word::True | Word::False))
 }
 
-fn is_literal(kind: TokenKind) -> bool
+pub(crate) fn is_literal(kind: TokenKind) -> bool
     ensures { result ≡ spec.is_literal kind }
 {
     matches!(kind, TokenKind::Literal | TokenKind::Doc) || is_bool(kind)
 }
 
+pub(crate) fn is_lifetime(kind: TokenKind) -> bool
+    ensures { result ≡ spec.is_lifetime kind }
+{
+    matches!(kind, TokenKind::Lifetime)
+}
+
 /// A name, or a keyword, but not `_`.
-fn is_ident(kind: TokenKind) -> bool
+pub(crate) fn is_ident(kind: TokenKind) -> bool
     ensures { result ≡ spec.is_ident kind }
 {
     match kind {
         TokenKind::Word(Word::Underscore) => false,
-        TokenKind::Word(_) | TokenKind::Keyword | TokenKind::DollarCrate(_) => true,
+        TokenKind::Word(_) | TokenKind::Keyword(_) => true,
+        TokenKind::DollarCrate(_) => true,
         _ => false,
     }
 }
 
 /// Whether a token begins a tree.
-fn begins_tree(kind: TokenKind) -> bool
+pub(crate) fn begins_tree(kind: TokenKind) -> bool
     ensures { result ≡ spec.begins_tree kind }
 {
     !matches!(kind, TokenKind::Close(_) | TokenKind::FragmentClose(_))
@@ -83,34 +192,6 @@ pub(crate) fn is_mark(mark: u8, kind: TokenKind) -> bool
     match kind {
         TokenKind::Mark(byte) => byte == mark,
         _ => false,
-    }
-}
-
-fn ends_fragment(kind: TokenKind) -> bool
-    ensures { result ≡ spec.ends_fragment kind }
-{
-    matches!(kind, TokenKind::FragmentClose(_))
-}
-
-/// Whether a fragment is one literal, perhaps with a minus.
-fn holds_literal(tokens: &[Token]) -> bool
-    ensures { result ≡ spec.holds_literal tokens.now }
-{
-    if is_mark(b'-', kind_at(tokens, 1)) {
-        is_literal(kind_at(tokens, 2)) && ends_fragment(kind_at(tokens, 3))
-    } else {
-        is_literal(kind_at(tokens, 1)) && ends_fragment(kind_at(tokens, 2))
-    }
-}
-
-/// Whether a literal may begin so.
-fn begins_literal(tokens: &[Token]) -> bool
-    ensures { result ≡ spec.begins_literal tokens.now }
-{
-    match kind_at(tokens, 0) {
-        TokenKind::FragmentOpen(FragmentKind::Literal) => true,
-        TokenKind::FragmentOpen(FragmentKind::Expr) => holds_literal(tokens),
-        kind => is_mark(b'-', kind) || is_literal(kind),
     }
 }
 
@@ -143,10 +224,17 @@ pub(crate) fn word_class(word: Word) -> WordClass
     }
 }
 
-fn begins_type_mark(mark: u8) -> bool
-    ensures { result ≡ spec.begins_type_mark mark }
+/// Whether a token is a segment of a path.
+pub(crate) fn is_segment(kind: TokenKind) -> bool
+    ensures { result ≡ spec.is_segment kind }
 {
-    mark == b'!' || mark == b'*' || mark == b'&' || mark == b'?' || mark == b'<'
+    match kind {
+        TokenKind::Word(word) => {
+            matches!(word_class(word), WordClass::Name | WordClass::Segment)
+        }
+        TokenKind::DollarCrate(_) => true,
+        _ => false,
+    }
 }
 
 /// Whether a token is an operator of two marks.
@@ -159,72 +247,35 @@ pub(crate) fn is_pair(first: u8, second: u8, kind: TokenKind) -> bool
     }
 }
 
-/// Whether a type may begin so.
-fn begins_type(kind: TokenKind) -> bool
-    ensures { result ≡ spec.begins_type kind }
+/// `<`, `<<`, or `<-` before a literal.
+pub(crate) fn opens_angles(kind: TokenKind) -> bool
+    ensures { result ≡ spec.opens_angles kind }
 {
-    match kind {
-        TokenKind::Word(word) => !matches!(word_class(word), WordClass::Keyword),
-        TokenKind::DollarCrate(_) | TokenKind::Lifetime => true,
-        TokenKind::Open(Delimiter::Parenthesis | Delimiter::Bracket) => true,
-        TokenKind::Mark(mark) => begins_type_mark(mark),
-        TokenKind::FragmentOpen(FragmentKind::Ty | FragmentKind::Path) => true,
-        _ => is_pair(b'&', b'&', kind) || is_pair(b'<', b'<', kind) || is_pair(b':', b':', kind),
-    }
+    is_mark(b'<', kind) || is_pair(b'<', b'<', kind) || is_pair(b'<', b'-', kind)
 }
 
-/// Whether a visibility may begin so. It may be empty, but not at the end of the input.
-fn begins_visibility(kind: TokenKind) -> bool
-    ensures { result ≡ spec.begins_visibility kind }
+pub(crate) fn opens_parenthesis(kind: TokenKind) -> bool
+    ensures { result ≡ spec.opens_parenthesis kind }
 {
-    match kind {
-        TokenKind::Word(_) | TokenKind::Keyword | TokenKind::FragmentOpen(_) => true,
-        _ => is_mark(b',', kind) || begins_type(kind),
-    }
+    matches!(kind, TokenKind::Open(Delimiter::Parenthesis))
 }
 
-/// Whether a block may begin so.
-fn begins_block(kind: TokenKind) -> bool
-    ensures { result ≡ spec.begins_block kind }
+pub(crate) fn opens_brace(kind: TokenKind) -> bool
+    ensures { result ≡ spec.opens_brace kind }
 {
-    match kind {
-        TokenKind::Open(Delimiter::Brace) => true,
-        TokenKind::FragmentOpen(FragmentKind::Block | FragmentKind::Stmt) => true,
-        TokenKind::FragmentOpen(FragmentKind::Expr | FragmentKind::Literal) => true,
-        _ => false,
-    }
+    matches!(kind, TokenKind::Open(Delimiter::Brace))
 }
 
-/// Whether a path may begin so.
-fn begins_path(kind: TokenKind) -> bool
-    ensures { result ≡ spec.begins_path kind }
+pub(crate) fn opens(kind: TokenKind) -> bool
+    ensures { result ≡ spec.opens kind }
 {
-    match kind {
-        TokenKind::Word(_) | TokenKind::Keyword | TokenKind::DollarCrate(_) => true,
-        TokenKind::FragmentOpen(FragmentKind::Item | FragmentKind::Block | FragmentKind::Vis) =>
-            false,
-        TokenKind::FragmentOpen(_) => true,
-        _ => is_pair(b':', b':', kind),
-    }
+    matches!(kind, TokenKind::Open(_))
 }
 
-/// Whether the first token may begin a fragment of the kind.
-#[tactic(auto, unfolding(crate::specs::Extents::begins))]
-pub fn begins(kind: FragmentKind, tokens: &[Token]) -> bool
-    ensures { result ≡ spec.begins kind tokens.now }
+pub(crate) fn closes(kind: TokenKind) -> bool
+    ensures { result ≡ spec.closes kind }
 {
-    let first = kind_at(tokens, 0);
-    match kind {
-        FragmentKind::Ident => is_ident(first),
-        FragmentKind::Lifetime => matches!(first, TokenKind::Lifetime),
-        FragmentKind::Tt => begins_tree(first),
-        FragmentKind::Literal => begins_literal(tokens),
-        FragmentKind::Vis => begins_visibility(first),
-        FragmentKind::Block => begins_block(first),
-        FragmentKind::Path | FragmentKind::Meta => begins_path(first),
-        FragmentKind::Ty => begins_type(first),
-        _ => false,
-    }
+    matches!(kind, TokenKind::Close(_))
 }
 
 /// What ends a visibility behind its `pub`.
@@ -249,7 +300,7 @@ fn restriction_len(tokens: &[Token]) -> usize
 }
 
 /// The tokens of a visibility.
-fn visibility_len(tokens: &[Token]) -> usize
+pub(crate) fn visibility_len(tokens: &[Token]) -> usize
     ensures small { result ≤ length tokens.now + 4 }
     ensures exact { result ≡ spec.visibility_len tokens.now }
 {
@@ -263,49 +314,61 @@ fn visibility_len(tokens: &[Token]) -> usize
     }
 }
 
+/// The tokens of a literal that is no fragment, with what stands before it.
+fn signed_len(first: TokenKind, second: TokenKind) -> Option<usize>
+    ensures small { IfSome result (λ len. len ≤ 2) }
+    ensures exact { result ≡ spec.signed_len first second }
+{
+    if is_literal(first) {
+        Some(1)
+    } else if is_literal(second) {
+        Some(2)
+    } else {
+        None
+    }
+}
+
+/// The tokens of a literal behind a minus, with that.
+fn behind_minus(first: TokenKind, tokens: &[Token]) -> Option<usize>
+    ensures small { IfSome result (λ len. len ≤ length tokens.now + 2) }
+    ensures exact { result ≡ spec.fragment_or first (spec.kind_at tokens.now 1) tokens.now }
+{
+    match kind_at(tokens, 1) {
+        TokenKind::FragmentOpen(_) => Some(1 + tree_len(behind(tokens, 1))),
+        second => signed_len(first, second),
+    }
+}
+
+fn plain_literal_len(kind: TokenKind, tokens: &[Token]) -> Option<usize>
+    ensures small { IfSome result (λ len. len ≤ length tokens.now + 2) }
+    ensures exact { result ≡ spec.plain_literal_len kind tokens.now }
+{
+    if is_mark(b'-', kind) {
+        behind_minus(kind, tokens)
+    } else {
+        signed_len(kind, kind_at(tokens, 1))
+    }
+}
+
 /// The tokens of a literal, with its minus.
-fn literal_len(tokens: &[Token]) -> Option<usize>
+pub(crate) fn literal_len(tokens: &[Token]) -> Option<usize>
     ensures small { IfSome result (λ len. len ≤ length tokens.now + 2) }
     ensures exact { result ≡ spec.literal_len tokens.now }
 {
     match kind_at(tokens, 0) {
         TokenKind::FragmentOpen(_) => Some(tree_len(tokens)),
-        kind => {
-            if is_literal(kind) {
-                Some(1)
-            } else if is_literal(kind_at(tokens, 1)) {
-                Some(2)
-            } else {
-                None
-            }
-        }
+        kind => plain_literal_len(kind, tokens),
     }
 }
 
 /// The tokens of a block.
-fn block_len(tokens: &[Token]) -> Option<usize>
+pub(crate) fn block_len(tokens: &[Token]) -> Option<usize>
     ensures small { IfSome result (λ len. len ≤ length tokens.now) }
     ensures exact { result ≡ spec.block_len tokens.now }
 {
     match kind_at(tokens, 0) {
         TokenKind::Open(Delimiter::Brace) => Some(tree_len(tokens)),
         TokenKind::FragmentOpen(FragmentKind::Block) => Some(tree_len(tokens)),
-        _ => None,
-    }
-}
-
-/// How many tokens a fragment of the kind takes that may begin so; nothing where it cannot be read.
-#[tactic(auto, unfolding(crate::specs::Extents::fragment_len))]
-pub fn fragment_len(kind: FragmentKind, tokens: &[Token]) -> Option<usize>
-    ensures small { IfSome result (λ len. len ≤ length tokens.now + 4) }
-    ensures exact { result ≡ spec.fragment_len kind tokens.now }
-{
-    match kind {
-        FragmentKind::Ident | FragmentKind::Lifetime => Some(1),
-        FragmentKind::Tt => Some(tree_len(tokens)),
-        FragmentKind::Literal => literal_len(tokens),
-        FragmentKind::Vis => Some(visibility_len(tokens)),
-        FragmentKind::Block => block_len(tokens),
         _ => None,
     }
 }

@@ -2,7 +2,8 @@
 ghost use Rattle.std.specs.Prelude.{◌≡◌, ◌+◌, ◌-◌, ◌<◌, ◌≤◌, ◌^◌, IfOk, IfSome, OnOk, length, slice_get};
 ghost use Rattle.macro_rules.specs.Threads as spec;
 
-use crate::extents::{begins, fragment_len};
+use crate::beginnings::begins;
+use crate::fragments::fragment_len;
 use crate::row::Row;
 use crate::token::{Token, same};
 use std::alloc::{AllocError, Global};
@@ -258,13 +259,18 @@ pub(crate) fn at_end(threads: &[Thread], end: usize, from: usize, place: usize) 
 }
 
 /// How many tokens the variable at a position takes of those.
-fn variable_len(rows: &[Row], row: usize, tokens: &[Token]) -> Option<usize>
-    ensures small { IfSome result (λ len. len ≤ length tokens.now + 4) }
-    ensures exact { result ≡ spec.variable_len (slice_get rows.now row) tokens.now }
+fn variable_len(
+    alloc: Global,
+    rows: &[Row],
+    row: usize,
+    tokens: &[Token],
+) -> Result<Option<usize>, AllocError>
+    ensures small { IfOk result (λ found. IfSome found (λ len. len ≤ length tokens.now + 4)) }
+    ensures exact { IfOk result (λ found. found ≡ spec.variable_len (slice_get rows.now row) tokens.now) }
 {
     match rows.get(row) {
-        Some(Row::Variable(variable)) => fragment_len(variable.kind, tokens),
-        _ => None,
+        Some(Row::Variable(variable)) => fragment_len(alloc, variable.kind, tokens),
+        _ => Ok(None),
     }
 }
 
@@ -312,6 +318,7 @@ pub(crate) fn take_token(
 /// Adds the thread behind a fragment that one of the threads reads, and says where the fragment ends; nothing where
 /// the fragment cannot be read.
 pub(crate) fn read_fragment(
+    alloc: Global,
     rows: &[Row],
     log: &mut Vec<Thread>,
     reader: usize,
@@ -325,7 +332,7 @@ pub(crate) fn read_fragment(
     ensures grown { length log.old.items ≤ length log.new.items }
 {
     let row = log[reader].row;
-    match variable_len(rows, row, tokens) {
+    match variable_len(alloc, rows, row, tokens)? {
         None => Ok(None),
         Some(len) => {
             let end = place + len;

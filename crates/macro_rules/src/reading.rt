@@ -4,7 +4,7 @@ ghost use Rattle.macro_rules.specs.Readings as spec;
 
 pub(crate) mod dollars;
 
-use crate::extents::{is_mark, kind_at};
+use crate::extents::{is_mark, kind_at, width};
 use crate::row::{Repetition, Row};
 use crate::token::{Token, TokenKind};
 use std::alloc::{AllocError, Global};
@@ -281,7 +281,7 @@ impl Reading {
             Some(opening) => match opening.repetition {
                 None => self.add(Row::Token(token), 0)?,
                 Some(begin) => match read_tail(tokens) {
-                    None => self.fail(RuleFault::BadRule),
+                    None => self.fail(fault_of(kind_at(tokens, 1))),
                     Some(found) => {
                         let separator = token_at(tokens, 1, token);
                         self.close_repetition(begin, opening, found, separator)?;
@@ -290,6 +290,17 @@ impl Reading {
             },
         }
         Ok(())
+    }
+}
+
+/// Why a repetition cannot be read: an operator that has a token for each mark is not read as a separator.
+fn fault_of(kind: TokenKind) -> RuleFault
+    ensures { result ≡ spec.fault_of kind }
+{
+    if 1 < width(kind) {
+        RuleFault::Unsupported
+    } else {
+        RuleFault::BadRule
     }
 }
 

@@ -29,19 +29,33 @@ pub enum FragmentKind {
     Stmt,
 }
 
+/// A keyword that the grammar of items has no word for.
+#[derive(Clone, Copy, PartialEq, Eq, Debug)]
+pub enum Keyword {
+    Loop,
+    Continue,
+    Await,
+    Yield,
+    Try,
+    /// `do` or `box`, which may begin an expression, and are not read in one.
+    Do,
+    Typeof,
+    /// One that begins nothing.
+    Reserved,
+}
+
 /// What a token is.
 #[derive(Clone, Copy, PartialEq, Eq, Debug)]
 pub enum TokenKind {
     Word(Word),
-    /// A keyword that the grammar of items has no word for, as `loop`.
-    Keyword,
+    Keyword(Keyword),
     Lifetime,
     Literal,
     /// One mark of punctuation.
     Mark(u8),
-    /// An operator of two marks, as `->`.
+    /// An operator of two marks, as `->`. Behind one that begins with `>` stands what is left of it without that.
     Pair(u8, u8),
-    /// An operator of three marks, as `..=`.
+    /// An operator of three marks, as `..=`; of `>>=`, `>=` and `=` stand behind it.
     Triple(u8, u8, u8),
     Open(Delimiter),
     Close(Delimiter),

@@ -4,7 +4,7 @@ ghost use Rattle.item_tree.specs.Tokens.{are_tokens};
 ghost use Rattle.item_tree.specs.declared.lexer.token.Token as lexed;
 ghost use Rattle.macro_rules.specs.TokensRead as spec;
 
-use crate::token::{Token, TokenKind};
+use crate::token::{Keyword, Token, TokenKind};
 use dm_base::edition::Edition;
 use item_tree::lexer::lexeme::Delimiter;
 use item_tree::lexer::span::Span;
@@ -111,35 +111,59 @@ fn operator_kind(rest: &[u8], len: usize) -> TokenKind
     }
 }
 
-/// Keywords that the grammar of items has no word for.
-#[tactic(auto, unfolding(crate::specs::TokensRead::is_keyword))]
-fn is_keyword(name: &[u8]) -> bool
-    ensures { result ≡ spec.is_keyword name.now }
+/// Keywords that no text has.
+#[tactic(auto, unfolding(crate::specs::TokensRead::is_reserved))]
+fn is_reserved(name: &[u8]) -> bool
+    ensures { result ≡ spec.is_reserved name.now }
 {
-    name == b"loop".as_slice()
-        || name == b"continue".as_slice()
-        || name == b"await".as_slice()
-        || name == b"yield".as_slice()
-        || name == b"try".as_slice()
-        || name == b"abstract".as_slice()
+    name == b"abstract".as_slice()
         || name == b"become".as_slice()
-        || name == b"box".as_slice()
-        || name == b"do".as_slice()
         || name == b"override".as_slice()
         || name == b"priv".as_slice()
-        || name == b"typeof".as_slice()
         || name == b"unsized".as_slice()
         || name == b"virtual".as_slice()
+}
+
+/// Whether keywords are that were names in the edition 2015.
+fn is_newer(edition: Edition) -> bool
+    ensures { result ≡ spec.is_newer edition }
+{
+    !matches!(edition, Edition::Edition2015)
+}
+
+/// Keywords that the grammar of items has no word for.
+#[tactic(auto, unfolding(crate::specs::TokensRead::keyword_of))]
+fn keyword_of(name: &[u8], edition: Edition) -> Option<Keyword>
+    ensures { result ≡ spec.keyword_of edition name.now }
+{
+    if name == b"loop".as_slice() {
+        Some(Keyword::Loop)
+    } else if name == b"continue".as_slice() {
+        Some(Keyword::Continue)
+    } else if name == b"await".as_slice() && is_newer(edition) {
+        Some(Keyword::Await)
+    } else if name == b"yield".as_slice() {
+        Some(Keyword::Yield)
+    } else if name == b"try".as_slice() && is_newer(edition) {
+        Some(Keyword::Try)
+    } else if name == b"do".as_slice() || name == b"box".as_slice() {
+        Some(Keyword::Do)
+    } else if name == b"typeof".as_slice() {
+        Some(Keyword::Typeof)
+    } else if is_reserved(name) {
+        Some(Keyword::Reserved)
+    } else {
+        None
+    }
 }
 
 fn word_kind(name: &[u8], edition: Edition) -> TokenKind
     ensures { result ≡ spec.word_kind edition name.now }
 {
     match word_of(name, edition) {
-        Word::Other => if is_keyword(name) {
-            TokenKind::Keyword
-        } else {
-            TokenKind::Word(Word::Other)
+        Word::Other => match keyword_of(name, edition) {
+            Some(keyword) => TokenKind::Keyword(keyword),
+            None => TokenKind::Word(Word::Other),
         },
         word => TokenKind::Word(word),
     }
@@ -237,6 +261,28 @@ fn marks_behind(kind: token::TokenKind, rest: &[u8], skipped: usize) -> usize
     }
 }
 
+/// Adds what is left of an operator that begins with `>`, without its first mark and without its first two.
+fn add_left(tokens: &mut Vec<Token>, start: usize, kind: TokenKind) -> Result<(), AllocError>
+    requires { start < 2 ^ 63 }
+    ensures { OnOk result (tokens.new.items ≡ tokens.old.items ++ spec.left_of kind start) }
+{
+    match kind {
+        TokenKind::Pair(first, second) => {
+            if first == b'>' {
+                tokens.push(placed(TokenKind::Mark(second), start + 1, 1))?;
+            }
+        }
+        TokenKind::Triple(first, second, third) => {
+            if first == b'>' {
+                tokens.push(placed(TokenKind::Pair(second, third), start + 1, 2))?;
+                tokens.push(placed(TokenKind::Mark(third), start + 2, 1))?;
+            }
+        }
+        _ => {}
+    }
+    Ok(())
+}
+
 /// Adds the operator that a mark begins, unless the mark belongs to one before.
 fn add_operator(
     tokens: &mut Vec<Token>,
@@ -244,11 +290,14 @@ fn add_operator(
     rest: &[u8],
     skipped: usize,
 ) -> Result<(), AllocError>
+    requires { start < 2 ^ 63 }
     ensures { OnOk result (tokens.new.items ≡ tokens.old.items ++ spec.operator_tokens start rest.now skipped) }
 {
     if skipped == 0 {
         let len = operator_len(rest);
-        tokens.push(placed(operator_kind(rest, len), start, len))?;
+        let kind = operator_kind(rest, len);
+        tokens.push(placed(kind, start, len))?;
+        add_left(tokens, start, kind)?;
     }
     Ok(())
 }
@@ -288,6 +337,7 @@ fn add_token(
     edition: Edition,
 ) -> Result<(), AllocError>
     requires low { words < 2 ^ 63 }
+    requires before { start < 2 ^ 63 }
     requires within { own.len ≤ length rest.now }
     ensures { OnOk result (tokens.new.items ≡ tokens.old.items ++ spec.tokens_at edition words start own rest.now skipped) }
 {
@@ -308,7 +358,7 @@ fn place_tokens(
 ) -> Result<Vec<Token>, AllocError>
     requires low { words < 2 ^ 63 }
     requires whole { sum_by (λ (t : lexed.Token). t.len) cut.now ≡ length text.now }
-    requires small { base + length text.now < 2 ^ 64 }
+    requires small { base + length text.now < 2 ^ 63 }
     ensures { IfOk result (λ found. found.items ≡ spec.tokens_of edition words base 0 cut.now text.now) }
 {
     let mut tokens = Vec::new(alloc);

@@ -54,6 +54,7 @@ fn step_by_token(
 
 /// Reads a fragment, in the thread of a number.
 fn step_by_fragment(
+    alloc: Global,
     rows: &[Row],
     log: &mut Vec<Thread>,
     reader: usize,
@@ -67,7 +68,7 @@ fn step_by_fragment(
     ensures grown { length log.old.items ≤ length log.new.items }
 {
     let behind = log.len();
-    let end = read_fragment(rows, log, reader, place, tokens)?;
+    let end = read_fragment(alloc, rows, log, reader, place, tokens)?;
     match end {
         None => Ok(Step::Ends(Outcome::BadFragment(place))),
         Some(end) => Ok(Step::GoesOn(behind, end)),
@@ -77,6 +78,7 @@ fn step_by_fragment(
 /// Does what the threads at a place do with the token there, and those behind it.
 #[tactic(auto, unfolding(crate::specs::Walks::by_turn))]
 fn take_turn(
+    alloc: Global,
     bytes: &[u8],
     rows: &[Row],
     log: &mut Vec<Thread>,
@@ -102,7 +104,7 @@ fn take_turn(
             Ok(step)
         }
         Turn::Reads(reader) => {
-            let step = step_by_fragment(rows, log, from + reader, place, tokens)?;
+            let step = step_by_fragment(alloc, rows, log, from + reader, place, tokens)?;
             Ok(step)
         }
     }
@@ -110,6 +112,7 @@ fn take_turn(
 
 /// Takes the token at a place, reads a fragment there, or ends.
 fn advance(
+    alloc: Global,
     bytes: &[u8],
     rows: &[Row],
     tokens: &[Token],
@@ -131,7 +134,7 @@ fn advance(
         Some(token) => {
             let rest = &tokens[place..];
             let turn = next_turn(bytes, rows, &log.as_slice()[from..], *token, rest);
-            let step = take_turn(bytes, rows, log, from, place, rest, *token, turn)?;
+            let step = take_turn(alloc, bytes, rows, log, from, place, rest, *token, turn)?;
             Ok(step)
         }
     }
@@ -180,7 +183,7 @@ fn walk_tokens(
     let mut left = turns;
     while left != 0 {
         close(rows, &mut log, from, place, steps)?;
-        match advance(bytes, rows, tokens, &mut log, from, place)? {
+        match advance(alloc, bytes, rows, tokens, &mut log, from, place)? {
             Step::Ends(outcome) => return Ok(Walk { log, outcome }),
             Step::GoesOn(next, end) => {
                 from = next;

@@ -1,11 +1,11 @@
 //! What a transcriber writes.
-ghost use Rattle.std.specs.Prelude.{◌≡◌, ◌+◌, ◌<◌, ◌≤◌, ◌^◌, OnOk, is_some, slice_get};
+ghost use Rattle.std.specs.Prelude.{◌≡◌, ◌+◌, ◌<◌, ◌≤◌, ◌^◌, ◌++◌, OnOk, is_some, slice_get};
 ghost use Rattle.macro_rules.specs.Writings as spec;
 
 mod levels;
 pub(crate) mod transcribing;
 
-use crate::extents::kind_at;
+use crate::extents::{kind_at, tree_len, width};
 use crate::row::Row;
 use crate::token::{FragmentKind, Token, TokenKind};
 use crate::visits::{RowVisits, Visit, visit_at, visits_of};
@@ -86,7 +86,7 @@ impl Model for Writing {
     } };
 }
 
-/// A number for each kind.
+/// A number for each kind; an edition makes none.
 fn kind_number(kind: FragmentKind) -> u8
     ensures { result ≡ spec.kind_number kind }
 {
@@ -102,23 +102,61 @@ fn kind_number(kind: FragmentKind) -> u8
         FragmentKind::Meta => 8,
         FragmentKind::Item => 9,
         FragmentKind::Expr => 10,
-        FragmentKind::Expr2021 => 11,
+        FragmentKind::Expr2021 => 10,
         FragmentKind::Pat => 12,
-        FragmentKind::PatParam => 13,
+        FragmentKind::PatParam => 12,
         FragmentKind::Stmt => 14,
     }
 }
 
-/// Whether a fragment is put back as it is: a name, a lifetime, a tree, or what is a fragment of its kind already.
-fn stays(kind: FragmentKind, first: TokenKind) -> bool
-    ensures { result ≡ spec.stays kind first }
+/// Whether a token begins a fragment of the kind.
+fn has_kind(kind: FragmentKind, first: TokenKind) -> bool
+    ensures { result ≡ spec.has_kind kind first }
 {
     match first {
-        TokenKind::FragmentOpen(own) => {
-            kind_number(kind) < 3 || kind_number(kind) == kind_number(own)
-        }
-        _ => kind_number(kind) < 3,
+        TokenKind::FragmentOpen(own) => kind_number(kind) == kind_number(own),
+        _ => false,
     }
+}
+
+/// Whether a fragment is put back as it is: a name, a lifetime, a tree, or what is one fragment of its kind already.
+fn stays(kind: FragmentKind, piece: &[Token]) -> bool
+    ensures { result ≡ spec.stays kind piece.now }
+{
+    kind_number(kind) < 3 || (has_kind(kind, kind_at(piece, 0)) && tree_len(piece) == piece.len())
+}
+
+/// The token that has so many in a fragment from its own on: an operator whose marks were not all taken is single marks.
+fn parted_at(token: Token, size: usize) -> Token
+    ensures { result ≡ spec.parted_at token size }
+{
+    if width(token.kind) <= size {
+        return token;
+    }
+    let kind = match token.kind {
+        TokenKind::Pair(first, _) => TokenKind::Mark(first),
+        TokenKind::Triple(first, _, _) => TokenKind::Mark(first),
+        kind => kind,
+    };
+    Token {
+        kind,
+        span: Span {
+            start: token.span.start,
+            len: 1,
+        },
+    }
+}
+
+/// Adds the tokens of a fragment.
+fn add_parted(tokens: &mut Vec<Token>, piece: &[Token]) -> Result<(), AllocError>
+    ensures { OnOk result (tokens.new.items ≡ tokens.old.items ++ spec.parted piece.now) }
+{
+    let mut at: usize = 0;
+    while at < piece.len() {
+        tokens.push(parted_at(piece[at], piece.len() - at))?;
+        at += 1;
+    }
+    Ok(())
 }
 
 /// The iteration of the innermost repetition of the matcher around a variable or a repetition, if it is led there.
@@ -276,12 +314,12 @@ impl Writing {
     fn write_fragment(&mut self, kind: FragmentKind, piece: &[Token]) -> Result<(), AllocError>
         ensures { OnOk result (self.new ≡ spec.fragment_written kind piece.now self.old) }
     {
-        if stays(kind, kind_at(piece, 0)) {
+        if stays(kind, piece) {
             self.tokens.extend_from_slice(piece)?;
             return Ok(());
         }
         self.tokens.push(border(TokenKind::FragmentOpen(kind)))?;
-        self.tokens.extend_from_slice(piece)?;
+        add_parted(&mut self.tokens, piece)?;
         self.tokens.push(border(TokenKind::FragmentClose(kind)))?;
         Ok(())
     }

@@ -1,5 +1,5 @@
 //! What the declarations in a module lead to.
-ghost use Rattle.std.specs.Prelude.{◌≡◌, ◌++◌, ◌<◌, All, List, IfOk, OnOk, length, option_map, slice_get};
+ghost use Rattle.std.specs.Prelude.{◌≡◌, ◌++◌, ◌<◌, All, List, IfOk, OnOk, is_some, length, option_map, slice_get};
 ghost use Rattle.crate_items.specs.Files.{SourceFile};
 ghost use Rattle.item_tree.specs.Strings.{string_value};
 ghost use Rattle.std.specs.Option.{option_copied};
@@ -9,7 +9,7 @@ use crate::files::file_table::FileTable;
 use crate::items::lexeme_names::as_name;
 use crate::modules::declared_module::{Declaration, DeclaredModule, ModuleFault};
 use crate::modules::mod_items::ModItem;
-use crate::modules::mod_resolution::Candidate;
+use crate::modules::mod_resolution::{Candidate, ModDir};
 use dm_base::ids::FileId;
 use dm_base::name::Name;
 use item_tree::lexer::span::{Span, name_text};
@@ -27,7 +27,8 @@ pub(crate) struct There {
 #[derive(Drop)]
 pub(crate) enum Found {
     Nothing,
-    Declared(DeclaredModule),
+    /// A module, and what a `#![path]` goes from which its file begins with.
+    Declared(DeclaredModule, Option<ModDir>),
     Faulty(ModuleFault),
 }
 
@@ -152,15 +153,33 @@ fn faulty(declaration: Declaration, candidates: Vec<Candidate>, within: Option<F
     })
 }
 
+/// The folder that a `#![path]` goes from which the file of a module begins with that is declared in this one. A `#[path]`
+/// before the declaration goes before it.
+fn base_of(
+    alloc: Global,
+    outer: &DeclaredModule,
+    has_path: bool,
+) -> Result<Option<ModDir>, AllocError>
+    ensures { IfOk result (λ base. base ≡ spec.base_of outer.now has_path) }
+{
+    if has_path {
+        Ok(None)
+    } else {
+        let base = outer.dir.copy(alloc)?;
+        Ok(Some(base))
+    }
+}
+
 /// What a declaration leads to where the file at one of these candidates alone is there.
 fn at_candidate(
     alloc: Global,
     outer: &DeclaredModule,
+    has_path: bool,
     declaration: Declaration,
     candidates: Vec<Candidate>,
     there: There,
 ) -> Result<Found, AllocError>
-    ensures exact { IfOk result (λ found. found ≡ spec.at_candidate outer.now declaration
+    ensures exact { IfOk result (λ found. found ≡ spec.at_candidate outer.now has_path declaration
         candidates.items there.file (slice_get candidates.items there.place)) }
     ensures known { IfOk result (λ found. (files : List SourceFile) →
         there.file.0 < length files → spec.IsKnown files found) }
@@ -171,8 +190,9 @@ fn at_candidate(
             if stands_in(outer, there.file) {
                 return Ok(faulty(declaration, candidates, Some(there.file)));
             }
+            let base = base_of(alloc, outer, has_path)?;
             let declared = outline(alloc, outer, declaration, there.file, candidate)?;
-            Ok(Found::Declared(declared))
+            Ok(Found::Declared(declared, base))
         }
     }
 }
@@ -182,20 +202,31 @@ fn in_file(
     alloc: Global,
     files: &FileTable,
     outer: &DeclaredModule,
+    has_path: bool,
     declaration: Declaration,
     candidates: Vec<Candidate>,
 ) -> Result<Found, AllocError>
-    ensures exact { IfOk result
-        (λ found. found ≡ spec.in_file files.now outer.now declaration candidates.items) }
+    ensures exact { IfOk result (λ found. found ≡
+        spec.in_file files.now outer.now has_path declaration candidates.items) }
     ensures known { IfOk result (spec.IsKnown files.now) }
 {
     let there = all_there(alloc, files, candidates.as_slice())?;
     match only(there.as_slice()) {
         None => Ok(faulty(declaration, candidates, None)),
         Some(there) => {
-            let found = at_candidate(alloc, outer, declaration, candidates, there)?;
+            let found = at_candidate(alloc, outer, has_path, declaration, candidates, there)?;
             Ok(found)
         }
+    }
+}
+
+/// Whether there is a `#[path]`.
+fn is_given(path: Option<&[u8]>) -> bool
+    ensures { result ≡ is_some (option_copied path.entry) }
+{
+    match path {
+        None => false,
+        Some(_) => true,
     }
 }
 
@@ -215,15 +246,19 @@ fn by_kind(
 {
     if is_outline {
         let candidates = outer.dir.candidates(alloc, &declaration.name, path)?;
-        in_file(alloc, files, outer, declaration, candidates)
+        in_file(alloc, files, outer, is_given(path), declaration, candidates)
     } else {
         let declared = inline(alloc, outer, declaration, path)?;
-        Ok(Found::Declared(declared))
+        Ok(Found::Declared(declared, None))
     }
 }
 
 /// What the string of a `#[path]` stands for, if there is one.
-fn path_value(alloc: Global, text: &[u8], path: Option<Span>) -> Result<Option<Vec<u8>>, AllocError>
+pub(crate) fn path_value(
+    alloc: Global,
+    text: &[u8],
+    path: Option<Span>,
+) -> Result<Option<Vec<u8>>, AllocError>
     ensures { IfOk result
         (λ value. option_map (λ v. v.items) value ≡ option_map (string_value text.now) path) }
 {

@@ -1,11 +1,13 @@
 //! What a crate reads of a file: its items, how each stands, and the modules that it declares.
 ghost use Rattle.std.specs.Prelude.{◌≡◌, ◌≤◌, ◌<◌, IfOk, length, take};
+ghost use Rattle.std.specs.Option.{option_copied};
 ghost use Rattle.crate_items.specs.Sources.{IsSourceOf};
 ghost use Rattle.crate_items.specs.Standings.{may_stand};
 ghost use Rattle.item_tree.specs.Children.{ByParent};
 ghost use Rattle.item_tree.specs.ItemAttributes.{inner_range};
 
-use crate::modules::mod_items::{ModItem, mod_items};
+use crate::files::found::path_value;
+use crate::modules::mod_items::{ModItem, mod_items, path_in_range};
 use crate::modules::standing::{Standing, View, standings};
 use dm_base::edition::Edition;
 use item_tree::attributes::item_attributes::inner_attributes;
@@ -27,6 +29,7 @@ pub struct Source {
     standings: Vec<Standing>,
     mods: Vec<ModItem>,
     is_enabled: bool,
+    path: Option<Vec<u8>>,
 }
 
 /// Hand-written `Drop`, to keep proofs small: dropping one is then a single call.
@@ -41,11 +44,13 @@ impl Drop for Source {
             standings: _standings,
             mods: _mods,
             is_enabled: _is_enabled,
+            path: _path,
         } = self;
     }
 }
 
 impl Model for Source {
+    ghost use Rattle.std.specs.Prelude.{option_map};
     ghost use Rattle.crate_items.specs.Sources.{Source};
     ghost use Rattle.item_tree.specs.Children.{ByParent};
 
@@ -61,6 +66,7 @@ impl Model for Source {
       standings = s.standings.items;
       mods = s.mods.items;
       is_enabled = s.is_enabled;
+      path = option_map (λ p. p.items) s.path;
     } };
 
     ghost invariant = { λ s. ByParent s.tree.items.items };
@@ -99,6 +105,7 @@ impl Source {
         };
         let standings = standings(alloc, &view)?;
         let mods = mod_items(alloc, lexemes.as_slice(), &view, standings.as_slice())?;
+        let path = path_value(alloc, text, path_in_range(&view, own))?;
         Ok(Source {
             lexemes,
             partners,
@@ -108,6 +115,7 @@ impl Source {
             standings,
             mods,
             is_enabled,
+            path,
         })
     }
 
@@ -166,5 +174,16 @@ impl Source {
         ensures { result ≡ self.now.is_enabled }
     {
         self.is_enabled
+    }
+
+    /// What the first active `#![path]` stands for that the file begins with. The files of the children of a module of this
+    /// file are looked for beside it, unless a `#[path]` stands before the module.
+    pub fn path(&self) -> Option<&[u8]>
+        ensures { option_copied result ≡ self.now.path }
+    {
+        match &self.path {
+            None => None,
+            Some(path) => Some(path.as_slice()),
+        }
     }
 }

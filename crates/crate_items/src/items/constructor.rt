@@ -56,6 +56,7 @@ fn lesser(visibility: WrittenVisibility, field: WrittenVisibility) -> WrittenVis
 
 /// A visibility, or that of a field, if the crate has it and it shows to fewer.
 fn with_field(
+    alloc: Global,
     visibility: WrittenVisibility,
     options: &CfgOptions,
     edition: Edition,
@@ -64,21 +65,22 @@ fn with_field(
     source: &Source,
     number: usize,
     member: Member,
-) -> WrittenVisibility
+) -> Result<WrittenVisibility, AllocError>
     requires { number < length list.now.modules }
-    ensures { result
-        ≡ spec.with_field options.now edition list.now text.now source.now number visibility member }
+    ensures { IfOk result (λ least. least
+        ≡ spec.with_field options.now edition list.now text.now source.now number visibility member) }
 {
     if !is_left(options, text, source, MemberKind::TupleField, member) {
-        return visibility;
+        return Ok(visibility);
     }
     let written = field_written(source.lexemes(), None, member);
-    let shown = list.visibility(edition, text, number, written);
-    lesser(visibility, WrittenVisibility { written, shown })
+    let shown = list.visibility(alloc, edition, text, number, written)?;
+    Ok(lesser(visibility, WrittenVisibility { written, shown }))
 }
 
 /// The same with some fields.
 fn with_members(
+    alloc: Global,
     visibility: WrittenVisibility,
     options: &CfgOptions,
     edition: Edition,
@@ -87,15 +89,18 @@ fn with_members(
     source: &Source,
     number: usize,
     members: &[Member],
-) -> WrittenVisibility
+) -> Result<WrittenVisibility, AllocError>
     requires { number < length list.now.modules }
-    ensures { result ≡ fold (spec.with_field options.now edition list.now text.now source.now number) visibility members.now }
+    ensures { IfOk result (λ least. least
+        ≡ fold (spec.with_field options.now edition list.now text.now source.now number) visibility members.now) }
 {
     let mut least = visibility;
     for member in members {
-        least = with_field(least, options, edition, list, text, source, number, *member);
+        least = with_field(
+            alloc, least, options, edition, list, text, source, number, *member,
+        )?;
     }
-    least
+    Ok(least)
 }
 
 /// The same with the fields of a struct that stand in parentheses.
@@ -124,7 +129,8 @@ fn with_fields(
                 fields.range,
                 MemberKind::TupleField,
             )?;
-            Ok(with_members(
+            with_members(
+                alloc,
                 visibility,
                 options,
                 edition,
@@ -133,7 +139,7 @@ fn with_fields(
                 source,
                 number,
                 all.as_slice(),
-            ))
+            )
         }
         _ => Ok(visibility),
     }

@@ -126,13 +126,14 @@ fn declared(
     let name = bound_name(alloc, text, source.lexemes(), item.kind, item.name)?;
     let shape = item_shape(alloc, source, item)?;
     let raw = written(source.lexemes(), item);
+    let visibility = list.visibility(alloc, edition, text, row.module, raw)?;
     Ok(DeclaredItem {
         module: row.module,
         file: row.file,
         item: row.item,
         kind: item.kind,
         name,
-        visibility: list.visibility(edition, text, row.module, raw),
+        visibility,
         shape,
     })
 }

@@ -88,7 +88,7 @@ fn first_path(active: &[bool], attributes: &[Attribute]) -> Option<Span>
 }
 
 /// The string of the first active `#[path]` that begins in a range.
-fn path_in_range(view: &View<'_>, range: Range) -> Option<Span>
+pub(crate) fn path_in_range(view: &View<'_>, range: Range) -> Option<Span>
     ensures { result ≡ spec.path_in_range view.now range }
 {
     first_path(view.active, view.attributes.attributes_in(range))

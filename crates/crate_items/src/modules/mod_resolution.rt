@@ -83,6 +83,32 @@ impl ModDir {
         })
     }
 
+    /// For the children of a module declared here whose file begins with this `#![path]`.
+    ///
+    /// # Errors
+    ///
+    /// Fails only where memory runs out.
+    pub(crate) fn beside(&self, alloc: Global, path: &[u8]) -> Result<ModDir, AllocError>
+        ensures { IfOk result (λ dir. dir ≡ spec.of_owner (spec.attr_file self.now path.now)) }
+    {
+        let file = self.attr_file(alloc, path)?;
+        let dir = ModDir::root(alloc, file.as_slice())?;
+        Ok(dir)
+    }
+
+    /// A copy.
+    ///
+    /// # Errors
+    ///
+    /// Fails only where memory runs out.
+    pub(crate) fn copy(&self, alloc: Global) -> Result<ModDir, AllocError>
+        ensures { IfOk result (λ dir. dir ≡ self.now) }
+    {
+        let folder = Vec::from_slice(alloc, self.folder.as_slice())?;
+        let own = Vec::from_slice(alloc, self.own.as_slice())?;
+        Ok(ModDir { folder, own })
+    }
+
     /// For the children of the inline module `mod name { .. }`, which may have a `#[path]`.
     ///
     /// # Errors

@@ -14,9 +14,11 @@ pub fn modules_of_small_crates()
     ensures select_arms { rows.SelectArms }
     ensures shown { rows.Shown }
     ensures shown_in_2015 { rows.ShownIn2015 }
+    ensures shown_in_one_form { rows.ShownInOneForm }
     ensures wrong { rows.Wrong }
     ensures wrong_in_2015 { rows.WrongIn2015 }
     ensures path_within { rows.PathWithin }
     ensures tests { rows.Tests }
     ensures bare_modules { rows.BareModules }
+    ensures path_of_file { rows.PathOfFile }
 {}

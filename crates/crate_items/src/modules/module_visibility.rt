@@ -1,9 +1,10 @@
 //! Whom a visibility, as it is written in a module of a crate, shows what it stands before.
-ghost use Rattle.std.specs.Prelude.{◌≡◌, slice_get};
+ghost use Rattle.std.specs.Prelude.{◌≡◌, IfOk, slice_get};
 ghost use Rattle.crate_items.specs.ModuleVisibilities as spec;
+ghost use Rattle.crate_items.specs.Modules.{as_name};
 ghost use Rattle.crate_items.specs.declared.modules.module_visibility.Reach.TheVariants.{Start};
 
-use crate::items::lexeme_names::names_nothing;
+use crate::items::lexeme_names::{as_name, names_nothing};
 use crate::modules::declared_module::DeclaredModule;
 use dm_base::edition::Edition;
 use item_tree::attributes::attribute_kind::lexemes_in;
@@ -11,6 +12,7 @@ use item_tree::items::visibility::RawVisibility;
 use item_tree::lexer::lexeme::{Lexeme, LexemeKind};
 use item_tree::lexer::span::{Span, name_text};
 use item_tree::lexer::word::Word;
+use std::alloc::{AllocError, Global};
 use std::marker::Model;
 
 /// Whom something is shown to.
@@ -206,52 +208,77 @@ impl<'a> Standpoint<'a> {
         }
     }
 
-    /// Where a path leads behind one more of its lexemes.
-    fn behind_lexeme(&self, reach: Reach, lexeme: Lexeme) -> Reach
-        ensures { result ≡ spec.behind_lexeme self.now reach lexeme }
+    /// Where a path leads behind one more of its words, which is a name in Normalization Form C, as modules have it.
+    fn behind_word(
+        &self,
+        alloc: Global,
+        reach: Reach,
+        word: Word,
+        lexeme: Lexeme,
+    ) -> Result<Reach, AllocError>
+        ensures { IfOk result (λ led. led ≡
+            spec.behind_word self.now reach word (as_name (spec.lexeme_text self.now lexeme))) }
     {
         let (start, len) = (lexeme.start, lexeme.len);
-        let name = name_text(self.text, Span { start, len });
+        match as_name(alloc, name_text(self.text, Span { start, len }))? {
+            None => Ok(Reach::Nowhere),
+            Some(name) => Ok(self.word_behind(reach, word, name.as_str().as_bytes())),
+        }
+    }
+
+    /// Where a path leads behind one more of its lexemes.
+    fn behind_lexeme(
+        &self,
+        alloc: Global,
+        reach: Reach,
+        lexeme: Lexeme,
+    ) -> Result<Reach, AllocError>
+        ensures { IfOk result (λ led. led ≡ spec.behind_lexeme self.now reach lexeme) }
+    {
         match lexeme.kind {
-            LexemeKind::Word(word) => self.word_behind(reach, word, name),
+            LexemeKind::Word(word) => self.behind_word(alloc, reach, word, lexeme),
             kind => {
                 if is_colon(kind) {
-                    behind_colon(reach)
+                    Ok(behind_colon(reach))
                 } else {
-                    Reach::Nowhere
+                    Ok(Reach::Nowhere)
                 }
             }
         }
     }
 
     /// Where a path leads.
-    fn reached(&self, path: &[Lexeme]) -> Reach
-        ensures { result ≡ spec.reached self.now Start path.now }
+    fn reached(&self, alloc: Global, path: &[Lexeme]) -> Result<Reach, AllocError>
+        ensures { IfOk result (λ led. led ≡ spec.reached self.now Start path.now) }
     {
         let mut reach = Reach::Start;
         for lexeme in path {
-            reach = self.behind_lexeme(reach, *lexeme);
+            reach = self.behind_lexeme(alloc, reach, *lexeme)?;
         }
-        reach
+        Ok(reach)
     }
 
     /// Whom a visibility of these lexemes shows what stands in the module; none where it leads to no module around.
     pub(crate) fn shown(
         &self,
+        alloc: Global,
         lexemes: &[Lexeme],
         written: RawVisibility,
-    ) -> Option<DeclaredVisibility>
-        ensures { result ≡ spec.shown self.now lexemes.now written }
+    ) -> Result<Option<DeclaredVisibility>, AllocError>
+        ensures { IfOk result (λ seen. seen ≡ spec.shown self.now lexemes.now written) }
     {
         match written {
-            RawVisibility::Public => Some(DeclaredVisibility::Public),
-            RawVisibility::PubCrate => Some(DeclaredVisibility::Within(0)),
+            RawVisibility::Public => Ok(Some(DeclaredVisibility::Public)),
+            RawVisibility::PubCrate => Ok(Some(DeclaredVisibility::Within(0))),
             RawVisibility::Inherited | RawVisibility::PubSelf => {
-                Some(DeclaredVisibility::Within(self.number))
+                Ok(Some(DeclaredVisibility::Within(self.number)))
             }
-            RawVisibility::PubSuper => within(up_to(parent_of(self.modules, self.number))),
-            RawVisibility::In(path) => within(self.reached(lexemes_in(lexemes, path))),
-            RawVisibility::Error => None,
+            RawVisibility::PubSuper => Ok(within(up_to(parent_of(self.modules, self.number)))),
+            RawVisibility::In(path) => {
+                let reach = self.reached(alloc, lexemes_in(lexemes, path))?;
+                Ok(within(reach))
+            }
+            RawVisibility::Error => Ok(None),
         }
     }
 }

@@ -12,7 +12,8 @@ use crate::rules::grounded::{none_open, open_ways};
 use crate::rules::listing::list;
 use crate::rules::meanings::ImportMeanings;
 use crate::rules::order_dependent::order_dependent;
-use crate::rules::supported::{agree, all_given};
+use crate::rules::supported::all_given;
+use crate::rules::unsupported::judge;
 use crate::slots::Slots;
 use crate::step::Step;
 use std::alloc::{AllocError, Global};
@@ -50,10 +51,11 @@ pub fn examine(alloc: Global, maps: &DefMaps<'_>, steps: &[Step]) -> Result<Exam
 {
     let listing = list(alloc, maps.world)?;
     let given = all_given(alloc, maps, &listing)?;
-    let is_supported = agree(alloc, maps, &listing, &given)?;
+    let judged = judge(alloc, maps, &listing, &given)?;
+    let is_supported = judged.is_supported;
     let left = open_ways(alloc, maps, &given.globs, &listing, steps)?;
     let open = left.as_slice();
-    let order_dependent = order_dependent(alloc, maps, &listing, &given, is_supported, open)?;
+    let order_dependent = order_dependent(judged, maps, open)?;
     Ok(Examined {
         is_supported,
         is_grounded: none_open(maps, open),

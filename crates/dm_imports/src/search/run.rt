@@ -1,6 +1,7 @@
 //! How names are searched: paths are followed as far as they lead; where none leads further, what certainly does not come
 //! is released; at last globs bring names although imports of their slots are open.
 
+use crate::meaning::Meaning;
 use crate::search::asker::{Asker, Progress, begun};
 use crate::search::cell::{Cell, SlotKey};
 use crate::search::leaf::{Binds, Leaf, name_in};
@@ -112,7 +113,26 @@ impl Search {
             }
             self.go_on(maps)?;
         }
-        self.count_least(maps)
+        if self.has_ambiguous() {
+            self.count_least(maps)?;
+        }
+        Ok(())
+    }
+
+    /// Whether globs offer a slot more than one meaning.
+    fn has_ambiguous(&self) -> bool {
+        for cell in &self.cells {
+            if matches!(
+                cell.offered,
+                Some(Meaning {
+                    is_ambiguous: true,
+                    ..
+                })
+            ) {
+                return true;
+            }
+        }
+        false
     }
 
     /// Makes out anew how far each slot is seen of which globs offer more than one meaning.

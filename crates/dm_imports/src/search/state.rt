@@ -6,6 +6,7 @@ use crate::search::cell::{Cell, Listed, SlotKey, unbound, unlisted};
 use crate::search::maps::Maps;
 use crate::step::Step;
 use dm_base::ids::ModuleId;
+use dm_base::per_ns::Namespace;
 use dm_base::visibility::Visibility;
 use indexmap::IndexMap;
 use std::alloc::{AllocError, Global};
@@ -32,7 +33,8 @@ pub(crate) enum Reach {
 pub(crate) struct Search {
     pub(crate) askers: Vec<Asker>,
     pub(crate) cells: Vec<Cell>,
-    pub(crate) numbers: IndexMap<SlotKey, usize>,
+    /// The numbers of slots, by their modules.
+    pub(crate) numbers: IndexMap<ModuleId, IndexMap<(usize, Namespace), usize>>,
     pub(crate) modules: IndexMap<ModuleId, Listed>,
     /// Who sees slots that turned out to be ambiguous before.
     pub(crate) caps: IndexMap<SlotKey, Visibility>,
@@ -44,6 +46,7 @@ pub(crate) struct Search {
     pub(crate) is_released: bool,
     /// Whether globs bring names although imports of their slots are open.
     pub(crate) ignores_held: bool,
+    pub(crate) alloc: Global,
 }
 
 /// Hand-written `Drop`, to keep proofs small: dropping one is then a single call.
@@ -60,6 +63,7 @@ impl Drop for Search {
             steps: _steps,
             is_released: _is_released,
             ignores_held: _ignores_held,
+            alloc: _alloc,
         } = self;
     }
 }
@@ -77,6 +81,7 @@ pub(crate) fn unbegun(alloc: Global, caps: IndexMap<SlotKey, Visibility>) -> Sea
         steps: Vec::new(alloc),
         is_released: false,
         ignores_held: false,
+        alloc,
     }
 }
 
@@ -124,9 +129,15 @@ impl Search {
         }
     }
 
+    /// The number of a slot, if it has one.
+    fn number_of(&self, key: SlotKey) -> Option<usize> {
+        let numbers = self.numbers.get(&key.m)?;
+        numbers.get(&(key.name, key.namespace)).copied()
+    }
+
     /// The number of a slot of the crate.
     pub(crate) fn number<M: Maps>(&mut self, maps: &M, key: SlotKey) -> Result<usize, AllocError> {
-        match self.numbers.get(&key).copied() {
+        match self.number_of(key) {
             Some(slot) => Ok(slot),
             None => {
                 let declared = maps.bound(key.m, key.name, key.namespace);
@@ -145,10 +156,26 @@ impl Search {
             next_in_module: listed.cells,
             ..unbound(key, declared, cap)
         })?;
-        self.numbers.insert(key, slot)?;
+        self.add_number(key, slot)?;
         let cells = Some(slot);
         self.list(key.m, Listed { cells, ..listed })?;
         Ok(slot)
+    }
+
+    /// Gives a slot its number.
+    fn add_number(&mut self, key: SlotKey, slot: usize) -> Result<(), AllocError> {
+        let name = (key.name, key.namespace);
+        match self.numbers.get_mut(&key.m) {
+            Some(numbers) => {
+                numbers.insert(name, slot)?;
+            }
+            None => {
+                let mut numbers = IndexMap::new(self.alloc);
+                numbers.insert(name, slot)?;
+                self.numbers.insert(key.m, numbers)?;
+            }
+        }
+        Ok(())
     }
 
     pub(crate) fn to_do(&mut self, task: Task) -> Result<(), AllocError> {

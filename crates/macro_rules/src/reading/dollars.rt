@@ -54,17 +54,6 @@ fn is_vis(kind: FragmentKind) -> bool
     matches!(kind, FragmentKind::Vis)
 }
 
-/// Whether the extents of such fragments are known here.
-fn is_read(kind: FragmentKind) -> bool
-    ensures { result ≡ spec.is_read kind }
-{
-    match kind {
-        FragmentKind::Ident | FragmentKind::Lifetime | FragmentKind::Tt => true,
-        FragmentKind::Literal | FragmentKind::Vis | FragmentKind::Block => true,
-        _ => false,
-    }
-}
-
 fn is_doc(kind: TokenKind) -> bool
     ensures { result ≡ spec.is_doc kind }
 {
@@ -97,7 +86,7 @@ impl Reading {
         Ok(())
     }
 
-    /// Adds a variable of a kind, if it is one that is read, and its name is new.
+    /// Adds a variable of a kind, if its name is new.
     fn try_variable(
         &mut self,
         bytes: &[u8],
@@ -109,9 +98,7 @@ impl Reading {
         match kind {
             None => self.fail(RuleFault::NoKind),
             Some(kind) => {
-                if !is_read(kind) {
-                    self.fail(RuleFault::Unsupported);
-                } else if find(bytes, self.rows.as_slice(), name).is_some() {
+                if find(bytes, self.rows.as_slice(), name).is_some() {
                     self.fail(RuleFault::TwoOfAName);
                 } else {
                     self.add_variable(name, kind)?;
@@ -191,7 +178,7 @@ impl Reading {
                 let name = token_at(tokens, 1, token);
                 self.add(dollar_crate(part.home.krate, name), 1)
             }
-            TokenKind::Word(_) | TokenKind::Keyword => {
+            TokenKind::Word(_) | TokenKind::Keyword(_) => {
                 self.read_name(part, bytes, matcher, token, tokens)
             }
             TokenKind::Close(_) => self.add(Row::Token(token), 0),

@@ -1,8 +1,8 @@
-use Rattle.std.proofs.Common.{◌≡◌, ◌++◌, ◌∷◌, [], List, Option, inl, subst}
+use Rattle.std.proofs.Common.{◌++◌, ◌∷◌, [], Option, inl, subst}
 use Rattle.dm_base.specs.declared.imports.ImportOrExternCrate.{ImportOrExternCrate}
 use Rattle.dm_base.specs.declared.per_ns.PerNs.{PerNs}
 use Rattle.dm_maps.specs.World.{scope_of}
-use Rattle.dm_scope.specs.Shows.{ScopePush, Shows, push_of}
+use Rattle.dm_scope.specs.Shows.{Shows, push_of}
 use Rattle.dm_imports.specs.Bound.{Binding, Maps}
 use Rattle.dm_imports.proofs.BoundLemmas.{show-one}
 use Rattle.dm_imports.proofs.bind.push.Goals as goal

@@ -1,20 +1,25 @@
 //! Steps, followed in an order that a search found, so that few slots are left for passes over all. Nothing rests on that
 //! order: a step that derives nothing is passed over.
-ghost use Rattle.std.specs.Prelude.{◌≡◌, All, Contains, OnOk, Some};
-ghost use Rattle.dm_imports.specs.Brought.{AreAllNamed};
-ghost use Rattle.dm_imports.specs.Following.{Follows, IsReader, IsSound, MayHaveOffers};
+ghost use Rattle.std.specs.Prelude.{◌≡◌, All, Contains, OnOk, Some, true};
+ghost use Rattle.dm_imports.specs.Brought.{AreAllNamed, IsBrought};
+ghost use Rattle.dm_imports.specs.Following.{Follows, IsOfferedBy, IsReader, IsSound, MayHaveOffers};
 ghost use Rattle.dm_imports.specs.Grounding as way;
-ghost use Rattle.dm_imports.specs.Grounding.{AreReady, HasSource, IsWay, MayOffer, slots_of};
+ghost use Rattle.dm_imports.specs.Grounding.{AreReady, HasSource, IsWay, MayOffer, needs_one, slots_of};
+ghost use Rattle.dm_imports.specs.Meanings.{IsNamed};
 ghost use Rattle.dm_imports.specs.Supporting.{IsListing};
 ghost use Rattle.dm_imports.specs.Tables.{of_tables};
 
 use crate::def_maps::DefMaps;
 use crate::glob_import::GlobImport;
 use crate::joined::Joined;
+use crate::meaning::Meaning;
 use crate::named_import::NamedImport;
+use crate::paths::first::is_by_glob;
+use crate::paths::shown::at;
 use crate::rules::all_offers::add_offer;
 use crate::rules::grounded::known_offers::{known_from, known_source};
 use crate::rules::grounded::readers::{Reader, Readers};
+use crate::rules::grounded::steps::is_brought;
 use crate::rules::grounded::ways::Way;
 use crate::rules::grounded::{is_known, settle_unknown};
 use crate::rules::listing::{Listing, listed_names};
@@ -67,33 +72,67 @@ fn learn<'a>(
     Ok(true)
 }
 
-/// Joins what a glob offers of a slot of its source, if that is found by known slots. Answers whether it offers anything.
-fn offer_on(
+/// Joins what a glob offers of a slot of its source, found by known slots.
+fn join_offer(
     offered: &mut Slots<Joined>,
     maps: &DefMaps<'_>,
     known: &Slots<bool>,
     reader: Reader<'_>,
     name: &Name,
     namespace: Namespace,
-) -> Result<bool, AllocError>
+    offer: Option<Meaning>,
+) -> Result<(), AllocError>
     requires glob { MayOffer (of_tables maps.now) reader.glob.now }
     requires source { HasSource (of_tables maps.now) (slots_of known.now) reader.glob.now (Some reader.source) }
+    requires offer { offer ≡ way.known_from (of_tables maps.now) (slots_of known.now) reader.glob.now reader.source name.now namespace }
+    requires offer_named { IsNamed maps.now.world offer }
     requires named { AreAllNamed maps.now.world offered.old }
     ensures offered { OnOk result
         (MayHaveOffers (of_tables maps.now) (slots_of known.now) reader.entry.glob.now offered.old offered.new) }
     ensures named { OnOk result (AreAllNamed maps.now.world offered.new) }
 {
-    let (glob, source) = (reader.glob, reader.source);
-    let offer = known_from(maps, known, glob, source, name, namespace);
-    if offer.is_none() {
-        return Ok(false);
+    // Of the known slots the contract alone speaks.
+    let (into, _known) = (reader.glob.into, known);
+    add_offer(offered, maps.world, into, name, namespace, offer)?;
+    Ok(())
+}
+
+/// Whether one offer settles the slot of a way: globs brought what it means, and bring one definition there.
+fn needs_one(maps: &DefMaps<'_>, brought: &Slots<Joined>, way: &Way<'_>) -> bool
+    requires { IsBrought (of_tables maps.now) brought.now }
+    ensures { result ≡ needs_one (of_tables maps.now) way.now }
+{
+    match at(maps, way.home, way.name, way.namespace) {
+        None => false,
+        Some(meaning) => {
+            is_by_glob(meaning) && !meaning.is_ambiguous && is_brought(maps, brought, way, meaning)
+        }
     }
-    add_offer(offered, maps.world, glob.into, name, namespace, offer)?;
-    Ok(true)
+}
+
+/// Makes the slot of a way known that needs one offer, and that a glob offers on.
+fn learn_at_once<'a>(
+    followed: &mut Followed<'a>,
+    maps: &DefMaps<'a>,
+    reader: Reader<'a>,
+    way: Way<'a>,
+) -> Result<(), AllocError>
+    requires reader { IsReader (of_tables maps.now) (slots_of followed.old.known) reader }
+    requires way { IsWay (of_tables maps.now) way }
+    requires offered { IsOfferedBy (of_tables maps.now) (slots_of followed.old.known) reader way }
+    requires needs { needs_one (of_tables maps.now) way ≡ true }
+    requires sound { IsSound (of_tables maps.now) followed.old }
+    ensures { OnOk result (Follows (of_tables maps.now) followed.old followed.new) }
+{
+    // Of globs and of the source the contract alone speaks.
+    let (_globs, _source) = (maps.globs, reader.source);
+    followed.known.put(way.home, way.name, way.namespace, true)?;
+    followed.fresh.push(way)?;
+    Ok(())
 }
 
 /// Has a glob offer on a slot of its source, if that is known, and makes the slot of its module known if one step then
-/// derives it.
+/// derives it. An offer is kept only where one is not enough.
 fn tell<'a>(
     followed: &mut Followed<'a>,
     maps: &DefMaps<'a>,
@@ -107,22 +146,33 @@ fn tell<'a>(
     requires sound { IsSound (of_tables maps.now) followed.old }
     ensures { OnOk result (Follows (of_tables maps.now) followed.old followed.new) }
 {
-    if offer_on(
+    let (glob, source) = (reader.glob, reader.source);
+    let offer = known_from(maps, &followed.known, glob, source, name, namespace);
+    let way = Way {
+        home: glob.into,
+        name,
+        namespace,
+        import: None,
+    };
+    if offer.is_none() {
+        return Ok(());
+    }
+    if is_known(&followed.known, &way) {
+        return Ok(());
+    }
+    if needs_one(maps, brought, &way) {
+        return learn_at_once(followed, maps, reader, way);
+    }
+    join_offer(
         &mut followed.offered,
         maps,
         &followed.known,
         reader,
         name,
         namespace,
-    )? {
-        let way = Way {
-            home: reader.glob.into,
-            name,
-            namespace,
-            import: None,
-        };
-        learn(followed, maps, brought, way)?;
-    }
+        offer,
+    )?;
+    learn(followed, maps, brought, way)?;
     Ok(())
 }
 
@@ -262,7 +312,8 @@ fn tell_names<'a>(
 }
 
 /// Has a glob offer on all known slots of its source, if its path leads to one by known slots; from then on it is told of
-/// those that become known. Answers whether its path leads to one.
+/// those that become known. The globs before it offer on first, so that none offers on a slot twice. Answers whether its
+/// path leads to one.
 fn read<'a>(
     followed: &mut Followed<'a>,
     readers: &mut Readers<'a>,
@@ -278,21 +329,25 @@ fn read<'a>(
     requires sound { IsSound (of_tables maps.now) followed.old }
     ensures follows { OnOk result (Follows (of_tables maps.now) followed.old followed.new) }
     ensures readers { OnOk result
-        (All (IsReader (of_tables maps.now) (slots_of followed.old.known)) readers.new.all.items) }
+        (All (IsReader (of_tables maps.now) (slots_of followed.new.known)) readers.new.all.items) }
 {
-    let Some(source) = known_source(maps, &followed.known, glob) else {
-        return Ok(false);
-    };
-    let reader = Reader { glob, source };
-    readers.add(reader)?;
-    let names = listed_names(readers.alloc, maps.world, listing, source)?;
-    tell_names(followed, maps, brought, reader, names.as_slice())?;
-    Ok(true)
+    spread(followed, maps, brought, readers)?;
+    match known_source(maps, &followed.known, glob) {
+        None => Ok(false),
+        Some(source) => {
+            let reader = Reader { glob, source };
+            readers.add(reader)?;
+            let names = listed_names(readers.alloc, maps.world, listing, source)?;
+            tell_names(followed, maps, brought, reader, names.as_slice())?;
+            Ok(true)
+        }
+    }
 }
 
 /// Makes the slot of an import known, if one step derives it by the import. Answers whether the import is settled.
 fn learn_import<'a>(
     followed: &mut Followed<'a>,
+    readers: &Readers<'a>,
     maps: &DefMaps<'a>,
     brought: &Slots<Joined>,
     import: &'a NamedImport,
@@ -300,16 +355,22 @@ fn learn_import<'a>(
 ) -> Result<bool, AllocError>
     requires ready { AreReady (of_tables maps.now) brought.now }
     requires import { Contains maps.now.imports import.now }
+    requires readers { All (IsReader (of_tables maps.now) (slots_of followed.old.known)) readers.now.all.items }
     requires sound { IsSound (of_tables maps.now) followed.old }
-    ensures { OnOk result (Follows (of_tables maps.now) followed.old followed.new) }
+    ensures follows { OnOk result (Follows (of_tables maps.now) followed.old followed.new) }
+    ensures readers { OnOk result
+        (All (IsReader (of_tables maps.now) (slots_of followed.new.known)) readers.now.all.items) }
 {
+    // Of the readers the contract alone speaks: what they read stays read.
+    let _globs = &readers.all;
     let way = Way {
         home: import.home,
         name: &import.name,
         namespace,
         import: Some(import),
     };
-    learn(followed, maps, brought, way)
+    let is_settled = learn(followed, maps, brought, way)?;
+    Ok(is_settled)
 }
 
 /// Follows a step. Answers whether nothing is left of it.
@@ -327,12 +388,12 @@ fn follow_step<'a>(
     requires sound { IsSound (of_tables maps.now) followed.old }
     ensures follows { OnOk result (Follows (of_tables maps.now) followed.old followed.new) }
     ensures readers { OnOk result
-        (All (IsReader (of_tables maps.now) (slots_of followed.old.known)) readers.new.all.items) }
+        (All (IsReader (of_tables maps.now) (slots_of followed.new.known)) readers.new.all.items) }
 {
     match step {
         Step::Import(place, namespace) => match maps.imports.get(place) {
             None => Ok(true),
-            Some(import) => learn_import(followed, maps, brought, import, namespace),
+            Some(import) => learn_import(followed, readers, maps, brought, import, namespace),
         },
         Step::Glob(place) => match maps.globs.get(place) {
             None => Ok(true),
@@ -367,7 +428,7 @@ fn follow_surely<'a>(
     Ok(())
 }
 
-/// Follows some steps, in order. Globs offer on at the end, or before a step that needs it.
+/// Follows some steps, in order. Globs offer on at the end, before another glob is read, and before an import that needs it.
 ///
 /// Fails only where memory runs out.
 pub(crate) fn follow<'a>(

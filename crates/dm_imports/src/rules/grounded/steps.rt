@@ -43,7 +43,12 @@ fn is_import_step(
 }
 
 /// Whether what globs bring to the slot of a way is of that definition, and not ambiguous.
-fn is_brought(maps: &DefMaps<'_>, brought: &Slots<Joined>, way: &Way<'_>, meaning: Meaning) -> bool
+pub(crate) fn is_brought(
+    maps: &DefMaps<'_>,
+    brought: &Slots<Joined>,
+    way: &Way<'_>,
+    meaning: Meaning,
+) -> bool
     requires { IsBrought (of_tables maps.now) brought.now }
     ensures { result
         ≡ spec.is_brought (of_tables maps.now) way.now.home way.now.name way.now.namespace meaning }

@@ -24,7 +24,7 @@ returns-in_ok-push_left-in-Declared-clause-listing c =
     let before : c.self-in-Declared.inside.modules.items ≡ c.args.self.now.modules = search rules in
     let read : IsSome (source_at c.read.new.self c.in-Declared.declared.file) = search rules in
     let sources : c.push_left.new.self.sources ≡ c.read.new.self = search rules in
-    let modules : c.push_left.new.self.modules ≡ c.self-in-Declared.inside.modules.items ++ module_of c.read.new.self (Declared c.in-Declared.declared) = search rules in
-    listing_more c.args.edition c.args.options.now c.args.files.now c.args.self.now c.push_left.new.self c.read.new.self c.in-Declared.declared c.requires.listing c.read.ensures.len c.read.ensures.right
+    let modules : c.push_left.new.self.modules ≡ c.self-in-Declared.inside.modules.items ++ module_of c.read.new.self (Declared c.in-Declared.declared c.in-Declared.base) = search rules in
+    listing_more c.args.edition c.args.options.now c.args.files.now c.args.self.now c.push_left.new.self c.read.new.self c.in-Declared.declared c.in-Declared.base c.requires.listing c.read.ensures.len c.read.ensures.right
     (subst (λ (s : List (Option Source)). Extends s c.read.new.self) same c.read.ensures.kept) read sources
-    (modules ∙ ap (λ (ms : List Module). ms ++ module_of c.read.new.self (Declared c.in-Declared.declared)) before)
+    (modules ∙ ap (λ (ms : List Module). ms ++ module_of c.read.new.self (Declared c.in-Declared.declared c.in-Declared.base)) before)

@@ -1,7 +1,7 @@
 use Rattle.std.proofs.Common.{subst}
 use Rattle.dm_base.specs.Tree.{IsKnown}
 use Rattle.dm_maps.specs.Trees.{tree_of}
-use Rattle.dm_imports.specs.Tables.{MapTables, asks, of_tables}
+use Rattle.dm_imports.specs.Tables.{MapTables, asks}
 use Rattle.dm_imports.proofs.AskLemmas.{module-may}
 use Rattle.dm_imports.proofs.def_maps.DefMaps.meaning_in.Goals as goal
 

@@ -1,4 +1,4 @@
-use Rattle.std.proofs.Common.{◌≡◌, ap, subst, sym}
+use Rattle.std.proofs.Common.{ap, subst, sym}
 use Rattle.dm_maps.specs.World.{World}
 use Rattle.dm_imports.specs.Meanings.{IsNamed}
 use Rattle.dm_imports.specs.Tables.{MapTables, of_tables}

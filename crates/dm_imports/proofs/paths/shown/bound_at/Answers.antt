@@ -1,4 +1,4 @@
-use Rattle.std.proofs.Common.{◌≡◌, ◌∙◌, ap, subst, sym}
+use Rattle.std.proofs.Common.{◌∙◌, ap, subst, sym}
 use Rattle.std.specs.Option.{option_map}
 use Rattle.dm_base.specs.declared.per_ns.Namespace.TheVariants.{Types}
 use Rattle.dm_maps.specs.World.{scope_of}

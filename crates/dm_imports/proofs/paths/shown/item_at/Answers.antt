@@ -1,4 +1,4 @@
-use Rattle.std.proofs.Common.{◌≡◌, ap, subst, sym}
+use Rattle.std.proofs.Common.{subst, sym}
 use Rattle.dm_imports.specs.Meanings.{IsNamed}
 use Rattle.dm_imports.specs.Tables.{of_tables}
 use Rattle.dm_imports.proofs.MeaningLemmas.{marked-named, namespace-named}

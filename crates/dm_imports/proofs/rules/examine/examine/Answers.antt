@@ -17,17 +17,11 @@ open_ways-requires-clause-ready c =
       named = subst (AreAllNamed d.world) same c.in_ok-given.ensures.named;
     }
 
-pub agree-requires-clause-listing : goal.agree-requires-clause-listing
-agree-requires-clause-listing c = subst (λ (w : World). IsListing w c.in_ok-listing.listing) (ap (λ (t : MapTables). t.world) c.maps.view_is) c.in_ok-listing.ensures
+pub judge-requires-clause-listing : goal.judge-requires-clause-listing
+judge-requires-clause-listing c = subst (λ (w : World). IsListing w c.in_ok-listing.listing) (ap (λ (t : MapTables). t.world) c.maps.view_is) c.in_ok-listing.ensures
 
 pub open_ways-requires-clause-listing : goal.open_ways-requires-clause-listing
 open_ways-requires-clause-listing c = subst (λ (w : World). IsListing w c.in_ok-listing.listing) (ap (λ (t : MapTables). t.world) c.maps.view_is) c.in_ok-listing.ensures
-
-pub order_dependent-requires-clause-listing : goal.order_dependent-requires-clause-listing
-order_dependent-requires-clause-listing c = subst (λ (w : World). IsListing w c.in_ok-listing.listing) (ap (λ (t : MapTables). t.world) c.maps.view_is) c.in_ok-listing.ensures
-
-pub order_dependent-requires-clause-known : goal.order_dependent-requires-clause-known
-order_dependent-requires-clause-known c = maps-known c.args.maps.now c.requires
 
 pub order_dependent-requires-clause-each : goal.order_dependent-requires-clause-each
 order_dependent-requires-clause-each c = subst (AreUngrounded (of_tables c.args.maps.now)) (sym c.as_slice-open.ensures.value) c.in_ok-left.ensures.each

@@ -1,5 +1,5 @@
 use native.Mathlib.Omega.{arith}
-use Rattle.std.proofs.Common.{◌≡◌, ◌<◌, false, length, nat_eq, true}
+use Rattle.std.proofs.Common.{◌≡◌, length, nat_eq, true}
 use Rattle.std.proofs.lemmas.Bool.{eqb-true}
 use Rattle.dm_imports.specs.Grounding.{slots_of}
 use Rattle.dm_imports.specs.Tables.{of_tables}

@@ -5,5 +5,5 @@ use Rattle.dm_imports.proofs.rules.order_dependent.order_dependent.Goals as goal
 
 pub returns : goal.returns
 returns c =
-    those-dependent (of_tables c.args.maps.now) (slots_of c.in_ok-found.found) (slots_of c.mark_open.new.found) c.args.left.now c.in_ok-found.ensures.just c.in_ok-found.ensures.all
+    those-dependent (of_tables c.args.maps.now) (slots_of c.args.judged.unsupported) (slots_of c.mark_open.new.found) c.args.left.now c.requires.just.marked c.requires.judged
     c.in_ok-mark_open.ensures.more c.in_ok-mark_open.ensures.marked c.in_ok-mark_open.ensures.just c.requires.all

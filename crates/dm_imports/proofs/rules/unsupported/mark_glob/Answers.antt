@@ -23,5 +23,8 @@ returns-in_ok-mark_names-in-Some-clause-judged c = λ n has.
     let same : c.maps.inside.world.now ≡ d.world = ap (λ (t : MapTables). t.world) c.maps.view_is in
     let own = subst (λ (o : Option Container). Contains (option_map_or (source_names d.world) o []) n) (sym c.source_of.ensures ∙ c.in-Some.is) has in
     let there = c.in_ok-names-in-Some.ensures n (subst (λ (w : World). Contains (source_names w source) n) (sym same) own) in
-    seen-all (AreJudged d (slots_of c.mark_names.new.found) c.args.glob.now.into) c.as_slice.result.now n c.in_ok-mark_names-in-Some.ensures.judged
+    seen-all (AreJudged d (slots_of c.mark_names.new.found.unsupported) c.args.glob.now.into) c.as_slice.result.now n c.in_ok-mark_names-in-Some.ensures.judged
     (subst (λ (l : List (Bor Name)). Contains (seen l) n) (sym c.as_slice.ensures.value) there)
+
+pub mark_names-requires-clause-bound : goal.mark_names-requires-clause-bound
+mark_names-requires-clause-bound c = λ yes. c.requires.bound

@@ -9,5 +9,5 @@ use Rattle.dm_imports.proofs.rules.unsupported.mark_globs.Given as goal
 abbrev pub invariant-loop-glob : goal.invariant-loop-glob
 invariant-loop-glob l = record {
   marks : Marks (of_tables l.maps) l.fn.found l.found;
-  judged : All (IsGlobJudged (of_tables l.maps) (slots_of l.found)) (take l.glob-index l.globs);
+  judged : All (IsGlobJudged (of_tables l.maps) (slots_of l.found.unsupported)) (take l.glob-index l.globs);
 }

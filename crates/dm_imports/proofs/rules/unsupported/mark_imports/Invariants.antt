@@ -10,5 +10,5 @@ use Rattle.dm_imports.proofs.rules.unsupported.mark_imports.Given as goal
 abbrev pub invariant-loop-import : goal.invariant-loop-import
 invariant-loop-import l = record {
   marks : Marks (of_tables l.maps) l.fn.found l.found;
-  judged : All (λ (i : NamedImport). AreJudged (of_tables l.maps) (slots_of l.found) i.home i.name) (take l.import-index l.imports);
+  judged : All (λ (i : NamedImport). AreJudged (of_tables l.maps) (slots_of l.found.unsupported) i.home i.name) (take l.import-index l.imports);
 }

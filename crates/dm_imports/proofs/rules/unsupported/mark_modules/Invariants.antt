@@ -9,5 +9,5 @@ use Rattle.dm_imports.proofs.rules.unsupported.mark_modules.Given as goal
 abbrev pub invariant-loop-number : goal.invariant-loop-number
 invariant-loop-number l = record {
   marks : Marks (of_tables l.maps) l.fn.found l.found;
-  judged : (m : ModuleId) → m.0 < l.number → AreJudgedIn (of_tables l.maps) (slots_of l.found) m;
+  judged : (m : ModuleId) → m.0 < l.number → AreJudgedIn (of_tables l.maps) (slots_of l.found.unsupported) m;
 }

@@ -10,5 +10,5 @@ use Rattle.dm_imports.proofs.rules.unsupported.mark_names.Given as goal
 abbrev pub invariant-loop-name : goal.invariant-loop-name
 invariant-loop-name l = record {
   marks : Marks (of_tables l.maps) l.fn.found l.found;
-  judged : All (λ (n : Bor Name). AreJudged (of_tables l.maps) (slots_of l.found) l.m n.now) (take l.name-index l.names);
+  judged : All (λ (n : Bor Name). AreJudged (of_tables l.maps) (slots_of l.found.unsupported) l.m n.now) (take l.name-index l.names);
 }

@@ -1,9 +1,8 @@
-use Rattle.std.proofs.Common.{◌≡◌, Bor, List, Option, ap, subst, sym}
+use Rattle.std.proofs.Common.{◌≡◌, Bor, List, ap, subst, sym}
 use Rattle.std.specs.List.{Contains}
 use Rattle.dm_base.specs.Names.{Name}
 use Rattle.dm_maps.specs.World.{World}
 use Rattle.dm_scope.specs.Sorted.{seen}
-use Rattle.dm_imports.specs.declared.container.Container.{Container}
 use Rattle.dm_imports.specs.Grounding.{HasSource, slots_of}
 use Rattle.dm_imports.specs.Slots.{slot_at}
 use Rattle.dm_imports.specs.Supporting.{source_names}

@@ -1,7 +1,5 @@
-use Rattle.std.proofs.Common.{◌≡◌, ◌∙◌, Option, None, ap, inr, subst, sym, true}
+use Rattle.std.proofs.Common.{◌∙◌, ap, subst, sym}
 use Rattle.std.specs.Prelude.{is_none, not}
-use Rattle.dm_imports.specs.declared.container.Container.{Container}
-use Rattle.dm_imports.specs.Grounded.{knowing}
 use Rattle.dm_imports.specs.Grounding.{HasSource, slots_of}
 use Rattle.dm_imports.specs.Paths.{DefMaps}
 use Rattle.dm_imports.specs.Rules.{source_of}

@@ -1,4 +1,4 @@
-use Rattle.std.proofs.Common.{◌≡◌, Bor, List, None, subst, sym}
+use Rattle.std.proofs.Common.{Bor, List, None, subst, sym}
 use Rattle.std.specs.List.{Contains}
 use Rattle.dm_base.specs.Names.{Name}
 use Rattle.dm_scope.specs.Sorted.{seen}

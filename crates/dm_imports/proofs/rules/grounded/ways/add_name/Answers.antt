@@ -1,9 +1,6 @@
-use Rattle.std.proofs.Common.{◌≡◌, ap, subst}
 use Rattle.std.specs.Option.{option_copied}
-use Rattle.dm_base.specs.declared.per_ns.Namespace.TheVariants.{Types, Values, Macros}
-use Rattle.dm_imports.specs.Grounding.{AreSettled, slots_of, way_of}
 use Rattle.dm_imports.specs.Tables.{of_tables}
-use Rattle.dm_imports.proofs.ListedLemmas.{more-then, settled-more, three-settled}
+use Rattle.dm_imports.proofs.ListedLemmas.{more-then, three-settled}
 use Rattle.dm_imports.proofs.rules.grounded.ways.add_name.Goals as goal
 
 pub returns-clause-settled : goal.returns-clause-settled

@@ -1,4 +1,4 @@
-use Rattle.std.proofs.Common.{Bor, None, subst, sym, take}
+use Rattle.std.proofs.Common.{Bor, None, subst, take}
 use Rattle.std.proofs.lemmas.List.{take_all}
 use Rattle.std.proofs.lemmas.List.Elements.{All-more, All-weaker}
 use Rattle.std.specs.List.{All}

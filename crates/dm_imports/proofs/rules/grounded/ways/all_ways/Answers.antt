@@ -1,8 +1,8 @@
 use Rattle.std.proofs.Common.{List, Some, ap, subst, sym}
-use Rattle.std.proofs.lemmas.List.Elements.{All-contains_itself, All-nil, All-weaker}
+use Rattle.std.proofs.lemmas.List.Elements.{All-contains_itself, All-weaker}
 use Rattle.std.specs.List.{All, Contains}
 use Rattle.dm_imports.specs.declared.named_import.NamedImport.{NamedImport}
-use Rattle.dm_imports.specs.Grounding.{IsImportSettled, IsWay, slots_of}
+use Rattle.dm_imports.specs.Grounding.{IsImportSettled, slots_of}
 use Rattle.dm_imports.specs.Tables.{MapTables, of_tables}
 use Rattle.dm_imports.proofs.ListedLemmas.{all-settled-more, ways-cover}
 use Rattle.dm_imports.proofs.rules.grounded.ways.all_ways.Goals as goal
