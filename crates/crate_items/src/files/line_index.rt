@@ -49,7 +49,8 @@ impl<'a> LineIndex<'a> {
         requires { offset ≤ length self.now }
         ensures { result ≡ spec.line_col self.now offset }
     {
-        line_col_by(self.text, self.starts.as_slice(), offset)
+        let at = read_at(self.text, offset);
+        line_col_by(self.text, self.starts.as_slice(), at)
     }
 }
 
@@ -72,6 +73,27 @@ fn line_starts(alloc: Global, text: &[u8]) -> Result<Vec<usize>, AllocError>
         add_start(&mut starts, text[place], place + 1)?;
     }
     Ok(starts)
+}
+
+/// Whether an offset lies between a carriage return and its newline.
+fn is_split(text: &[u8], offset: usize) -> bool
+    requires { offset ≤ length text.now }
+    ensures { result ≡ spec.is_split text.now offset }
+{
+    0 < offset && text[offset - 1..].starts_with(b"\r\n")
+}
+
+/// The offset that is read in place of another.
+fn read_at(text: &[u8], offset: usize) -> usize
+    requires { offset ≤ length text.now }
+    ensures within { result ≤ length text.now }
+    ensures exact { result ≡ spec.read_at text.now offset }
+{
+    if is_split(text, offset) {
+        offset - 1
+    } else {
+        offset
+    }
 }
 
 /// How many of these are not past an offset.
@@ -142,7 +164,7 @@ fn column(text: &[u8], starts: &[usize], line: usize, offset: usize) -> usize
 fn line_col_by(text: &[u8], starts: &[usize], offset: usize) -> LineCol
     requires starts { starts.now ≡ spec.starts_from 0 text.now }
     requires within { offset ≤ length text.now }
-    ensures { result ≡ spec.line_col text.now offset }
+    ensures { result ≡ spec.line_col_at text.now offset }
 {
     let line = count_through(starts, offset);
     let col = column(text, starts, line, offset);

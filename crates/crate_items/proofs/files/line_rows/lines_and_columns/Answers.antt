@@ -6,4 +6,7 @@ returns c = record {
   lines = refl;
   characters = refl;
   order_mark = refl;
+  returns = refl;
+  two_returns = refl;
+  quoted_return = refl;
 }
