@@ -9,6 +9,7 @@ use defmap_answers::imports::imports_text;
 use defmap_answers::incomplete::incomplete_of;
 use defmap_answers::items::{Manner, items_text};
 use defmap_answers::module_paths::module_at;
+use defmap_answers::orphans::push_orphans;
 use defmap_answers::resolve::{Finding, meaning_text};
 use defmap_answers::rows::{Style, push_row};
 use defmap_answers::stopwatch::Stopwatch;
@@ -266,6 +267,24 @@ fn imports_answer<C: Crates>(
     })
 }
 
+/// The answer to `orphans`.
+fn orphans_answer(
+    made: &SettledInputs,
+    survey: &Survey<'_, Settled>,
+) -> Result<Answer, AllocError> {
+    let alloc = survey.alloc();
+    let (mut out, mut told) = (String::new(alloc), ended(alloc, &made.complaints)?);
+    push_orphans(&mut out, &mut told, alloc, survey.style(), &made.orphans)?;
+    let status = if !made.complaints.lines().is_empty() {
+        Status::Unreadable
+    } else if made.orphans.files().is_empty() {
+        Status::Fine
+    } else {
+        Status::Absent
+    };
+    Ok(Answer { out, told, status })
+}
+
 /// The answer to a question.
 fn answered(
     made: &SettledInputs,
@@ -277,6 +296,7 @@ fn answered(
         Question::Tree(form) => tree_answer(made, survey, form),
         Question::Unresolved => Ok(unresolved_answer(survey, complaints)?),
         Question::Imports => Ok(imports_answer(survey, complaints)?),
+        Question::Orphans => Ok(orphans_answer(made, survey)?),
         Question::Resolve { path, home } => resolve_answer(survey, path, home, complaints),
     }
 }

@@ -23,6 +23,7 @@ mod meanings;
 pub mod module_paths;
 pub mod notes;
 mod offsets;
+pub mod orphans;
 mod partly;
 mod path_text;
 pub mod places;

@@ -37,6 +37,8 @@ pub enum Question<'a> {
     Unresolved,
     /// What each import means.
     Imports,
+    /// The files that nothing reaches.
+    Orphans,
 }
 
 /// What is asked.
@@ -273,6 +275,7 @@ fn wish_of<'a>(alloc: Global, name: &str, given: &ArgMatches<'a>) -> Result<Wish
         },
         "unresolved" => Question::Unresolved,
         "imports" => Question::Imports,
+        "orphans" => Question::Orphans,
         _ => Question::Tree(tree_form(alloc, given)?),
     }))
 }

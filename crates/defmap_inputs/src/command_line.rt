@@ -205,6 +205,9 @@ const UNRESOLVED: &'static str =
 const IMPORTS: &'static str =
     "Prints what each import of a crate means, as FILE:LINE:COLUMN: PATH; ...";
 
+const ORPHANS: &'static str =
+    "Prints the files of Rust below the root's folder that nothing reaches; status 1 if there are any";
+
 const ITEMS: &'static str = "Prints what is read of one file: its items, or another table";
 
 fn value<'a>(alloc: Global, option: &'static ValueOption) -> Arg<'a> {
@@ -367,5 +370,6 @@ pub fn command_line<'a>(alloc: Global) -> Result<Command<'a>, AllocError> {
     let command = with_subcommand(command, resolve_command(alloc))?;
     let command = with_subcommand(command, plain_command(alloc, "unresolved", UNRESOLVED))?;
     let command = with_subcommand(command, plain_command(alloc, "imports", IMPORTS))?;
+    let command = with_subcommand(command, plain_command(alloc, "orphans", ORPHANS))?;
     with_subcommand(command, items_command(alloc))
 }

@@ -22,6 +22,8 @@ pub(crate) struct Inputs {
     pub(crate) loader: Loader,
     /// The file of the root of each plan.
     pub(crate) roots: Vec<Option<FileId>>,
+    /// The roots of the targets of the package that is asked about, if that is known.
+    pub(crate) targets: Vec<String>,
 }
 
 /// The lines of a file of options.
@@ -108,6 +110,7 @@ fn first_plans<R: Files + Input + AllocGlobal>(
         None => Ok(Planned {
             plans: planned(rt.alloc(), given)?,
             warning: None,
+            targets: Vec::new(rt.alloc()),
         }),
         Some(path) => planned_by(rt, given, path, cfgs),
     }
@@ -211,7 +214,11 @@ pub(crate) fn read_inputs<R: Files + Input + AllocGlobal>(
     given: &Arguments<'_>,
 ) -> Result<Inputs, Failure> {
     let cfgs = shared_cfgs(rt, given)?;
-    let Planned { plans, warning } = plans_of(rt, given, cfgs.as_str())?;
+    let Planned {
+        plans,
+        warning,
+        targets,
+    } = plans_of(rt, given, cfgs.as_str())?;
     let mut loader = Loader::new(rt.alloc());
     if let Some(line) = warning {
         loader.complaints.warn(line)?;
@@ -228,5 +235,6 @@ pub(crate) fn read_inputs<R: Files + Input + AllocGlobal>(
         plans,
         loader,
         roots,
+        targets,
     })
 }
