@@ -321,12 +321,14 @@ fn tell_incomplete(
     Ok(())
 }
 
-/// How the answer is written.
-fn style_of(given: &Arguments<'_>) -> Style {
+/// How the answer is written: a tree has colours on a terminal.
+fn style_of(given: &Arguments<'_>, question: Question<'_>) -> Style {
     if given.is_json {
-        Style::Json
-    } else {
-        Style::Text
+        return Style::Json;
+    }
+    match question {
+        Question::Tree(_form) if given.shown.has_colours => Style::Coloured,
+        _ => Style::Text,
     }
 }
 
@@ -345,7 +347,12 @@ fn whole_answer(
     given: &Arguments<'_>,
     question: Question<'_>,
 ) -> Result<Answer, Failure> {
-    let survey = Survey::of(alloc, &made.settled, has_all(given), style_of(given))?;
+    let survey = Survey::of(
+        alloc,
+        &made.settled,
+        has_all(given),
+        style_of(given, question),
+    )?;
     let mut answer = answered(made, &survey, question)?;
     if !is_of_dumps(question) {
         tell_incomplete(&mut answer, &survey, given)?;
@@ -371,7 +378,7 @@ fn answer_by<R: AllocGlobal + Clock>(
 }
 
 /// Reads the crates that the command line names, and answers what it asks of them.
-fn crates_answer<R: Files + Input + AllocGlobal + Clock>(
+fn crates_answer<R: Files + Input + AllocGlobal + Clock + Eprint>(
     rt: &R,
     given: &Arguments<'_>,
     question: Question<'_>,
@@ -406,7 +413,7 @@ fn items_answer<R: Files + Input + AllocGlobal>(
 }
 
 /// Reads what the command line names, and answers what it asks.
-pub(crate) fn give_answer<R: Files + Input + AllocGlobal + Clock>(
+pub(crate) fn give_answer<R: Files + Input + AllocGlobal + Clock + Eprint>(
     rt: &R,
     given: &Arguments<'_>,
 ) -> Result<Answer, Failure> {

@@ -24,6 +24,7 @@ pub mod module_paths;
 pub mod notes;
 mod offsets;
 pub mod orphans;
+pub mod paint;
 mod partly;
 mod path_text;
 pub mod places;

@@ -18,6 +18,13 @@ const EDITION: ValueOption = ValueOption {
     action: ArgAction::Set,
 };
 
+const COLOR: ValueOption = ValueOption {
+    id: "color",
+    shown: "WHEN",
+    help: "auto, always or never; auto, where nothing is said: on a terminal, unless NO_COLOR is set",
+    action: ArgAction::Set,
+};
+
 /// Those of every subcommand that takes crates, in the order in which help lists them.
 const OPTIONS: [ValueOption; 5] = [
     ValueOption {
@@ -278,6 +285,7 @@ fn with_options<'a>(alloc: Global, command: Command<'a>) -> Result<Command<'a>, 
     }
     let other = value(alloc, &EXTERN).conflicts_with("metadata");
     let command = with_arg(with_arg(command, other)?, fixture(alloc))?;
+    let command = command.arg(value(alloc, &COLOR))?;
     with_flags(alloc, command, &COMMON_FLAGS)
 }
 
@@ -346,7 +354,8 @@ fn items_command<'a>(alloc: Global) -> Result<Command<'a>, AllocError> {
         .about(ITEMS)
         .arg(position(alloc, "root", "FILE", help).required(true))?
         .arg(value(alloc, &EDITION))?
-        .arg(value(alloc, &SET))?;
+        .arg(value(alloc, &SET))?
+        .arg(value(alloc, &COLOR))?;
     with_tables(alloc, command)
 }
 

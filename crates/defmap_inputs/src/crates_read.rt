@@ -11,7 +11,7 @@ use crate_items::files::crate_graph::CrateGraph;
 use crate_items::files::file_table::FileTable;
 use dm_base::ids::Crate;
 use std::alloc::{AllocError, Global};
-use std::rt::Files;
+use std::rt::{Clock, Files};
 
 /// Crates whose files were read.
 #[derive(Drop)]
@@ -100,7 +100,7 @@ fn in_graph(
 /// Reads all that the command line names. Fails where the root of the crate that is asked about is
 /// not read, or a fixture, where a word of the command line or a file says nothing that it may say,
 /// and where memory runs out. What else is not read is complained of.
-pub fn read_crates<R: Files + Input + AllocGlobal>(
+pub fn read_crates<R: Files + Input + AllocGlobal + Clock + Eprint>(
     rt: &R,
     given: &Arguments<'_>,
 ) -> Result<CratesRead, Failure> {

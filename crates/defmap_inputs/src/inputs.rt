@@ -7,11 +7,12 @@ use crate::failure::{Failure, Status};
 use crate::loader::{Loader, Manner};
 use crate::metadata::{Planned, planned_by};
 use crate::plan::CratePlan;
+use crate::progress::Progress;
 use crate::reading::{FileText, INPUT, input_text, needed_text, unread_line};
 use crate::sysroot::{add_sysroot, library_folder};
 use dm_base::ids::FileId;
 use std::alloc::{AllocError, Global};
-use std::rt::Files;
+use std::rt::{Clock, Files};
 
 /// Crates whose files were read.
 #[derive(Drop)]
@@ -153,7 +154,7 @@ fn read_input<R: Input + AllocGlobal>(
 }
 
 /// Reads the files of a plan's crate. Answers with that of its root.
-fn read_plan<R: Files + Input + AllocGlobal>(
+fn read_plan<R: Files + Input + AllocGlobal + Clock + Eprint>(
     rt: &R,
     loader: &mut Loader,
     plan: &CratePlan,
@@ -190,7 +191,7 @@ fn first_complaint(alloc: Global, complaints: &Complaints) -> Result<Failure, Al
 }
 
 /// Reads the files of all plans' crates. Answers with those of their roots. Fails where the first of these is not read.
-fn read_roots<R: Files + Input + AllocGlobal>(
+fn read_roots<R: Files + Input + AllocGlobal + Clock + Eprint>(
     rt: &R,
     loader: &mut Loader,
     plans: &[CratePlan],
@@ -209,7 +210,7 @@ fn read_roots<R: Files + Input + AllocGlobal>(
 }
 
 /// Reads all that the command line names. Fails where the root of the crate that is asked about is not read.
-pub(crate) fn read_inputs<R: Files + Input + AllocGlobal>(
+pub(crate) fn read_inputs<R: Files + Input + AllocGlobal + Clock + Eprint>(
     rt: &R,
     given: &Arguments<'_>,
 ) -> Result<Inputs, Failure> {
@@ -220,6 +221,7 @@ pub(crate) fn read_inputs<R: Files + Input + AllocGlobal>(
         targets,
     } = plans_of(rt, given, cfgs.as_str())?;
     let mut loader = Loader::new(rt.alloc());
+    loader.progress = Progress::begin(rt, given.shown.has_progress);
     if let Some(line) = warning {
         loader.complaints.warn(line)?;
     }
@@ -229,7 +231,9 @@ pub(crate) fn read_inputs<R: Files + Input + AllocGlobal>(
         plans.as_slice(),
         cfgs.as_str(),
         given.limit,
-    )?;
+    );
+    loader.progress.end(rt);
+    let roots = roots?;
     Ok(Inputs {
         cfgs,
         plans,
