@@ -78,7 +78,7 @@ def judge_colours(program, folder):
     want(not any(b"\x1b" in it for it in plain[:2]), "colours in a pipe", plain)
     want((*bare, shown[2]) == plain, "not the plain tree", (plain, shown))
     words = [b"\x1b[34mstruct\x1b[0m \x1b[1mS\x1b[0m: \x1b[32mpub\x1b[0m, lib.rs:1:13\n", b".. \x1b[33munknown\x1b[0m, by 1 macro call",
-             b"\x1b[33munknown\x1b[0m \x1b[1mg\x1b[0m\n", b"\x1b[31munresolved\x1b[0m".replace(b"[31m", b"[1;31m")]
+             b"\x1b[33munknown\x1b[0m \x1b[1mg\x1b[0m\n", b"\x1b[1;31munresolved\x1b[0m"]
     for word in words:
         want(word in shown[0], f"no {word!r}", shown)
     want(b"\x1b[33mincomplete\x1b[0m: " in shown[1], "no colour of incomplete", shown)
@@ -145,7 +145,7 @@ def judge_long(program, folder):
     os.mkfifo(os.path.join(folder, "slow.rs"))
     plain, shown = (run_slowly(run, program, folder) for run in (run_plain, run_on_terminals))
     want(plain[1] == b"", "told in a pipe", plain)
-    want(b"reading next.rs" in shown[1] and shown[1].endswith(b"\r\x1b[K"), "nothing told", shown)
+    want(b"\r\x1b[Kreading slow/mod.rs" in shown[1] and shown[1].endswith(b"\r\x1b[K"), "nothing told", shown)
     want(COLOUR.sub(b"", shown[0]) == plain[0], "another answer", (plain, shown))
     return "told"
 
