@@ -9,6 +9,7 @@ use defmap_answers::imports::imports_text;
 use defmap_answers::incomplete::incomplete_of;
 use defmap_answers::items::{Manner, items_text};
 use defmap_answers::module_paths::module_at;
+use defmap_answers::orphans::push_orphans;
 use defmap_answers::resolve::{Finding, meaning_text};
 use defmap_answers::rows::{Style, push_row};
 use defmap_answers::stopwatch::Stopwatch;
@@ -266,6 +267,24 @@ fn imports_answer<C: Crates>(
     })
 }
 
+/// The answer to `orphans`.
+fn orphans_answer(
+    made: &SettledInputs,
+    survey: &Survey<'_, Settled>,
+) -> Result<Answer, AllocError> {
+    let alloc = survey.alloc();
+    let (mut out, mut told) = (String::new(alloc), ended(alloc, &made.complaints)?);
+    push_orphans(&mut out, &mut told, alloc, survey.style(), &made.orphans)?;
+    let status = if !made.complaints.lines().is_empty() {
+        Status::Unreadable
+    } else if made.orphans.files().is_empty() {
+        Status::Fine
+    } else {
+        Status::Absent
+    };
+    Ok(Answer { out, told, status })
+}
+
 /// The answer to a question.
 fn answered(
     made: &SettledInputs,
@@ -277,6 +296,7 @@ fn answered(
         Question::Tree(form) => tree_answer(made, survey, form),
         Question::Unresolved => Ok(unresolved_answer(survey, complaints)?),
         Question::Imports => Ok(imports_answer(survey, complaints)?),
+        Question::Orphans => Ok(orphans_answer(made, survey)?),
         Question::Resolve { path, home } => resolve_answer(survey, path, home, complaints),
     }
 }
@@ -301,12 +321,14 @@ fn tell_incomplete(
     Ok(())
 }
 
-/// How the answer is written.
-fn style_of(given: &Arguments<'_>) -> Style {
+/// How the answer is written: a tree has colours on a terminal.
+fn style_of(given: &Arguments<'_>, question: Question<'_>) -> Style {
     if given.is_json {
-        Style::Json
-    } else {
-        Style::Text
+        return Style::Json;
+    }
+    match question {
+        Question::Tree(_form) if given.shown.has_colours => Style::Coloured,
+        _ => Style::Text,
     }
 }
 
@@ -325,7 +347,12 @@ fn whole_answer(
     given: &Arguments<'_>,
     question: Question<'_>,
 ) -> Result<Answer, Failure> {
-    let survey = Survey::of(alloc, &made.settled, has_all(given), style_of(given))?;
+    let survey = Survey::of(
+        alloc,
+        &made.settled,
+        has_all(given),
+        style_of(given, question),
+    )?;
     let mut answer = answered(made, &survey, question)?;
     if !is_of_dumps(question) {
         tell_incomplete(&mut answer, &survey, given)?;
@@ -351,7 +378,7 @@ fn answer_by<R: AllocGlobal + Clock>(
 }
 
 /// Reads the crates that the command line names, and answers what it asks of them.
-fn crates_answer<R: Files + Input + AllocGlobal + Clock>(
+fn crates_answer<R: Files + Input + AllocGlobal + Clock + Eprint>(
     rt: &R,
     given: &Arguments<'_>,
     question: Question<'_>,
@@ -386,7 +413,7 @@ fn items_answer<R: Files + Input + AllocGlobal>(
 }
 
 /// Reads what the command line names, and answers what it asks.
-pub(crate) fn give_answer<R: Files + Input + AllocGlobal + Clock>(
+pub(crate) fn give_answer<R: Files + Input + AllocGlobal + Clock + Eprint>(
     rt: &R,
     given: &Arguments<'_>,
 ) -> Result<Answer, Failure> {

@@ -6,6 +6,7 @@ use crate_tables::crate_filling::Reading;
 use defmap_inputs::complaints::Complaints;
 use defmap_inputs::crates_read::CratesRead;
 use defmap_inputs::failure::{Failure, Status};
+use defmap_inputs::orphans::Orphans;
 use dm_base::ids::Crate;
 use dm_collector::collected::Collected;
 use std::alloc::{AllocError, Global};
@@ -15,6 +16,7 @@ pub(crate) struct SettledInputs {
     pub(crate) settled: Settled,
     pub(crate) graph: CrateGraph,
     pub(crate) complaints: Complaints,
+    pub(crate) orphans: Orphans,
 }
 
 /// A hand-written `Drop`, to keep proofs small: what drops one has one call to prove.
@@ -24,6 +26,7 @@ impl Drop for SettledInputs {
             settled: _settled,
             graph: _graph,
             complaints: _complaints,
+            orphans: _orphans,
         } = self;
     }
 }
@@ -99,11 +102,13 @@ pub(crate) fn settle_crates(
         names,
         complaints,
         asked,
+        orphans,
     } = crates;
     let settled = settle_graph(alloc, &graph, files, names, asked, limit)?;
     Ok(SettledInputs {
         settled,
         graph,
         complaints,
+        orphans,
     })
 }

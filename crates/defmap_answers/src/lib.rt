@@ -23,6 +23,8 @@ mod meanings;
 pub mod module_paths;
 pub mod notes;
 mod offsets;
+pub mod orphans;
+pub mod paint;
 mod partly;
 mod path_text;
 pub mod places;

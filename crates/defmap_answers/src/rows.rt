@@ -7,6 +7,8 @@ use std::fmt::Write;
 #[derive(Clone, Copy, PartialEq, Eq, Debug)]
 pub enum Style {
     Text,
+    /// Text with colours, for a terminal.
+    Coloured,
     /// An object a line.
     Json,
 }
@@ -23,6 +25,22 @@ pub struct Location<'a> {
 pub trait Row: Serialize {
     /// Adds it as text, in a line that ends.
     fn push_text(&self, out: &mut String) -> Result<(), AllocError>;
+
+    /// The same in colours, where it has any.
+    fn push_coloured(&self, out: &mut String) -> Result<(), AllocError> {
+        self.push_text(out)
+    }
+}
+
+/// Adds a row as an object of JSON.
+fn push_json<R: Row>(out: &mut String, alloc: Global, row: &R) -> Result<(), AllocError> {
+    match serde_json::to_string(alloc, row) {
+        Ok(line) => {
+            out.push_str(line.as_str())?;
+            out.push_str("\n")
+        }
+        Err(_error) => Err(AllocError),
+    }
 }
 
 /// Adds a row. What is written is text and numbers, so that only memory can lack.
@@ -32,15 +50,10 @@ pub fn push_row<R: Row>(
     style: Style,
     row: &R,
 ) -> Result<(), AllocError> {
-    if style == Style::Text {
-        return row.push_text(out);
-    }
-    match serde_json::to_string(alloc, row) {
-        Ok(line) => {
-            out.push_str(line.as_str())?;
-            out.push_str("\n")
-        }
-        Err(_error) => Err(AllocError),
+    match style {
+        Style::Text => row.push_text(out),
+        Style::Coloured => row.push_coloured(out),
+        Style::Json => push_json(out, alloc, row),
     }
 }
 

@@ -1,4 +1,5 @@
 //! The rows of a tree.
+use crate::paint::{Paint, Pen};
 use crate::rows::{Location, Row, push_location};
 use serde::Serialize;
 use std::alloc::AllocError;
@@ -24,17 +25,28 @@ pub(crate) struct Heading<'a> {
     pub(crate) at: Option<Location<'a>>,
 }
 
-impl<'a> Row for Heading<'a> {
-    fn push_text(&self, out: &mut String) -> Result<(), AllocError> {
-        out.push_str(self.kind)?;
+impl<'a> Heading<'a> {
+    fn push(&self, out: &mut String, pen: Pen) -> Result<(), AllocError> {
+        pen.push(out, Paint::Kind, self.kind)?;
         if self.name.as_str() != self.kind {
-            write!(out, " {}", self.name)?;
+            out.push_str(" ")?;
+            pen.push(out, Paint::Name, self.name.as_str())?;
         }
         if let Some(at) = self.at {
             out.push_str(", ")?;
             push_location(out, at)?;
         }
         out.push_str("\n")
+    }
+}
+
+impl<'a> Row for Heading<'a> {
+    fn push_text(&self, out: &mut String) -> Result<(), AllocError> {
+        self.push(out, Pen::Plain)
+    }
+
+    fn push_coloured(&self, out: &mut String) -> Result<(), AllocError> {
+        self.push(out, Pen::Coloured)
     }
 }
 
@@ -64,18 +76,30 @@ impl<'a> NameRow<'a> {
         out.push_str(if self.import.is_some() { " " } else { ", " })?;
         push_location(out, at)
     }
-}
 
-impl<'a> Row for NameRow<'a> {
-    fn push_text(&self, out: &mut String) -> Result<(), AllocError> {
+    fn push(&self, out: &mut String, pen: Pen) -> Result<(), AllocError> {
         begin(out, self.depth)?;
-        write!(out, "{} {}: {}", self.kind, self.name, self.visibility)?;
+        pen.push(out, Paint::Kind, self.kind)?;
+        out.push_str(" ")?;
+        pen.push(out, Paint::Name, self.name)?;
+        out.push_str(": ")?;
+        pen.push(out, Paint::Visibility, self.visibility.as_str())?;
         self.push_origin(out)?;
         out.push_str(if self.by_order {
             ", by the order of imports\n"
         } else {
             "\n"
         })
+    }
+}
+
+impl<'a> Row for NameRow<'a> {
+    fn push_text(&self, out: &mut String) -> Result<(), AllocError> {
+        self.push(out, Pen::Plain)
+    }
+
+    fn push_coloured(&self, out: &mut String) -> Result<(), AllocError> {
+        self.push(out, Pen::Coloured)
     }
 }
 
@@ -88,10 +112,32 @@ pub(crate) struct BareRow<'a> {
     pub(crate) name: &'a str,
 }
 
+/// What the kind of a bare name tells.
+fn paint_of(kind: &str) -> Paint {
+    match kind {
+        "unknown" => Paint::Unknown,
+        "unresolved" => Paint::Wrong,
+        _ => Paint::Kind,
+    }
+}
+
+impl<'a> BareRow<'a> {
+    fn push(&self, out: &mut String, pen: Pen) -> Result<(), AllocError> {
+        begin(out, self.depth)?;
+        pen.push(out, paint_of(self.kind), self.kind)?;
+        out.push_str(" ")?;
+        pen.push(out, Paint::Name, self.name)?;
+        out.push_str("\n")
+    }
+}
+
 impl<'a> Row for BareRow<'a> {
     fn push_text(&self, out: &mut String) -> Result<(), AllocError> {
-        begin(out, self.depth)?;
-        write!(out, "{} {}\n", self.kind, self.name)
+        self.push(out, Pen::Plain)
+    }
+
+    fn push_coloured(&self, out: &mut String) -> Result<(), AllocError> {
+        self.push(out, Pen::Coloured)
     }
 }
 
@@ -103,9 +149,21 @@ pub(crate) struct HiddenRow {
     pub(crate) by: String,
 }
 
+impl HiddenRow {
+    fn push(&self, out: &mut String, pen: Pen) -> Result<(), AllocError> {
+        begin(out, self.depth)?;
+        out.push_str(".. ")?;
+        pen.push(out, Paint::Unknown, "unknown")?;
+        write!(out, ", by {}\n", self.by)
+    }
+}
+
 impl Row for HiddenRow {
     fn push_text(&self, out: &mut String) -> Result<(), AllocError> {
-        begin(out, self.depth)?;
-        write!(out, ".. unknown, by {}\n", self.by)
+        self.push(out, Pen::Plain)
+    }
+
+    fn push_coloured(&self, out: &mut String) -> Result<(), AllocError> {
+        self.push(out, Pen::Coloured)
     }
 }

@@ -1,2 +1,4 @@
 pub mod Failures
 pub mod Complaints
+pub mod Orphans
+pub mod Colours

@@ -1,4 +1,5 @@
 //! What the words of the command line say.
+use crate::colours::{When, when_of};
 use crate::failure::{Failure, Status};
 use crate::item_tables::{ItemTable, TABLES};
 use clap::ArgMatches;
@@ -37,6 +38,8 @@ pub enum Question<'a> {
     Unresolved,
     /// What each import means.
     Imports,
+    /// The files that nothing reaches.
+    Orphans,
 }
 
 /// What is asked.
@@ -54,6 +57,21 @@ pub(crate) struct ExternWord<'a> {
     pub(crate) edition: Option<Edition>,
     pub(crate) root: &'a str,
 }
+
+/// What is shown of an answer beside its text.
+#[derive(Clone, Copy)]
+pub struct Shown {
+    /// Whether the answer has colours.
+    pub has_colours: bool,
+    /// Whether what is read is told on the standard error, where it takes long.
+    pub has_progress: bool,
+}
+
+/// Where nothing is said: nothing.
+const NOTHING: Shown = Shown {
+    has_colours: false,
+    has_progress: false,
+};
 
 /// The words of the command line, read.
 pub struct Arguments<'a> {
@@ -82,6 +100,10 @@ pub struct Arguments<'a> {
     pub is_strict: bool,
     /// Whether the answer is written as objects of JSON.
     pub is_json: bool,
+    /// When colours are shown.
+    pub colour: When,
+    /// What the terminals show of this, where they are.
+    pub shown: Shown,
 }
 
 /// A hand-written `Drop`, to keep proofs small: what drops one has one call to prove.
@@ -104,6 +126,8 @@ impl<'a> Drop for Arguments<'a> {
             has_stats: _has_stats,
             is_strict: _is_strict,
             is_json: _is_json,
+            colour: _colour,
+            shown: _shown,
         } = self;
     }
 }
@@ -223,7 +247,58 @@ fn check_kinds(alloc: Global, words: &str) -> Result<(), Failure> {
     Ok(())
 }
 
+/// What no JSON is of, of `tree`.
+const TEXTS: [&'static str; 4] = ["dot", "dump", "diagnostics", "lists"];
+
+/// What a graph and a dump take no notice of: words, and options with values.
+const WORDS_OF_TREES: [&'static str; 3] = ["only-public", "variants", "assoc"];
+
+const VALUES_OF_TREES: [&'static str; 3] = ["depth", "focus", "kinds"];
+
+/// The first of some words that is given.
+fn first_flag(given: &ArgMatches<'_>, ids: &[&'static str]) -> Option<&'static str> {
+    for id in ids {
+        if given.get_flag(*id) {
+            return Some(*id);
+        }
+    }
+    None
+}
+
+/// The first of some options with values that is given.
+fn first_value(given: &ArgMatches<'_>, ids: &[&'static str]) -> Option<&'static str> {
+    for id in ids {
+        if given.contains_id(*id) {
+            return Some(*id);
+        }
+    }
+    None
+}
+
+/// What a graph or a dump takes no notice of, if such is given.
+fn ignored_beside(given: &ArgMatches<'_>, shown: &str) -> Option<&'static str> {
+    if shown == "dot" && given.get_flag("dump") {
+        return Some("dump");
+    }
+    match first_flag(given, &WORDS_OF_TREES) {
+        Some(word) => Some(word),
+        None => first_value(given, &VALUES_OF_TREES),
+    }
+}
+
+/// Two options of `tree` of which one would be ignored, if such are given.
+fn clash_of(given: &ArgMatches<'_>) -> Option<(&'static str, &'static str)> {
+    if given.get_flag("json") {
+        return Some(("json", first_flag(given, &TEXTS)?));
+    }
+    let shown = first_flag(given, &["dot", "dump"])?;
+    Some((shown, ignored_beside(given, shown)?))
+}
+
 fn tree_form<'a>(alloc: Global, given: &ArgMatches<'a>) -> Result<TreeForm<'a>, Failure> {
+    if let Some((one, other)) = clash_of(given) {
+        return misused(format!(in alloc; "--{one} and --{other}: give one of both")?);
+    }
     let depth = given_depth(alloc, given)?;
     let kinds = given.get_str("kinds");
     if let Some(words) = kinds {
@@ -273,6 +348,7 @@ fn wish_of<'a>(alloc: Global, name: &str, given: &ArgMatches<'a>) -> Result<Wish
         },
         "unresolved" => Question::Unresolved,
         "imports" => Question::Imports,
+        "orphans" => Question::Orphans,
         _ => Question::Tree(tree_form(alloc, given)?),
     }))
 }
@@ -290,6 +366,17 @@ fn given_limit(alloc: Global, given: &ArgMatches<'_>) -> Result<u32, Failure> {
     match given.get_str("limit") {
         None => Ok(LIMIT),
         Some(word) => known_limit(alloc, word),
+    }
+}
+
+/// When colours are shown.
+fn given_colour(alloc: Global, given: &ArgMatches<'_>) -> Result<When, Failure> {
+    let Some(word) = given.get_str("color") else {
+        return Ok(When::Auto);
+    };
+    match when_of(word) {
+        Some(when) => Ok(when),
+        None => misused(format!(in alloc; "no --color {word}: give auto, always or never")?),
     }
 }
 
@@ -330,5 +417,7 @@ pub fn read_arguments<'a>(
         has_stats: given.get_flag("stats"),
         is_strict: given.get_flag("strict"),
         is_json: given.get_flag("json"),
+        colour: given_colour(alloc, given)?,
+        shown: NOTHING,
     })
 }

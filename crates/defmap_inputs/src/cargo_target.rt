@@ -134,6 +134,15 @@ pub(crate) fn target_named<'a>(package: &'a Value, word: &str) -> Option<CargoTa
     None
 }
 
+/// The roots of all targets of a package.
+pub(crate) fn target_roots(alloc: Global, package: &Value) -> Result<Vec<String>, AllocError> {
+    let mut roots = Vec::new(alloc);
+    for value in list_of(package, "targets") {
+        roots.push(String::from_str(alloc, text_of(value, "src_path"))?)?;
+    }
+    Ok(roots)
+}
+
 /// The library of a package, or else its first target.
 pub(crate) fn first_target(package: &Value) -> Option<CargoTarget<'_>> {
     match library_of(package) {

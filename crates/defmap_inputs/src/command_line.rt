@@ -18,6 +18,13 @@ const EDITION: ValueOption = ValueOption {
     action: ArgAction::Set,
 };
 
+const COLOR: ValueOption = ValueOption {
+    id: "color",
+    shown: "WHEN",
+    help: "auto, always or never; auto, where nothing is said: on a terminal, unless NO_COLOR is set",
+    action: ArgAction::Set,
+};
+
 /// Those of every subcommand that takes crates, in the order in which help lists them.
 const OPTIONS: [ValueOption; 5] = [
     ValueOption {
@@ -205,6 +212,9 @@ const UNRESOLVED: &'static str =
 const IMPORTS: &'static str =
     "Prints what each import of a crate means, as FILE:LINE:COLUMN: PATH; ...";
 
+const ORPHANS: &'static str =
+    "Prints the files of Rust below the root's folder that nothing reaches; status 1 if there are any";
+
 const ITEMS: &'static str = "Prints what is read of one file: its items, or another table";
 
 fn value<'a>(alloc: Global, option: &'static ValueOption) -> Arg<'a> {
@@ -275,6 +285,7 @@ fn with_options<'a>(alloc: Global, command: Command<'a>) -> Result<Command<'a>, 
     }
     let other = value(alloc, &EXTERN).conflicts_with("metadata");
     let command = with_arg(with_arg(command, other)?, fixture(alloc))?;
+    let command = command.arg(value(alloc, &COLOR))?;
     with_flags(alloc, command, &COMMON_FLAGS)
 }
 
@@ -343,7 +354,8 @@ fn items_command<'a>(alloc: Global) -> Result<Command<'a>, AllocError> {
         .about(ITEMS)
         .arg(position(alloc, "root", "FILE", help).required(true))?
         .arg(value(alloc, &EDITION))?
-        .arg(value(alloc, &SET))?;
+        .arg(value(alloc, &SET))?
+        .arg(value(alloc, &COLOR))?;
     with_tables(alloc, command)
 }
 
@@ -367,5 +379,6 @@ pub fn command_line<'a>(alloc: Global) -> Result<Command<'a>, AllocError> {
     let command = with_subcommand(command, resolve_command(alloc))?;
     let command = with_subcommand(command, plain_command(alloc, "unresolved", UNRESOLVED))?;
     let command = with_subcommand(command, plain_command(alloc, "imports", IMPORTS))?;
+    let command = with_subcommand(command, plain_command(alloc, "orphans", ORPHANS))?;
     with_subcommand(command, items_command(alloc))
 }

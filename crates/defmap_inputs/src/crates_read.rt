@@ -5,12 +5,13 @@ use crate::failure::Failure;
 use crate::fixture::read_fixture;
 use crate::graph::ordered_graph;
 use crate::inputs::{Inputs, read_inputs};
+use crate::orphans::{Orphans, asked_orphans};
 use crate::plan::CratePlan;
 use crate_items::files::crate_graph::CrateGraph;
 use crate_items::files::file_table::FileTable;
 use dm_base::ids::Crate;
 use std::alloc::{AllocError, Global};
-use std::rt::Files;
+use std::rt::{Clock, Files};
 
 /// Crates whose files were read.
 #[derive(Drop)]
@@ -23,6 +24,8 @@ pub struct CratesRead {
     pub complaints: Complaints,
     /// The crate that is asked about; none where all are.
     pub asked: Option<Crate>,
+    /// The files that nothing reaches, where these are asked for.
+    pub orphans: Orphans,
 }
 
 /// The names of the crates of a graph.
@@ -66,12 +69,14 @@ fn in_graph(
     alloc: Global,
     inputs: Inputs,
     given: &Arguments<'_>,
+    orphans: Orphans,
 ) -> Result<CratesRead, AllocError> {
     let Inputs {
         cfgs,
         mut plans,
         loader,
         roots,
+        targets: _targets,
     } = inputs;
     let (files, mut complaints) = loader.into_parts();
     let made = ordered_graph(
@@ -88,19 +93,21 @@ fn in_graph(
         asked: asked_of(given, names.as_slice()),
         names,
         complaints,
+        orphans,
     })
 }
 
 /// Reads all that the command line names. Fails where the root of the crate that is asked about is
 /// not read, or a fixture, where a word of the command line or a file says nothing that it may say,
 /// and where memory runs out. What else is not read is complained of.
-pub fn read_crates<R: Files + Input + AllocGlobal>(
+pub fn read_crates<R: Files + Input + AllocGlobal + Clock + Eprint>(
     rt: &R,
     given: &Arguments<'_>,
 ) -> Result<CratesRead, Failure> {
-    let inputs = match given.fixture {
+    let mut inputs = match given.fixture {
         None => read_inputs(rt, given)?,
         Some(path) => read_fixture(rt, path)?,
     };
-    Ok(in_graph(rt.alloc(), inputs, given)?)
+    let orphans = asked_orphans(rt, given, &mut inputs)?;
+    Ok(in_graph(rt.alloc(), inputs, given, orphans)?)
 }

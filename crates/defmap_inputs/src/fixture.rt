@@ -175,6 +175,7 @@ fn inputs_of<'a>(alloc: Global, files: &[FixtureFile<'a>]) -> Result<Inputs, Fau
         plans,
         loader,
         roots,
+        targets: Vec::new(alloc),
     })
 }
 

@@ -7,11 +7,12 @@ use crate::failure::{Failure, Status};
 use crate::loader::{Loader, Manner};
 use crate::metadata::{Planned, planned_by};
 use crate::plan::CratePlan;
+use crate::progress::Progress;
 use crate::reading::{FileText, INPUT, input_text, needed_text, unread_line};
 use crate::sysroot::{add_sysroot, library_folder};
 use dm_base::ids::FileId;
 use std::alloc::{AllocError, Global};
-use std::rt::Files;
+use std::rt::{Clock, Files};
 
 /// Crates whose files were read.
 #[derive(Drop)]
@@ -22,6 +23,8 @@ pub(crate) struct Inputs {
     pub(crate) loader: Loader,
     /// The file of the root of each plan.
     pub(crate) roots: Vec<Option<FileId>>,
+    /// The roots of the targets of the package that is asked about, if that is known.
+    pub(crate) targets: Vec<String>,
 }
 
 /// The lines of a file of options.
@@ -108,6 +111,7 @@ fn first_plans<R: Files + Input + AllocGlobal>(
         None => Ok(Planned {
             plans: planned(rt.alloc(), given)?,
             warning: None,
+            targets: Vec::new(rt.alloc()),
         }),
         Some(path) => planned_by(rt, given, path, cfgs),
     }
@@ -150,7 +154,7 @@ fn read_input<R: Input + AllocGlobal>(
 }
 
 /// Reads the files of a plan's crate. Answers with that of its root.
-fn read_plan<R: Files + Input + AllocGlobal>(
+fn read_plan<R: Files + Input + AllocGlobal + Clock + Eprint>(
     rt: &R,
     loader: &mut Loader,
     plan: &CratePlan,
@@ -187,7 +191,7 @@ fn first_complaint(alloc: Global, complaints: &Complaints) -> Result<Failure, Al
 }
 
 /// Reads the files of all plans' crates. Answers with those of their roots. Fails where the first of these is not read.
-fn read_roots<R: Files + Input + AllocGlobal>(
+fn read_roots<R: Files + Input + AllocGlobal + Clock + Eprint>(
     rt: &R,
     loader: &mut Loader,
     plans: &[CratePlan],
@@ -206,13 +210,18 @@ fn read_roots<R: Files + Input + AllocGlobal>(
 }
 
 /// Reads all that the command line names. Fails where the root of the crate that is asked about is not read.
-pub(crate) fn read_inputs<R: Files + Input + AllocGlobal>(
+pub(crate) fn read_inputs<R: Files + Input + AllocGlobal + Clock + Eprint>(
     rt: &R,
     given: &Arguments<'_>,
 ) -> Result<Inputs, Failure> {
     let cfgs = shared_cfgs(rt, given)?;
-    let Planned { plans, warning } = plans_of(rt, given, cfgs.as_str())?;
+    let Planned {
+        plans,
+        warning,
+        targets,
+    } = plans_of(rt, given, cfgs.as_str())?;
     let mut loader = Loader::new(rt.alloc());
+    loader.progress = Progress::begin(rt, given.shown.has_progress);
     if let Some(line) = warning {
         loader.complaints.warn(line)?;
     }
@@ -222,11 +231,14 @@ pub(crate) fn read_inputs<R: Files + Input + AllocGlobal>(
         plans.as_slice(),
         cfgs.as_str(),
         given.limit,
-    )?;
+    );
+    loader.progress.end(rt);
+    let roots = roots?;
     Ok(Inputs {
         cfgs,
         plans,
         loader,
         roots,
+        targets,
     })
 }

@@ -1,6 +1,7 @@
 //! The files of crates, read by the modules that they declare.
 use crate::complaints::Complaints;
 use crate::outlines::{Outline, outlines_of};
+use crate::progress::Progress;
 use crate::reading::{FileText, file_text, unread_line};
 use crate_items::files::file_table::{AddFileError, FileTable};
 use crate_items::files::source::Source;
@@ -10,13 +11,14 @@ use dm_base::source::Edition;
 use indexmap::IndexSet;
 use item_tree::cfg::CfgOptions;
 use std::alloc::{AllocError, Global};
-use std::rt::Files;
+use std::rt::{Clock, Files};
 
 /// The files that were read, and those that were looked for.
 pub(crate) struct Loader {
     pub(crate) files: FileTable,
     tried: IndexSet<Vec<u8>>,
     pub(crate) complaints: Complaints,
+    pub(crate) progress: Progress,
 }
 
 /// A hand-written `Drop`, to keep proofs small: what drops one has one call to prove.
@@ -26,6 +28,7 @@ impl Drop for Loader {
             files: _files,
             tried: _tried,
             complaints: _complaints,
+            progress: _progress,
         } = self;
     }
 }
@@ -82,6 +85,7 @@ impl Loader {
             files: FileTable::new(alloc),
             tried: IndexSet::new(alloc),
             complaints: Complaints::new(alloc),
+            progress: Progress::silent(),
         }
     }
 
@@ -91,6 +95,7 @@ impl Loader {
             files,
             tried: _tried,
             complaints,
+            progress: _progress,
         } = self;
         (files, complaints)
     }
@@ -111,7 +116,11 @@ impl Loader {
     }
 
     /// Reads the file of a path, unless that was tried before.
-    fn read<R: Files + AllocGlobal>(&mut self, rt: &R, path: &[u8]) -> Result<(), AllocError> {
+    fn read<R: Files + AllocGlobal + Clock + Eprint>(
+        &mut self,
+        rt: &R,
+        path: &[u8],
+    ) -> Result<(), AllocError> {
         let alloc = rt.alloc();
         if !self.tried.insert(Vec::from_slice(alloc, path)?)? {
             return Ok(());
@@ -119,6 +128,7 @@ impl Loader {
         let Ok(path) = std::str::from_utf8(path) else {
             return Ok(());
         };
+        self.progress.see(rt, path);
         match file_text(rt, path) {
             FileText::Missing => {}
             FileText::Text(text) => {
@@ -132,7 +142,7 @@ impl Loader {
     }
 
     /// Reads the root of a crate. None where there is no such text, which is complained of.
-    pub(crate) fn read_root<R: Files + AllocGlobal>(
+    pub(crate) fn read_root<R: Files + AllocGlobal + Clock + Eprint>(
         &mut self,
         rt: &R,
         path: &str,
@@ -148,7 +158,7 @@ impl Loader {
     }
 
     /// Reads the files at candidates. Answers with the one that is there, if no other is.
-    fn only_there<'a, R: Files + AllocGlobal>(
+    fn only_there<'a, R: Files + AllocGlobal + Clock + Eprint>(
         &mut self,
         rt: &R,
         candidates: &'a [Candidate],
@@ -181,7 +191,7 @@ impl Loader {
     }
 
     /// Reads the files of the modules that a visited file declares, and adds the visits of these.
-    fn follow<R: Files + AllocGlobal>(
+    fn follow<R: Files + AllocGlobal + Clock + Eprint>(
         &mut self,
         rt: &R,
         visits: &mut Vec<Visit>,
@@ -210,7 +220,7 @@ impl Loader {
     }
 
     /// Reads the files of the modules of a crate whose root was read, at most as many as it may have.
-    pub(crate) fn read_modules<R: Files + AllocGlobal>(
+    pub(crate) fn read_modules<R: Files + AllocGlobal + Clock + Eprint>(
         &mut self,
         rt: &R,
         root: FileId,

@@ -3,11 +3,11 @@ use crate::arguments::{Arguments, edition_of};
 use crate::build_messages::{add_built, build_messages};
 use crate::cargo_target::{
     CargoTarget, TargetKind, first_target, has_build_script, holds, is_asked, library_of, list_of,
-    target_at, target_named, text_of,
+    target_at, target_named, target_roots, text_of,
 };
 use crate::failure::{Failure, Status};
 use crate::plan::CratePlan;
-use crate::reading::{given_text, shown_path};
+use crate::reading::{given_text, shown_path, whole_path};
 use dm_base::source::Edition;
 use indexmap::IndexMap;
 use serde_json::Value;
@@ -263,6 +263,8 @@ pub(crate) struct Planned {
     pub(crate) plans: Vec<CratePlan>,
     /// What is not known of it.
     pub(crate) warning: Option<String>,
+    /// The roots of the targets of its package, if that is known.
+    pub(crate) targets: Vec<String>,
 }
 
 /// What is told where packages have build scripts whose options are not given.
@@ -321,7 +323,15 @@ fn plans_in<'a>(
     } else {
         None
     };
-    Ok(Planned { plans, warning })
+    let targets = match workspace.packages.get(&id) {
+        None => Vec::new(alloc),
+        Some(package) => target_roots(alloc, package.package)?,
+    };
+    Ok(Planned {
+        plans,
+        warning,
+        targets,
+    })
 }
 
 fn no_metadata<T>(alloc: Global, path: &str) -> Result<T, Failure> {
@@ -349,14 +359,6 @@ fn metadata_at<R: Files + Input + AllocGlobal>(rt: &R, path: &str) -> Result<Val
             }
         }
         Ok(_) | Err(_) => no_metadata(alloc, shown_path(path)),
-    }
-}
-
-/// The path of a file without links, where it is there.
-fn whole_path<R: Files + AllocGlobal>(rt: &R, path: &str) -> Result<String, AllocError> {
-    match std::fs::canonicalize(rt, path) {
-        Ok(whole) => String::from_str(rt.alloc(), whole.as_path().to_str().unwrap_or(path)),
-        Err(_error) => String::from_str(rt.alloc(), path),
     }
 }
 

@@ -50,6 +50,14 @@ pub(crate) fn file_text<R: Files + AllocGlobal>(rt: &R, path: &str) -> FileText 
     of_result(std::fs::read(rt, path))
 }
 
+/// The path of a file without links, where it is there.
+pub(crate) fn whole_path<R: Files + AllocGlobal>(rt: &R, path: &str) -> Result<String, AllocError> {
+    match std::fs::canonicalize(rt, path) {
+        Ok(whole) => String::from_str(rt.alloc(), whole.as_path().to_str().unwrap_or(path)),
+        Err(_error) => String::from_str(rt.alloc(), path),
+    }
+}
+
 /// Reads the standard input.
 pub(crate) fn input_text<R: Input + AllocGlobal>(rt: &R) -> FileText {
     let mut bytes = Vec::new(rt.alloc());
