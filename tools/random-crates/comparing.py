@@ -3,7 +3,7 @@ import random
 import tempfile
 from dataclasses import dataclass, field
 
-from asking import ask_both, ask_rustc
+from asking import AMBIGUOUS, WARNED, ask_both, ask_rustc
 from crate_model import Use, item_lists, reordered, without
 
 # In how many orders rustc is asked again where something differs: reversed, then shuffled.
@@ -35,6 +35,15 @@ class Outcome:
         return "order-dependent" if self.moved else "equal"
 
 
+def by_ours(meant):
+    """How `defmap` has a name that is ambiguous by rustc, or of which it warns."""
+    if meant is None:
+        return ", and `defmap` lists it not"
+    if "ambiguous" in meant:
+        return ", and so by `defmap`"
+    return ", and by `defmap` a definition" if meant else ", and by `defmap` nothing that is seen"
+
+
 def compared(theirs, ours):
     """The keys that are compared, why others are not, and what differs."""
     reasons, differing, count = {}, {}, 0
@@ -43,7 +52,8 @@ def compared(theirs, ours):
         if not reason and key in ours.unknown:
             reason = UNKNOWN
         if reason:
-            reasons[reason] = reasons.get(reason, 0) + 1
+            word = f"{reason}{by_ours(ours.meant.get(key)) if reason in (AMBIGUOUS, WARNED) else ''}"
+            reasons[word] = reasons.get(word, 0) + 1
             continue
         count += 1
         mine = ours.meant.get(key)

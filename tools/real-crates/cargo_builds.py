@@ -155,10 +155,10 @@ def printed_again(build, folder):
     return build.tree
 
 
-def said_of(path):
-    """What rustc says by the file that it printed to, which is removed."""
+def said_of(path, names=None):
+    """What rustc says by the file that it printed to, which is removed; what it names is noted, too."""
     with open(path, encoding="utf-8", errors="replace") as it:
-        said = read(it)
+        said = read(names.watched(it) if names else it)
     os.remove(path)
     return said
 

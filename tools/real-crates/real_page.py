@@ -39,6 +39,12 @@ class Row:
     differing: list = field(default_factory=list)
     statistics: dict = field(default_factory=dict)
     passes: dict = field(default_factory=dict)
+    items: int = 0  # what rustc names in modules and enums
+    shown: int = 0  # of these, what `tree` shows
+    hidden: dict = field(default_factory=dict)  # the others, by reason
+    others: dict = field(default_factory=dict)  # what rustc prints, and is not named in a module, by reason
+    items_alone: dict = field(default_factory=dict)  # what `tree` shows, and rustc does not name, by reason
+    left_out: str = ""  # why it was not compared
     seconds: float = 0
     megabytes: int = 0
     is_supported: bool = False
@@ -65,10 +71,21 @@ class Row:
                 self.differing.append(f"{module}::{name}: {sorted(tree[module].get(name, set()))} by tree, and "
                                       f"{sorted(spaces)} by a probe")
 
+    def add_items(self, part, others):
+        """Adds how much of rustc's items the tree shows."""
+        self.items, self.shown, self.hidden = part.named, part.shown, dict(part.hidden)
+        self.others, self.items_alone = dict(others), dict(part.alone)
+        self.differing += part.differing
+
     def told(self):
+        if self.left_out:
+            return f"left out: {self.left_out}"
         reasons = "".join(f", {count} of {reason}" for reason, count in sorted(self.reasons.items()))
         unread = "".join(f", not read {count} of {reason}" for reason, count in sorted(self.unread.items()))
-        return (f"{self.imports} imports, {self.globs} globs, {self.compared} compared, {self.unknown} unknown, "
+        hidden = "".join(f", {count} of {reason}" for reason, count in sorted(self.hidden.items()))
+        alone = "".join(f", {count} of `tree` alone of {reason}" for reason, count in sorted(self.items_alone.items()))
+        return (f"{self.shown} of {self.items} items shown{hidden}{alone}; "
+                f"{self.imports} imports, {self.globs} globs, {self.compared} compared, {self.unknown} unknown, "
                 f"{self.partly} partly, "
                 f"{self.brought} in modules of macros, {self.alone} of `defmap` alone; {self.names} names of {self.modules} modules, {self.bound} bound, "
                 f"{self.unknown_names} unknown, {self.partly_names} partly{reasons}{unread}; "
@@ -148,6 +165,39 @@ def time_table(rows):
     return table(heads, cells)
 
 
+def share(part, whole):
+    return f"{100 * part / whole:.1f} %" if whole else ""
+
+
+def summed(rows, key):
+    """Counts of some rows, reason by reason."""
+    total = Counter()
+    for row in rows:
+        total.update(getattr(row, key))
+    return total
+
+
+def items_table(rows):
+    """How much `tree` shows of each crate, and why it does not show the rest."""
+    reasons = [it for it, _ in summed(rows, "hidden").most_common()]
+    heads = ["crate", "items", "shown", "share", *(f"({number})" for number in range(1, len(reasons) + 1))]
+
+    def cells(name, some):
+        items, shown, hidden = sum(it.items for it in some), sum(it.shown for it in some), summed(some, "hidden")
+        return [name, thousands(items), thousands(shown), share(shown, items), *(thousands(hidden[it]) for it in reasons)]
+
+    told = [f"({number}) {reason}" for number, reason in enumerate(reasons, 1)]
+    return ["; ".join(told) + ".", "", *table(heads, [*(cells(it.name, [it]) for it in rows), cells("all", rows)])]
+
+
+def items_beside(rows):
+    """What is not among the items of modules, and what `tree` shows beside them, by reason."""
+    others = [[f"rustc prints, and no module names: {it}", thousands(count)] for it, count in sorted(summed(rows, "others").items())]
+    alone = [[f"`tree` shows, and rustc does not name: {it}", thousands(count)]
+             for it, count in sorted(summed(rows, "items_alone").items())]
+    return table(["what", "places"], others + alone)
+
+
 def limits(rows):
     """What cannot be right without expansion, or is another thing by decision, with the number of places."""
     reasons = (TESTS, INJECTED, BEHIND, ATTRIBUTES, PROCEDURAL, MOVED, SINCE, BRACED)
@@ -204,6 +254,13 @@ and settles them together: lines and modules are those of all of these. rustc re
 crate, and of the others what it kept when it compiled them. Its memory is the most that it held after one of the passes.
 """
 
+ITEMS = """## What `tree` shows
+
+Of all modules of each crate: the items that rustc names (`-Zunpretty=hir-tree`), with the variants of enums, constructors and
+what macros write, and how many of them `defmap tree --variants` shows as declared there, by kind and name. What it does
+not show is counted by reason:
+"""
+
 LIMITS = """## What cannot be right without expansion, and what is not right yet
 """
 
@@ -219,11 +276,22 @@ def supported(rows):
     return f"{sum(it.is_supported for it in rows)} of these crates" + (f", all but {others}" if others else "")
 
 
+def left_out(rows):
+    """Which crates were not compared, by the reason."""
+    lines = []
+    for reason in sorted({it.left_out for it in rows}):
+        names = [it.name for it in rows if it.left_out == reason]
+        lines += [wrapped(f"Left out are {len(names)}, of each of which it is so that {reason}: {', '.join(names)}."), ""]
+    return lines
+
+
 def write_page(rows):
     """Writes the page, and the shares."""
-    rows = sorted(rows, key=lambda it: it.name)
+    every = sorted(rows, key=lambda it: it.name)
+    rows, others = ([it for it in every if bool(it.left_out) == left] for left in (False, True))
     head = HEAD.format(version=version(RUSTC), debian=version(DEBIAN_RUSTC), crates=len(rows), imports=thousands(sum(it.imports for it in rows)),
                        globs=thousands(sum(it.globs for it in rows)), supported=supported(rows))
-    lines = [wrapped(head), "", *compared_table(rows), "", LIMITS, *limits(rows), "", wrapped(TIMES), "", *time_table([it for it in rows if it.seconds])]
+    lines = [wrapped(head), "", *left_out(others), *compared_table(rows), "", wrapped(ITEMS), "", *items_table(rows), "",
+             *items_beside(rows), "", LIMITS, *limits(rows), "", wrapped(TIMES), "", *time_table([it for it in rows if it.seconds])]
     write(PAGE, "\n".join(lines) + "\n")
     write_shares(rows)

@@ -38,21 +38,32 @@ class Probe:
 
 
 def trees(printed):
-    """The modules that `defmap tree` prints, each with its names, and of each name the namespaces in which it is bound."""
+    """The modules that `defmap tree` prints, each with its names, and of each name the namespaces in which it is bound; what
+    it prints of enums, and of the roots of other crates, is left out."""
     modules, around = {"crate": {}}, ["crate"]
     for line in printed.splitlines():
         told = TOLD.fullmatch(line)
         if not told or told[3] == "_":
             continue
         depth, kind, name, seen = len(told[1]) // 2, told[2], told[3], told[4] or ""
-        home = around[depth - 1]
+        home = around[depth - 1] if depth <= len(around) else None
+        if not home:
+            continue
         spaces = modules[home].setdefault(name, set())
         if SPACES[kind]:
             spaces.add(SPACES[kind])
-        if kind == "mod" and not BROUGHT.search(seen):
-            around[depth:] = [f"{home}::{name}"]
-            modules.setdefault(around[depth], {})
+        own = f"{home}::{name}"
+        if kind == "mod" and is_declared(seen):
+            around[depth:] = [own]
+            modules.setdefault(own, {})
+        elif around[depth:depth + 1] != [own]:
+            around[depth:] = [None]
     return modules
+
+
+def is_declared(seen):
+    """Whether what stands behind a name says that the crate declares it: then it is followed by its place."""
+    return ", " in seen and not BROUGHT.search(seen)
 
 
 def candidates(said, own, module, bound):
