@@ -12,7 +12,7 @@ pub(crate) const RESULT: usize = 1_000_000;
 pub(crate) const FILE: usize = 100_000_000;
 
 /// So many pairs of threads may be compared, and so many threads kept, in the worst case of each turn.
-const PAIRS: usize = 500_000_000;
+const PAIRS: usize = 1_500_000_000;
 
 const THREADS: usize = 10_000_000;
 
