@@ -15,6 +15,7 @@ class Fault:
     told: list = field(default_factory=list)  # parts of lines of the standard error
     whole: bool = False  # whether the standard output has no other lines
     given: bytes = b""  # the standard input
+    is_limited: bool = False  # whether it may take 10 s of processor time and 1 GiB alone
 
 
 @dataclass

@@ -10,6 +10,9 @@ printed how many beginnings of the text, cut before each character, are as long 
 `fixtures` and `nameres`: a text is a graph of crates. Its heading is a name, and behind ` | ` the words that the program
 is run with; where none stand there, `tree --dump --diagnostics`. What goes to the standard error stands behind `told: `,
 and the status behind `ends: ` where it is not 0.
+
+`expand`: a text is a file. Its heading is a name, and behind ` | ` more words for `defmap expand -`.
+`tools/differential/expand-texts` asks rustc of each.
 """
 import re
 import subprocess
@@ -80,9 +83,15 @@ def fixture_texts():
         yield Text(f"fixture: {name}", [*words[:1], "--fixture", "-", *words[1:]], f"{text}\n", f"{printed}\n" if printed else "")
 
 
+def expand_texts():
+    for heading, text, printed in paired("expand"):
+        name, _, words = heading.partition(WORDS)
+        yield Text(f"expand: {name}", ["expand", "-", *words.split()], f"{text}\n", f"{printed}\n" if printed else "")
+
+
 def texts():
     """All texts."""
-    return [*item_texts(), *fixture_texts()]
+    return [*item_texts(), *fixture_texts(), *expand_texts()]
 
 
 def ran(tool, words, given):

@@ -5,6 +5,7 @@ use crate::settling::{SettledInputs, settle_crates};
 use crate::stats::push_counts;
 use crate::trees::trees_text;
 use defmap_answers::crates::{Crates, asked_crates, crate_name};
+use defmap_answers::expand::{ExpandManner, Expanded, expand_text};
 use defmap_answers::imports::imports_text;
 use defmap_answers::incomplete::incomplete_of;
 use defmap_answers::items::{Manner, items_text};
@@ -23,7 +24,7 @@ use defmap_inputs::crates_read::read_crates;
 use defmap_inputs::failure::{Failure, Status};
 use defmap_inputs::item_options::item_options;
 use defmap_inputs::item_tables::ItemTable;
-use defmap_inputs::reading::given_text;
+use defmap_inputs::reading::{given_text, shown_path};
 use dm_base::edition::Edition;
 use dm_base::ids::ModuleId;
 use dm_base::mod_path::ModPath;
@@ -412,6 +413,44 @@ fn items_answer<R: Files + Input + AllocGlobal>(
     })
 }
 
+/// What the macro calls make of the file that the command line names.
+fn expansions_answer<R: Files + Input + AllocGlobal>(
+    rt: &R,
+    given: &Arguments<'_>,
+    wanted: Option<(usize, usize)>,
+) -> Result<Answer, Failure> {
+    let alloc = rt.alloc();
+    let options = item_options(alloc, given)?;
+    let text = given_text(rt, given.root)?;
+    let manner = ExpandManner {
+        edition: given.edition.unwrap_or(Edition::Edition2021),
+        options: &options,
+        style: style_of(given),
+        wanted,
+    };
+    let path = shown_path(given.root);
+    let expanded = expand_text(alloc, manner, path, text.as_str())?;
+    Ok(answer_of(expanded))
+}
+
+/// The answer of calls that were expanded.
+fn answer_of(expanded: Expanded) -> Answer {
+    let Expanded {
+        out,
+        told,
+        is_whole,
+    } = expanded;
+    Answer {
+        out,
+        told,
+        status: if is_whole {
+            Status::Fine
+        } else {
+            Status::Absent
+        },
+    }
+}
+
 /// Reads what the command line names, and answers what it asks.
 pub(crate) fn give_answer<R: Files + Input + AllocGlobal + Clock + Eprint>(
     rt: &R,
@@ -420,5 +459,6 @@ pub(crate) fn give_answer<R: Files + Input + AllocGlobal + Clock + Eprint>(
     match given.wish {
         Wish::OfCrates(question) => crates_answer(rt, given, question),
         Wish::OfItems(table) => items_answer(rt, given, table),
+        Wish::Expansions(wanted) => expansions_answer(rt, given, wanted),
     }
 }

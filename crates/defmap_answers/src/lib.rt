@@ -11,6 +11,7 @@ pub mod crates;
 mod cycles;
 mod definitions;
 pub mod dot;
+pub mod expand;
 mod hidden;
 mod hiding;
 pub mod imports;

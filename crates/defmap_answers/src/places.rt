@@ -23,7 +23,7 @@ pub struct ItemPlace {
 
 /// The lines of a file.
 #[derive(Drop)]
-struct FileLines<'a> {
+pub(crate) struct FileLines<'a> {
     path: &'a str,
     /// How long its text is.
     len: usize,
@@ -44,7 +44,7 @@ impl<'a> Drop for Lines<'a> {
 }
 
 /// The lines of a text.
-fn file_lines<'a>(
+pub(crate) fn file_lines<'a>(
     alloc: Global,
     path: &'a [u8],
     text: &'a [u8],
@@ -54,6 +54,23 @@ fn file_lines<'a>(
         len: text.len(),
         index: LineIndex::new(alloc, text)?,
     })
+}
+
+impl<'a> FileLines<'a> {
+    /// The path of the file, and the line and the column of a byte.
+    pub(crate) fn location(&self, offset: Option<usize>) -> Location<'a> {
+        match offset {
+            Some(offset) if offset <= self.len => {
+                let at = self.index.line_col(offset);
+                Location {
+                    file: self.path,
+                    line: at.line,
+                    column: at.col,
+                }
+            }
+            _ => nowhere(self.path),
+        }
+    }
 }
 
 impl<'a> Lines<'a> {
@@ -70,17 +87,9 @@ impl<'a> Lines<'a> {
 
     /// The path of the file of a spot, its line and its column. No line is 0.
     pub(crate) fn location(&self, spot: Spot) -> Location<'a> {
-        let Some(lines) = self.files.get(spot.file.0 as usize) else {
-            return nowhere("?");
-        };
-        if spot.offset > lines.len {
-            return nowhere(lines.path);
-        }
-        let at = lines.index.line_col(spot.offset);
-        Location {
-            file: lines.path,
-            line: at.line,
-            column: at.col,
+        match self.files.get(spot.file.0 as usize) {
+            None => nowhere("?"),
+            Some(lines) => lines.location(Some(spot.offset)),
         }
     }
 

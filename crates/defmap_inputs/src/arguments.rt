@@ -48,6 +48,8 @@ pub enum Wish<'a> {
     OfCrates(Question<'a>),
     /// A table of one file.
     OfItems(ItemTable),
+    /// What the macro calls of one file make: of all, or of the one at a line and a column.
+    Expansions(Option<(usize, usize)>),
 }
 
 /// A crate that the crate knows by a name.
@@ -339,9 +341,30 @@ fn path_of<'a>(given: &ArgMatches<'a>) -> &'a str {
     given.get_str(id).unwrap_or("")
 }
 
+/// The numbers of LINE:COLUMN.
+fn place_of(word: &str) -> Option<(usize, usize)> {
+    let (line, column) = word.split_once(':')?;
+    match (line.parse::<usize>(), column.parse::<usize>()) {
+        (Ok(line), Ok(column)) => Some((line, column)),
+        _ => None,
+    }
+}
+
+/// The place that is given, if one is.
+fn given_place(alloc: Global, given: &ArgMatches<'_>) -> Result<Option<(usize, usize)>, Failure> {
+    let Some(word) = given.get_str("at") else {
+        return Ok(None);
+    };
+    match place_of(word) {
+        Some(place) => Ok(Some(place)),
+        None => misused(format!(in alloc; "no place {word}: give LINE:COLUMN")?),
+    }
+}
+
 fn wish_of<'a>(alloc: Global, name: &str, given: &ArgMatches<'a>) -> Result<Wish<'a>, Failure> {
     Ok(Wish::OfCrates(match name {
         "items" => return Ok(Wish::OfItems(table_of(given))),
+        "expand" => return Ok(Wish::Expansions(given_place(alloc, given)?)),
         "resolve" => Question::Resolve {
             path: path_of(given),
             home: given.get_str("in").unwrap_or("crate"),

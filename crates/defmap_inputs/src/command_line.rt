@@ -217,6 +217,17 @@ const ORPHANS: &'static str =
 
 const ITEMS: &'static str = "Prints what is read of one file: its items, or another table";
 
+const EXPAND: &'static str =
+    "Prints what each macro call among the items of a file makes, by the macros of that file";
+
+/// The option of `expand` alone.
+const AT: ValueOption = ValueOption {
+    id: "at",
+    shown: "LINE:COLUMN",
+    help: "The one call that is told of",
+    action: ArgAction::Set,
+};
+
 fn value<'a>(alloc: Global, option: &'static ValueOption) -> Arg<'a> {
     Arg::new(alloc, option.id)
         .long(option.id)
@@ -359,6 +370,17 @@ fn items_command<'a>(alloc: Global) -> Result<Command<'a>, AllocError> {
     with_tables(alloc, command)
 }
 
+fn expand_command<'a>(alloc: Global) -> Result<Command<'a>, AllocError> {
+    let help = "The file; - reads standard input";
+    let command = Command::new(alloc, "expand")
+        .about(EXPAND)
+        .arg(position(alloc, "root", "FILE", help).required(true))?
+        .arg(value(alloc, &EDITION))?
+        .arg(value(alloc, &SET))?
+        .arg(value(alloc, &AT))?;
+    command.arg(flag(alloc, "json", "Prints an object of JSON a line"))
+}
+
 /// A command with one more subcommand, unless that failed. What is held at an exit costs its proof:
 /// this has one.
 fn with_subcommand<'a>(
@@ -380,5 +402,6 @@ pub fn command_line<'a>(alloc: Global) -> Result<Command<'a>, AllocError> {
     let command = with_subcommand(command, plain_command(alloc, "unresolved", UNRESOLVED))?;
     let command = with_subcommand(command, plain_command(alloc, "imports", IMPORTS))?;
     let command = with_subcommand(command, plain_command(alloc, "orphans", ORPHANS))?;
-    with_subcommand(command, items_command(alloc))
+    let command = with_subcommand(command, items_command(alloc))?;
+    with_subcommand(command, expand_command(alloc))
 }

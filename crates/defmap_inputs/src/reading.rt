@@ -74,7 +74,7 @@ pub(crate) fn unread_line(alloc: Global, path: &str, reason: &str) -> Result<Str
 }
 
 /// The path that a file of the command line is shown under.
-pub(crate) fn shown_path(path: &str) -> &str {
+pub fn shown_path(path: &str) -> &str {
     if path == "-" { INPUT } else { path }
 }
 
