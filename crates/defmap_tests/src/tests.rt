@@ -19,6 +19,7 @@ macro_rules! again {
 mod base;
 mod imports;
 mod listings;
+mod macros;
 mod rounds;
 mod scopes;
 mod worlds;

@@ -1,5 +1,16 @@
 pub mod Stepped
 pub mod Passed
 pub mod Counted
+pub mod Numbers
+pub mod Linked
+pub mod Seeded
 pub mod Reached
+pub mod Bounds
+pub mod Only
+pub mod Unique
+pub mod Laid
+pub mod Grammars
+pub mod Split
+pub mod Repeated
+pub mod Layouts
 pub mod Turned

@@ -18,9 +18,14 @@ pub mod Visits
 pub mod Written
 pub mod Writings
 pub mod Runs
+pub mod Layouts
+pub mod Grammar
+pub mod Laws
+pub mod Repeats
 pub mod RuleRows
 pub mod RulesRead
 pub mod Rules
 pub mod Expanded
 pub mod Expansions
 pub mod Rows
+pub mod LawRows

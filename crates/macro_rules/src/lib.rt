@@ -9,6 +9,7 @@ pub mod fragment_names;
 pub mod fragment_rows;
 pub mod fragments;
 mod goal;
+pub mod laws;
 pub mod matching;
 mod patterns;
 pub mod reading;

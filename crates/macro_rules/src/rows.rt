@@ -1,4 +1,5 @@
 //! What the definitions say of small macros: what rustc does.
+ghost use Rattle.macro_rules.specs.LawRows as laws;
 ghost use Rattle.macro_rules.specs.Rows as rows;
 
 /// Calls, and what they make.
@@ -34,4 +35,17 @@ pub fn definitions()
     ensures dollar_plus { rows.dollar_plus }
     ensures dollar_brace { rows.dollar_brace }
     ensures no_arrow { rows.no_arrow }
+{}
+
+/// Parses of calls, and how often repetitions are written.
+pub fn parses()
+    ensures two_names { laws.two_names }
+    ensures one_name { laws.one_name }
+    ensures no_name { laws.no_name }
+    ensures ambiguous { laws.TwoParses }
+    ensures grammars { laws.AreGrammars }
+    ensures first_counts { laws.FirstCounts }
+    ensures twice { laws.twice }
+    ensures once { laws.once }
+    ensures never { laws.never }
 {}

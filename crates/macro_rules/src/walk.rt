@@ -155,7 +155,7 @@ pub fn match_tokens(
 ) -> Result<Walk, AllocError>
     ensures log { IfOk result (λ walk. walk.log.items ≡ (spec.walk bytes.now rows.now tokens.now steps turns).log) }
     ensures outcome { IfOk result (λ walk. walk.outcome ≡ (spec.walk bytes.now rows.now tokens.now steps turns).outcome) }
-    ensures parsed { IfOk result (λ walk. IsParsed bytes.now rows.now tokens.now walk.outcome) }
+    ensures parsed { IfOk result (λ walk. IsParsed bytes.now rows.now tokens.now walk.log.items walk.outcome) }
 {
     let walk = walk_tokens(alloc, bytes, rows, tokens, steps, turns)?;
     Ok(walk)
