@@ -322,14 +322,20 @@ fn tell_incomplete(
     Ok(())
 }
 
+/// How an answer without colours is written.
+fn plain_style(given: &Arguments<'_>) -> Style {
+    if given.is_json {
+        Style::Json
+    } else {
+        Style::Text
+    }
+}
+
 /// How the answer is written: a tree has colours on a terminal.
 fn style_of(given: &Arguments<'_>, question: Question<'_>) -> Style {
-    if given.is_json {
-        return Style::Json;
-    }
     match question {
-        Question::Tree(_form) if given.shown.has_colours => Style::Coloured,
-        _ => Style::Text,
+        Question::Tree(_form) if given.shown.has_colours && !given.is_json => Style::Coloured,
+        _ => plain_style(given),
     }
 }
 
@@ -425,7 +431,7 @@ fn expansions_answer<R: Files + Input + AllocGlobal>(
     let manner = ExpandManner {
         edition: given.edition.unwrap_or(Edition::Edition2021),
         options: &options,
-        style: style_of(given),
+        style: plain_style(given),
         wanted,
     };
     let path = shown_path(given.root);
