@@ -71,6 +71,11 @@ fn module_of(items: PerNs) -> Option<ModuleId> {
     }
 }
 
+/// Whether two modules are of one crate. In edition 2015 the root of a crate binds that of the standard library.
+fn is_beside<C: Crates>(crates: &C, m: ModuleId, other: ModuleId) -> bool {
+    crates.map_root(m) == crates.map_root(other)
+}
+
 /// What something declares as a type.
 fn declared(items: PerNs) -> Option<ModuleDefId> {
     let item = items.types?;
@@ -266,8 +271,10 @@ impl<'v, 'a, 'p, C: Crates> Tree<'v, 'a, 'p, C> {
             self.add_missing(entry)?;
         }
         match module_of(entry.items) {
-            None => Ok(()),
-            Some(m) => self.add_module(depth, m, entry.items),
+            Some(m) if is_beside(self.crates(), m, entry.home) => {
+                self.add_module(depth, m, entry.items)
+            }
+            _ => Ok(()),
         }
     }
 
