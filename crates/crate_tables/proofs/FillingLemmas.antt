@@ -1,5 +1,6 @@
 -- Crates are filled one after another.
-use Rattle.std.proofs.Common.{◌≡◌, ◌≤◌, ◌<◌, ◌++◌, ◌+◌, ◌∷◌, [], ℕ, zero, suc, List, arith, drop, get_or, length, subst, sym, refl}
+use Rattle.std.proofs.Common.{◌≡◌, ◌≤◌, ◌<◌, ◌++◌, ◌+◌, ◌∷◌, [], ℕ, zero, suc, List, arith, get_or, length, subst, sym, refl, take}
+use Rattle.std.proofs.lemmas.List.{take_all}
 use Rattle.std.specs.Prelude.{All, None, Some, map, slice_get}
 use Rattle.std.proofs.lemmas.List.Elements.{All-get_or, All-head, All-push, All-tail, All-weaker}
 use Rattle.crate_items.specs.CrateGraphs.{AreKnown, Data, Graph}
@@ -18,15 +19,6 @@ use Rattle.crate_tables.specs.Kept.{IsKept}
 use Rattle.crate_items.specs.Modules.{Listing}
 use Rattle.dm_maps.specs.Known.{KnowsAll}
 use Rattle.dm_maps.specs.World.{World}
-
--- one crate more is filled
-pub next-crate : (r : Reading) (g : Graph) (c now next : Crates) (n : ℕ) (d : Data) (ds ds' : List Data) (l : Listing) (s : Linked)
-    → ds ≡ d ∷ ds' → next ≡ with_crate now l s → IsCrateIn r (record { 0 = n }) d now.world now.rows l s
-    → ((all : Crates) → AreCratesFrom r n ds now all → AreCratesFrom r 0 g c all)
-    → (all : Crates) → AreCratesFrom r (n + 1) ds' next all → AreCratesFrom r 0 g c all
-next-crate r g c now next n d ds ds' l s first same one before all rest =
-    before all (subst (λ (xs : List Data). AreCratesFrom r n xs now all) (sym first)
-    (l, s, one, subst (λ (x : Crates). AreCratesFrom r (n + 1) ds' x all) same rest))
 
 -- what a table holds stays the builder's
 pub known-on : (v w : World) (t : Table) → IsKept v w → IsKnownTable v t → IsKnownTable w t
@@ -66,22 +58,14 @@ pub needs-of : (g ds : Graph) (n : ℕ) (d : Data) → n < length ds → d ≡ g
 needs-of g ds n d less is known = subst (AreKnown (length g)) (sym is) (All-get_or (AreKnown (length g)) ds n d less known)
 
 -- why one crate is not filled is why some are not
-pub fault-in : (r : Reading) (g : Graph) (k : Crate) (d : Data) (f : FillFault) → slice_get g k.0 ≡ Some d → IsFaultOf r k d f → IsShortageOr (IsFaultIn r g) f
-fault-in r g k d (NoRootFile c) at h = (k, d, at, h)
-fault-in r g k d (TooManyModules c) at h = (k, d, at, h)
-fault-in r g k d OutOfNumbers at h = tt
-fault-in r g k d OutOfMemory at h = tt
-
-past-end : {X : Type 0} (n : ℕ) (xs : List X) → length xs ≤ n → drop n xs ≡ []
-past-end zero [] l = refl
-past-end (suc n) [] l = refl
-past-end zero (x ∷ xs) l = absurd (let f : ⊥ = omega arith in f)
-past-end (suc n) (x ∷ xs) l = past-end n xs (omega arith)
+pub fault-in : (P Q : Type 0) (r : Reading) (g : Graph) (k : Crate) (d : Data) (f : FillFault) → slice_get g k.0 ≡ Some d → (P → Q) → IsShortageOr P (IsFaultOf r k d) f → IsShortageOr Q (IsFaultIn r g) f
+fault-in P Q r g k d (NoRootFile c) at on h = (k, d, at, h)
+fault-in P Q r g k d (TooManyModules c) at on h = (k, d, at, h)
+fault-in P Q r g k d OutOfNumbers at on h = on h
+fault-in P Q r g k d OutOfMemory at on h = tt
 
 -- where there is no crate more, all are filled
-pub all-crates : (r : Reading) (g cs : Graph) (c now : Crates) (n : ℕ) → cs ≡ g → length cs ≤ n
-    → ((all : Crates) → AreCratesFrom r n (drop n g) now all → AreCratesFrom r 0 g c all)
-    → AreCratesFrom r 0 g c now
-all-crates r g cs c now n same past later =
-    let none : drop n g ≡ [] = subst (λ (l : List Data). drop n l ≡ []) same (past-end n cs past) in
-    later now (subst (λ (l : List Data). AreCratesFrom r n l now now) (sym none) refl)
+pub all-crates : (r : Reading) (g cs : Graph) (c now : Crates) (n : ℕ) → cs ≡ g → length cs ≤ n → AreCratesFrom r 0 (take n g) c now → AreCratesFrom r 0 g c now
+all-crates r g cs c now n same past so_far =
+    let less : length g ≤ n = subst (λ (l : List Data). length l ≤ n) same past in
+    subst (λ (l : List Data). AreCratesFrom r 0 l c now) (take_all n g less) so_far

@@ -28,3 +28,10 @@ pub mod FitItems
 pub mod FitPreludes
 pub mod FitFilling
 pub mod FitAssoc
+pub mod MoreSteps
+pub mod MoreCrates
+pub mod ShortLemmas
+pub mod CrowdLemmas
+pub mod MapLemmas
+pub mod RunLemmas
+pub mod AssocLemmas

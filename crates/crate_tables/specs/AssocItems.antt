@@ -1,6 +1,8 @@
 -- Associated items, in the tables of a builder.
-use Rattle.std.specs.Prelude.{◌≡◌, ◌+◌, ◌++◌, ℕ, List, [], ◌∷◌, Option, None, Some, length, map, slice_get, if◌then◌else◌}
+use Rattle.std.specs.Prelude.{◌≡◌, ◌+◌, ◌++◌, ◌⊎◌, ℕ, true, List, [], ◌∷◌, Option, None, Some, length, map, slice_get, take, if◌then◌else◌}
+use Rattle.crate_tables.specs.BlockLists.{blocks_of}
 use Rattle.crate_tables.specs.Containers.{containers_of, home_of}
+use Rattle.crate_tables.specs.Numbers.{has_too_many, is_past}
 use Rattle.crate_tables.specs.declared.assoc_items.containers.Container.{Container}
 use Rattle.crate_tables.specs.declared.assoc_items.items.AssocPlace.{AssocPlace}
 use Rattle.crate_items.specs.ModuleItems.{AreItemsIn}
@@ -106,3 +108,21 @@ AreAllAdded files ls k n [] s all = all ≡ s
 AreAllAdded files ls k n (t ∷ ts) s all =
     (next : Filled) × AreAddedIf files (slice_get ls k) (containers_of n t) s next
     × AreAllAdded files ls (k + 1) (n + length t.blocks) ts next all
+
+-- ---- Why they are not added
+
+-- with those of some containers there are more than 4,294,967,295 items
+abbrev pub ItemsRunOut : List SourceFile → Listing → List Container → Filled → Type 0
+ItemsRunOut files l cs s = (t : Filled) × AreAdded files l cs s t × (has_too_many t.world ≡ true)
+
+-- those of a crate whose blocks have numbers from n on: there are too many blocks, or items
+abbrev pub CrateRunsOut : List SourceFile → Option Listing → ℕ → Table → Filled → Type 0
+CrateRunsOut files o n t s =
+    (is_past (n + length t.blocks) ≡ true) ⊎ ((all : Filled) × AreAddedIf files o (containers_of n t) s all × (has_too_many all.world ≡ true))
+
+-- Numbers run out where some crates have more than 4,294,967,295 blocks, or the world would have so many items with the
+-- associated ones of the crates up to some crate.
+abbrev pub RunsOut : List SourceFile → List Listing → List Table → Filled → Type 0
+RunsOut files ls ts s =
+    (is_past (length (blocks_of ts)) ≡ true)
+    ⊎ ((n : ℕ) × (all : Filled) × AreAllAdded files ls 0 0 (take n ts) s all × (has_too_many all.world ≡ true))

@@ -1,6 +1,6 @@
 -- The crates of a graph in a builder, with all that they declare.
-use Rattle.std.specs.Prelude.{◌≡◌, ◌+◌, ◌++◌, ◌<◌, ℕ, All, List, [], ◌∷◌, Option, None, Some, length, map, slice_get}
-use Rattle.std.specs.List.{flat_map}
+use Rattle.std.specs.Prelude.{◌≡◌, ◌+◌, ◌++◌, ◌<◌, ◌||◌, ℕ, Bool, true, false, All, List, [], ◌∷◌, Option, None, Some, length, map, slice_get, take}
+use Rattle.std.specs.List.{flat_map, list_any}
 use Rattle.std.specs.Option.{option_map}
 use Rattle.crate_items.specs.CrateAttributes.{crate_attributes}
 use Rattle.crate_items.specs.DeclaredItems.{declared_of}
@@ -15,7 +15,7 @@ use Rattle.crate_items.specs.Modules.{AreMore, Listing, declared_in, root_module
 use Rattle.crate_items.specs.Sources.{AreSourcesOf}
 use Rattle.crate_items.specs.declared.files.dependency.Dependency.{Dependency}
 use Rattle.crate_tables.specs.AllLists.{with_all_lists}
-use Rattle.crate_tables.specs.BlockLists.{with_all_blocks}
+use Rattle.crate_tables.specs.BlockLists.{blocks_of, with_all_blocks}
 use Rattle.crate_tables.specs.Blocks.{with_blocks}
 use Rattle.crate_tables.specs.CrateMacros.{WithMacros, with_macros}
 use Rattle.crate_tables.specs.CrateMaps.{Filled, with_crate_modules}
@@ -25,11 +25,12 @@ use Rattle.crate_tables.specs.CrateUses.{Textual, with_uses}
 use Rattle.crate_tables.specs.ExternCrates.{Linked, with_extern_crates}
 use Rattle.crate_tables.specs.LibraryNames.{library_name, with_library_in}
 use Rattle.crate_tables.specs.NewModules.{CrateView}
+use Rattle.crate_tables.specs.Numbers.{has_far, has_too_many, is_past}
 use Rattle.crate_tables.specs.PreludeImports.{Importer, Lists, named_among}
 use Rattle.crate_tables.specs.ProceduralMacros.{with_procedural_macros}
 use Rattle.crate_tables.specs.RawVisibilities.{with_written_items}
 use Rattle.crate_tables.specs.ScopeLists.{outline}
-use Rattle.crate_tables.specs.StandardPreludes.{standard_prelude, unnamed, with_attributes, with_crate_prelude}
+use Rattle.crate_tables.specs.StandardPreludes.{own_map, standard_prelude, unnamed, with_attributes, with_crate_prelude}
 use Rattle.crate_tables.specs.TextualMacros.{with_scopes}
 use Rattle.crate_tables.specs.declared.extern_crates.ExternCrateRow.{ExternCrateRow}
 use Rattle.crate_tables.specs.declared.fill_fault.FillFault.{FillFault}
@@ -39,6 +40,7 @@ use Rattle.dm_base.specs.declared.ids.Crate.{Crate}
 use Rattle.dm_base.specs.declared.ids.ModuleId.{ModuleId}
 use Rattle.dm_base.specs.declared.ids.UseId.{UseId}
 use Rattle.dm_maps.specs.Build.{no_world}
+use Rattle.dm_maps.specs.BuildMaps.{lacks_map}
 use Rattle.dm_maps.specs.World.{World}
 use Rattle.dm_maps.specs.declared.build_fault.BuildFault.{BuildFault}
 use Rattle.dm_maps.specs.declared.build_fault.BuildFault.TheVariants as fault
@@ -219,11 +221,13 @@ pub record IsKnownTable (w : World) (t : Table) : Type 0 where
   pub names : All (IsNameOf w) t.names
   pub leaves : All (IsLeafOf w) t.leaves
 
--- why a crate is not filled: the file of its root is not there, it has more modules than so many, or memory or numbers ran out
+-- ---- Why they are not filled
+
+-- why a crate's modules are not listed: the file of its root is not there, it has more than so many, or memory ran out
 abbrev pub IsFaultOf : Reading → Crate → Data → FillFault → Type 0
 IsFaultOf r k d (NoRootFile c) = (c ≡ k) × ¬ (d.root_file_id.0 < length r.files)
 IsFaultOf r k d (TooManyModules c) = (c ≡ k) × AreMore d.edition d.cfg_options r.files d.root_file_id r.limit
-IsFaultOf r k d OutOfNumbers = Unit {0}
+IsFaultOf r k d OutOfNumbers = ⊥
 IsFaultOf r k d OutOfMemory = Unit {0}
 
 -- the fault of a builder that knows the root of the crate: memory ran out, or numbers
@@ -236,8 +240,46 @@ abbrev pub IsFaultIn : Reading → Graph → FillFault → Type 0
 IsFaultIn r g f =
     (k : Crate) × (d : Data) × (slice_get g k.0 ≡ Some d) × IsFaultOf r k d f
 
--- memory or numbers ran out, or there is such a reason
-abbrev pub IsShortageOr : (FillFault → Type 0) → FillFault → Type 0
-IsShortageOr P OutOfMemory = Unit {0}
-IsShortageOr P OutOfNumbers = Unit {0}
-IsShortageOr P f = P f
+-- memory ran out, or numbers did for a reason, or there is such a fault
+abbrev pub IsShortageOr : Type 0 → (FillFault → Type 0) → FillFault → Type 0
+IsShortageOr why P OutOfMemory = Unit {0}
+IsShortageOr why P OutOfNumbers = why
+IsShortageOr why P f = P f
+
+-- there are more than 4,294,967,295 modules, items, variants of enums, uses, macros or extern crates
+abbrev pub is_crowded : Linked → Bool
+is_crowded s = has_too_many s.world || is_past (length s.rows)
+
+-- with a crate, filled by its list, it is so, or a module of the list is declared behind so many other items of its file
+abbrev pub is_over : Listing → Linked → Bool
+is_over l s = is_crowded s || has_far l
+
+-- it would be so of a crate that is filled by the list of its modules
+abbrev pub ListRunsOut : CrateView → List Dependency → Option LibraryName → World → List ExternCrateRow → Type 0
+ListRunsOut c ds lib w rows = (s : Linked) × HasList c ds lib w rows s × (is_over c.list s ≡ true)
+
+abbrev pub FillRunsOut : List SourceFile → Crate → Data → World → List ExternCrateRow → Listing → Type 0
+FillRunsOut files k d w rows l = (s : Linked) × IsFilledBy files k d w rows l s × (is_over l s ≡ true)
+
+abbrev pub CrateRunsOut : Reading → Crate → Data → World → List ExternCrateRow → Type 0
+CrateRunsOut r k d w rows = (l : Listing) × (s : Linked) × IsCrateIn r k d w rows l s × (is_over l s ≡ true)
+
+-- some crates have more than 4,294,967,295 modules, items, variants of enums, uses, macros, extern crates or blocks, or a
+-- module is declared behind so many other items of its file
+abbrev pub are_over : Crates → Bool
+are_over c =
+    has_too_many c.world || (is_past (length c.rows) || (list_any has_far c.lists || is_past (length (blocks_of c.tables))))
+
+-- Numbers run out where it would be so of the crates of a graph up to some crate, filled one after another.
+pub record RunsOutFrom (r : Reading) (g : Graph) (start : Crates) : Type 0 where
+  pub number : ℕ
+  pub crates : Crates
+  pub filled : AreCratesFrom r 0 (take number g) start crates
+  pub over : are_over crates ≡ true
+
+abbrev pub RunsOut : Reading → Graph → Type 0
+RunsOut r g = RunsOutFrom r g (no_crates (with_roots no_world g))
+
+-- each of so many crates has its own map at its number
+abbrev pub HasMaps : World → ℕ → Type 0
+HasMaps w count = (k : Crate) → k.0 < count → lacks_map w (own_map k) ≡ false

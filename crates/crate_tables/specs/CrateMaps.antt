@@ -1,8 +1,10 @@
 -- The modules of a crate in a builder.
-use Rattle.std.specs.Prelude.{Bool, true, false, List, [], ◌∷◌, Option, None, Some, drop, if◌then◌else◌}
+use Rattle.std.specs.Prelude.{Bool, false, List, [], ◌∷◌, Option, None, Some, drop, if◌then◌else◌}
+use Rattle.std.specs.Option.{option_map_or}
 use Rattle.crate_items.specs.DeclaredModules.{Module}
 use Rattle.crate_tables.specs.CrateTables.{Table, left_out, no_table, with_id}
 use Rattle.crate_tables.specs.NewModules.{CrateView, is_macro_root, new_module, origin_of}
+use Rattle.crate_tables.specs.Numbers.{is_past}
 use Rattle.crate_tables.specs.Visibilities.{id_at, visibility_of}
 use Rattle.crate_tables.specs.declared.new_module.NewModule.{NewModule}
 use Rattle.dm_base.specs.declared.visibility.Visibility.{Visibility}
@@ -13,8 +15,6 @@ use Rattle.dm_base.specs.declared.edition.Edition.{Edition}
 use Rattle.dm_maps.specs.Build.{next_module, with_module}
 use Rattle.dm_maps.specs.Faults.{has_child}
 use Rattle.dm_maps.specs.World.{World}
-use Rattle.dm_maps.specs.declared.build_fault.BuildFault.{BuildFault}
-use Rattle.dm_maps.specs.declared.build_fault.BuildFault.TheVariants as fault
 
 -- a builder, and what a crate has there so far
 pub record Filled : Type 0 where
@@ -59,8 +59,6 @@ abbrev pub with_crate_modules : CrateView → World → ModuleId → Filled
 with_crate_modules v w root =
     with_modules v (record { world = w; table = root_alone root }) (drop 1 v.list.modules)
 
--- memory or numbers ran out
-abbrev pub is_shortage : BuildFault → Bool
-is_shortage fault.OutOfNumbers = true
-is_shortage fault.OutOfMemory = true
-is_shortage _ = false
+-- the module to be added is declared by an item that has no number of 32 bits
+abbrev pub is_far_new : Option NewModule → Bool
+is_far_new m = option_map_or (λ (n : NewModule). is_past n.item) m false

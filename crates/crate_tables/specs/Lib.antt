@@ -1,6 +1,7 @@
 pub mod Visibilities
 pub mod CrateTables
 pub mod NewModules
+pub mod Numbers
 pub mod CrateMaps
 pub mod CrateRoots
 pub mod CrateDefs

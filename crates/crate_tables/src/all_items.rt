@@ -1,10 +1,11 @@
 //! All items of a crate, added to a builder.
-ghost use Rattle.std.specs.Prelude.{◌≡◌, IfSome, IsTrue, OnOk};
+ghost use Rattle.std.specs.Prelude.{◌≡◌, IfErr, IfSome, IsTrue, OnOk, true};
 ghost use Rattle.crate_tables.specs.CrateFillings as spec;
 ghost use Rattle.crate_tables.specs.CrateRoots.{root_id as root_of};
 ghost use Rattle.crate_tables.specs.CrateTables.{IsTableOf};
 ghost use Rattle.crate_tables.specs.ExternCrates.{linkable};
 ghost use Rattle.crate_tables.specs.Kept.{IsKept};
+ghost use Rattle.crate_tables.specs.Numbers.{is_shortage};
 ghost use Rattle.dm_maps.specs.declared.check.held.HeldId.TheVariants as held;
 ghost use Rattle.dm_maps.specs.Known.{knows, KnowsAll};
 
@@ -43,6 +44,8 @@ pub(crate) fn add_all_items(
         (record { world = builder.old; table = table.old; rows = externs.old.items }) items.items) }
     ensures kept { OnOk result (IsTableOf builder.new view.now.krate table.new) }
     ensures stays { IsKept builder.old builder.new }
+    ensures fault { IfErr result (λ fault. is_shortage (spec.is_crowded (spec.with_all_items view.now dependencies.now
+        (record { world = builder.old; table = table.old; rows = externs.old.items }) items.items)) fault ≡ true) }
 {
     let made = outlines(alloc, items.as_slice())?;
     add_blocks(table, alloc, view.list, items.as_slice())?;
@@ -91,6 +94,8 @@ pub(crate) fn add_all_bound(
         (record { world = builder.old; table = table.old; rows = externs.old.items }) items.items) }
     ensures kept { OnOk result (IsTableOf builder.new view.now.krate table.new) }
     ensures stays { IsKept builder.old builder.new }
+    ensures fault { IfErr result (λ fault. is_shortage (spec.is_crowded (spec.with_all_bound view.now dependencies.now library
+        (record { world = builder.old; table = table.old; rows = externs.old.items }) items.items)) fault ≡ true) }
 {
     add_all_items(builder, table, externs, alloc, view, dependencies, items)?;
     declare_library(builder, table, view, library)?;

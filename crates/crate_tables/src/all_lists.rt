@@ -1,8 +1,9 @@
 //! The lists of the scopes of a crate, and which of its functions are procedural macros.
-ghost use Rattle.std.specs.Prelude.{◌≡◌, OnOk};
+ghost use Rattle.std.specs.Prelude.{◌≡◌, IfErr, OnOk, length, true};
 ghost use Rattle.crate_tables.specs.AllLists as spec;
 ghost use Rattle.crate_tables.specs.CrateTables.{IsTableOf};
 ghost use Rattle.crate_tables.specs.Kept.{IsKept};
+ghost use Rattle.crate_tables.specs.Numbers.{is_past, is_shortage};
 
 use crate::crate_table::CrateTable;
 use crate::def_index::DefIndex;
@@ -34,6 +35,7 @@ pub(crate) fn fill_lists(
         spec.with_all_lists krate modules.now table.now builder.old outlines.now from rows.now) }
     ensures stays { IsKept builder.old builder.new }
     ensures kept { OnOk result (IsTableOf builder.new krate table.now) }
+    ensures fault { IfErr result (λ fault. is_shortage (is_past (length rows.now)) fault ≡ true) }
 {
     let defs = DefIndex::of(alloc, table.defs())?;
     list_definitions(builder, alloc, modules, krate, table, &defs, outlines)?;

@@ -1,10 +1,11 @@
 //! All macros of a crate in a builder: procedural ones, those that are bound as items, those in textual scope, and the uses,
 //! which may mean these.
-ghost use Rattle.std.specs.Prelude.{◌≡◌, All, IsTrue, OnOk};
+ghost use Rattle.std.specs.Prelude.{◌≡◌, All, IfErr, IsTrue, OnOk, true};
 ghost use Rattle.crate_tables.specs.CrateFillings as spec;
 ghost use Rattle.crate_tables.specs.CrateRoots.{root_id as root_of};
 ghost use Rattle.crate_tables.specs.CrateTables.{IsMacroOf, IsTableOf};
 ghost use Rattle.crate_tables.specs.Kept.{IsKept};
+ghost use Rattle.crate_tables.specs.Numbers.{has_too_many, is_shortage};
 ghost use Rattle.dm_maps.specs.declared.check.held.HeldId.TheVariants as held;
 ghost use Rattle.dm_maps.specs.Known.{knows};
 
@@ -36,6 +37,8 @@ fn add_in_scope(
         spec.in_scope view.now (record { world = builder.old; table = table.old; ids = macros.now }) items.now) }
     ensures kept { OnOk result (IsTableOf builder.new view.now.krate table.new) }
     ensures stays { IsKept builder.old builder.new }
+    ensures fault { IfErr result (λ fault. is_shortage (has_too_many
+        (spec.in_scope view.now (record { world = builder.old; table = table.old; ids = macros.now }) items.now).world) fault ≡ true) }
 {
     let made = textual_scopes(alloc, view.list, items)?;
     let scopes = made.as_slice();
@@ -63,6 +66,8 @@ fn add_macros_in_scope(
         spec.with_macros_in_scope view.now (record { world = builder.old; table = table.old }) items.now) }
     ensures kept { OnOk result (IsTableOf builder.new view.now.krate table.new) }
     ensures stays { IsKept builder.old builder.new }
+    ensures fault { IfErr result (λ fault. is_shortage (has_too_many
+        (spec.with_macros_in_scope view.now (record { world = builder.old; table = table.old }) items.now).world) fault ≡ true) }
 {
     let macros = add_macros(builder, table, alloc, view, items)?;
     add_in_scope(builder, table, alloc, view, items, macros.as_slice())?;
@@ -84,6 +89,8 @@ pub(crate) fn add_all_macros(
         spec.with_all_macros view.now (record { world = builder.old; table = table.old }) items.now) }
     ensures kept { OnOk result (IsTableOf builder.new view.now.krate table.new) }
     ensures stays { IsKept builder.old builder.new }
+    ensures fault { IfErr result (λ fault. is_shortage (has_too_many
+        (spec.with_all_macros view.now (record { world = builder.old; table = table.old }) items.now).world) fault ≡ true) }
 {
     add_macros_in_scope(builder, table, alloc, view, items)?;
     add_procedural_macros(builder, table, alloc, view, items)?;

@@ -1,10 +1,11 @@
 //! `impl` and `extern` blocks in the lists of scopes, numbered over all crates.
 ghost use Rattle.std.specs.Prelude.{◌≡◌, ◌+◌, IfErr, IfOk, IsTrue, OnOk, length, slice_get, true};
 ghost use Rattle.crate_tables.specs.BlockLists as spec;
-ghost use Rattle.crate_tables.specs.CrateMaps.{is_shortage};
 ghost use Rattle.crate_tables.specs.TextualMacros.{AllStayShown, StaysKnown};
 ghost use Rattle.dm_maps.specs.declared.check.held.HeldId.TheVariants as held;
 ghost use Rattle.dm_maps.specs.Known.{knows};
+ghost use Rattle.dm_maps.specs.declared.build_fault.BuildFault.TheVariants.{OutOfMemory};
+ghost use Rattle.crate_tables.specs.Numbers.{is_past, is_shortage};
 
 use crate::crate_table::CrateTable;
 use crate::item_place::{BlockKind, BlockPlace};
@@ -18,7 +19,7 @@ use dm_maps::check::known_ids::KnownIds;
 /// The number behind another. `OutOfNumbers` where there is none of 32 bits.
 pub fn behind(number: u32) -> Result<u32, BuildFault>
     ensures exact { IfOk result (λ next. next ≡ number + 1) }
-    ensures fault { IfErr result (λ fault. is_shortage fault ≡ true) }
+    ensures fault { IfErr result (λ fault. is_shortage (is_past (number + 1)) fault ≡ true) }
 {
     match number.checked_add(1) {
         Some(next) => Ok(next),
@@ -32,7 +33,7 @@ fn define(builder: &mut WorldBuilder, block: BlockPlace, number: u32) -> Result<
     ensures world { OnOk result (builder.new ≡ spec.with_known_block builder.old number block) }
     ensures stays { StaysKnown builder.old builder.new }
     ensures shown { AllStayShown builder.old builder.new }
-    ensures fault { IfErr result (λ fault. is_shortage fault ≡ true) }
+    ensures fault { IfErr result (λ fault. fault ≡ OutOfMemory) }
 {
     let entry = match block.kind {
         BlockKind::TraitImpl => ScopeEntry::Impl(ImplId(number), true),
@@ -48,7 +49,7 @@ fn list_block(builder: &mut WorldBuilder, block: BlockPlace, number: u32) -> Res
     ensures number { IfOk result (λ next. next ≡ number + 1) }
     ensures stays { StaysKnown builder.old builder.new }
     ensures shown { AllStayShown builder.old builder.new }
-    ensures fault { IfErr result (λ fault. is_shortage fault ≡ true) }
+    ensures fault { IfErr result (λ fault. is_shortage (is_past (number + 1)) fault ≡ true) }
 {
     let next = behind(number)?;
     if builder.knows(HeldId::Module(block.home)) {
@@ -67,7 +68,7 @@ fn list_blocks_of(
     ensures number { IfOk result (λ next. next ≡ first + length blocks.now) }
     ensures stays { StaysKnown builder.old builder.new }
     ensures shown { AllStayShown builder.old builder.new }
-    ensures fault { IfErr result (λ fault. is_shortage fault ≡ true) }
+    ensures fault { IfErr result (λ fault. is_shortage (is_past (first + length blocks.now)) fault ≡ true) }
 {
     let mut number = first;
     for block in blocks {
@@ -89,7 +90,7 @@ pub(crate) fn list_blocks(
     ensures world { OnOk result (builder.new ≡ spec.with_all_blocks builder.old tables.now) }
     ensures stays { StaysKnown builder.old builder.new }
     ensures shown { AllStayShown builder.old builder.new }
-    ensures fault { IfErr result (λ fault. is_shortage fault ≡ true) }
+    ensures fault { IfErr result (λ fault. is_shortage (is_past (length (spec.blocks_of tables.now))) fault ≡ true) }
 {
     let mut number: u32 = 0;
     for table in tables {

@@ -2,7 +2,6 @@
 ghost use Rattle.std.specs.Prelude.{◌≡◌, ◌↔◌, true, IfErr, IfOk, IfSome, IsTrue, OnOk, length, slice_get};
 ghost use Rattle.crate_items.specs.DeclaredVariants.{declared_variants};
 ghost use Rattle.crate_tables.specs.CrateDefs as spec;
-ghost use Rattle.crate_tables.specs.CrateMaps.{is_shortage};
 ghost use Rattle.crate_tables.specs.CrateTables.{IsTableOf};
 ghost use Rattle.dm_maps.specs.Holding.{def_holds, vis_holds};
 ghost use Rattle.dm_maps.specs.declared.check.held.HeldId.TheVariants as held;
@@ -11,6 +10,7 @@ ghost use Rattle.dm_base.specs.declared.item_ids.ItemKind.TheVariants as kinds;
 ghost use Rattle.dm_maps.specs.Added.{IsGrown};
 ghost use Rattle.dm_maps.specs.Known.{knows, KnowsAll};
 ghost use Rattle.dm_maps.specs.declared.build_fault.BuildFault.TheVariants.{TakenVariant};
+ghost use Rattle.crate_tables.specs.Numbers.{has_too_many, is_shortage};
 
 use crate::crate_maps::parent_id;
 use crate::crate_table::CrateTable;
@@ -97,7 +97,8 @@ fn add_variant(
     ensures world { OnOk result (builder.new ≡ spec.with_variant_of builder.old e variant) }
     ensures kept { IsTrue (knows builder.new (held.Item kinds.Enum e.0)) }
     ensures grown { IsGrown builder.old builder.new }
-    ensures fault { IfErr result (λ fault. is_shortage fault ≡ true) }
+    ensures fault { IfErr result
+        (λ fault. is_shortage (has_too_many (spec.with_variant_of builder.old e variant)) fault ≡ true) }
 {
     match builder.add_variant(e, variant.name, variant.shape) {
         Ok(id) => {
@@ -121,7 +122,8 @@ fn add_variants(
     requires { IsTrue (knows builder.old (held.Item kinds.Enum e.0)) }
     ensures world { OnOk result (builder.new ≡ spec.with_variants builder.old e variants.items) }
     ensures grown { IsGrown builder.old builder.new }
-    ensures fault { IfErr result (λ fault. is_shortage fault ≡ true) }
+    ensures fault { IfErr result
+        (λ fault. is_shortage (has_too_many (spec.with_variants builder.old e variants.items)) fault ≡ true) }
 {
     for variant in variants {
         add_variant(builder, e, variant)?;
@@ -138,7 +140,9 @@ fn add_variants_of(
     requires { KnowsAll builder.old (def_holds def) }
     ensures world { OnOk result (builder.new ≡ spec.with_variants_of builder.old def variants.items) }
     ensures grown { IsGrown builder.old builder.new }
-    ensures fault { IfErr result (λ fault. is_shortage fault ≡ true) }
+    ensures fault { IfErr result
+        (λ fault. is_shortage (has_too_many (spec.with_variants_of builder.old def variants.items))
+        fault ≡ true) }
 {
     match def {
         ModuleDefId::AdtId(AdtId::EnumId(e)) => add_variants(builder, e, variants),
@@ -184,7 +188,10 @@ fn define(
     ensures kept { (k : Crate) → IsTableOf builder.old k table.old → KnowsAll builder.old (vis_holds seen.definition)
         → KnowsAll builder.old (vis_holds seen.constructor) → OnOk result (IsTableOf builder.new k table.new) }
     ensures grown { IsGrown builder.old builder.new }
-    ensures fault { IfErr result (λ fault. is_shortage fault ≡ true) }
+    ensures fault { IfErr result
+        (λ fault. is_shortage (has_too_many (spec.defined
+        (record { world = builder.old; table = table.old }) item m seen.definition seen.constructor kind variants.items).world)
+        fault ≡ true) }
 {
     let def = builder.add_item(kind, m)?;
     add_variants_of(builder, def, variants)?;
@@ -223,7 +230,11 @@ fn define_if(
     ensures kept { (k : Crate) → IsTableOf builder.old k table.old → KnowsAll builder.old (vis_holds seen.definition)
         → KnowsAll builder.old (vis_holds seen.constructor) → OnOk result (IsTableOf builder.new k table.new) }
     ensures grown { IsGrown builder.old builder.new }
-    ensures fault { IfErr result (λ fault. is_shortage fault ≡ true) }
+    ensures fault { IfErr result
+        (λ fault. is_shortage (has_too_many (spec.defined_if
+        (record { world = builder.old; table = table.old }) item m seen.definition seen.constructor
+        (spec.def_kind item.kind) (declared_variants view.now.options view.now.list view.now.files item)).world)
+        fault ≡ true) }
 {
     match def_kind(item.kind) {
         None => Ok(()),
@@ -303,7 +314,9 @@ fn add_in(
         spec.added_in view.now (record { world = builder.old; table = table.old }) item m) }
     ensures kept { OnOk result (IsTableOf builder.new view.now.krate table.new) }
     ensures grown { IsGrown builder.old builder.new }
-    ensures fault { IfErr result (λ fault. is_shortage fault ≡ true) }
+    ensures fault { IfErr result
+        (λ fault. is_shortage (has_too_many (spec.added_in view.now
+        (record { world = builder.old; table = table.old }) item m).world) fault ≡ true) }
 {
     let definition = item_visibility(builder, table, view, &item, m);
     let constructor = constructor_of(builder, table, alloc, view, &item, m)?;
@@ -327,7 +340,9 @@ fn add_item(
         spec.with_declared view.now (record { world = builder.old; table = table.old }) item) }
     ensures kept { OnOk result (IsTableOf builder.new view.now.krate table.new) }
     ensures grown { IsGrown builder.old builder.new }
-    ensures fault { IfErr result (λ fault. is_shortage fault ≡ true) }
+    ensures fault { IfErr result
+        (λ fault. is_shortage (has_too_many (spec.with_declared view.now
+        (record { world = builder.old; table = table.old }) item).world) fault ≡ true) }
 {
     match parent_id(builder, view.krate, table, item.module) {
         None => Ok(()),
@@ -355,7 +370,9 @@ pub fn add_items(
         spec.with_items view.now (record { world = builder.old; table = table.old }) items.items) }
     ensures kept { OnOk result (IsTableOf builder.new view.now.krate table.new) }
     ensures grown { IsGrown builder.old builder.new }
-    ensures fault { IfErr result (λ fault. is_shortage fault ≡ true) }
+    ensures fault { IfErr result
+        (λ fault. is_shortage (has_too_many (spec.with_items view.now
+        (record { world = builder.old; table = table.old }) items.items).world) fault ≡ true) }
 {
     for item in items {
         add_item(builder, table, alloc, view, item)?;

@@ -1,7 +1,7 @@
 //! The crates of a graph, added to a builder with all that they declare.
-ghost use Rattle.std.specs.Prelude.{◌≡◌, ◌++◌, ◌∷◌, ◌<◌, [], All, IfErr, IfOk, IfSome, IsTrue, OnOk, Some, length, slice_get};
+ghost use Rattle.std.specs.Prelude.{◌≡◌, ◌++◌, ◌∷◌, ◌<◌, [], All, IfErr, IfOk, IfSome, IsTrue, OnOk, Some, length, slice_get, true};
 ghost use Rattle.crate_items.specs.CrateGraphs.{AreKnown};
-ghost use Rattle.crate_tables.specs.BlockLists.{with_all_blocks};
+ghost use Rattle.crate_tables.specs.BlockLists.{blocks_of, with_all_blocks};
 ghost use Rattle.crate_tables.specs.CrateFillings as spec;
 ghost use Rattle.crate_tables.specs.CrateRoots.{KnowsRoots, root_holds, root_id as root_of, with_roots};
 ghost use Rattle.crate_tables.specs.CrateTables.{HasKnownDefs, IsTableOf};
@@ -9,7 +9,9 @@ ghost use Rattle.crate_tables.specs.ExternCrates.{Linked, linkable};
 ghost use Rattle.crate_tables.specs.DeclaredWorlds.{BindNothing};
 ghost use Rattle.crate_tables.specs.Kept.{IsKept};
 ghost use Rattle.crate_tables.specs.LibraryNames as names;
+ghost use Rattle.crate_tables.specs.Numbers.{is_past, is_shortage, IsShortage};
 ghost use Rattle.crate_items.specs.Modules.{Listing};
+ghost use Rattle.dm_maps.specs.declared.build_fault.BuildFault.TheVariants.{OutOfMemory};
 ghost use Rattle.dm_maps.specs.declared.check.held.HeldId.TheVariants as held;
 ghost use Rattle.dm_maps.specs.Added.{IsGrown};
 ghost use Rattle.dm_maps.specs.Build.{no_world};
@@ -104,10 +106,12 @@ fn fill_list(
         (record { world = builder.new; table = table; rows = externs.new.items })) }
     ensures kept { IfOk result (IsTableOf builder.new view.now.krate) }
     ensures stays { IsKept builder.old builder.new }
+    ensures fault { IfErr result (IsShortage
+        (spec.ListRunsOut view.now dependencies.now library builder.old externs.old.items)) }
 {
-    let mut table = add_modules(builder, alloc, view, root_id(view.krate))?;
     let rows = module_items(alloc, view.list)?;
     let items = declared_items(alloc, view.edition, view.list, view.files, rows.as_slice())?;
+    let mut table = add_modules(builder, alloc, view, root_id(view.krate))?;
     add_all_bound(
         builder,
         &mut table,
@@ -133,6 +137,7 @@ fn prepare(
     ensures world { OnOk result
         (builder.new ≡ spec.prepared builder.old krate attributes.items dependencies.now) }
     ensures grown { IsGrown builder.old builder.new }
+    ensures fault { IfErr result (λ fault. fault ≡ OutOfMemory) }
 {
     add_externs(builder, alloc, krate, attributes.as_slice(), dependencies)?;
     set_attributes(builder, alloc, krate, attributes)?;
@@ -157,6 +162,9 @@ fn fill_listed(
         (record { world = builder.new; table = table; rows = externs.new.items })) }
     ensures kept { IfOk result (IsTableOf builder.new view.now.krate) }
     ensures stays { IsKept builder.old builder.new }
+    ensures fault { IfErr result (IsShortage (spec.ListRunsOut view.now dependencies.now
+        (names.library_name view.now.edition attributes.items dependencies.now)
+        (spec.prepared builder.old view.now.krate attributes.items dependencies.now) externs.old.items)) }
 {
     let library = library_name(alloc, view.edition, attributes.as_slice(), dependencies)?;
     prepare(builder, alloc, view.krate, attributes, dependencies)?;
@@ -199,6 +207,8 @@ fn fill_by(
         list.now (record { world = builder.new; table = table; rows = externs.new.items })) }
     ensures kept { IfOk result (IsTableOf builder.new krate) }
     ensures stays { IsKept builder.old builder.new }
+    ensures fault { IfErr result (IsShortage
+        (spec.FillRunsOut files.now krate described.now builder.old externs.old.items list.now)) }
 {
     let attributes = crate_attributes(alloc, list, files, described.root_file_id())?;
     let view = view_of(krate, described, list, files);
@@ -241,7 +251,9 @@ pub fn fill_crate(
         filled.list (record { world = builder.new; table = filled.table; rows = externs.new.items })) }
     ensures kept { IfOk result (λ filled. IsTableOf builder.new krate filled.table) }
     ensures stays { IsKept builder.old builder.new }
-    ensures fault { IfErr result (spec.IsFaultOf reading.now krate described.now) }
+    ensures fault { IfErr result (spec.IsShortageOr
+        (spec.CrateRunsOut reading.now krate described.now builder.old externs.old.items)
+        (spec.IsFaultOf reading.now krate described.now)) }
 {
     let list = listed(alloc, krate, described, reading)?;
     match fill_by(
@@ -300,7 +312,8 @@ fn fill_next(
         }) l s)) }
     ensures known { OnOk result (All (spec.IsKnownTable builder.new) tables.new.items) }
     ensures stays { IsKept builder.old builder.new }
-    ensures fault { IfErr result (spec.IsShortageOr (spec.IsFaultIn reading.now graph.now)) }
+    ensures fault { IfErr result (spec.IsShortageOr (spec.CrateRunsOut reading.now (record { 0 = number }) described.now
+        builder.old externs.old.items) (spec.IsFaultIn reading.now graph.now)) }
 {
     let krate = graph.crate_at(number);
     match fill_crate(builder, externs, alloc, krate, described, reading) {
@@ -329,7 +342,9 @@ fn fill_all(
         (record { world = builder.new; lists = lists.new.items; tables = tables.new.items; rows = externs.new.items })) }
     ensures known { OnOk result (All (spec.IsKnownTable builder.new) tables.new.items) }
     ensures stays { IsKept builder.old builder.new }
-    ensures fault { IfErr result (spec.IsShortageOr (spec.IsFaultIn reading.now graph.now)) }
+    ensures fault { IfErr result (spec.IsShortageOr (spec.RunsOutFrom reading.now graph.now
+        (record { world = builder.old; lists = lists.old.items; tables = tables.old.items; rows = externs.old.items }))
+        (spec.IsFaultIn reading.now graph.now)) }
 {
     for (number, described) in graph.crates().iter().enumerate() {
         fill_next(
@@ -361,7 +376,8 @@ fn filled_from(
         (record { world = made.builder; lists = made.lists.items; tables = made.tables.items; rows = made.externs.items })) }
     ensures known { IfOk result (λ made. All (spec.IsKnownTable made.builder) made.tables.items) }
     ensures stays { IfOk result (λ made. IsKept roots made.builder) }
-    ensures fault { IfErr result (spec.IsShortageOr (spec.IsFaultIn reading.now graph.now)) }
+    ensures fault { IfErr result (spec.IsShortageOr (spec.RunsOutFrom reading.now graph.now (spec.no_crates roots))
+        (spec.IsFaultIn reading.now graph.now)) }
 {
     let mut builder = roots;
     let mut lists = Vec::new(alloc);
@@ -395,7 +411,8 @@ fn filled_alone(
         (record { world = made.builder; lists = made.lists.items; tables = made.tables.items; rows = made.externs.items })) }
     ensures known { IfOk result (λ made. All (spec.IsKnownTable made.builder) made.tables.items) }
     ensures empty { IfOk result (λ made. BindNothing made.builder) }
-    ensures fault { IfErr result (spec.IsShortageOr (spec.IsFaultIn reading.now graph.now)) }
+    ensures fault { IfErr result
+        (spec.IsShortageOr (spec.RunsOut reading.now graph.now) (spec.IsFaultIn reading.now graph.now)) }
 {
     match crate_roots(alloc, graph) {
         Err(fault) => Err(of_builder(fault)),
@@ -415,9 +432,11 @@ fn finish(
     graph: &CrateGraph,
     files: &FileTable,
 ) -> Result<(), BuildFault>
+    requires maps { spec.HasMaps builder.old (length graph.now) }
     ensures world { OnOk result (builder.new ≡ with_all_blocks
         (spec.with_preludes_from files.now lists.now tables.now 0 graph.now builder.old) tables.now) }
     ensures stays { IsKept builder.old builder.new }
+    ensures fault { IfErr result (λ fault. is_shortage (is_past (length (blocks_of tables.now))) fault ≡ true) }
 {
     set_preludes(builder, alloc, lists, tables, graph, files)?;
     list_blocks(builder, tables)
@@ -433,7 +452,8 @@ fn filled_whole(
         (record { world = made.builder; lists = made.lists.items; tables = made.tables.items; rows = made.externs.items })) }
     ensures known { IfOk result (λ made. All (spec.IsKnownTable made.builder) made.tables.items) }
     ensures empty { IfOk result (λ made. BindNothing made.builder) }
-    ensures fault { IfErr result (spec.IsShortageOr (spec.IsFaultIn reading.now graph.now)) }
+    ensures fault { IfErr result
+        (spec.IsShortageOr (spec.RunsOut reading.now graph.now) (spec.IsFaultIn reading.now graph.now)) }
 {
     let made = filled_alone(alloc, graph, reading)?;
     let FilledCrates {
@@ -481,7 +501,8 @@ pub fn filled(
     ensures checked { IfOk result (λ made. IsChecked made.builder) }
     ensures defs { IfOk result (λ made. All (HasKnownDefs made.builder) made.tables.items) }
     ensures empty { IfOk result (λ made. BindNothing made.builder) }
-    ensures fault { IfErr result (spec.IsShortageOr (spec.IsFaultIn reading.now graph.now)) }
+    ensures fault { IfErr result
+        (spec.IsShortageOr (spec.RunsOut reading.now graph.now) (spec.IsFaultIn reading.now graph.now)) }
 {
     let _crates = graph.crates();
     let made = filled_whole(alloc, graph, reading)?;

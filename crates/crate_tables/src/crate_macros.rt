@@ -1,7 +1,6 @@
 //! The macros of a crate, added to a builder.
 ghost use Rattle.std.specs.Prelude.{◌≡◌, ◌++◌, ◌∷◌, [], None, Some, true, All, IfErr, IfOk, IsTrue, OnOk, length};
 ghost use Rattle.crate_tables.specs.CrateMacros as spec;
-ghost use Rattle.crate_tables.specs.CrateMaps.{is_shortage};
 ghost use Rattle.crate_tables.specs.CrateRoots as roots;
 ghost use Rattle.crate_tables.specs.CrateTables.{IsMacroOf, IsTableOf, with_named};
 ghost use Rattle.dm_base.specs.PerNs.{macro_alone};
@@ -10,6 +9,8 @@ ghost use Rattle.dm_maps.specs.declared.check.held.HeldId.TheVariants as held;
 ghost use Rattle.dm_maps.specs.Added.{IsGrown};
 ghost use Rattle.dm_maps.specs.BuildItems.{with_macro};
 ghost use Rattle.dm_maps.specs.Known.{knows, KnowsAll};
+ghost use Rattle.dm_maps.specs.declared.build_fault.BuildFault.TheVariants.{OutOfMemory};
+ghost use Rattle.crate_tables.specs.Numbers.{has_too_many, is_shortage};
 
 use crate::crate_defs::item_visibility;
 use crate::crate_maps::parent_id;
@@ -92,7 +93,7 @@ pub(crate) fn declare_seen(
     ensures table { OnOk result
         (table.new ≡ with_named table.old m name (macro_alone id visibility None)) }
     ensures kept { OnOk result (IsTableOf builder.now krate table.new) }
-    ensures fault { IfErr result (λ fault. is_shortage fault ≡ true) }
+    ensures fault { IfErr result (λ fault. fault ≡ OutOfMemory) }
 {
     let _world = builder;
     table.push_named(m, name, PerNs::macros(id, visibility, None))?;
@@ -113,7 +114,7 @@ fn export(
     requires id { IsTrue (knows builder.now (held.Macro id)) }
     ensures table { OnOk result (table.new ≡ spec.exported view.now table.old item.now id) }
     ensures kept { OnOk result (IsTableOf builder.now view.now.krate table.new) }
-    ensures fault { IfErr result (λ fault. is_shortage fault ≡ true) }
+    ensures fault { IfErr result (λ fault. fault ≡ OutOfMemory) }
 {
     if is_macro_exported(alloc, view.list, item)? {
         let name = name_of(alloc, item)?;
@@ -140,7 +141,7 @@ fn declare_in(
     requires id { IsTrue (knows builder.now (held.Macro id)) }
     ensures table { OnOk result (table.new ≡ spec.declared_in view.now table.old item.now m id) }
     ensures kept { OnOk result (IsTableOf builder.now view.now.krate table.new) }
-    ensures fault { IfErr result (λ fault. is_shortage fault ≡ true) }
+    ensures fault { IfErr result (λ fault. fault ≡ OutOfMemory) }
 {
     let visibility = item_visibility(builder, table, view, item, m);
     let name = name_of(alloc, item)?;
@@ -164,7 +165,7 @@ fn declare(
     ensures table { OnOk result
         (table.new ≡ spec.declared_as view.now table.old item.now m id item.now.kind) }
     ensures kept { OnOk result (IsTableOf builder.now view.now.krate table.new) }
-    ensures fault { IfErr result (λ fault. is_shortage fault ≡ true) }
+    ensures fault { IfErr result (λ fault. fault ≡ OutOfMemory) }
 {
     match item.kind {
         ItemKind::MacroRules => export(builder, table, alloc, view, item, id),
@@ -192,7 +193,7 @@ fn add_as(
     ensures known { IfOk result (λ id. IsTrue (knows builder.new (held.Macro id))) }
     ensures kept { OnOk result (IsTableOf builder.new view.now.krate table.new) }
     ensures grown { IsGrown builder.old builder.new }
-    ensures fault { IfErr result (λ fault. is_shortage fault ≡ true) }
+    ensures fault { IfErr result (λ fault. is_shortage (has_too_many (with_macro builder.old m loc)) fault ≡ true) }
 {
     let id = builder.add_macro(m, loc)?;
     declare(builder, table, alloc, view, item, m, id)?;
@@ -224,7 +225,10 @@ fn add_in(
     ensures kept { OnOk result (IsTableOf builder.new view.now.krate table.new) }
     ensures ids { OnOk result (All (IsMacroOf builder.new) ids.new.items) }
     ensures grown { IsGrown builder.old builder.new }
-    ensures fault { IfErr result (λ fault. is_shortage fault ≡ true) }
+    ensures fault { IfErr result
+        (λ fault. is_shortage (has_too_many (spec.added_by view.now
+        (record { world = builder.old; table = table.old; ids = ids.old.items }) item.now (Some loc)).world)
+        fault ≡ true) }
 {
     match parent_id(builder, view.krate, table, item.module) {
         None => {
@@ -257,7 +261,10 @@ fn add_one(
     ensures kept { OnOk result (IsTableOf builder.new view.now.krate table.new) }
     ensures ids { OnOk result (All (IsMacroOf builder.new) ids.new.items) }
     ensures grown { IsGrown builder.old builder.new }
-    ensures fault { IfErr result (λ fault. is_shortage fault ≡ true) }
+    ensures fault { IfErr result
+        (λ fault. is_shortage (has_too_many (spec.with_macro_item view.now
+        (record { world = builder.old; table = table.old; ids = ids.old.items }) item.now).world)
+        fault ≡ true) }
 {
     match macro_loc(alloc, view, item)? {
         None => {
@@ -290,7 +297,9 @@ pub fn add_macros(
     ensures kept { OnOk result (IsTableOf builder.new view.now.krate table.new) }
     ensures known { IfOk result (λ ids. All (IsMacroOf builder.new) ids.items) }
     ensures grown { IsGrown builder.old builder.new }
-    ensures fault { IfErr result (λ fault. is_shortage fault ≡ true) }
+    ensures fault { IfErr result
+        (λ fault. is_shortage (has_too_many (spec.with_macros view.now
+        (record { world = builder.old; table = table.old; ids = [] }) items.now).world) fault ≡ true) }
 {
     let mut ids = Vec::new(alloc);
     for item in items {

@@ -1,5 +1,5 @@
 //! The modules of a crate, added to a builder.
-ghost use Rattle.std.specs.Prelude.{◌≡◌, ◌↔◌, ◌∷◌, [], true, IfErr, IfOk, IfSome, IsTrue, OnOk, Some, drop};
+ghost use Rattle.std.specs.Prelude.{◌≡◌, ◌||◌, ◌↔◌, ◌∷◌, [], true, IfErr, IfOk, IfSome, IsTrue, OnOk, Some, drop};
 ghost use Rattle.crate_tables.specs.CrateMaps as spec;
 ghost use Rattle.crate_tables.specs.CrateTables.{IsTableOf, left_out};
 ghost use Rattle.crate_tables.specs.NewModules.{new_module, origin_of};
@@ -11,6 +11,8 @@ ghost use Rattle.dm_maps.specs.Added.{IsGrown};
 ghost use Rattle.dm_base.specs.declared.ids.Crate.{Crate};
 ghost use Rattle.dm_maps.specs.Known.{knows, KnowsAll};
 ghost use Rattle.dm_maps.specs.declared.build_fault.BuildFault.TheVariants.{TakenChild};
+ghost use Rattle.dm_maps.specs.declared.build_fault.BuildFault.TheVariants.{OutOfMemory};
+ghost use Rattle.crate_tables.specs.Numbers.{has_far, has_too_many, is_past, is_shortage};
 
 use crate::crate_table::CrateTable;
 use crate::new_module::{CrateView, NewModule, origin_by};
@@ -50,7 +52,9 @@ fn add_child(
     ensures id { IfOk result (λ id. id ≡ spec.child_id builder.old parent name) }
     ensures known { IfOk result (λ id. IfSome id (λ m. IsTrue (knows builder.new (held.Module m)))) }
     ensures grown { IsGrown builder.old builder.new }
-    ensures fault { IfErr result (λ fault. spec.is_shortage fault ≡ true) }
+    ensures fault { IfErr result
+        (λ fault. is_shortage (has_too_many (spec.child_world builder.old parent name origin visibility))
+        fault ≡ true) }
 {
     match builder.add_module(parent, name, origin, visibility) {
         Ok(m) => Ok(Some(m)),
@@ -68,7 +72,7 @@ fn add_child(
 fn origin_of(edition: Edition, new: &NewModule) -> Result<ModuleOrigin, BuildFault>
     ensures exact { IfOk result (λ origin. origin ≡ origin_of edition new.now) }
     ensures child { IfOk result (λ origin. IsTrue (is_child origin)) }
-    ensures fault { IfErr result (λ fault. spec.is_shortage fault ≡ true) }
+    ensures fault { IfErr result (λ fault. is_shortage (is_past new.now.item) fault ≡ true) }
 {
     match file_ast_id(new.item) {
         None => Err(BuildFault::OutOfNumbers),
@@ -94,7 +98,10 @@ fn add_seen(
     ensures kept { (k : Crate) → IsTableOf builder.old k table.old → KnowsAll builder.old (vis_holds visibility)
         → OnOk result (IsTableOf builder.new k table.new) }
     ensures grown { IsGrown builder.old builder.new }
-    ensures fault { IfErr result (λ fault. spec.is_shortage fault ≡ true) }
+    ensures fault { IfErr result
+        (λ fault. is_shortage (has_too_many (spec.with_child edition
+        (record { world = builder.old; table = table.old }) new parent visibility).world || is_past new.item)
+        fault ≡ true) }
 {
     let origin = origin_of(edition, &new)?;
     let name = new.name.copy(alloc)?;
@@ -123,7 +130,7 @@ fn leave_out(builder: &WorldBuilder, krate: Crate, table: &mut CrateTable) -> Re
     requires { IsTableOf builder.now krate table.old }
     ensures exact { OnOk result (table.new ≡ left_out table.old) }
     ensures kept { OnOk result (IsTableOf builder.now krate table.new) }
-    ensures fault { IfErr result (λ fault. spec.is_shortage fault ≡ true) }
+    ensures fault { IfErr result (λ fault. fault ≡ OutOfMemory) }
 {
     let _world = builder;
     table.push_id(None)?;
@@ -145,7 +152,9 @@ fn add_one(
         (record { world = builder.old; table = table.old }) new).table) }
     ensures kept { OnOk result (IsTableOf builder.new view.now.krate table.new) }
     ensures grown { IsGrown builder.old builder.new }
-    ensures fault { IfErr result (λ fault. spec.is_shortage fault ≡ true) }
+    ensures fault { IfErr result
+        (λ fault. is_shortage (has_too_many (spec.with_one view.now
+        (record { world = builder.old; table = table.old }) new).world || spec.is_far_new new) fault ≡ true) }
 {
     let Some(new) = new else {
         return leave_out(builder, view.krate, table);
@@ -181,7 +190,10 @@ fn add_declared(
         (new_module view.now declared.now)) }
     ensures kept { OnOk result (IsTableOf builder.new view.now.krate table.new) }
     ensures grown { IsGrown builder.old builder.new }
-    ensures fault { IfErr result (λ fault. spec.is_shortage fault ≡ true) }
+    ensures fault { IfErr result
+        (λ fault. is_shortage (has_too_many (spec.with_one view.now
+        (record { world = builder.old; table = table.old }) (new_module view.now declared.now)).world
+        || spec.is_far_new (new_module view.now declared.now)) fault ≡ true) }
 {
     let new = view.new_module(alloc, declared)?;
     add_one(builder, table, alloc, view, new)
@@ -235,7 +247,9 @@ pub fn add_modules(
     ensures table { IfOk result (λ table. table ≡ (spec.with_crate_modules view.now builder.old root).table) }
     ensures kept { IfOk result (IsTableOf builder.new view.now.krate) }
     ensures grown { IsGrown builder.old builder.new }
-    ensures fault { IfErr result (λ fault. spec.is_shortage fault ≡ true) }
+    ensures fault { IfErr result
+        (λ fault. is_shortage (has_too_many (spec.with_crate_modules view.now builder.old root).world
+        || has_far view.now.list) fault ≡ true) }
 {
     let mut table = root_alone(builder, alloc, view.krate, root)?;
     for declared in below_root(view.list.modules()) {

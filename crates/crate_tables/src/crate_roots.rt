@@ -3,7 +3,6 @@ ghost use Rattle.std.specs.Prelude.{◌≡◌, ◌<◌, [], true, IfErr, IfOk, I
 ghost use Rattle.std.specs.List.{list_any};
 ghost use Rattle.crate_items.specs.declared.files.dependency.Dependency.{Dependency as Dep};
 ghost use Rattle.dm_maps.specs.declared.check.held.HeldId.TheVariants as held;
-ghost use Rattle.crate_tables.specs.CrateMaps.{is_shortage};
 ghost use Rattle.crate_tables.specs.CrateRoots as spec;
 ghost use Rattle.crate_tables.specs.NewModules.{in_edition};
 ghost use Rattle.dm_base.specs.declared.ids.ModuleId.{ModuleId};
@@ -12,6 +11,8 @@ ghost use Rattle.dm_maps.specs.Build.{next_crate, no_world, with_crate};
 ghost use Rattle.dm_maps.specs.Known.{knows};
 ghost use Rattle.dm_maps.specs.World.{scope_of};
 ghost use Rattle.dm_scope.specs.Scope.{no_scope};
+ghost use Rattle.dm_maps.specs.declared.build_fault.BuildFault.TheVariants.{OutOfMemory};
+ghost use Rattle.crate_tables.specs.Numbers.{has_too_many, is_shortage};
 
 use crate::new_module::in_edition;
 use crate_items::files::crate_data::CrateData;
@@ -29,7 +30,9 @@ fn add_root(builder: &mut WorldBuilder, krate: &CrateData) -> Result<(), BuildFa
     ensures world { OnOk result (builder.new ≡ with_crate builder.old krate.now.edition
         (in_edition krate.now.edition krate.now.root_file_id)) }
     ensures added { OnOk result (IsAddedCrate builder.old builder.new (next_crate builder.old)) }
-    ensures fault { IfErr result (λ fault. is_shortage fault ≡ true) }
+    ensures fault { IfErr result
+        (λ fault. is_shortage (has_too_many (with_crate builder.old krate.now.edition (in_edition krate.now.edition krate.now.root_file_id)))
+        fault ≡ true) }
 {
     let file = in_edition(krate.edition(), krate.root_file_id());
     builder.add_crate(krate.edition(), file)?;
@@ -46,7 +49,8 @@ pub fn crate_roots(alloc: Global, graph: &CrateGraph) -> Result<WorldBuilder, Bu
     ensures world { IfOk result (λ builder. builder ≡ spec.with_roots no_world graph.now) }
     ensures roots { IfOk result (λ builder. spec.HasRoots builder (length graph.now)) }
     ensures empty { IfOk result (λ builder. (m : ModuleId) → scope_of builder m ≡ no_scope) }
-    ensures fault { IfErr result (λ fault. is_shortage fault ≡ true) }
+    ensures fault { IfErr result
+        (λ fault. is_shortage (has_too_many (spec.with_roots no_world graph.now)) fault ≡ true) }
 {
     let mut builder = WorldBuilder::new(alloc);
     for krate in graph.crates() {
@@ -122,7 +126,7 @@ fn push_extern(
     ensures world { OnOk result (builder.new ≡ spec.with_extern builder.old krate attributes.now before.now dependency.now) }
     ensures kept { OnOk result (IsTrue (knows builder.new (held.Crate krate))) }
     ensures grown { IsGrown builder.old builder.new }
-    ensures fault { IfErr result (λ fault. is_shortage fault ≡ true) }
+    ensures fault { IfErr result (λ fault. fault ≡ OutOfMemory) }
 {
     if !is_named(attributes, dependency) || is_taken(before, &dependency.name) {
         return Ok(());
@@ -157,7 +161,7 @@ pub fn add_externs(
     requires { IsTrue (knows builder.old (held.Crate krate)) }
     ensures world { OnOk result (builder.new ≡ spec.with_externs builder.old krate attributes.now dependencies.now) }
     ensures grown { IsGrown builder.old builder.new }
-    ensures fault { IfErr result (λ fault. is_shortage fault ≡ true) }
+    ensures fault { IfErr result (λ fault. fault ≡ OutOfMemory) }
 {
     for (place, dependency) in dependencies.iter().enumerate() {
         push_extern(

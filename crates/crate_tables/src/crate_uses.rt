@@ -1,7 +1,6 @@
 //! The uses of a crate, added to a builder, with their leaves.
 ghost use Rattle.std.specs.Prelude.{◌≡◌, true, All, IfErr, IfOk, IsTrue, OnOk, map};
 ghost use Rattle.crate_items.specs.DeclaredImports.{declared_imports};
-ghost use Rattle.crate_tables.specs.CrateMaps.{is_shortage};
 ghost use Rattle.crate_tables.specs.CrateTables.{IsMacroOf, IsTableOf};
 ghost use Rattle.crate_tables.specs.CrateUses as spec;
 ghost use Rattle.dm_base.specs.declared.ids.Crate.{Crate};
@@ -9,6 +8,7 @@ ghost use Rattle.dm_maps.specs.Added.{IsGrown};
 ghost use Rattle.dm_maps.specs.Holding.{vis_holds};
 ghost use Rattle.dm_maps.specs.Known.{knows, KnowsAll};
 ghost use Rattle.dm_maps.specs.declared.check.held.HeldId.TheVariants as held;
+ghost use Rattle.crate_tables.specs.Numbers.{has_too_many, is_shortage};
 
 use crate::crate_defs::item_visibility;
 use crate::crate_maps::parent_id;
@@ -143,7 +143,10 @@ fn add_use(
     ensures kept { (k : Crate) → IsTableOf builder.old k table.old → KnowsAll builder.old (vis_holds visibility)
         → OnOk result (IsTableOf builder.new k table.new) }
     ensures grown { IsGrown builder.old builder.new }
-    ensures fault { IfErr result (λ fault. is_shortage fault ≡ true) }
+    ensures fault { IfErr result
+        (λ fault. is_shortage (has_too_many (spec.used textual.now
+        (record { world = builder.old; table = table.old }) number item.now m visibility imports.items).world)
+        fault ≡ true) }
 {
     let use_ = builder.add_use(m)?;
     let leaves = leaves_of(alloc, textual, number, item, m, visibility, use_, imports)?;
@@ -172,7 +175,9 @@ fn add_in(
         spec.used_in view.now textual.now (record { world = builder.old; table = table.old }) number item.now) }
     ensures kept { OnOk result (IsTableOf builder.new view.now.krate table.new) }
     ensures grown { IsGrown builder.old builder.new }
-    ensures fault { IfErr result (λ fault. is_shortage fault ≡ true) }
+    ensures fault { IfErr result
+        (λ fault. is_shortage (has_too_many (spec.used_in view.now textual.now
+        (record { world = builder.old; table = table.old }) number item.now).world) fault ≡ true) }
 {
     match parent_id(builder, view.krate, table, item.module) {
         None => Ok(()),
@@ -208,7 +213,9 @@ fn add_one(
         spec.with_use_item view.now textual.now (record { world = builder.old; table = table.old }) number item.now) }
     ensures kept { OnOk result (IsTableOf builder.new view.now.krate table.new) }
     ensures grown { IsGrown builder.old builder.new }
-    ensures fault { IfErr result (λ fault. is_shortage fault ≡ true) }
+    ensures fault { IfErr result
+        (λ fault. is_shortage (has_too_many (spec.with_use_item view.now textual.now
+        (record { world = builder.old; table = table.old }) number item.now).world) fault ≡ true) }
 {
     if is_use(item.kind) {
         add_in(builder, table, alloc, view, textual, number, item)
@@ -232,7 +239,9 @@ fn add_all(
         spec.with_uses_from view.now textual.now (record { world = builder.old; table = table.old }) 0 items.now) }
     ensures kept { OnOk result (IsTableOf builder.new view.now.krate table.new) }
     ensures grown { IsGrown builder.old builder.new }
-    ensures fault { IfErr result (λ fault. is_shortage fault ≡ true) }
+    ensures fault { IfErr result
+        (λ fault. is_shortage (has_too_many (spec.with_uses_from view.now textual.now
+        (record { world = builder.old; table = table.old }) 0 items.now).world) fault ≡ true) }
 {
     for (number, item) in items.iter().enumerate() {
         add_one(builder, table, alloc, view, textual, number, item)?;
@@ -260,7 +269,9 @@ pub fn add_uses(
         spec.with_uses view.now textual.now (record { world = builder.old; table = table.old })) }
     ensures kept { OnOk result (IsTableOf builder.new view.now.krate table.new) }
     ensures grown { IsGrown builder.old builder.new }
-    ensures fault { IfErr result (λ fault. is_shortage fault ≡ true) }
+    ensures fault { IfErr result
+        (λ fault. is_shortage (has_too_many (spec.with_uses view.now textual.now
+        (record { world = builder.old; table = table.old })).world) fault ≡ true) }
 {
     add_all(builder, table, alloc, view, textual, textual.items)
 }

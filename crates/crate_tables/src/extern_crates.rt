@@ -1,13 +1,14 @@
 //! The extern crates of a crate, added to a builder: what each links, and under which name.
 ghost use Rattle.std.specs.Prelude.{◌≡◌, ◌++◌, ◌∷◌, [], true, IfErr, IfOk, IfSome, IsTrue, OnOk, length};
 ghost use Rattle.crate_items.specs.DeclaredItems.{linked_crate};
-ghost use Rattle.crate_tables.specs.CrateMaps.{is_shortage};
 ghost use Rattle.crate_tables.specs.CrateTables.{IsTableOf};
 ghost use Rattle.crate_tables.specs.ExternCrates as spec;
 ghost use Rattle.dm_maps.specs.declared.check.held.HeldId.TheVariants as held;
 ghost use Rattle.dm_base.specs.declared.ids.Crate.{Crate};
 ghost use Rattle.dm_maps.specs.Added.{IsGrown};
 ghost use Rattle.dm_maps.specs.Known.{knows, KnowsAll};
+ghost use Rattle.dm_maps.specs.declared.build_fault.BuildFault.TheVariants.{OutOfMemory};
+ghost use Rattle.crate_tables.specs.Numbers.{is_past, is_shortage};
 
 use crate::crate_defs::item_visibility;
 use crate::crate_maps::parent_id;
@@ -91,7 +92,7 @@ fn known_root(
 /// The number of the next extern crate of the world.
 fn next_extern(rows: &[ExternCrateRow]) -> Result<ExternCrateId, BuildFault>
     ensures exact { IfOk result (λ id. id ≡ spec.next_extern rows.now) }
-    ensures fault { IfErr result (λ fault. is_shortage fault ≡ true) }
+    ensures fault { IfErr result (λ fault. is_shortage (is_past (length rows.now)) fault ≡ true) }
 {
     match u32::try_from(rows.len()) {
         Ok(number) => Ok(ExternCrateId(number)),
@@ -118,7 +119,7 @@ fn put_entry(
     requires { IsTrue (knows builder.old (held.Crate krate)) }
     ensures world { OnOk result (builder.new ≡ spec.with_entry builder.old krate name root id) }
     ensures grown { IsGrown builder.old builder.new }
-    ensures fault { IfErr result (λ fault. is_shortage fault ≡ true) }
+    ensures fault { IfErr result (λ fault. fault ≡ OutOfMemory) }
 {
     match name {
         None => Ok(()),
@@ -141,7 +142,7 @@ fn enter(
     requires { IsTrue (knows builder.old (held.Crate krate)) }
     ensures world { OnOk result (builder.new ≡ spec.entered builder.old krate item.now root id) }
     ensures grown { IsGrown builder.old builder.new }
-    ensures fault { IfErr result (λ fault. is_shortage fault ≡ true) }
+    ensures fault { IfErr result (λ fault. fault ≡ OutOfMemory) }
 {
     if item.module == 0 {
         let name = name_of(alloc, item)?;
@@ -167,7 +168,7 @@ fn declare_root(
     requires root { IsTrue (knows builder.now (held.Module root)) }
     ensures table { OnOk result (table.new ≡ spec.declared view.now table.old item.now m root id) }
     ensures kept { OnOk result (IsTableOf builder.now view.now.krate table.new) }
-    ensures fault { IfErr result (λ fault. is_shortage fault ≡ true) }
+    ensures fault { IfErr result (λ fault. fault ≡ OutOfMemory) }
 {
     let visibility = item_visibility(builder, table, view, item, m);
     let import = ImportOrExternCrate::ExternCrate(id);
@@ -195,7 +196,7 @@ fn bind(
     ensures table { OnOk result (table.new ≡ spec.declared_if view.now table.old item.now m id root) }
     ensures kept { OnOk result (IsTableOf builder.new view.now.krate table.new) }
     ensures grown { IsGrown builder.old builder.new }
-    ensures fault { IfErr result (λ fault. is_shortage fault ≡ true) }
+    ensures fault { IfErr result (λ fault. fault ≡ OutOfMemory) }
 {
     match root {
         None => Ok(()),
@@ -225,7 +226,10 @@ fn add_in(
         spec.linked_so view.now (record { world = builder.old; table = table.old; rows = rows.old.items }) item.now m root) }
     ensures kept { OnOk result (IsTableOf builder.new view.now.krate table.new) }
     ensures grown { IsGrown builder.old builder.new }
-    ensures fault { IfErr result (λ fault. is_shortage fault ≡ true) }
+    ensures fault { IfErr result
+        (λ fault. is_shortage (is_past (length (spec.linked_so view.now
+        (record { world = builder.old; table = table.old; rows = rows.old.items }) item.now m root).rows))
+        fault ≡ true) }
 {
     let id = next_extern(rows.as_slice())?;
     bind(builder, table, alloc, view, item, m, id, root)?;
@@ -256,7 +260,10 @@ fn add_linked(
         (record { world = builder.old; table = table.old; rows = rows.old.items }) item.now) }
     ensures kept { OnOk result (IsTableOf builder.new view.now.krate table.new) }
     ensures grown { IsGrown builder.old builder.new }
-    ensures fault { IfErr result (λ fault. is_shortage fault ≡ true) }
+    ensures fault { IfErr result
+        (λ fault. is_shortage (is_past (length (spec.linked_in view.now dependencies.now
+        (record { world = builder.old; table = table.old; rows = rows.old.items }) item.now).rows))
+        fault ≡ true) }
 {
     match parent_id(builder, view.krate, table, item.module) {
         None => Ok(()),
@@ -285,7 +292,10 @@ fn add_one(
         (record { world = builder.old; table = table.old; rows = rows.old.items }) item.now) }
     ensures kept { OnOk result (IsTableOf builder.new view.now.krate table.new) }
     ensures grown { IsGrown builder.old builder.new }
-    ensures fault { IfErr result (λ fault. is_shortage fault ≡ true) }
+    ensures fault { IfErr result
+        (λ fault. is_shortage (is_past (length (spec.with_extern_crate view.now dependencies.now
+        (record { world = builder.old; table = table.old; rows = rows.old.items }) item.now).rows))
+        fault ≡ true) }
 {
     if is_extern_crate(item.kind) {
         add_linked(builder, table, rows, alloc, view, dependencies, item)
@@ -320,7 +330,10 @@ pub fn add_extern_crates(
         (record { world = builder.old; table = table.old; rows = rows.old.items }) items.now) }
     ensures kept { OnOk result (IsTableOf builder.new view.now.krate table.new) }
     ensures grown { IsGrown builder.old builder.new }
-    ensures fault { IfErr result (λ fault. is_shortage fault ≡ true) }
+    ensures fault { IfErr result
+        (λ fault. is_shortage (is_past (length (spec.with_extern_crates view.now dependencies.now
+        (record { world = builder.old; table = table.old; rows = rows.old.items }) items.now).rows))
+        fault ≡ true) }
 {
     for item in items {
         add_one(builder, table, rows, alloc, view, dependencies, item)?;

@@ -1,10 +1,10 @@
 //! Extern crates in the lists of scopes.
-ghost use Rattle.std.specs.Prelude.{◌≡◌, true, IfErr, IfOk, IsTrue, OnOk, drop};
-ghost use Rattle.crate_tables.specs.CrateMaps.{is_shortage};
+ghost use Rattle.std.specs.Prelude.{◌≡◌, length, true, IfErr, IfOk, IsTrue, OnOk, drop};
 ghost use Rattle.crate_tables.specs.ExternLists as spec;
 ghost use Rattle.crate_tables.specs.TextualMacros.{AllStayShown, StaysKnown};
 ghost use Rattle.dm_maps.specs.declared.check.held.HeldId.TheVariants as held;
 ghost use Rattle.dm_maps.specs.Known.{knows};
+ghost use Rattle.crate_tables.specs.Numbers.{is_past, is_shortage};
 
 use crate::extern_crates::ExternCrateRow;
 use crate::scope_entry::{ScopeEntry, list_entry};
@@ -17,7 +17,7 @@ use dm_maps::check::known_ids::KnownIds;
 /// The extern crate of a number.
 fn numbered(number: usize) -> Result<ExternCrateId, BuildFault>
     ensures exact { IfOk result (λ id. id ≡ record { 0 = number }) }
-    ensures fault { IfErr result (λ fault. is_shortage fault ≡ true) }
+    ensures fault { IfErr result (λ fault. is_shortage (is_past number) fault ≡ true) }
 {
     match u32::try_from(number) {
         Ok(number) => Ok(ExternCrateId(number)),
@@ -34,7 +34,7 @@ fn list_row(
     ensures world { OnOk result (builder.new ≡ spec.with_extern_row builder.old number row) }
     ensures stays { StaysKnown builder.old builder.new }
     ensures shown { AllStayShown builder.old builder.new }
-    ensures fault { IfErr result (λ fault. is_shortage fault ≡ true) }
+    ensures fault { IfErr result (λ fault. is_shortage (is_past number) fault ≡ true) }
 {
     let id = numbered(number)?;
     if builder.knows(HeldId::Module(row.home)) {
@@ -58,7 +58,7 @@ pub(crate) fn list_extern_crates(
     ensures world { OnOk result (builder.new ≡ spec.with_extern_rows builder.old from (drop from rows.now)) }
     ensures stays { StaysKnown builder.old builder.new }
     ensures shown { AllStayShown builder.old builder.new }
-    ensures fault { IfErr result (λ fault. is_shortage fault ≡ true) }
+    ensures fault { IfErr result (λ fault. is_shortage (is_past (length rows.now)) fault ≡ true) }
 {
     let mut number = from;
     while number < rows.len() {

@@ -12,7 +12,8 @@ pub enum FillFault {
     NoRootFile(Crate),
     /// A crate has more modules than the caller asked for.
     TooManyModules(Crate),
-    /// There is no number for another module, item, variant or use.
+    /// With some crate there are more than 4,294,967,295 modules, items, variants, uses, macros, extern crates or blocks, or
+    /// one of its modules is declared behind so many other items of its file.
     OutOfNumbers,
     OutOfMemory,
 }

@@ -1,6 +1,5 @@
 //! The name of the standard library that the root of a crate of the edition 2015 binds without an item.
 ghost use Rattle.std.specs.Prelude.{◌≡◌, true, IfErr, IfOk, IfSome, IsTrue, None, OnOk, Some};
-ghost use Rattle.crate_tables.specs.CrateMaps.{is_shortage};
 ghost use Rattle.crate_tables.specs.CrateRoots as roots;
 ghost use Rattle.crate_tables.specs.CrateTables.{IsTableOf, with_named};
 ghost use Rattle.crate_tables.specs.LibraryNames as spec;
@@ -10,6 +9,7 @@ ghost use Rattle.dm_base.specs.declared.item_ids.ModuleDefId.TheVariants as def;
 ghost use Rattle.dm_maps.specs.Holding.{vis_holds};
 ghost use Rattle.dm_maps.specs.Known.{knows, KnowsAll};
 ghost use Rattle.dm_maps.specs.declared.check.held.HeldId.TheVariants as held;
+ghost use Rattle.dm_maps.specs.declared.build_fault.BuildFault.TheVariants.{OutOfMemory};
 
 use crate::crate_roots::{any_no_core, any_no_std, root_id};
 use crate::crate_table::CrateTable;
@@ -111,7 +111,7 @@ fn declare_root(
     ensures table { OnOk result (table.new ≡
         with_named table.old home (Some name) (type_alone (def.ModuleId root) visibility None)) }
     ensures kept { OnOk result (IsTableOf builder.now krate table.new) }
-    ensures fault { IfErr result (λ fault. is_shortage fault ≡ true) }
+    ensures fault { IfErr result (λ fault. fault ≡ OutOfMemory) }
 {
     let _world = builder;
     let items = PerNs::types(ModuleDefId::ModuleId(root), visibility, None);
@@ -131,7 +131,7 @@ pub(crate) fn declare_library(
     requires known { IfSome library (λ l. IsTrue (knows builder.now (held.Module (roots.root_id l.krate)))) }
     ensures table { OnOk result (table.new ≡ spec.with_library view.now.krate library table.old) }
     ensures kept { OnOk result (IsTableOf builder.now view.now.krate table.new) }
-    ensures fault { IfErr result (λ fault. is_shortage fault ≡ true) }
+    ensures fault { IfErr result (λ fault. fault ≡ OutOfMemory) }
 {
     match library {
         None => Ok(()),

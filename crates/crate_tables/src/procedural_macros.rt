@@ -1,6 +1,5 @@
 //! The procedural macros of a crate, added to a builder.
 ghost use Rattle.std.specs.Prelude.{◌≡◌, true, IfErr, IfOk, IsTrue, OnOk};
-ghost use Rattle.crate_tables.specs.CrateMaps.{is_shortage};
 ghost use Rattle.crate_tables.specs.CrateRoots as roots;
 ghost use Rattle.crate_tables.specs.CrateTables.{IsTableOf};
 ghost use Rattle.crate_tables.specs.ProceduralMacros as spec;
@@ -8,6 +7,8 @@ ghost use Rattle.dm_maps.specs.declared.check.held.HeldId.TheVariants as held;
 ghost use Rattle.dm_maps.specs.Added.{IsGrown};
 ghost use Rattle.dm_maps.specs.BuildItems.{with_macro};
 ghost use Rattle.dm_maps.specs.Known.{knows};
+ghost use Rattle.dm_maps.specs.declared.build_fault.BuildFault.TheVariants.{OutOfMemory};
+ghost use Rattle.crate_tables.specs.Numbers.{has_too_many, is_shortage};
 
 use crate::crate_macros::declare_seen;
 use crate::crate_roots::root_id;
@@ -54,7 +55,7 @@ fn place(
     requires id { IsTrue (knows builder.now (held.Macro id)) }
     ensures table { OnOk result (table.new ≡ spec.placed krate table.old item.now name id) }
     ensures kept { OnOk result (IsTableOf builder.now krate table.new) }
-    ensures fault { IfErr result (λ fault. is_shortage fault ≡ true) }
+    ensures fault { IfErr result (λ fault. fault ≡ OutOfMemory) }
 {
     let root = root_id(krate);
     declare_seen(
@@ -90,7 +91,9 @@ fn add_made(
         spec.placed krate table.old item.now made.name (spec.next_of builder.old made)) }
     ensures kept { OnOk result (IsTableOf builder.new krate table.new) }
     ensures grown { IsGrown builder.old builder.new }
-    ensures fault { IfErr result (λ fault. is_shortage fault ≡ true) }
+    ensures fault { IfErr result
+        (λ fault. is_shortage (has_too_many (with_macro builder.old (roots.root_id krate) (spec.loc_of made)))
+        fault ≡ true) }
 {
     let id = builder.add_macro(root_id(krate), MacroLoc::Proc(made.kind))?;
     place(builder, table, krate, item, made.name, id)?;
@@ -111,7 +114,9 @@ fn add_one(
         spec.with_procedural_macro view.now (record { world = builder.old; table = table.old }) item.now) }
     ensures kept { OnOk result (IsTableOf builder.new view.now.krate table.new) }
     ensures grown { IsGrown builder.old builder.new }
-    ensures fault { IfErr result (λ fault. is_shortage fault ≡ true) }
+    ensures fault { IfErr result
+        (λ fault. is_shortage (has_too_many (spec.with_procedural_macro view.now
+        (record { world = builder.old; table = table.old }) item.now).world) fault ≡ true) }
 {
     let made = made_of(alloc, view, item)?;
     match made {
@@ -141,7 +146,9 @@ pub fn add_procedural_macros(
         spec.with_procedural_macros view.now (record { world = builder.old; table = table.old }) items.now) }
     ensures kept { OnOk result (IsTableOf builder.new view.now.krate table.new) }
     ensures grown { IsGrown builder.old builder.new }
-    ensures fault { IfErr result (λ fault. is_shortage fault ≡ true) }
+    ensures fault { IfErr result
+        (λ fault. is_shortage (has_too_many (spec.with_procedural_macros view.now
+        (record { world = builder.old; table = table.old }) items.now).world) fault ≡ true) }
 {
     for item in items {
         add_one(builder, table, alloc, view, item)?;

@@ -1,10 +1,10 @@
 //! Which function each procedural macro of a crate is, told to its def map.
 ghost use Rattle.std.specs.List.{flat_map};
 ghost use Rattle.std.specs.Prelude.{◌≡◌, ◌++◌, true, IfErr, IfOk, OnOk};
-ghost use Rattle.crate_tables.specs.CrateMaps.{is_shortage};
 ghost use Rattle.crate_tables.specs.CrateTables.{IsTableOf};
 ghost use Rattle.crate_tables.specs.ProceduralPairs as spec;
 ghost use Rattle.dm_maps.specs.Added.{IsGrown};
+ghost use Rattle.dm_maps.specs.declared.build_fault.BuildFault.TheVariants.{OutOfMemory};
 
 use crate::crate_table::CrateTable;
 use crate::def_index::DefIndex;
@@ -79,7 +79,7 @@ pub(crate) fn pair_procedural_macros(
     requires defs { defs.now ≡ table.now.defs }
     ensures world { OnOk result (builder.new ≡ spec.with_pairs krate table.now builder.old) }
     ensures grown { IsGrown builder.old builder.new }
-    ensures fault { IfErr result (λ fault. is_shortage fault ≡ true) }
+    ensures fault { IfErr result (λ fault. fault ≡ OutOfMemory) }
 {
     let settings = pairs(alloc, defs, table.defs())?;
     set_all(builder, krate, settings)

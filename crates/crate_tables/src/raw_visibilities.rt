@@ -1,10 +1,11 @@
 //! Visibilities of fields and of traits, as they are written, set in a builder.
 ghost use Rattle.std.specs.Prelude.{◌≡◌, true, IfErr, OnOk};
-ghost use Rattle.crate_tables.specs.CrateMaps.{is_shortage};
 ghost use Rattle.crate_tables.specs.CrateTables.{IsTableOf};
 ghost use Rattle.crate_tables.specs.RawVisibilities as spec;
 ghost use Rattle.dm_maps.specs.Added.{IsGrown};
+ghost use Rattle.crate_tables.specs.Numbers.{has_too_many, is_shortage};
 ghost use Rattle.dm_maps.specs.BuildTables.{with_fields, with_trait_visibility};
+ghost use Rattle.dm_maps.specs.declared.build_fault.BuildFault.TheVariants.{OutOfMemory};
 
 use crate::crate_defs::add_items;
 use crate::crate_table::CrateTable;
@@ -29,7 +30,7 @@ pub(crate) fn set_fields(
 ) -> Result<(), BuildFault>
     ensures world { OnOk result (builder.new ≡ with_fields builder.old variant fields.items) }
     ensures grown { IsGrown builder.old builder.new }
-    ensures fault { IfErr result (λ fault. is_shortage fault ≡ true) }
+    ensures fault { IfErr result (λ fault. fault ≡ OutOfMemory) }
 {
     settings_keep_scopes();
     builder.set_fields(variant, fields)?;
@@ -44,7 +45,7 @@ fn set_trait(
 ) -> Result<(), BuildFault>
     ensures world { OnOk result (builder.new ≡ with_trait_visibility builder.old id visibility) }
     ensures grown { IsGrown builder.old builder.new }
-    ensures fault { IfErr result (λ fault. is_shortage fault ≡ true) }
+    ensures fault { IfErr result (λ fault. fault ≡ OutOfMemory) }
 {
     settings_keep_scopes();
     builder.set_trait_visibility(id, visibility)?;
@@ -62,7 +63,7 @@ fn set_fields_at(
     ensures world { OnOk result
         (builder.new ≡ spec.with_fields_at view.now builder.old variant place.now) }
     ensures grown { IsGrown builder.old builder.new }
-    ensures fault { IfErr result (λ fault. is_shortage fault ≡ true) }
+    ensures fault { IfErr result (λ fault. fault ≡ OutOfMemory) }
 {
     let (file, item) = (place.file, place.item);
     let fields = field_visibilities(alloc, view.options, view.list, view.files, file, item)?;
@@ -79,7 +80,7 @@ fn set_at(
     ensures world { OnOk result
         (builder.new ≡ spec.with_raw_as view.now builder.old place.now place.now.def) }
     ensures grown { IsGrown builder.old builder.new }
-    ensures fault { IfErr result (λ fault. is_shortage fault ≡ true) }
+    ensures fault { IfErr result (λ fault. fault ≡ OutOfMemory) }
 {
     match place.def {
         ModuleDefId::AdtId(AdtId::StructId(id)) => {
@@ -111,7 +112,7 @@ pub fn set_raw_visibilities(
     ensures world { OnOk result
         (builder.new ≡ spec.with_raw_visibilities view.now builder.old places.now) }
     ensures grown { IsGrown builder.old builder.new }
-    ensures fault { IfErr result (λ fault. is_shortage fault ≡ true) }
+    ensures fault { IfErr result (λ fault. fault ≡ OutOfMemory) }
 {
     for place in places {
         set_at(builder, alloc, view, place)?;
@@ -132,6 +133,8 @@ pub(crate) fn add_written_items(
         spec.with_written_items view.now (record { world = builder.old; table = table.old }) items.items) }
     ensures kept { OnOk result (IsTableOf builder.new view.now.krate table.new) }
     ensures grown { IsGrown builder.old builder.new }
+    ensures fault { IfErr result (λ fault. is_shortage (has_too_many
+        (spec.with_written_items view.now (record { world = builder.old; table = table.old }) items.items).world) fault ≡ true) }
 {
     add_items(builder, table, alloc, view, items)?;
     set_raw_visibilities(builder, alloc, view, table.defs())?;

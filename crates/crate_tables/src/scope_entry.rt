@@ -1,10 +1,10 @@
 //! What comes into the lists of a scope.
 ghost use Rattle.std.specs.Prelude.{◌≡◌, true, IfErr, IsTrue, OnErr, OnOk};
-ghost use Rattle.crate_tables.specs.CrateMaps.{is_shortage};
 ghost use Rattle.crate_tables.specs.ScopeEntries as spec;
 ghost use Rattle.crate_tables.specs.TextualMacros.{AllStayShown, StaysKnown};
 ghost use Rattle.dm_maps.specs.declared.check.held.HeldId.TheVariants as held;
 ghost use Rattle.dm_maps.specs.Known.{knows};
+ghost use Rattle.dm_maps.specs.declared.build_fault.BuildFault.TheVariants.{OutOfMemory};
 
 use dm_base::ids::{ConstId, ExternBlockId, ExternCrateId, ImplId, ModuleId};
 use dm_base::item_ids::ModuleDefId;
@@ -52,7 +52,7 @@ pub(crate) fn list_entry(
     ensures world { OnOk result (builder.new ≡ spec.with_entry builder.old m entry) }
     ensures stays { StaysKnown builder.old builder.new }
     ensures shown { AllStayShown builder.old builder.new }
-    ensures fault { IfErr result (λ fault. is_shortage fault ≡ true) }
+    ensures fault { IfErr result (λ fault. fault ≡ OutOfMemory) }
 {
     builder.scope_facts_of(m);
     let Some(scope) = builder.scope_mut(m) else {

@@ -1,12 +1,12 @@
 //! The lists of scopes: the definitions of each module, and its constants without a name.
 ghost use Rattle.std.specs.Prelude.{◌≡◌, true, IfErr, IsTrue, OnOk};
-ghost use Rattle.crate_tables.specs.CrateMaps.{is_shortage};
 ghost use Rattle.crate_tables.specs.CrateTables.{IsTableOf};
 ghost use Rattle.crate_tables.specs.Visibilities.{id_at as home_of};
 ghost use Rattle.crate_tables.specs.ScopeLists as spec;
 ghost use Rattle.crate_tables.specs.TextualMacros.{AllStayShown, StaysKnown};
 ghost use Rattle.dm_maps.specs.declared.check.held.HeldId.TheVariants as held;
 ghost use Rattle.dm_maps.specs.Known.{knows};
+ghost use Rattle.dm_maps.specs.declared.build_fault.BuildFault.TheVariants.{OutOfMemory};
 
 use crate::crate_maps::parent_id;
 use crate::crate_table::CrateTable;
@@ -34,7 +34,7 @@ fn list_def(
     ensures world { OnOk result (builder.new ≡ spec.listed_as builder.old m is_named def) }
     ensures stays { StaysKnown builder.old builder.new }
     ensures shown { AllStayShown builder.old builder.new }
-    ensures fault { IfErr result (λ fault. is_shortage fault ≡ true) }
+    ensures fault { IfErr result (λ fault. fault ≡ OutOfMemory) }
 {
     if is_named {
         list_entry(builder, m, ScopeEntry::Declaration(def))
@@ -93,7 +93,7 @@ fn declare_macro(
     ensures world { OnOk result (builder.new ≡ spec.with_macro builder.old m id) }
     ensures stays { StaysKnown builder.old builder.new }
     ensures shown { AllStayShown builder.old builder.new }
-    ensures fault { IfErr result (λ fault. is_shortage fault ≡ true) }
+    ensures fault { IfErr result (λ fault. fault ≡ OutOfMemory) }
 {
     match id {
         None => Ok(()),
@@ -113,7 +113,7 @@ fn list_both(
     ensures world { OnOk result (builder.new ≡ spec.listed_if (spec.with_macro builder.old m id) m is_named def) }
     ensures stays { StaysKnown builder.old builder.new }
     ensures shown { AllStayShown builder.old builder.new }
-    ensures fault { IfErr result (λ fault. is_shortage fault ≡ true) }
+    ensures fault { IfErr result (λ fault. fault ≡ OutOfMemory) }
 {
     declare_macro(builder, m, id)?;
     match def {
@@ -137,7 +137,7 @@ fn list_item(
         (home_of table.now.ids outline.home)) }
     ensures stays { StaysKnown builder.old builder.new }
     ensures shown { AllStayShown builder.old builder.new }
-    ensures fault { IfErr result (λ fault. is_shortage fault ≡ true) }
+    ensures fault { IfErr result (λ fault. fault ≡ OutOfMemory) }
 {
     match parent_id(builder, krate, table, outline.home) {
         None => Ok(()),
@@ -165,7 +165,7 @@ fn list_all(
     ensures stays { StaysKnown builder.old builder.new }
     ensures shown { AllStayShown builder.old builder.new }
     ensures kept { IsTableOf builder.new krate table.now }
-    ensures fault { IfErr result (λ fault. is_shortage fault ≡ true) }
+    ensures fault { IfErr result (λ fault. fault ≡ OutOfMemory) }
 {
     for outline in outlines {
         list_item(builder, index, defs, krate, table, *outline)?;
@@ -198,7 +198,7 @@ pub(crate) fn list_definitions(
     ensures stays { StaysKnown builder.old builder.new }
     ensures shown { AllStayShown builder.old builder.new }
     ensures kept { IsTableOf builder.new krate table.now }
-    ensures fault { IfErr result (λ fault. is_shortage fault ≡ true) }
+    ensures fault { IfErr result (λ fault. fault ≡ OutOfMemory) }
 {
     let index = ModuleIndex::of(alloc, modules)?;
     list_all(builder, &index, defs, krate, table, outlines)

@@ -1,7 +1,10 @@
 //! The preludes of a graph's crates, set in a builder where all of them are filled.
-ghost use Rattle.std.specs.Prelude.{◌≡◌, IfOk, OnOk, slice_get};
+ghost use Rattle.std.specs.Prelude.{◌≡◌, IfErr, IfOk, OnOk, false, length, slice_get};
 ghost use Rattle.crate_tables.specs.CrateFillings as spec;
+ghost use Rattle.crate_tables.specs.StandardPreludes.{own_map};
 ghost use Rattle.dm_maps.specs.Added.{IsGrown};
+ghost use Rattle.dm_maps.specs.BuildMaps.{lacks_map};
+ghost use Rattle.dm_maps.specs.declared.build_fault.BuildFault.TheVariants.{OutOfMemory};
 
 use crate::crate_table::CrateTable;
 use crate::prelude_imports::{CrateLists, Importer, named_prelude};
@@ -90,9 +93,11 @@ fn set_next(
     described: &CrateData,
     files: &FileTable,
 ) -> Result<(), BuildFault>
+    requires { lacks_map builder.old (own_map krate) ≡ false }
     ensures world { OnOk result (builder.new ≡ spec.with_prelude_of files.now crates.now.lists crates.now.tables
         krate described.now builder.old) }
     ensures grown { IsGrown builder.old builder.new }
+    ensures fault { IfErr result (λ fault. fault ≡ OutOfMemory) }
 {
     let prelude = prelude_of(alloc, crates, krate, described, files)?;
     set_crate_prelude(builder, krate, prelude)
@@ -107,9 +112,11 @@ pub(crate) fn set_preludes(
     graph: &CrateGraph,
     files: &FileTable,
 ) -> Result<(), BuildFault>
+    requires maps { spec.HasMaps builder.old (length graph.now) }
     ensures world { OnOk result (builder.new ≡
         spec.with_preludes_from files.now lists.now tables.now 0 graph.now builder.old) }
     ensures grown { IsGrown builder.old builder.new }
+    ensures fault { IfErr result (λ fault. fault ≡ OutOfMemory) }
 {
     let crates = CrateLists { lists, tables };
     for (number, described) in graph.crates().iter().enumerate() {

@@ -1,13 +1,13 @@
 //! The standard prelude of a crate in a builder, and what its attributes set there.
 ghost use Rattle.std.specs.Prelude.{◌≡◌, ◌++◌, ◌∷◌, [], true, IfErr, IfOk, IsTrue, OnOk, map, slice_get};
 ghost use Rattle.std.specs.Option.{option_map};
-ghost use Rattle.crate_tables.specs.CrateMaps.{is_shortage};
 ghost use Rattle.crate_tables.specs.StandardPreludes as spec;
 ghost use Rattle.dm_maps.specs.declared.check.held.HeldId.TheVariants as held;
 ghost use Rattle.dm_maps.specs.Added.{IsGrown};
 ghost use Rattle.dm_maps.specs.BuildCrateData.{with_crate_settings};
 ghost use Rattle.dm_maps.specs.BuildMaps.{AnswersFree, map_fault};
 ghost use Rattle.dm_maps.specs.Known.{knows};
+ghost use Rattle.dm_maps.specs.declared.build_fault.BuildFault.TheVariants.{OutOfMemory};
 
 use crate::crate_roots::{any_no_core, is_named};
 use crate::crate_table::CrateTable;
@@ -60,7 +60,7 @@ pub(crate) fn set_all(
     requires { IsTrue (knows builder.old (held.Crate krate)) }
     ensures world { OnOk result (builder.new ≡ with_crate_settings builder.old krate settings.items) }
     ensures grown { IsGrown builder.old builder.new }
-    ensures fault { IfErr result (λ fault. is_shortage fault ≡ true) }
+    ensures fault { IfErr result (λ fault. fault ≡ OutOfMemory) }
 {
     settings_keep_scopes();
     builder.set_crate_data(krate, settings)
@@ -81,7 +81,7 @@ pub fn set_attributes(
     requires { IsTrue (knows builder.old (held.Crate krate)) }
     ensures world { OnOk result (builder.new ≡ spec.with_attributes builder.old krate attributes.items) }
     ensures grown { IsGrown builder.old builder.new }
-    ensures fault { IfErr result (λ fault. is_shortage fault ≡ true) }
+    ensures fault { IfErr result (λ fault. fault ≡ OutOfMemory) }
 {
     let settings = settings_of(alloc, attributes)?;
     set_all(builder, krate, settings)

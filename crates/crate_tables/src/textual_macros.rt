@@ -1,12 +1,12 @@
 //! Textual macros of a crate, defined in the scopes of a builder's modules.
 ghost use Rattle.std.specs.Prelude.{◌≡◌, true, IfErr, IfOk, IsTrue, OnOk};
 ghost use Rattle.crate_items.specs.TextualScopes.{name_at};
-ghost use Rattle.crate_tables.specs.CrateMaps.{is_shortage};
 ghost use Rattle.crate_tables.specs.CrateTables.{IsTableOf};
 ghost use Rattle.crate_tables.specs.TextualMacros as spec;
 ghost use Rattle.crate_tables.specs.Visibilities.{id_at};
 ghost use Rattle.dm_maps.specs.declared.check.held.HeldId.TheVariants as held;
 ghost use Rattle.dm_maps.specs.Known.{knows};
+ghost use Rattle.dm_maps.specs.declared.build_fault.BuildFault.TheVariants.{OutOfMemory};
 
 use crate::crate_maps::parent_id;
 use crate::crate_table::CrateTable;
@@ -30,7 +30,7 @@ fn define(
     ensures world { OnOk result (builder.new ≡ spec.with_legacy builder.old m name id) }
     ensures stays { spec.StaysKnown builder.old builder.new }
     ensures shown { spec.AllStayShown builder.old builder.new }
-    ensures fault { IfErr result (λ fault. is_shortage fault ≡ true) }
+    ensures fault { IfErr result (λ fault. fault ≡ OutOfMemory) }
 {
     builder.scope_facts_of(m);
     let Some(scope) = builder.scope_mut(m) else {
@@ -77,7 +77,7 @@ fn define_item(
         (builder.new ≡ spec.with_item items.now macros.now builder.old m number) }
     ensures stays { spec.StaysKnown builder.old builder.new }
     ensures shown { spec.AllStayShown builder.old builder.new }
-    ensures fault { IfErr result (λ fault. is_shortage fault ≡ true) }
+    ensures fault { IfErr result (λ fault. fault ≡ OutOfMemory) }
 {
     let name = name_of(alloc, items, number)?;
     match (macro_at(macros, number), name) {
@@ -100,7 +100,7 @@ fn define_one(
         (builder.new ≡ spec.with_item items.now macros.now builder.old m one.now.number) }
     ensures stays { spec.StaysKnown builder.old builder.new }
     ensures shown { spec.AllStayShown builder.old builder.new }
-    ensures fault { IfErr result (λ fault. is_shortage fault ≡ true) }
+    ensures fault { IfErr result (λ fault. fault ≡ OutOfMemory) }
 {
     define_item(builder, alloc, items, macros, m, one.number)
 }
@@ -119,7 +119,7 @@ fn define_all(
         (builder.new ≡ spec.with_textual items.now macros.now builder.old m scope.now) }
     ensures stays { spec.StaysKnown builder.old builder.new }
     ensures shown { spec.AllStayShown builder.old builder.new }
-    ensures fault { IfErr result (λ fault. is_shortage fault ≡ true) }
+    ensures fault { IfErr result (λ fault. fault ≡ OutOfMemory) }
 {
     for one in scope {
         define_one(builder, alloc, items, macros, m, one)?;
@@ -143,7 +143,7 @@ fn define_scope(
         (id_at table.now.ids home) scope.now) }
     ensures stays { spec.StaysKnown builder.old builder.new }
     ensures shown { spec.AllStayShown builder.old builder.new }
-    ensures fault { IfErr result (λ fault. is_shortage fault ≡ true) }
+    ensures fault { IfErr result (λ fault. fault ≡ OutOfMemory) }
 {
     match parent_id(builder, krate, table, home) {
         None => Ok(()),
@@ -172,7 +172,7 @@ pub fn add_textual_macros(
     ensures stays { spec.StaysKnown builder.old builder.new }
     ensures shown { spec.AllStayShown builder.old builder.new }
     ensures kept { IsTableOf builder.new krate table.now }
-    ensures fault { IfErr result (λ fault. is_shortage fault ≡ true) }
+    ensures fault { IfErr result (λ fault. fault ≡ OutOfMemory) }
 {
     for (home, scope) in scopes.iter().enumerate() {
         define_scope(builder, alloc, krate, table, items, macros, home, scope)?;

@@ -2,7 +2,7 @@
 ghost use Rattle.std.specs.Prelude.{◌≡◌};
 ghost use Rattle.crate_items.specs.CrateGraphs.{Graph, rows};
 ghost use Rattle.crate_items.specs.OrderFaults as orders;
-ghost use Rattle.crate_tables.specs.CrateFillings.{IsFaultIn, IsShortageOr, Reading};
+ghost use Rattle.crate_tables.specs.CrateFillings.{IsFaultIn, IsShortageOr, Reading, RunsOut};
 ghost use Rattle.dm_collector.specs.CollectFaults.{IsFault};
 ghost use Rattle.dm_collector.specs.declared.collect_fault.CollectFault.TheVariants as faults;
 
@@ -56,7 +56,7 @@ pub(crate) fn of_builder(fault: BuildFault) -> CollectFault
 
 /// The same of what crates declare.
 pub(crate) fn of_filling(fault: FillFault) -> CollectFault
-    ensures { (r : Reading) (g : Graph) → IsShortageOr (IsFaultIn r g) fault → IsFault r g result }
+    ensures { (r : Reading) (g : Graph) → IsShortageOr (RunsOut r g) (IsFaultIn r g) fault → IsFault r g result }
 {
     match fault {
         FillFault::NoRootFile(krate) => CollectFault::NoRootFile(krate),

@@ -2,7 +2,7 @@
 ghost use Rattle.std.specs.List.{cons_option, filter_map};
 ghost use Rattle.std.specs.Prelude.{◌≡◌, ◌+◌, ◌++◌, [], IfErr, IfOk, OnOk, length, map, true};
 ghost use Rattle.crate_tables.specs.Containers as spec;
-ghost use Rattle.crate_tables.specs.CrateMaps.{is_shortage};
+ghost use Rattle.crate_tables.specs.Numbers.{is_past, is_shortage};
 
 use crate::block_lists::behind;
 use crate::crate_table::CrateTable;
@@ -83,7 +83,7 @@ fn push_impls(
 ) -> Result<(), BuildFault>
     ensures exact { OnOk result
         (found.new.items ≡ found.old.items ++ spec.impls_from first blocks.now) }
-    ensures fault { IfErr result (λ fault. is_shortage fault ≡ true) }
+    ensures fault { IfErr result (λ fault. is_shortage (is_past (first + length blocks.now)) fault ≡ true) }
 {
     let mut number = first;
     for block in blocks {
@@ -100,7 +100,7 @@ pub(crate) fn containers_of(
     first: u32,
 ) -> Result<Vec<Container>, BuildFault>
     ensures exact { IfOk result (λ found. found.items ≡ spec.containers_of first table.now) }
-    ensures fault { IfErr result (λ fault. is_shortage fault ≡ true) }
+    ensures fault { IfErr result (λ fault. is_shortage (is_past (first + length table.now.blocks)) fault ≡ true) }
 {
     let mut found = traits_of(alloc, table.defs())?;
     push_impls(&mut found, table.blocks(), first)?;

@@ -1,13 +1,13 @@
 //! The associated items of all crates, added to a builder.
-ghost use Rattle.std.specs.Prelude.{◌≡◌, ◌+◌, [], true, All, IfErr, IfOk, OnOk, length, slice_get};
+ghost use Rattle.std.specs.Prelude.{◌≡◌, ◌⊎◌, ◌+◌, [], true, All, IfErr, IfOk, OnOk, length, slice_get};
 ghost use Rattle.crate_tables.specs.AssocItems as spec;
 ghost use Rattle.crate_tables.specs.Containers.{containers_of as traits_and_impls};
 ghost use Rattle.crate_tables.specs.CrateFillings.{IsKnownTable};
-ghost use Rattle.crate_tables.specs.CrateMaps.{is_shortage};
 ghost use Rattle.crate_tables.specs.CrateTables.{HasKnownDefs, Table};
 ghost use Rattle.crate_tables.specs.DeclaredWorlds.{BindNothing};
 ghost use Rattle.dm_maps.specs.Added.{IsGrown};
 ghost use Rattle.dm_maps.specs.First.{IsChecked};
+ghost use Rattle.crate_tables.specs.Numbers.{is_past, is_shortage, IsShortage};
 
 use crate::assoc_items::containers::{containers_of, homes_of};
 pub use crate::assoc_items::items::AssocPlace;
@@ -35,7 +35,9 @@ fn add_items_of(
         (record { world = builder.old; places = places.old.items })
         (record { world = builder.new; places = places.new.items })) }
     ensures grown { IsGrown builder.old builder.new }
-    ensures fault { IfErr result (λ fault. is_shortage fault ≡ true) }
+    ensures fault { IfErr result
+        (IsShortage ((is_past (first + length table.now.blocks) ≡ true) ⊎ spec.ItemsRunOut files.now list.now
+        (traits_and_impls first table.now) (record { world = builder.old; places = places.old.items }))) }
 {
     let containers = containers_of(alloc, table, first)?;
     let homes = homes_of(alloc, containers.as_slice())?;
@@ -67,7 +69,9 @@ fn add_next(
         (record { world = builder.old; places = places.old.items })
         (record { world = builder.new; places = places.new.items })) }
     ensures grown { IsGrown builder.old builder.new }
-    ensures fault { IfErr result (λ fault. is_shortage fault ≡ true) }
+    ensures fault { IfErr result
+        (IsShortage (spec.CrateRunsOut files.now (slice_get lists.now krate) first table.now
+        (record { world = builder.old; places = places.old.items }))) }
 {
     match lists.get(krate) {
         None => Ok(()),
@@ -78,7 +82,7 @@ fn add_next(
 /// The number behind those of some blocks, the first of which has a number.
 fn behind_all(first: u32, blocks: &[BlockPlace]) -> Result<u32, BuildFault>
     ensures exact { IfOk result (λ next. next ≡ first + length blocks.now) }
-    ensures fault { IfErr result (λ fault. is_shortage fault ≡ true) }
+    ensures fault { IfErr result (λ fault. is_shortage (is_past (first + length blocks.now)) fault ≡ true) }
 {
     let next = u32::try_from(blocks.len())
         .ok()
@@ -102,7 +106,9 @@ fn add_all(
         (record { world = builder.old; places = places.old.items })
         (record { world = builder.new; places = places.new.items })) }
     ensures grown { IsGrown builder.old builder.new }
-    ensures fault { IfErr result (λ fault. is_shortage fault ≡ true) }
+    ensures fault { IfErr result
+        (IsShortage (spec.RunsOut files.now lists.now tables.now
+        (record { world = builder.old; places = places.old.items }))) }
 {
     let mut first: u32 = 0;
     for (krate, table) in tables.iter().enumerate() {
@@ -131,7 +137,9 @@ pub fn add_assoc_items(
         (record { world = builder.old; places = [] })
         (record { world = builder.new; places = places.items })) }
     ensures grown { IsGrown builder.old builder.new }
-    ensures fault { IfErr result (λ fault. is_shortage fault ≡ true) }
+    ensures fault { IfErr result
+        (IsShortage (spec.RunsOut files.now lists.now tables.now
+        (record { world = builder.old; places = [] }))) }
 
     // What tables hold stays the builder's, and where no module binds anything, none does.
     ensures known { (t : Table) → IsKnownTable builder.old t → IsKnownTable builder.new t }

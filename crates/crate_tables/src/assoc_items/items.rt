@@ -2,11 +2,12 @@
 ghost use Rattle.std.specs.Prelude.{◌≡◌, ◌++◌, ◌∷◌, [], true, IfErr, IsTrue, OnOk, slice_get};
 ghost use Rattle.crate_tables.specs.AssocItems as spec;
 ghost use Rattle.crate_items.specs.Sources.{source_at};
-ghost use Rattle.crate_tables.specs.CrateMaps.{is_shortage};
 ghost use Rattle.dm_maps.specs.declared.check.held.HeldId.TheVariants as held;
 ghost use Rattle.dm_maps.specs.Added.{IsGrown};
 ghost use Rattle.dm_maps.specs.BuildTables.{with_assoc_item};
 ghost use Rattle.dm_maps.specs.Known.{knows};
+ghost use Rattle.dm_maps.specs.declared.build_fault.BuildFault.TheVariants.{OutOfMemory};
+ghost use Rattle.crate_tables.specs.Numbers.{has_too_many, is_shortage};
 
 use crate::assoc_items::containers::Container;
 use crate_items::files::file_table::FileTable;
@@ -85,7 +86,7 @@ fn set_assoc(
 ) -> Result<(), BuildFault>
     ensures world { OnOk result (builder.new ≡ with_assoc_item builder.old id container visibility) }
     ensures grown { IsGrown builder.old builder.new }
-    ensures fault { IfErr result (λ fault. is_shortage fault ≡ true) }
+    ensures fault { IfErr result (λ fault. fault ≡ OutOfMemory) }
 {
     settings_keep_scopes();
     builder.set_assoc(id, container, visibility)?;
@@ -111,7 +112,7 @@ fn place(
     ensures added { OnOk result ((record { world = builder.new; places = places.new.items }) ≡
         spec.placed builder.old places.old.items container row visibility id) }
     ensures grown { IsGrown builder.old builder.new }
-    ensures fault { IfErr result (λ fault. is_shortage fault ≡ true) }
+    ensures fault { IfErr result (λ fault. fault ≡ OutOfMemory) }
 {
     match id {
         None => Ok(()),
@@ -144,7 +145,9 @@ fn add(
         spec.added files.now list.now (record { world = builder.old; places = places.old.items })
         container row kind) }
     ensures grown { IsGrown builder.old builder.new }
-    ensures fault { IfErr result (λ fault. is_shortage fault ≡ true) }
+    ensures fault { IfErr result
+        (λ fault. is_shortage (has_too_many (spec.added files.now list.now
+        (record { world = builder.old; places = places.old.items }) container row kind).world) fault ≡ true) }
 {
     let def = builder.add_item(kind, container.home)?;
     let visibility = item_visibility(alloc, list, files, row.file, row.item)?;
@@ -165,7 +168,10 @@ fn add_in(
         spec.added_in files.now list.now (record { world = builder.old; places = places.old.items })
         container row (spec.kind_in (source_at list.now.sources row.file) row.item)) }
     ensures grown { IsGrown builder.old builder.new }
-    ensures fault { IfErr result (λ fault. is_shortage fault ≡ true) }
+    ensures fault { IfErr result
+        (λ fault. is_shortage (has_too_many (spec.added_in files.now list.now
+        (record { world = builder.old; places = places.old.items }) container row (spec.kind_in
+        (source_at list.now.sources row.file) row.item)).world) fault ≡ true) }
 {
     match kind_in(list, row.file, row.item) {
         None => Ok(()),
@@ -193,7 +199,9 @@ fn add_row(
         spec.with_row files.now list.now containers.now
         (record { world = builder.old; places = places.old.items }) row) }
     ensures grown { IsGrown builder.old builder.new }
-    ensures fault { IfErr result (λ fault. is_shortage fault ≡ true) }
+    ensures fault { IfErr result
+        (λ fault. is_shortage (has_too_many (spec.with_row files.now list.now containers.now
+        (record { world = builder.old; places = places.old.items }) row).world) fault ≡ true) }
 {
     match containers.get(row.module) {
         None => Ok(()),
@@ -215,7 +223,9 @@ pub(crate) fn add_rows(
         spec.with_rows files.now list.now containers.now
         (record { world = builder.old; places = places.old.items }) rows.now) }
     ensures grown { IsGrown builder.old builder.new }
-    ensures fault { IfErr result (λ fault. is_shortage fault ≡ true) }
+    ensures fault { IfErr result
+        (λ fault. is_shortage (has_too_many (spec.with_rows files.now list.now containers.now
+        (record { world = builder.old; places = places.old.items }) rows.now).world) fault ≡ true) }
 {
     for row in rows {
         add_row(builder, places, alloc, list, files, containers, *row)?;

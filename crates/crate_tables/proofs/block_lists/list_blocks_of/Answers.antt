@@ -1,3 +1,6 @@
+use Rattle.crate_tables.proofs.ShortLemmas.{passed}
+use Rattle.std.proofs.Common.{length}
+use Rattle.crate_tables.proofs.MoreSteps.{past-on, short-on}
 use Rattle.std.proofs.Common.{◌∙◌, ◌+◌, ap, arith, drop, get_or, sym}
 use Rattle.crate_tables.specs.Steps.{next-copied}
 use Rattle.crate_tables.specs.BlockLists.{with_block, with_blocks_from}
@@ -23,3 +26,6 @@ loop-block-preserved c =
       stays = λ h known. c.in_ok-number.ensures.stays h (c.loop-block.invariant.stays h known);
       shown = λ g m ps s. c.in_ok-number.ensures.shown g m ps (c.loop-block.invariant.shown g m ps s);
     }
+
+pub returns-in_err-number-clause-fault : goal.returns-in_err-number-clause-fault
+returns-in_err-number-clause-fault c = passed c.from_residual.result c.in_err-number.field-0.0 _ c.from_residual.ensures.1 (short-on _ _ (past-on (c.loop-block.number + 1) (c.args.first + length c.args.blocks.now) (omega (arith, c.loop-block.invariant.number, c.loop-block-test.true))) _ c.in_err-number.ensures.fault)

@@ -50,5 +50,5 @@ returns-then-is_taken-clause-world c =
 
 pub returns-clause-fault : goal.returns-clause-fault
 returns-clause-fault c =
-    variant-short _ c.args.builder.now c.args.e c.args.variant.name c.in-Err.fault c.requires c.in-Err.ensures.fault
+    variant-short _ c.args.builder.now c.args.e c.args.variant c.in-Err.fault c.requires c.in-Err.ensures.fault
     (λ same. true≢false (sym (c.if-is_taken.ensures.1 same)))

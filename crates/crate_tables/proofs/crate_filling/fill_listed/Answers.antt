@@ -1,5 +1,11 @@
 use Rattle.crate_tables.proofs.KeptLemmas.{kept-further, kept-grown}
-use Rattle.std.proofs.Common.{Option, subst, sym}
+use Rattle.std.proofs.Common.{◌∙◌, List, Option, ap, subst, sym}
+use Rattle.crate_items.specs.declared.items.crate_attributes.CrateAttribute.{CrateAttribute}
+use Rattle.crate_tables.proofs.CrowdLemmas.{list-on}
+use Rattle.crate_tables.proofs.ShortLemmas.{passed}
+use Rattle.crate_tables.specs.CrateFillings.{prepared}
+use Rattle.crate_tables.specs.LibraryNames.{library_name}
+use Rattle.crate_tables.specs.NewModules.{CrateView}
 use Rattle.std.specs.Prelude.{IfSome, IsTrue}
 use Rattle.crate_tables.proofs.LibraryLemmas.{library-known, library-on}
 use Rattle.crate_tables.specs.CrateRoots.{root_id}
@@ -30,3 +36,13 @@ fill_list-requires-clause-library c =
     library-on _ _ c.in_ok-library.library (kept-grown _ _ c.prepare.ensures.grown)
     (subst (λ (l : Option LibraryName). IfSome l (λ l. IsTrue (knows c.args.builder.now (held.Module (root_id l.krate))))) (sym c.in_ok-library.ensures)
     (library-known c.args.builder.now c.view.inside.edition c.as_slice.result.now c.args.view.now.krate c.args.dependencies.now c.requires.roots))
+
+pub returns-in_err-table-clause-fault : goal.returns-in_err-table-clause-fault
+returns-in_err-table-clause-fault c =
+    passed c.from_residual-in_err-table.result c.in_err-table.field-0.0 _ c.from_residual-in_err-table.ensures.1
+    (let ds = c.args.dependencies.now in
+    let attrs = c.args.attributes.items in
+    list-on c.args.view.now ds c.args.externs.now.items _ _ _ _ _
+    (c.in_ok-library.ensures ∙ ap (λ (xs : List CrateAttribute). library_name c.view.inside.edition xs ds) c.as_slice.ensures.value
+    ∙ ap (λ (v : CrateView). library_name v.edition attrs ds) c.view.view_is)
+    (c.in_ok-prepare.ensures.world ∙ ap (λ (v : CrateView). prepared c.args.builder.now v.krate attrs ds) c.view.view_is) c.in_err-table.ensures.fault)

@@ -1,3 +1,4 @@
+use Rattle.crate_tables.proofs.RunLemmas.{number-runs}
 use Rattle.std.proofs.Common.{◌≡◌, ◌∙◌, ap, arith, subst, sym}
 use Rattle.std.specs.Prelude.{All, slice_get}
 use Rattle.crate_tables.proofs.FillingLemmas.{fault-in, linkable-known, tables-more}
@@ -15,7 +16,8 @@ fill_crate-requires-clause-roots c =
 
 pub returns-in-Err-clause-fault : goal.returns-in-Err-clause-fault
 returns-in-Err-clause-fault c =
-    fault-in c.args.reading.now c.args.graph.now c.crate_at-krate.result c.args.described.now c.in-Err.fault (ap (slice_get c.args.graph.now) c.crate_at-krate.ensures ∙ c.requires.at) c.in-Err.ensures.fault
+    fault-in _ _ c.args.reading.now c.args.graph.now c.crate_at-krate.result c.args.described.now c.in-Err.fault (ap (slice_get c.args.graph.now) c.crate_at-krate.ensures ∙ c.requires.at)
+    (number-runs c.args.reading.now c.crate_at-krate.result c.args.number c.args.described.now c.args.builder.now c.args.externs.now.items c.crate_at-krate.ensures) c.in-Err.ensures.fault
 
 pub returns-in_ok-list-in-Ok-clause-known : goal.returns-in_ok-list-in-Ok-clause-known
 returns-in_ok-list-in-Ok-clause-known c =

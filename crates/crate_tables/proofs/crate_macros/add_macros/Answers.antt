@@ -1,3 +1,4 @@
+use Rattle.crate_tables.proofs.ShortLemmas.{macros-short, passed}
 use Rattle.std.proofs.Common.{◌∙◌, ◌+◌, ap, drop, sym}
 use Rattle.crate_tables.proofs.GrownLemmas.{grown-further}
 use Rattle.crate_tables.specs.Steps.{next-of}
@@ -25,3 +26,10 @@ loop-item-preserved c =
       ids = c.in_ok-add_one.ensures.ids;
       grown = grown-further _ _ _ c.loop-item.invariant.grown c.in_ok-add_one.ensures.grown;
     }
+
+pub returns-in_err-add_one-clause-fault : goal.returns-in_err-add_one-clause-fault
+returns-in_err-add_one-clause-fault c =
+    passed c.from_residual.result c.in_err-add_one.field-0.0 _ c.from_residual.ensures.1
+    (let n = c.loop-item.item-index in
+    macros-short c.args.view.now (record { world = c.loop-item.builder; table = c.loop-item.table; ids = c.loop-item.ids.items }) _ _ _ c.item-item.result _
+    (next-of c.args.items.now n c.item-item.result c.loop-item-test.true c.item-item.is) c.loop-item.invariant.added c.in_err-add_one.ensures.fault)

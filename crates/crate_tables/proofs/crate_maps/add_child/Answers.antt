@@ -33,5 +33,5 @@ returns-then-is_taken-clause-id c =
 
 pub returns-else-is_taken-clause-fault : goal.returns-else-is_taken-clause-fault
 returns-else-is_taken-clause-fault c =
-    refused-short _ c.args.builder.now c.args.parent c.args.name c.in-Err.fault c.requires.known c.in-Err.ensures.fault
+    refused-short _ c.args.builder.now c.args.parent c.args.name c.args.origin c.args.visibility c.in-Err.fault c.requires.known c.in-Err.ensures.fault
     (λ same. true≢false (sym (c.if-is_taken.ensures.1 same)))

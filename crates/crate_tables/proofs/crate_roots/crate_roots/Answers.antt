@@ -1,3 +1,4 @@
+use Rattle.crate_tables.proofs.ShortLemmas.{passed, roots-short}
 use Rattle.std.proofs.Common.{◌∙◌, ◌+◌, ap, drop, length, sym}
 use Rattle.crate_tables.proofs.RootLemmas.{roots-more}
 use Rattle.crate_tables.specs.Steps.{next-in}
@@ -23,3 +24,11 @@ loop-krate-preserved c =
       roots = roots-more w v _ _ n made added c.loop-krate.invariant.crates c.loop-krate.invariant.places c.loop-krate.invariant.roots;
       empty = λ m. added.root.grown.scopes m ∙ c.loop-krate.invariant.empty m;
     }
+
+pub returns-in_err-add_root-clause-fault : goal.returns-in_err-add_root-clause-fault
+returns-in_err-add_root-clause-fault c =
+    passed c.from_residual.result c.in_err-add_root.field-0.0 _ c.from_residual.ensures.1
+    (let n = c.loop-krate.krate-index in
+    roots-short c.loop-krate.builder _ _ _ c.krate-item.result _
+    (next-in c.args.graph.now c.crates-krate-items.result.now n c.krate-item.result c.crates-krate-items.ensures.all c.loop-krate-test.true c.krate-item.is)
+    c.loop-krate.invariant.world c.in_err-add_root.ensures.fault)

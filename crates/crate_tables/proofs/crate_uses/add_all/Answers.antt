@@ -1,3 +1,4 @@
+use Rattle.crate_tables.proofs.ShortLemmas.{passed, uses-short}
 use Rattle.std.proofs.Common.{◌∙◌, ◌+◌, ap, drop, sym}
 use Rattle.crate_tables.proofs.GrownLemmas.{grown-further}
 use Rattle.crate_tables.proofs.UseLemmas.{macros-on}
@@ -25,3 +26,10 @@ loop-number-preserved c =
       kept = c.in_ok-add_one.ensures.kept;
       grown = grown-further _ _ _ c.loop-number.invariant.grown c.in_ok-add_one.ensures.grown;
     }
+
+pub returns-in_err-add_one-clause-fault : goal.returns-in_err-add_one-clause-fault
+returns-in_err-add_one-clause-fault c =
+    passed c.from_residual.result c.in_err-add_one.field-0.0 _ c.from_residual.ensures.1
+    (let n = c.loop-number.number in
+    uses-short c.args.view.now c.args.textual.now (record { world = c.loop-number.builder; table = c.loop-number.table }) _ n _ _ c.index-items-number.result _
+    (next-of c.args.items.now n c.index-items-number.result c.loop-number-test.true c.index-items-number.is) c.loop-number.invariant.added c.in_err-add_one.ensures.fault)

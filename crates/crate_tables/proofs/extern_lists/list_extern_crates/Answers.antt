@@ -1,3 +1,6 @@
+use Rattle.crate_tables.proofs.ShortLemmas.{passed}
+use Rattle.std.proofs.Common.{arith, length}
+use Rattle.crate_tables.proofs.MoreSteps.{past-on, short-on}
 use Rattle.std.proofs.Common.{◌∙◌, ◌+◌, None, ap, drop, sym}
 use Rattle.crate_tables.specs.Steps.{next-copied}
 use Rattle.crate_tables.specs.ExternLists.{with_extern_rows}
@@ -18,3 +21,6 @@ loop-number-preserved c =
       stays = λ h known. c.in_ok-list_row.ensures.stays h (c.loop-number.invariant.stays h known);
       shown = λ g k ps s. c.in_ok-list_row.ensures.shown g k ps (c.loop-number.invariant.shown g k ps s);
     }
+
+pub returns-in_err-list_row-clause-fault : goal.returns-in_err-list_row-clause-fault
+returns-in_err-list_row-clause-fault c = passed c.from_residual.result c.in_err-list_row.field-0.0 _ c.from_residual.ensures.1 (short-on _ _ (past-on c.loop-number.number (length c.args.rows.now) (omega (arith, c.loop-number-test.true))) _ c.in_err-list_row.ensures.fault)
