@@ -75,8 +75,8 @@ pub record IsBegun (r : Reading) (g : Graph) (k : Kept) (x : Given) (s : Maps) :
   pub bare : (m : ModuleId) → x.is_bare m ≡ is_among (all_bare k.lists 0 k.tables) m
   pub uses : x.uses ≡ macro_uses r.files crates.lists crates.rows 0 g
 
--- From there crate by crate got the macros that it uses and had its imports and globs bound; and then unnamed traits were
--- imported, and what preludes lacked was added: n steps of that at least wrote something.
+-- From there, stage by stage, preludes got macros, and imports and globs were bound; and then unnamed traits were imported,
+-- and what preludes lacked was added: n steps of that at least wrote something.
 pub record IsImported (d : MapsOf) (n : ℕ) (x : Given) (start last : Maps) : Type 0 where
   pub order : List Crate
   pub bound : Maps

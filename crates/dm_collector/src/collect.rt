@@ -152,7 +152,7 @@ pub fn collect(
     ensures order { OnOk result ((order : List ℕ) × IsOrder (rows graph.now) order) }
 
     // The def maps were reached from those of the crates' own declarations: names were bound there by imports and globs,
-    // crate by crate, then traits without a name were imported, and nothing else was written.
+    // stage by stage, then traits without a name were imported, and nothing else was written.
     ensures collected { IfOk result (λ made. spec.IsCollected (spec.maps_in made) 0 reading.now graph.now
         (spec.kept_in made) (spec.given_in made) (spec.state_of made)) }
 
